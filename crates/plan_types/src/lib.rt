@@ -1,0 +1,23 @@
+//! Plain data of the planner. A contract sees a `Text` as its list of bytes, a `List` as its list of
+//! items and a `Boxed` as its value, so that the types of the crates above compare by what they hold.
+#![tactic(auto)]
+
+mod boxed;
+mod element;
+mod list;
+mod memory;
+mod name;
+mod range;
+mod refusal;
+mod text;
+mod version;
+
+pub use boxed::Boxed;
+pub use element::Element;
+pub use list::List;
+pub use memory::NoMemory;
+pub use name::{is_component_name, is_flag_name, is_package_name};
+pub use range::{Range, Spec};
+pub use refusal::{Cause, Fault, Refusal, TextFault};
+pub use text::Text;
+pub use version::Version;

@@ -1,0 +1,73 @@
+ghost use Rattle.plan_types.specs.declared.refusal.Fault.TheVariants.{NoMemory as fault_no_memory};
+ghost use Rattle.plan_types.specs.declared.refusal.TextFault.TheVariants.{NoMemory as text_fault_no_memory};
+ghost use Rattle.std.specs.Prelude.{◌≡◌};
+
+use crate::{NoMemory, Text};
+
+/// Why an input is refused.
+#[derive(Clone, Copy, Debug, PartialEq, Eq)]
+pub enum Cause {
+    /// The bytes aren't UTF-8.
+    NotUtf8,
+    /// A brace where none may stand.
+    StrayBrace,
+    /// A brace that is never closed.
+    UnclosedBrace,
+    /// A name is missing, or isn't of its form.
+    BadName,
+    /// More than 64 constructs are open at a place.
+    TooDeep,
+    /// A version isn't of its form.
+    BadVersion,
+    /// A range of versions can't be read.
+    BadRange,
+    /// The text is of a later cabal-version than its file.
+    NeedsVersion,
+    /// There is no local package.
+    NoPackages,
+    /// A file has more than 1,048,576 bytes.
+    TooLarge,
+    /// There are more files, or more bytes in them, than are read.
+    TooMany,
+    /// It is Cabal's, and this program can't read it yet.
+    Unbuilt,
+}
+
+/// Why a file can't be read. Lines are numbered from 1.
+#[derive(Clone, Copy, Debug, PartialEq, Eq)]
+pub enum Fault {
+    NoMemory,
+    At { line: u32, cause: Cause },
+}
+
+impl From<NoMemory> for Fault {
+    ghost from_gives = { λ _ fault. fault ≡ fault_no_memory };
+
+    fn from(_: NoMemory) -> Self {
+        Fault::NoMemory
+    }
+}
+
+/// Why a text within a file can't be read.
+#[derive(Clone, Copy, Debug, PartialEq, Eq)]
+pub enum TextFault {
+    NoMemory,
+    Bad(Cause),
+}
+
+impl From<NoMemory> for TextFault {
+    ghost from_gives = { λ _ fault. fault ≡ text_fault_no_memory };
+
+    fn from(_: NoMemory) -> Self {
+        TextFault::NoMemory
+    }
+}
+
+/// What is refused: the file, the line (0 where it has none), the cause, and what is said besides.
+#[derive(Debug, PartialEq, Eq, Drop)]
+pub struct Refusal {
+    pub path: Text,
+    pub line: u32,
+    pub cause: Cause,
+    pub detail: Text,
+}
