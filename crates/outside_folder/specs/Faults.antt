@@ -1,0 +1,19 @@
+-- Counts of faults.
+use Rattle.std.specs.Prelude.{ℕ, ◌≤◌, ◌+◌, ◌-◌, ◌^◌, min, Bool, ◌==◌, ◌&&◌, nat_lt, List, [], ◌∷◌}
+use Rattle.std.specs.List.{list_any}
+
+-- the count rose: there is a new fault, or the count stands at its end
+abbrev pub Rose : ℕ → ℕ → Type 0
+Rose before now = min (before + 1) (2 ^ 64 - 1) ≤ now
+
+-- where no call is to fail, there is never a fault
+abbrev pub ceiling_of : List ℕ → ℕ
+ceiling_of [] = 0
+ceiling_of (n ∷ ns) = 2 ^ 64 - 1
+
+abbrev pub among : List ℕ → ℕ → Bool
+among ns n = list_any (λ m. m == n) ns
+
+-- after so many calls, the next is one of those that are to fail; calls are counted up to 2^64 - 1
+abbrev pub fails_next : List ℕ → ℕ → Bool
+fails_next fail_at calls = nat_lt calls (2 ^ 64 - 1) && among fail_at (calls + 1)

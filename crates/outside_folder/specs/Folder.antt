@@ -1,0 +1,25 @@
+-- What a folder answers, where it tells its files.
+use Rattle.std.specs.Prelude.{◌≡◌, ℕ, ◌<◌, ◌≤◌, List, length, Option, Some, None, Result, Ok, Err, IfSome, IsSomeAnd}
+use Rattle.outside_folder.specs.declared.folder.Name.{Name}
+use Rattle.outside_folder.specs.declared.folder.FolderFault.{FolderFault}
+use Rattle.outside_folder.specs.declared.folder.FolderFault.TheVariants.{Failed, TooLarge, NoMemory}
+use Rattle.outside_folder.specs.declared.folder.TheConstants.{FILE_LIMIT}
+use Rattle.outside_folder.specs.Files.{Files, Bytes, file_at, listing}
+
+-- the names in the directory
+abbrev pub Lists : Option Files → Bytes → Result (Option (List Name)) FolderFault → Type 0
+Lists None dir answer = Unit {0}
+Lists (Some files) dir (Ok names) = names ≡ listing files dir
+Lists (Some files) dir (Err fault) = Unit {0}
+
+-- the bytes at the path; a fault `TooLarge` tells that they are too many
+abbrev pub Reads : Option Files → Bytes → Result (Option Bytes) FolderFault → Type 0
+Reads None path answer = Unit {0}
+Reads (Some files) path (Ok bytes) = bytes ≡ file_at files path
+Reads (Some files) path (Err TooLarge) = IsSomeAnd (file_at files path) (λ bytes. FILE_LIMIT < length bytes)
+Reads (Some files) path (Err Failed) = Unit {0}
+Reads (Some files) path (Err NoMemory) = Unit {0}
+
+-- a file that is read isn't too large
+abbrev pub IsWithinLimit : Option Bytes → Type 0
+IsWithinLimit bytes = IfSome bytes (λ bytes. length bytes ≤ FILE_LIMIT)

@@ -1,0 +1,76 @@
+ghost use Rattle.std.specs.Prelude.{◌≡◌, ◌≢◌, ◌≤◌, ℕ, List, Option, length, IfOk, IsErrOf};
+ghost use Rattle.outside_folder.specs.declared.folder.FolderFault.TheVariants.{NoMemory as folder_no_memory};
+ghost use Rattle.outside_folder.specs.Files.{Files};
+ghost use Rattle.outside_folder.specs.Folder.{Lists, Reads, IsWithinLimit};
+ghost use Rattle.outside_folder.specs.Faults.{Rose};
+
+use plan_types::{List, NoMemory, Text};
+use std::alloc::Global;
+use thiserror::Error;
+
+/// How many bytes the largest file that is read has.
+pub const FILE_LIMIT: usize = 1_048_576;
+
+/// A name in a directory, and whether it is that of a directory.
+#[derive(Debug, PartialEq, Eq, PartialOrd, Ord, Drop)]
+pub struct Name {
+    pub text: Text,
+    pub folder: bool,
+}
+
+/// Why a directory wasn't listed or a file wasn't read.
+#[derive(Clone, Copy, Debug, PartialEq, Eq, Error)]
+pub enum FolderFault {
+    /// The outside failed, and the count of faults rose.
+    #[error("a file or folder could not be read")]
+    Failed,
+    /// The file has more than 1,048,576 bytes.
+    #[error("a file is too large")]
+    TooLarge,
+    #[error("out of memory")]
+    NoMemory,
+}
+
+impl From<NoMemory> for FolderFault {
+    ghost from_gives = { λ _ fault. fault ≡ folder_no_memory };
+
+    fn from(_: NoMemory) -> Self {
+        FolderFault::NoMemory
+    }
+}
+
+/// A folder of files. Paths are relative to its root, with `/` between names; the root is the empty path.
+pub trait Folder {
+    /// The files, where the folder tells them.
+    ghost tells: { Self → Option Files };
+
+    /// What the count of faults never passes.
+    ghost ceiling: { Self → ℕ };
+
+    /// How often the outside has failed so far.
+    ghost faults: { Self → ℕ };
+
+    /// The names in a directory, in byte order, each once; `None` where there is no such directory.
+    fn list(&mut self, alloc: Global, dir: &str) -> Result<Option<List<Name>>, FolderFault>
+        ensures told { Lists (tells self.old) dir.now result }
+        ensures never_too_large { IsErrOf result FolderFault.TooLarge → ⊥ }
+
+        ensures failed { IsErrOf result FolderFault.Failed → Rose (faults self.old) (faults self.new) }
+        ensures later { faults self.old ≤ faults self.new }
+        ensures bounded { faults self.new ≤ ceiling self.new }
+
+        ensures same_files { tells self.new ≡ tells self.old }
+        ensures same_ceiling { ceiling self.new ≡ ceiling self.old };
+
+    /// The bytes of a file; `None` where there is no such file.
+    fn read(&mut self, alloc: Global, path: &str) -> Result<Option<List<u8>>, FolderFault>
+        ensures told { Reads (tells self.old) path.now result }
+        ensures within { IfOk result IsWithinLimit }
+
+        ensures failed { IsErrOf result FolderFault.Failed → Rose (faults self.old) (faults self.new) }
+        ensures later { faults self.old ≤ faults self.new }
+        ensures bounded { faults self.new ≤ ceiling self.new }
+
+        ensures same_files { tells self.new ≡ tells self.old }
+        ensures same_ceiling { ceiling self.new ≡ ceiling self.old };
+}

@@ -1,0 +1,290 @@
+ghost use Rattle.std.specs.Prelude.{◌≡◌, ◌≤◌, ◌↔◌, Some, IfOk, OnOk, IsOk, IfErr, IsErrOf, IsTrue};
+ghost use Rattle.std.specs.List.{list_any};
+ghost use Rattle.std.specs.Option.{option_copied, option_map};
+ghost use Rattle.outside_folder.specs.Files.{is_tree, is_path, clashes, after, inside, first_name, name_in, with_name, names_in, as_names, file_at, listing};
+ghost use Rattle.outside_folder.specs.MemFile.{told};
+ghost use Rattle.outside_folder.specs.Folder.{Lists, Reads, IsWithinLimit};
+ghost use Rattle.outside_folder.specs.Faults.{Rose, among, ceiling_of, fails_next};
+
+use crate::{FILE_LIMIT, Folder, FolderFault, Name};
+use plan_types::{List, NoMemory, Text};
+use std::alloc::Global;
+use std::collections::BTreeMap;
+use thiserror::Error;
+
+/// A file of a folder in memory.
+#[derive(Debug, Drop)]
+pub struct MemFile {
+    pub path: Text,
+    pub bytes: List<u8>,
+}
+
+/// Why files don't make a folder.
+#[derive(Clone, Copy, Debug, PartialEq, Eq, Error)]
+pub enum MemFault {
+    #[error("out of memory")]
+    NoMemory,
+    /// Two paths are equal, one is a directory of another, or a name in a path is empty.
+    #[error("the files don't make a tree")]
+    BadTree,
+}
+
+/// A folder in memory, which tells its files. The calls with these numbers fail, lists and reads
+/// counted together from 1.
+#[derive(Drop)]
+pub struct MemFolder {
+    files: List<MemFile>,
+    fail_at: List<u64>,
+    calls: u64,
+    faults: u64,
+    ghost counted: { faults ≤ calls },
+    ghost bounded: { faults ≤ ceiling_of fail_at },
+}
+
+impl MemFolder {
+    ghost use Rattle.outside_folder.specs.MemFolder.{mem_files, mem_calls, mem_fail_at, mem_faults};
+
+    pub fn new(files: List<MemFile>, fail_at: List<u64>) -> Result<MemFolder, MemFault>
+        ensures files { IfOk result (λ folder. mem_files folder ≡ told files) }
+        ensures fail_at { IfOk result (λ folder. mem_fail_at folder ≡ fail_at) }
+        ensures no_calls { IfOk result (λ folder. mem_calls folder ≡ 0) }
+        ensures no_faults { IfOk result (λ folder. mem_faults folder ≡ 0) }
+        ensures tree { IsOk result ↔ IsTrue (is_tree (told files)) }
+        ensures bad_tree { IfErr result (λ fault. fault ≡ MemFault.BadTree) }
+    {
+        if !is_tree(files.as_slice()) {
+            return Err(MemFault::BadTree);
+        }
+        Ok(MemFolder {
+            files,
+            fail_at,
+            calls: 0,
+            faults: 0,
+        })
+    }
+
+    // Counts a call, and says whether it is one of those that fail.
+    fn fails(&mut self) -> bool
+        ensures answer { result ≡ fails_next (mem_fail_at self.old) (mem_calls self.old) }
+        ensures failed { IsTrue result → Rose (mem_faults self.old) (mem_faults self.new) }
+        ensures later { mem_faults self.old ≤ mem_faults self.new }
+        ensures bounded { mem_faults self.new ≤ ceiling_of (mem_fail_at self.new) }
+        ensures files { mem_files self.new ≡ mem_files self.old }
+        ensures fail_at { mem_fail_at self.new ≡ mem_fail_at self.old }
+    {
+        if self.calls == u64::MAX {
+            return false;
+        }
+        self.calls += 1;
+        if !is_among(self.fail_at.as_slice(), self.calls) {
+            return false;
+        }
+        self.faults += 1;
+        true
+    }
+}
+
+impl Folder for MemFolder {
+    ghost use Rattle.outside_folder.specs.MemFolder.{mem_files, mem_calls, mem_fail_at, mem_faults};
+
+    ghost tells = { λ folder. Some (mem_files folder) };
+
+    ghost ceiling = { λ folder. ceiling_of (mem_fail_at folder) };
+
+    ghost faults = { λ folder. mem_faults folder };
+
+    fn list(&mut self, alloc: Global, dir: &str) -> Result<Option<List<Name>>, FolderFault>
+        ensures told { Lists (Some (mem_files self.old)) dir.now result }
+        ensures never_too_large { IsErrOf result FolderFault.TooLarge → ⊥ }
+
+        // It fails at the calls that are to fail, and at no other.
+        ensures fails { IsErrOf result FolderFault.Failed ↔ IsTrue (fails_next (mem_fail_at self.old) (mem_calls self.old)) }
+        ensures failed { IsErrOf result FolderFault.Failed → Rose (mem_faults self.old) (mem_faults self.new) }
+        ensures later { mem_faults self.old ≤ mem_faults self.new }
+        ensures bounded { mem_faults self.new ≤ ceiling_of (mem_fail_at self.new) }
+
+        ensures same_files { Some (mem_files self.new) ≡ Some (mem_files self.old) }
+        ensures same_ceiling { ceiling_of (mem_fail_at self.new) ≡ ceiling_of (mem_fail_at self.old) }
+    {
+        if self.fails() {
+            return Err(FolderFault::Failed);
+        }
+        Ok(listing(alloc, self.files.as_slice(), dir)?)
+    }
+
+    fn read(&mut self, alloc: Global, path: &str) -> Result<Option<List<u8>>, FolderFault>
+        ensures told { Reads (Some (mem_files self.old)) path.now result }
+        ensures within { IfOk result IsWithinLimit }
+
+        ensures fails { IsErrOf result FolderFault.Failed ↔ IsTrue (fails_next (mem_fail_at self.old) (mem_calls self.old)) }
+        ensures failed { IsErrOf result FolderFault.Failed → Rose (mem_faults self.old) (mem_faults self.new) }
+        ensures later { mem_faults self.old ≤ mem_faults self.new }
+        ensures bounded { mem_faults self.new ≤ ceiling_of (mem_fail_at self.new) }
+
+        ensures same_files { Some (mem_files self.new) ≡ Some (mem_files self.old) }
+        ensures same_ceiling { ceiling_of (mem_fail_at self.new) ≡ ceiling_of (mem_fail_at self.old) }
+    {
+        if self.fails() {
+            return Err(FolderFault::Failed);
+        }
+        bytes_at(alloc, self.files.as_slice(), path)
+    }
+}
+
+pub(crate) fn is_among(numbers: &[u64], number: u64) -> bool
+    ensures { result ≡ among numbers.now number }
+{
+    numbers.iter().any(|other| *other == number)
+}
+
+// A copy of the file at a path.
+fn bytes_at(alloc: Global, files: &[MemFile], path: &str) -> Result<Option<List<u8>>, FolderFault>
+    ensures told { Reads (Some (told files.now)) path.now result }
+    ensures within { IfOk result IsWithinLimit }
+    ensures not_failed { IsErrOf result FolderFault.Failed → ⊥ }
+{
+    match find(files, path) {
+        None => Ok(None),
+        Some(bytes) => {
+            if bytes.len() > FILE_LIMIT {
+                return Err(FolderFault::TooLarge);
+            }
+            Ok(Some(copy_of(alloc, bytes)?))
+        }
+    }
+}
+
+fn copy_of(alloc: Global, bytes: &[u8]) -> Result<List<u8>, NoMemory>
+    ensures { IfOk result (λ copied. copied ≡ bytes.now) }
+{
+    Ok(List::from_vec(bytes.to_vec(alloc)?))
+}
+
+fn find<'a>(files: &'a [MemFile], path: &str) -> Option<&'a [u8]>
+    ensures { option_copied result ≡ file_at (told files.now) path.now }
+{
+    for file in files {
+        if file.path.as_str() == path {
+            return Some(file.bytes.as_slice());
+        }
+    }
+    None
+}
+
+fn listing(alloc: Global, files: &[MemFile], dir: &str) -> Result<Option<List<Name>>, NoMemory>
+    ensures { IfOk result (λ names. names ≡ listing (told files.now) dir.now) }
+{
+    let names = names_in(alloc, files, dir)?;
+    if names.is_empty() && !dir.is_empty() {
+        return Ok(None);
+    }
+    Ok(Some(as_names(alloc, names)?))
+}
+
+fn names_in(alloc: Global, files: &[MemFile], dir: &str) -> Result<BTreeMap<Text, bool>, NoMemory>
+    ensures { IfOk result (λ names. names.entries ≡ names_in (told files.now) dir.now) }
+{
+    let mut names = BTreeMap::new(alloc);
+    for file in files {
+        add_name(alloc, &mut names, name_in(dir, file.path.as_str()))?;
+    }
+    Ok(names)
+}
+
+fn add_name(
+    alloc: Global,
+    names: &mut BTreeMap<Text, bool>,
+    name: Option<(&str, bool)>,
+) -> Result<(), NoMemory>
+    ensures { OnOk result (names.new.entries ≡ with_name names.old.entries (option_map (λ name. (name.0.now, name.1)) name.entry)) }
+{
+    if let Some((name, folder)) = name {
+        names.insert(Text::from_str(alloc, name)?, folder)?;
+    }
+    Ok(())
+}
+
+fn as_names(alloc: Global, names: BTreeMap<Text, bool>) -> Result<List<Name>, NoMemory>
+    ensures { IfOk result (λ listed. listed ≡ as_names names.entries) }
+{
+    let mut listed = List::new(alloc);
+    for (text, folder) in names {
+        listed.push(Name { text, folder })?;
+    }
+    Ok(listed)
+}
+
+// The name in a directory by which a path goes on from there, and whether it is a directory's.
+fn name_in<'a>(dir: &str, path: &'a str) -> Option<(&'a str, bool)>
+    ensures { option_map (λ name. (name.0.now, name.1)) result ≡ name_in dir.now path.now }
+{
+    if dir.is_empty() {
+        return Some(first_name(path));
+    }
+    match inside(dir, path) {
+        None => None,
+        Some(rest) => Some(first_name(rest)),
+    }
+}
+
+fn first_name(path: &str) -> (&str, bool)
+    ensures text { result.0.now ≡ (first_name path.now).0 }
+    ensures folder { result.1 ≡ (first_name path.now).1 }
+{
+    match path.split_once('/') {
+        Some((name, _)) => (name, true),
+        None => (path, false),
+    }
+}
+
+fn inside<'a>(dir: &str, path: &'a str) -> Option<&'a str>
+    ensures { option_copied result ≡ inside dir.now path.now }
+{
+    match after(dir, path) {
+        None => None,
+        Some(rest) => after("/", rest),
+    }
+}
+
+fn after<'a>(front: &str, path: &'a str) -> Option<&'a str>
+    ensures { option_copied result ≡ after front.now path.now }
+{
+    path.strip_prefix(front)
+}
+
+fn is_tree(files: &[MemFile]) -> bool
+    ensures { result ≡ is_tree (told files.now) }
+{
+    let mut rest = files;
+    while let [file, others @ ..] = rest {
+        if !is_path(file.path.as_bytes()) || clashes_with_any(file.path.as_str(), others) {
+            return false;
+        }
+        rest = others;
+    }
+    true
+}
+
+fn is_path(path: &[u8]) -> bool
+    ensures { result ≡ is_path path.now }
+{
+    path.split(|byte| *byte == b'/')
+        .all(|name| !name.is_empty())
+}
+
+fn clashes_with_any(path: &str, files: &[MemFile]) -> bool
+    ensures { result ≡ list_any (λ other. clashes path.now other.0) (told files.now) }
+{
+    for file in files {
+        if clashes(path, file.path.as_str()) {
+            return true;
+        }
+    }
+    false
+}
+
+fn clashes(one: &str, other: &str) -> bool
+    ensures { result ≡ clashes one.now other.now }
+{
+    one == other || inside(one, other).is_some() || inside(other, one).is_some()
+}

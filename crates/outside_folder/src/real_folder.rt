@@ -1,0 +1,159 @@
+// What a real folder holds isn't told, so that these lines are trusted as to content.
+ghost use Rattle.std.specs.Prelude.{◌≢◌, ◌<◌, ◌^◌, ◌-◌, None, IfOk, IsErrOf};
+ghost use Rattle.outside_folder.specs.Folder.{IsWithinLimit};
+
+use crate::{FILE_LIMIT, Folder, FolderFault, Name};
+use plan_types::{List, NoMemory, Text};
+use std::alloc::Global;
+use std::fs::{self, DirEntry, Metadata};
+use std::io::{self, ErrorKind, Read};
+use std::rt::Files;
+
+const NAME_LIMIT: usize = 1_048_576;
+
+/// A folder of the system, with a count of its faults that stays at 2^64 - 1.
+#[derive(Drop)]
+pub struct RealFolder<'a, R: Files> {
+    rt: &'a R,
+    root: Text,
+    faults: u64,
+    ghost in_range: { faults < 2 ^ 64 },
+}
+
+impl<'a, R: Files> RealFolder<'a, R> {
+    pub fn new(rt: &'a R, root: Text) -> RealFolder<'a, R> {
+        RealFolder {
+            rt,
+            root,
+            faults: 0,
+        }
+    }
+}
+
+impl<R: Files + AllocGlobal + Clone + Drop> Folder for RealFolder<'_, R> {
+    ghost tells = { λ _. None };
+
+    ghost ceiling = { λ _. 2 ^ 64 - 1 };
+
+    ghost faults = { λ folder. folder.faults };
+
+    fn list(&mut self, alloc: Global, dir: &str) -> Result<Option<List<Name>>, FolderFault> {
+        let listed = list_at(self.rt, alloc, self.root.as_str(), dir);
+        if let Err(FolderFault::Failed) = listed {
+            self.faults = self.faults.saturating_add(1);
+        }
+        listed
+    }
+
+    fn read(&mut self, alloc: Global, path: &str) -> Result<Option<List<u8>>, FolderFault> {
+        let read = read_at(self.rt, alloc, self.root.as_str(), path);
+        if let Err(FolderFault::Failed) = read {
+            self.faults = self.faults.saturating_add(1);
+        }
+        read
+    }
+}
+
+fn fault_of(error: &io::Error) -> FolderFault
+    ensures { result ≢ FolderFault.TooLarge }
+{
+    if error.kind() == ErrorKind::OutOfMemory {
+        FolderFault::NoMemory
+    } else {
+        FolderFault::Failed
+    }
+}
+
+fn is_missing(error: &io::Error) -> bool {
+    matches!(error.kind(), ErrorKind::NotFound | ErrorKind::NotADirectory)
+}
+
+fn system_path(alloc: Global, root: &str, path: &str) -> Result<Text, NoMemory> {
+    let mut whole = Text::from_str(alloc, root)?;
+    if !path.is_empty() {
+        whole.push_str("/")?;
+        whole.push_str(path)?;
+    }
+    Ok(whole)
+}
+
+// The names in a directory. The root is never missing: where it can't be listed, that is a fault.
+fn list_at<R: Files + AllocGlobal + Clone + Drop>(
+    rt: &R,
+    alloc: Global,
+    root: &str,
+    dir: &str,
+) -> Result<Option<List<Name>>, FolderFault>
+    ensures { IsErrOf result FolderFault.TooLarge → ⊥ }
+{
+    let path = system_path(alloc, root, dir)?;
+    let entries = match fs::read_dir(rt, path.as_str()) {
+        Ok(entries) => entries,
+        Err(error) if is_missing(&error) && !dir.is_empty() => return Ok(None),
+        Err(error) => return Err(fault_of(&error)),
+    };
+    let mut names = Vec::new(alloc);
+    for entry in entries {
+        if names.len() == NAME_LIMIT {
+            return Err(FolderFault::Failed);
+        }
+        let name = name_of(rt, alloc, entry)?;
+        names.push(name).map_err(|_| FolderFault::NoMemory)?;
+    }
+    names.sort().map_err(|_| FolderFault::NoMemory)?;
+    Ok(Some(List::from_vec(names)))
+}
+
+fn name_of<R: Files + AllocGlobal + Clone + Drop>(
+    rt: &R,
+    alloc: Global,
+    entry: io::Result<DirEntry<R, Global>>,
+) -> Result<Name, FolderFault>
+    ensures { IsErrOf result FolderFault.TooLarge → ⊥ }
+{
+    let entry = match entry {
+        Ok(entry) => entry,
+        Err(error) => return Err(fault_of(&error)),
+    };
+    let text = Text::from_str(alloc, entry.file_name())?;
+    let folder = is_folder(fs::metadata(rt, entry.path()))?;
+    Ok(Name { text, folder })
+}
+
+// A link that leads nowhere is no folder.
+fn is_folder(metadata: io::Result<Metadata>) -> Result<bool, FolderFault>
+    ensures { IsErrOf result FolderFault.TooLarge → ⊥ }
+{
+    match metadata {
+        Ok(metadata) => Ok(metadata.is_dir()),
+        Err(error) if is_missing(&error) => Ok(false),
+        Err(error) => Err(fault_of(&error)),
+    }
+}
+
+// The bytes of a file, of which one more than the limit is asked for.
+fn read_at<R: Files>(
+    rt: &R,
+    alloc: Global,
+    root: &str,
+    path: &str,
+) -> Result<Option<List<u8>>, FolderFault>
+    ensures within { IfOk result IsWithinLimit }
+{
+    let path = system_path(alloc, root, path)?;
+    let file = match fs::open(rt, path.as_str()) {
+        Ok(file) => file,
+        Err(error) if is_missing(&error) => return Ok(None),
+        Err(error) => return Err(fault_of(&error)),
+    };
+    let mut bytes = Vec::new(alloc);
+    match file.take(FILE_LIMIT as u64 + 1).read_to_end(&mut bytes) {
+        Ok(_) => {}
+        Err(error) if error.kind() == ErrorKind::IsADirectory => return Ok(None),
+        Err(error) => return Err(fault_of(&error)),
+    }
+    if bytes.len() > FILE_LIMIT {
+        return Err(FolderFault::TooLarge);
+    }
+    Ok(Some(List::from_vec(bytes)))
+}

@@ -1,0 +1,47 @@
+ghost use Rattle.std.specs.Prelude.{◌≡◌, ◌≤◌, ◌<◌, ◌^◌, ◌-◌, ℕ, List, Option, length, take, IfOk, OnOk, OnErr};
+ghost use Rattle.outside_folder.specs.Sink.{Appends, AppendsPrefix, IsCount};
+ghost use Rattle.outside_folder.specs.Faults.{Rose};
+
+use thiserror::Error;
+
+/// Why nothing was taken.
+#[derive(Clone, Copy, Debug, PartialEq, Eq, Error)]
+pub enum SinkFault {
+    /// The outside failed, and the count of faults rose.
+    #[error("the output could not be written")]
+    Failed,
+}
+
+/// What takes bytes, some at a time.
+pub trait Sink {
+    /// The bytes so far, where the sink tells them.
+    ghost bytes: { Self → Option (List ℕ) };
+
+    /// How often the outside has failed so far.
+    ghost faults: { Self → ℕ };
+
+    /// Takes some bytes from the front of a piece, at least one where there are any, and says how many.
+    fn write(&mut self, piece: &[u8]) -> Result<usize, SinkFault>
+        ensures count { IfOk result (IsCount piece.now) }
+        ensures ok { IfOk result (λ n. Appends (bytes self.old) (bytes self.new) (take n piece.now)) }
+        ensures err { OnErr result (bytes self.new ≡ bytes self.old) }
+
+        ensures failed { OnErr result (Rose (faults self.old) (faults self.new)) }
+        ensures later { faults self.old ≤ faults self.new }
+        ensures bounded { faults self.new ≤ 2 ^ 64 - 1 };
+}
+
+/// Writes the whole text, offering all that is left at each turn. After `Failed` a prefix of it was written.
+pub fn write_all<S: Sink>(sink: &mut S, text: &[u8]) -> Result<(), SinkFault>
+    ensures ok { OnOk result (Appends (S.bytes sink.old) (S.bytes sink.new) text.now) }
+    ensures err { OnErr result (AppendsPrefix (S.bytes sink.old) (S.bytes sink.new) text.now) }
+
+    ensures failed { OnErr result (Rose (S.faults sink.old) (S.faults sink.new)) }
+    ensures later { S.faults sink.old ≤ S.faults sink.new }
+{
+    let mut written = 0;
+    while written < text.len() {
+        written += sink.write(&text[written..])?;
+    }
+    Ok(())
+}
