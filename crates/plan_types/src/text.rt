@@ -29,6 +29,8 @@ impl Model for Text {
 }
 
 impl Text {
+    ghost use Rattle.std.specs.String.{string_bytes};
+
     /// The empty text.
     pub fn new(alloc: Global) -> Text
         ensures { result ≡ [] }
@@ -44,6 +46,12 @@ impl Text {
         Ok(Text {
             string: String::from_str(alloc, text)?,
         })
+    }
+
+    pub fn from_string(string: String) -> Text
+        ensures { result ≡ string_bytes string }
+    {
+        Text { string }
     }
 
     pub fn copy(&self) -> Result<Text, NoMemory>

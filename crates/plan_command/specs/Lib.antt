@@ -1,0 +1,4 @@
+pub mod Answer
+pub mod PlainFile
+pub mod Root
+pub mod Text

@@ -1,0 +1,83 @@
+ghost use Rattle.std.specs.Prelude.{◌≡◌, ◌≢◌, ◌≤◌, false, IfOk, IfSome, IsErrOf};
+ghost use Rattle.outside_folder.specs.Faults.{Rose};
+ghost use Rattle.plan_command.specs.declared.answer.Answer.{Answer};
+ghost use Rattle.plan_command.specs.Answer.{answer_of, is_plan, IsMade, IsUsage, IsUsageAnswer, Prints};
+
+use crate::answer::{Answer, answer_of_folder, usage};
+use crate::trouble::Trouble;
+use outside_folder::{Folder, Sink, write_all};
+use plan_types::Text;
+use std::alloc::Global;
+
+/// How a run ended.
+#[derive(Clone, Copy, Debug, PartialEq, Eq)]
+pub enum Status {
+    /// A plan was printed.
+    Planned,
+    /// The input was refused; the line that says why was printed.
+    Refused,
+    /// A file or folder could not be read.
+    ReadFault,
+    /// The output could not be written.
+    WriteFault,
+    NoMemory,
+    /// The words have no reading; the usage line was printed.
+    Usage,
+}
+
+/// Plans the packages of a folder, and writes the plan or the refusal.
+pub fn run<F: Folder, S: Sink>(alloc: Global, words: &[Text], folder: &mut F, out: &mut S) -> Status
+    // Where the folder tells its files, the answer is that of the files, whether or not a count rose.
+    ensures told { IfSome (F.tells folder.old) (λ files. Prints (answer_of words.now files) (S.bytes out.old) (S.bytes out.new) result) }
+
+    // In any case one text is written, a prefix of it, or nothing.
+    ensures one_text { (answer : Answer) × Prints answer (S.bytes out.old) (S.bytes out.new) result }
+
+    ensures read_fault { result ≡ Status.ReadFault → Rose (F.faults folder.old) (F.faults folder.new) }
+    ensures write_fault { result ≡ Status.WriteFault → Rose (S.faults out.old) (S.faults out.new) }
+    ensures usage { result ≡ Status.Usage → is_plan words.now ≡ false }
+    ensures no_reading { is_plan words.now ≡ false → IsUsage result }
+{
+    match answer(alloc, words, folder) {
+        Ok(answer) => print(&answer, out),
+        Err(Trouble::Failed) => Status::ReadFault,
+        Err(Trouble::NoMemory) => Status::NoMemory,
+    }
+}
+
+fn answer<F: Folder>(alloc: Global, words: &[Text], folder: &mut F) -> Result<Answer, Trouble>
+    ensures told { IfSome (F.tells folder.old) (λ files. IfOk result (λ answer. answer ≡ answer_of words.now files)) }
+    ensures failed { IsErrOf result Trouble.Failed → Rose (F.faults folder.old) (F.faults folder.new) }
+    ensures made { IfOk result (λ answer. IsMade answer.status) }
+    ensures usage { IfOk result (λ answer. answer.status ≡ Status.Usage → is_plan words.now ≡ false) }
+    ensures no_reading { is_plan words.now ≡ false → IsUsageAnswer result }
+{
+    if is_plan(words) {
+        answer_of_folder(alloc, folder)
+    } else {
+        Ok(usage(alloc)?)
+    }
+}
+
+fn is_plan(words: &[Text]) -> bool
+    ensures { result ≡ is_plan words.now }
+{
+    match words {
+        [word] => word.as_str() == "plan",
+        _ => false,
+    }
+}
+
+// Writes the text of an answer, and gives its status where all of it was written.
+fn print<S: Sink>(answer: &Answer, out: &mut S) -> Status
+    requires { IsMade answer.now.status }
+    ensures prints { Prints answer.now (S.bytes out.old) (S.bytes out.new) result }
+    ensures write_fault { result ≡ Status.WriteFault → Rose (S.faults out.old) (S.faults out.new) }
+    ensures status { result ≢ Status.WriteFault → result ≡ answer.now.status }
+    ensures no_read_fault { result ≢ Status.ReadFault }
+{
+    match write_all(out, answer.text.as_bytes()) {
+        Ok(()) => answer.status,
+        Err(_) => Status::WriteFault,
+    }
+}

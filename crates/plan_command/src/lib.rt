@@ -1,0 +1,12 @@
+//! The planner's top call, from the words and the folder to the text that is printed. The whole text is
+//! made before the first write, so that a run writes one text or a prefix of it.
+#![tactic(auto)]
+
+mod answer;
+mod command;
+mod plain_file;
+mod root;
+mod text;
+mod trouble;
+
+pub use command::{Status, run};

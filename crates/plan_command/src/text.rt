@@ -1,0 +1,79 @@
+// Lines of the output.
+ghost use Rattle.std.specs.Prelude.{◌≡◌, IfOk};
+ghost use Rattle.plan_command.specs.Text.{cause_name, where_of, refusal_line, refusal_text, plan_text};
+
+use crate::plain_file::PlainFile;
+use plan_types::{Cause, NoMemory, Refusal, Text};
+use std::alloc::Global;
+
+/// What is printed where the words have no reading.
+pub(crate) const USAGE: &str = "usage: cabal-plan plan or generate, with options\n";
+
+/// The line of a refusal.
+pub(crate) fn text_of_refusal(alloc: Global, refusal: &Refusal) -> Result<Text, NoMemory>
+    ensures { IfOk result (λ text. text ≡ refusal_text refusal.now) }
+{
+    let place = where_of(alloc, refusal.path.as_str(), refusal.line)?;
+    refusal_line(
+        alloc,
+        place.as_str(),
+        cause_name(refusal.cause),
+        refusal.detail.as_str(),
+    )
+}
+
+/// The plan of a local package that asks for nothing.
+pub(crate) fn text_of_plan(alloc: Global, file: &PlainFile) -> Result<Text, NoMemory>
+    ensures { IfOk result (λ text. text ≡ plan_text file.now.name file.now.version) }
+{
+    plan_lines(alloc, file.name.as_str(), file.version.as_str())
+}
+
+fn plan_lines(alloc: Global, name: &str, version: &str) -> Result<Text, NoMemory>
+    ensures { IfOk result (λ text. text ≡ plan_text name.now version.now) }
+{
+    let text = format!(in alloc; "plan\nchoose {name} {version} local\n")?;
+    Ok(Text::from_string(text))
+}
+
+fn refusal_line(alloc: Global, place: &str, cause: &str, detail: &str) -> Result<Text, NoMemory>
+    ensures { IfOk result (λ text. text ≡ refusal_line place.now cause.now detail.now) }
+{
+    if detail.is_empty() {
+        let text = format!(in alloc; "refused {place} {cause}\n")?;
+        Ok(Text::from_string(text))
+    } else {
+        let text = format!(in alloc; "refused {place} {cause} {detail}\n")?;
+        Ok(Text::from_string(text))
+    }
+}
+
+// The path, and behind it the line where there is one.
+fn where_of(alloc: Global, path: &str, line: u32) -> Result<Text, NoMemory>
+    ensures { IfOk result (λ text. text ≡ where_of path.now line) }
+{
+    if line == 0 {
+        return Text::from_str(alloc, path);
+    }
+    let text = format!(in alloc; "{path}:{line}")?;
+    Ok(Text::from_string(text))
+}
+
+fn cause_name(cause: Cause) -> &'static str
+    ensures { result.now ≡ cause_name cause }
+{
+    match cause {
+        Cause::NotUtf8 => "NotUtf8",
+        Cause::StrayBrace => "StrayBrace",
+        Cause::UnclosedBrace => "UnclosedBrace",
+        Cause::BadName => "BadName",
+        Cause::TooDeep => "TooDeep",
+        Cause::BadVersion => "BadVersion",
+        Cause::BadRange => "BadRange",
+        Cause::NeedsVersion => "NeedsVersion",
+        Cause::NoPackages => "NoPackages",
+        Cause::TooLarge => "TooLarge",
+        Cause::TooMany => "TooMany",
+        Cause::Unbuilt => "Unbuilt",
+    }
+}
