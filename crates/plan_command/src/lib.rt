@@ -10,3 +10,6 @@ mod text;
 mod trouble;
 
 pub use command::{Status, run};
+
+#[cfg(test)]
+mod tests;

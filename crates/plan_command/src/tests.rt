@@ -1,0 +1,154 @@
+// Whole runs over folders and sinks in memory, to the byte.
+use crate::{Status, run};
+use outside_folder::{MemFile, MemFolder, MemSink};
+use plan_types::{List, Text};
+use std::alloc::Global;
+use std::test::Fail;
+
+const PLAIN: &str = "cabal-version: 2.4\nname: main\nversion: 1\nlibrary\n";
+
+fn texts(alloc: Global, words: &[&str]) -> Result<List<Text>, Fail> {
+    let mut texts = List::new(alloc);
+    for word in words {
+        texts.push(Text::from_str(alloc, word)?)?;
+    }
+    Ok(texts)
+}
+
+fn numbers(alloc: Global, numbers: &[u64]) -> Result<List<u64>, Fail> {
+    Ok(List::from_vec(numbers.to_vec(alloc)?))
+}
+
+fn folder_of(alloc: Global, files: &[(&str, &str)], fail_at: &[u64]) -> Result<MemFolder, Fail> {
+    let mut listed = List::new(alloc);
+    for (path, text) in files {
+        listed.push(MemFile {
+            path: Text::from_str(alloc, path)?,
+            bytes: List::from_vec(text.as_bytes().to_vec(alloc)?),
+        })?;
+    }
+    Ok(MemFolder::new(listed, numbers(alloc, fail_at)?)?)
+}
+
+#[derive(Clone, Copy)]
+struct Case<'a> {
+    words: &'a [&'a str],
+    files: &'a [(&'a str, &'a str)],
+    status: Status,
+    text: &'a str,
+}
+
+fn usage<'a>(words: &'a [&'a str]) -> Case<'a> {
+    Case {
+        words,
+        files: &[],
+        status: Status::Usage,
+        text: "usage: cabal-plan plan or generate, with options\n",
+    }
+}
+
+fn refused<'a>(files: &'a [(&'a str, &'a str)], text: &'a str) -> Case<'a> {
+    Case {
+        words: &["plan"],
+        files,
+        status: Status::Refused,
+        text,
+    }
+}
+
+#[test]
+fn answers(rt: HostRuntime) -> Result<(), Fail> {
+    let alloc = rt.alloc();
+    let cases = [
+        Case {
+            words: &["plan"],
+            files: &[("main.cabal", PLAIN), (".x.cabal", ""), ("lib/a.cabal", "")],
+            status: Status::Planned,
+            text: "plan\nchoose main 1 local\n",
+        },
+        refused(&[], "refused . NoPackages\n"),
+        refused(
+            &[("a.cabal/x", ""), ("cabal", "")],
+            "refused . NoPackages\n",
+        ),
+        refused(
+            &[("b.cabal", ""), ("cabal.project", "")],
+            "refused cabal.project Unbuilt\n",
+        ),
+        refused(
+            &[("b.cabal", ""), ("c.cabal", "")],
+            "refused c.cabal Unbuilt\n",
+        ),
+        refused(
+            &[("installed/a.conf", ""), ("z.cabal", "")],
+            "refused installed Unbuilt\n",
+        ),
+        refused(&[("a.cabal", "")], "refused a.cabal:1 Unbuilt\n"),
+        refused(
+            &[("a.cabal", "cabal-version: 2.4")],
+            "refused a.cabal:1 Unbuilt\n",
+        ),
+        refused(
+            &[("a.cabal", "cabal-version: 2.4\nname: 1\n")],
+            "refused a.cabal:2 Unbuilt\n",
+        ),
+        refused(
+            &[("a.cabal", "cabal-version: 2.4\nname: base\n")],
+            "refused a.cabal:2 Unbuilt\n",
+        ),
+        refused(
+            &[("a.cabal", "cabal-version: 2.4\nname: a\nversion: 1.01\n")],
+            "refused a.cabal:3 Unbuilt\n",
+        ),
+        refused(
+            &[("a.cabal", "cabal-version: 2.4\nname: a\nversion: 1\n")],
+            "refused a.cabal:4 Unbuilt\n",
+        ),
+        refused(
+            &[(
+                "main.cabal",
+                "cabal-version: 2.4\nname: main\nversion: 1\nlibrary\n  build-depends: base\n",
+            )],
+            "refused main.cabal:5 Unbuilt\n",
+        ),
+        usage(&[]),
+        usage(&["plan", "plan"]),
+        usage(&["Plan"]),
+        usage(&["generate"]),
+    ];
+    for case in &cases {
+        let words = texts(alloc, case.words)?;
+        let mut folder = folder_of(alloc, case.files, &[])?;
+        let mut out = MemSink::new(alloc, 1000, 1000, numbers(alloc, &[])?)?;
+        let status = run(alloc, words.as_slice(), &mut folder, &mut out);
+        assert_eq!(rt; status, case.status);
+        assert_eq!(rt; out.bytes(), case.text.as_bytes());
+    }
+    Ok(())
+}
+
+#[test]
+fn a_failed_read_ends_the_run(rt: HostRuntime) -> Result<(), Fail> {
+    let alloc = rt.alloc();
+    let words = texts(alloc, &["plan"])?;
+    for call in [1, 2] {
+        let mut folder = folder_of(alloc, &[("main.cabal", PLAIN)], &[call])?;
+        let mut out = MemSink::new(alloc, 1000, 1000, numbers(alloc, &[])?)?;
+        let status = run(alloc, words.as_slice(), &mut folder, &mut out);
+        assert_eq!(rt; status, Status::ReadFault);
+        assert_eq!(rt; out.bytes().len(), 0);
+    }
+    Ok(())
+}
+
+#[test]
+fn a_failed_write_leaves_a_prefix(rt: HostRuntime) -> Result<(), Fail> {
+    let alloc = rt.alloc();
+    let words = texts(alloc, &["plan"])?;
+    let mut folder = folder_of(alloc, &[("main.cabal", PLAIN)], &[])?;
+    let mut out = MemSink::new(alloc, 1000, 10, numbers(alloc, &[3])?)?;
+    let status = run(alloc, words.as_slice(), &mut folder, &mut out);
+    assert_eq!(rt; status, Status::WriteFault);
+    assert_eq!(rt; out.bytes(), b"plan\nchoose main 1 l".as_slice());
+    Ok(())
+}
