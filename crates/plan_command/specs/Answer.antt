@@ -13,7 +13,8 @@ use Rattle.plan_command.specs.declared.trouble.Trouble.{Trouble}
 use Rattle.plan_command.specs.declared.trouble.Trouble.TheVariants as trouble
 use Rattle.plan_command.specs.declared.command.Status.{Status}
 use Rattle.plan_command.specs.declared.command.Status.TheVariants as status
-use Rattle.plan_command.specs.PlainFile.{plain_file, is_text}
+use Rattle.plan_command.specs.Line.{is_text}
+use Rattle.plan_command.specs.PlainFile.{plain_file}
 use Rattle.plan_command.specs.Root.{root_names, cabal_file, unbuilt_name}
 use Rattle.plan_command.specs.Text.{refusal_text, plan_text, usage_text}
 
@@ -45,7 +46,7 @@ answer_of_file path (Err (At line cause)) = refused path line cause
 -- the answer to the bytes of a local file
 abbrev pub answer_of_read : Bytes → Option Bytes → Answer
 answer_of_read path None = refused path 0 TooLarge
-answer_of_read path (Some bytes) = answer_of_file path (plain_file bytes)
+answer_of_read path (Some bytes) = answer_of_file path (plain_file None bytes)
 
 abbrev pub answer_of_local : Files → Option Bytes → Answer
 answer_of_local files None = refused (codes ".") 0 NoPackages

@@ -4,10 +4,13 @@
 
 mod answer;
 mod command;
+mod line;
+mod need;
 mod plain_file;
 mod root;
 mod text;
 mod trouble;
+mod version;
 
 pub use command::{Status, run};
 
