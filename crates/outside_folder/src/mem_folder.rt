@@ -37,6 +37,7 @@ pub struct MemFolder {
     fail_at: List<u64>,
     calls: u64,
     faults: u64,
+    ghost tree: { IsTrue (is_tree (told files)) },
     ghost counted: { faults ≤ calls },
     ghost bounded: { faults ≤ ceiling_of fail_at },
 }
@@ -103,6 +104,7 @@ impl Folder for MemFolder {
         ensures later { mem_faults self.old ≤ mem_faults self.new }
         ensures bounded { mem_faults self.new ≤ ceiling_of (mem_fail_at self.new) }
 
+        ensures tree { IsTrue (is_tree (mem_files self.old)) }
         ensures same_files { Some (mem_files self.new) ≡ Some (mem_files self.old) }
         ensures same_ceiling { ceiling_of (mem_fail_at self.new) ≡ ceiling_of (mem_fail_at self.old) }
     {
@@ -121,13 +123,15 @@ impl Folder for MemFolder {
         ensures later { mem_faults self.old ≤ mem_faults self.new }
         ensures bounded { mem_faults self.new ≤ ceiling_of (mem_fail_at self.new) }
 
+        ensures tree { IsTrue (is_tree (mem_files self.old)) }
         ensures same_files { Some (mem_files self.new) ≡ Some (mem_files self.old) }
         ensures same_ceiling { ceiling_of (mem_fail_at self.new) ≡ ceiling_of (mem_fail_at self.old) }
     {
         if self.fails() {
-            return Err(FolderFault::Failed);
+            Err(FolderFault::Failed)
+        } else {
+            bytes_at(alloc, self.files.as_slice(), path)
         }
-        bytes_at(alloc, self.files.as_slice(), path)
     }
 }
 
