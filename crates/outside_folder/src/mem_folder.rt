@@ -4,7 +4,7 @@ ghost use Rattle.std.specs.Option.{option_copied, option_map};
 ghost use Rattle.outside_folder.specs.Files.{is_tree, is_path, clashes, after, inside, first_name, name_in, with_name, names_in, as_names, file_at, listing};
 ghost use Rattle.outside_folder.specs.MemFile.{told};
 ghost use Rattle.outside_folder.specs.Folder.{Lists, Reads, IsWithinLimit};
-ghost use Rattle.outside_folder.specs.Faults.{Rose, among, ceiling_of, fails_next};
+ghost use Rattle.outside_folder.specs.Faults.{Rose, among, ceiling_of, fails_next, next_count};
 
 use crate::{FILE_LIMIT, Folder, FolderFault, Name};
 use plan_types::{List, NoMemory, Text};
@@ -67,6 +67,7 @@ impl MemFolder {
     // Counts a call, and says whether it is one of those that fail.
     fn fails(&mut self) -> bool
         ensures answer { result ≡ fails_next (mem_fail_at self.old) (mem_calls self.old) }
+        ensures counts { mem_calls self.new ≡ next_count (mem_calls self.old) }
         ensures failed { IsTrue result → Rose (mem_faults self.old) (mem_faults self.new) }
         ensures later { mem_faults self.old ≤ mem_faults self.new }
         ensures bounded { mem_faults self.new ≤ ceiling_of (mem_fail_at self.new) }
@@ -100,6 +101,8 @@ impl Folder for MemFolder {
 
         // It fails at the calls that are to fail, and at no other.
         ensures fails { IsErrOf result FolderFault.Failed ↔ IsTrue (fails_next (mem_fail_at self.old) (mem_calls self.old)) }
+        ensures counts { mem_calls self.new ≡ next_count (mem_calls self.old) }
+        ensures fail_at { mem_fail_at self.new ≡ mem_fail_at self.old }
         ensures failed { IsErrOf result FolderFault.Failed → Rose (mem_faults self.old) (mem_faults self.new) }
         ensures later { mem_faults self.old ≤ mem_faults self.new }
         ensures bounded { mem_faults self.new ≤ ceiling_of (mem_fail_at self.new) }
@@ -119,6 +122,8 @@ impl Folder for MemFolder {
         ensures within { IfOk result IsWithinLimit }
 
         ensures fails { IsErrOf result FolderFault.Failed ↔ IsTrue (fails_next (mem_fail_at self.old) (mem_calls self.old)) }
+        ensures counts { mem_calls self.new ≡ next_count (mem_calls self.old) }
+        ensures fail_at { mem_fail_at self.new ≡ mem_fail_at self.old }
         ensures failed { IsErrOf result FolderFault.Failed → Rose (mem_faults self.old) (mem_faults self.new) }
         ensures later { mem_faults self.old ≤ mem_faults self.new }
         ensures bounded { mem_faults self.new ≤ ceiling_of (mem_fail_at self.new) }
