@@ -1,0 +1,6 @@
+pub mod Variable
+pub mod Problem
+pub mod Assignment
+pub mod Trail
+pub mod Plain
+pub mod Examples
