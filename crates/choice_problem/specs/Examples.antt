@@ -67,19 +67,24 @@ abbrev plan : Assignment
 plan = by_number (λ n. cond (nat_eq n main) (Some 0) (cond (nat_eq n b) (Some 0) (cond (nat_eq n a) (Some 1) (cond (nat_eq n c) (Some 1) None))))
 
 pub late_trail : trail_of late plan ≡ choice main 0 ∷ choice b 0 ∷ choice a 1 ∷ choice c 1 ∷ []
+unfolding next_var
 late_trail = refl
 
 -- before any choice main alone is open, and then b, before c
 pub first_open : next_var late [] ≡ Some (package_var main)
+unfolding next_var
 first_open = refl
 
 pub second_open : next_var late (choice main 0 ∷ []) ≡ Some (package_var b)
+unfolding next_var
 second_open = refl
 
 pub a_opens : next_var late (choice main 0 ∷ choice b 0 ∷ []) ≡ Some (package_var a)
+unfolding next_var
 a_opens = refl
 
 pub none_open : next_var late (choice main 0 ∷ choice b 0 ∷ choice a 1 ∷ choice c 1 ∷ []) ≡ None
+unfolding next_var
 none_open = refl
 
 -- without a value for a the trail ends before c
@@ -87,6 +92,7 @@ abbrev short : Assignment
 short = by_number (λ n. cond (nat_eq n main || nat_eq n b) (Some 0) (cond (nat_eq n c) (Some 1) None))
 
 pub short_trail : trail_of late short ≡ choice main 0 ∷ choice b 0 ∷ []
+unfolding next_var
 short_trail = refl
 
 -- the fifth package isn't in the trail of an assignment that gives it a value, since nothing asks for it
@@ -94,6 +100,7 @@ abbrev idle : Assignment
 idle = by_number (λ n. cond (nat_eq n c || nat_eq n a) (Some 1) (Some 0))
 
 pub idle_trail : trail_of late idle ≡ choice main 0 ∷ choice b 0 ∷ choice a 1 ∷ choice c 1 ∷ []
+unfolding next_var
 idle_trail = refl
 
 -- and its value is barred, so that assignment holds within no set
@@ -119,6 +126,7 @@ abbrev worse : Assignment
 worse = by_number (λ n. cond (nat_eq n main || nat_eq n b || nat_eq n c) (Some 0) (cond (nat_eq n a) (Some 1) None))
 
 pub better : ComesBefore late plan worse
+unfolding next_var
 better = record {
   common = choice main 0 ∷ choice b 0 ∷ choice a 1 ∷ [];
   var = package_var c;

@@ -32,20 +32,27 @@ least_from best [] = best
 least_from best (v ∷ vars) = least_from (lesser best v) vars
 
 -- the least open variable: a target that isn't chosen yet, of a demand that is Yes
-abbrev pub next_var : Problem → List Choice → Option Var
+unfoldable pub next_var : Problem → List Choice → Option Var
 next_var p trail = least_from None (map (λ d. d.target) (filter (opens trail) (demands_after p trail)))
 
 abbrev pub choice_of : Var → ℕ → Choice
 choice_of v n = record { var = v; val = n }
 
+-- what comes after the least open variable was looked for
+abbrev pub with_next : {X : Type 0} → Option Var → X → (Var → X) → X
+with_next None none some = none
+with_next (Some v) none some = some v
+
+-- what comes after a value was looked for
+abbrev pub with_value : {X : Type 0} → Option ℕ → X → (ℕ → X) → X
+with_value None none some = none
+with_value (Some n) none some = some n
+
 -- a trail, followed by the choices that A makes for the next open variables, at most fuel many
 abbrev pub trail_from : ℕ → Problem → Assignment → List Choice → List Choice
 trail_from zero p A trail = trail
 trail_from (suc fuel) p A trail =
-    elim (next_var p trail) [
-      | None ↦ trail
-      | Some v ↦ elim (A v) [ None ↦ trail | Some n ↦ trail_from fuel p A (trail ++ choice_of v n ∷ []) ]
-    ]
+    with_next (next_var p trail) trail (λ v. with_value (A v) trail (λ n. trail_from fuel p A (trail ++ choice_of v n ∷ [])))
 
 -- no trail is longer than the number of known variables
 abbrev pub trail_of : Problem → Assignment → List Choice

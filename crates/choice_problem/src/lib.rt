@@ -5,6 +5,7 @@
 
 mod plain;
 mod problem;
+mod search;
 mod variable;
 
 pub use plain::{Plain, plain_search};
