@@ -49,8 +49,8 @@ none-each f [] n h k = absurd (contains-none n k)
 none-each f (x ∷ values) n h k =
     let both = sym (first-append (f x) (flat_map f values)) ∙ h in
     elim (contains-cases x values n k) [
-      inl e ↦ subst (λ m. first_found (f m) ≡ None) e (none-left (first_found (f x)) (first_found (flat_map f values)) both)
-    | inr r ↦ none-each f values n (none-right (first_found (f x)) (first_found (flat_map f values)) both) r
+      | inl e ↦ subst (λ m. first_found (f m) ≡ None) e (none-left (first_found (f x)) (first_found (flat_map f values)) both)
+      | inr r ↦ none-each f values n (none-right (first_found (f x)) (first_found (flat_map f values)) both) r
     ]
 
 -- the value with which a trail was found, after those that found none
@@ -67,7 +67,7 @@ unfolding or_first
 found-at f [] found h = absurd (cc h)
 found-at f (x ∷ values) found h =
     elim (first_found (f x)) as (λ o. first_found (f x) ≡ o → or_first o (first_found (flat_map f values)) ≡ Some found → IsFoundAt f (x ∷ values) found) [
-      None ↦ λ e k.
+      | None ↦ λ e k.
           let r = found-at f values found k in
           record {
             front = x ∷ r.front;
@@ -77,7 +77,7 @@ found-at f (x ∷ values) found h =
             before = first-append (f x) (flat_map f r.front) ∙ none-first (first_found (f x)) (first_found (flat_map f r.front)) e ∙ r.before;
             here = r.here;
           }
-    | Some t ↦ λ e k. record { front = []; value = x; rest = values; all = refl; before = refl; here = e ∙ k }
+      | Some t ↦ λ e k. record { front = []; value = x; rest = values; all = refl; before = refl; here = e ∙ k }
     ] refl (sym (first-append (f x) (flat_map f values)) ∙ h)
 
 not-true : (b : Bool) → not b ≡ true → b ≡ false
@@ -124,23 +124,23 @@ module _ (p : Problem) (lawful : Lawful p) where
             (λ same. let made : None ≡ Some n = sym none ∙ ap (value_in (trail ++ choice_of v n ∷ [])) (sym same) ∙ value_in-new trail [] v n unchosen in cc made);
       }
 
-  steps-none : (fuel : ℕ) (trail : List Choice) → next_var p trail ≡ None → steps (suc fuel) p trail ≡ Some trail ∷ []
+  pub steps-none : (fuel : ℕ) (trail : List Choice) → next_var p trail ≡ None → steps (suc fuel) p trail ≡ Some trail ∷ []
   steps-none fuel trail e = ap (λ o. with_next o (Some trail ∷ []) (λ v. steps_with_each fuel p trail v (p.order v trail))) e
 
   pub steps-some : (fuel : ℕ) (trail : List Choice) (v : Var) → next_var p trail ≡ Some v → steps (suc fuel) p trail ≡ steps_with_each fuel p trail v (p.order v trail)
   steps-some fuel trail v e = ap (λ o. with_next o (Some trail ∷ []) (λ w. steps_with_each fuel p trail w (p.order w trail))) e
 
   found-with : (fuel : ℕ) (trail : List Choice) (v : Var) (n : ℕ) (found : List Choice) → first_found (steps_with fuel p trail v n) ≡ Some found
-    → (fits p trail (choice_of v n) ≡ true) × (first_found (steps fuel p (trail ++ choice_of v n ∷ [])) ≡ Some found)
+      → (fits p trail (choice_of v n) ≡ true) × (first_found (steps fuel p (trail ++ choice_of v n ∷ [])) ≡ Some found)
   found-with fuel trail v n found h =
       elim (fits p trail (choice_of v n)) as (λ b. first_found (cond b (None ∷ steps fuel p (trail ++ choice_of v n ∷ [])) []) ≡ Some found
-        → (b ≡ true) × (first_found (steps fuel p (trail ++ choice_of v n ∷ [])) ≡ Some found)) [
-        true ↦ λ k. (refl, k)
-      | false ↦ λ k. absurd (cc k)
+      → (b ≡ true) × (first_found (steps fuel p (trail ++ choice_of v n ∷ [])) ≡ Some found)) [
+        | true ↦ λ k. (refl, k)
+        | false ↦ λ k. absurd (cc k)
       ] h
 
   none-with : (fuel : ℕ) (trail : List Choice) (v : Var) (n : ℕ) → first_found (steps_with fuel p trail v n) ≡ None → fits p trail (choice_of v n) ≡ true
-    → first_found (steps fuel p (trail ++ choice_of v n ∷ [])) ≡ None
+      → first_found (steps fuel p (trail ++ choice_of v n ∷ [])) ≡ None
   none-with fuel trail v n h fit =
       sym (ap first_found (cond-true (fits p trail (choice_of v n)) (None ∷ steps fuel p (trail ++ choice_of v n ∷ [])) [] fit)) ∙ h
 
@@ -160,20 +160,20 @@ module _ (p : Problem) (lawful : Lawful p) where
         let met = holds.met d is yes (target-known p d lawful is) in
         subst (λ w. (n : ℕ) × (A w ≡ Some n)) found.3
         (elim (A d.target) as (λ o. is_one_of o d.allowed ≡ true → (n : ℕ) × (o ≡ Some n)) [
-          None ↦ λ k. absurd (false≢true k)
-        | Some n ↦ λ k. (n, refl)
+          | None ↦ λ k. absurd (false≢true k)
+          | Some n ↦ λ k. (n, refl)
         ] met)
 
     passes-keeps : (trail : List Choice) (d : Demand) → Passes A trail → Contains (demands_after p trail) d → keeps trail d ≡ true
     passes-keeps trail d passes after =
         elim (is_yes (value_in trail) d) as (λ b. is_yes (value_in trail) d ≡ b → not b || (is_none (value_in trail d.target) || is_met (value_in trail) d) ≡ true) [
-          false ↦ λ e. refl
-        | true ↦ λ yes. elim (value_in trail d.target) as (λ o. value_in trail d.target ≡ o → is_none o || is_one_of o d.allowed ≡ true) [
-            None ↦ λ e. refl
-          | Some n ↦ λ e.
-              let is = demand-after p trail d (passes-choices trail passes) after in
-              let met = holds.met d is (passes-yes A trail d passes yes) (target-known p d lawful is) in
-              subst (λ o. is_one_of o d.allowed ≡ true) (passes-value A trail d.target n passes e) met
+          | false ↦ λ e. refl
+          | true ↦ λ yes. elim (value_in trail d.target) as (λ o. value_in trail d.target ≡ o → is_none o || is_one_of o d.allowed ≡ true) [
+            | None ↦ λ e. refl
+            | Some n ↦ λ e.
+                let is = demand-after p trail d (passes-choices trail passes) after in
+                let met = holds.met d is (passes-yes A trail d passes yes) (target-known p d lawful is) in
+                subst (λ o. is_one_of o d.allowed ≡ true) (passes-value A trail d.target n passes e) met
           ] refl
         ] refl
 
@@ -189,25 +189,25 @@ module _ (p : Problem) (lawful : Lawful p) where
     complete zero trail passes h = cc h
     complete (suc fuel) trail passes h =
         elim (next_var p trail) as (λ o. next_var p trail ≡ o → ⊥) [
-          None ↦ λ e. let some : Some trail ≡ None = sym (ap first_found (steps-none fuel trail e)) ∙ h in cc some
-        | Some v ↦ λ e.
-            let made = made-next trail v passes e in
-            let n = made.0 in
-            let is = holds.assignment.choice (choice_of v n) made.1 in
-            let stands = (lawful.order v is.variable trail (passes-choices trail passes)).each n is.value in
-            let after = passes-push A trail (choice_of v n) passes made.1 in
-            let none = none-each (steps_with fuel p trail v) (p.order v trail) n (sym (ap first_found (steps-some fuel trail v e)) ∙ h) stands in
-            complete fuel (trail ++ choice_of v n ∷ []) after (none-with fuel trail v n none (passes-fits trail (choice_of v n) after))
+          | None ↦ λ e. let some : Some trail ≡ None = sym (ap first_found (steps-none fuel trail e)) ∙ h in cc some
+          | Some v ↦ λ e.
+              let made = made-next trail v passes e in
+              let n = made.0 in
+              let is = holds.assignment.choice (choice_of v n) made.1 in
+              let stands = (lawful.order v is.variable trail (passes-choices trail passes)).each n is.value in
+              let after = passes-push A trail (choice_of v n) passes made.1 in
+              let none = none-each (steps_with fuel p trail v) (p.order v trail) n (sym (ap first_found (steps-some fuel trail v e)) ∙ h) stands in
+              complete fuel (trail ++ choice_of v n ∷ []) after (none-with fuel trail v n none (passes-fits trail (choice_of v n) after))
         ] refl
 
     pub passes-trail : (fuel : ℕ) (trail : List Choice) → Passes A trail → Passes A (trail_from fuel p A trail)
     passes-trail zero trail passes = passes
     passes-trail (suc fuel) trail passes =
         elim (next_var p trail) as (λ o. Passes A (with_next o trail (λ v. with_value (A v) trail (λ n. trail_from fuel p A (trail ++ choice_of v n ∷ []))))) [
-          None ↦ passes
-        | Some v ↦ elim (A v) as (λ o. A v ≡ o → Passes A (with_value o trail (λ n. trail_from fuel p A (trail ++ choice_of v n ∷ [])))) [
-            None ↦ λ e. passes
-          | Some n ↦ λ e. passes-trail fuel (trail ++ choice_of v n ∷ []) (passes-push A trail (choice_of v n) passes e)
+          | None ↦ passes
+          | Some v ↦ elim (A v) as (λ o. A v ≡ o → Passes A (with_value o trail (λ n. trail_from fuel p A (trail ++ choice_of v n ∷ [])))) [
+            | None ↦ λ e. passes
+            | Some n ↦ λ e. passes-trail fuel (trail ++ choice_of v n ∷ []) (passes-push A trail (choice_of v n) passes e)
           ] refl
         ]
 
@@ -215,7 +215,7 @@ module _ (p : Problem) (lawful : Lawful p) where
   data IsPath (found : List Choice) : List Choice → Type 0 where
     here : {trail : List Choice} → trail ≡ found → IsPath found trail
     step : {trail : List Choice} → (v : Var) (n : ℕ) → next_var p trail ≡ Some v → IsChoice p (choice_of v n) → fits p trail (choice_of v n) ≡ true
-      → IsPath found (trail ++ choice_of v n ∷ []) → IsPath found trail
+        → IsPath found (trail ++ choice_of v n ∷ []) → IsPath found trail
 
   choice-from : (trail : List Choice) (v : Var) (n : ℕ) (front rest : List ℕ) → All (IsChoice p) trail → next_var p trail ≡ Some v → p.order v trail ≡ front ++ n ∷ rest → IsChoice p (choice_of v n)
   choice-from trail v n front rest choices e all =
@@ -228,21 +228,23 @@ module _ (p : Problem) (lawful : Lawful p) where
 
   sound : (fuel : ℕ) (trail found : List Choice) → All (IsChoice p) trail → Room fuel trail → first_found (steps fuel p trail) ≡ Some found → IsPath found trail × (next_var p found ≡ None)
   sound zero trail found choices room h =
-      let same : trail ≡ found = cc h in
-      (here same, subst (λ t. next_var p t ≡ None) same
-        (elim (next_var p trail) as (λ o. next_var p trail ≡ o → o ≡ None) [ None ↦ λ e. refl | Some v ↦ λ e. absurd (room-zero trail v choices e room) ] refl))
+      let same : trail ≡ found = cc h in (
+        here same,
+        subst (λ t. next_var p t ≡ None) same
+            (elim (next_var p trail) as (λ o. next_var p trail ≡ o → o ≡ None) [ None ↦ λ e. refl | Some v ↦ λ e. absurd (room-zero trail v choices e room) ] refl),
+      )
   sound (suc fuel) trail found choices room h =
       elim (next_var p trail) as (λ o. next_var p trail ≡ o → IsPath found trail × (next_var p found ≡ None)) [
-        None ↦ λ e.
-          let some : Some trail ≡ Some found = sym (ap first_found (steps-none fuel trail e)) ∙ h in
-          let same : trail ≡ found = cc some in
-          (here same, subst (λ t. next_var p t ≡ None) same e)
-      | Some v ↦ λ e.
-          let at = found-at (steps_with fuel p trail v) (p.order v trail) found (sym (ap first_found (steps-some fuel trail v e)) ∙ h) in
-          let is = choice-from trail v at.value at.front at.rest choices e at.all in
-          let with = found-with fuel trail v at.value found at.here in
-          let after = sound fuel (trail ++ choice_of v at.value ∷ []) found (All-push (IsChoice p) trail (choice_of v at.value) choices is) (room-next fuel trail v at.value choices e room) with.1 in
-          (step v at.value e is with.0 after.0, after.1)
+        | None ↦ λ e.
+            let some : Some trail ≡ Some found = sym (ap first_found (steps-none fuel trail e)) ∙ h in
+            let same : trail ≡ found = cc some in
+            (here same, subst (λ t. next_var p t ≡ None) same e)
+        | Some v ↦ λ e.
+            let at = found-at (steps_with fuel p trail v) (p.order v trail) found (sym (ap first_found (steps-some fuel trail v e)) ∙ h) in
+            let is = choice-from trail v at.value at.front at.rest choices e at.all in
+            let with = found-with fuel trail v at.value found at.here in
+            let after = sound fuel (trail ++ choice_of v at.value ∷ []) found (All-push (IsChoice p) trail (choice_of v at.value) choices is) (room-next fuel trail v at.value choices e room) with.1 in
+            (step v at.value e is with.0 after.0, after.1)
       ] refl
 
   path-choices : (found trail : List Choice) → IsPath found trail → All (IsChoice p) trail → All (IsChoice p) found
@@ -275,8 +277,8 @@ module _ (p : Problem) (lawful : Lawful p) where
   path-keeps found trail d (here e) = inl e
   path-keeps found trail d (step v n e is fit path) =
       elim (path-keeps found (trail ++ choice_of v n ∷ []) d path) [
-        inl same ↦ inr (subst (λ t. Contains (demands_after p t) d → keeps t d ≡ true) same (fits-keeps trail (choice_of v n) d fit))
-      | inr k ↦ inr k
+        | inl same ↦ inr (subst (λ t. Contains (demands_after p t) d → keeps t d ≡ true) same (fits-keeps trail (choice_of v n) d fit))
+        | inr k ↦ inr k
       ]
 
   -- the trail of the map that a found trail is
@@ -288,7 +290,7 @@ module _ (p : Problem) (lawful : Lawful p) where
   path-trail (suc fuel) found trail (step v n e is fit path) choices room none =
       let more = path-front found (trail ++ choice_of v n ∷ []) path in
       let made : value_in found v ≡ Some n =
-        subst (λ t. value_in t v ≡ Some n) (sym more.1) (value_in-kept (trail ++ choice_of v n ∷ []) more.0 v n (value_in-new trail [] v n (next-unchosen p trail v e))) in
+      subst (λ t. value_in t v ≡ Some n) (sym more.1) (value_in-kept (trail ++ choice_of v n ∷ []) more.0 v n (value_in-new trail [] v n (next-unchosen p trail v e))) in
       ap (λ o. with_next o trail (λ w. with_value (value_in found w) trail (λ m. trail_from fuel p (value_in found) (trail ++ choice_of w m ∷ [])))) e
       ∙ ap (λ o. with_value o trail (λ m. trail_from fuel p (value_in found) (trail ++ choice_of v m ∷ []))) made
       ∙ path-trail fuel found (trail ++ choice_of v n ∷ []) path (All-push (IsChoice p) trail (choice_of v n) choices is) (room-next fuel trail v n choices e room) none
@@ -305,8 +307,8 @@ module _ (p : Problem) (lawful : Lawful p) where
         let after = yes-after p found d lawful is asked in
         let closed = open-closed (is_yes (value_in found) d) (is_none (value_in found d.target)) (next-none p found none d after) asked in
         elim (path-keeps found [] d path) [
-          inl e ↦ absurd (false≢true (sym closed ∙ ap (λ t. is_none (value_in t d.target)) (sym e)))
-        | inr k ↦ keeps-met (is_yes (value_in found) d) (is_none (value_in found d.target)) (is_met (value_in found) d) (k after) asked closed
+          | inl e ↦ absurd (false≢true (sym closed ∙ ap (λ t. is_none (value_in t d.target)) (sym e)))
+          | inr k ↦ keeps-met (is_yes (value_in found) d) (is_none (value_in found d.target)) (is_met (value_in found) d) (k after) asked closed
         ]
 
     found-holds : HoldsWithin p p.known (value_in found)
@@ -321,12 +323,12 @@ module _ (p : Problem) (lawful : Lawful p) where
       holds = found-holds;
       reached = λ v. (
         (λ some. elim (value_in found v) as (λ o. value_in found v ≡ o → is_some o ≡ true → Contains (map (λ (c : Choice). c.var) (trail_of p (value_in found))) v) [
-          None ↦ λ e k. absurd (false≢true k)
-        | Some n ↦ λ e k. subst (λ t. Contains (map (λ (c : Choice). c.var) t) v) (sym trail-is) (map-contains (λ (c : Choice). c.var) found (choice_of v n) (value_in-made found v n e))
+          | None ↦ λ e k. absurd (false≢true k)
+          | Some n ↦ λ e k. subst (λ t. Contains (map (λ (c : Choice). c.var) t) v) (sym trail-is) (map-contains (λ (c : Choice). c.var) found (choice_of v n) (value_in-made found v n e))
         ] refl some),
         (λ named.
-          let of = contains-map (λ (c : Choice). c.var) found v (subst (λ t. Contains (map (λ (c : Choice). c.var) t) v) trail-is named) in
-          subst (λ w. is_some (value_in found w) ≡ true) of.2 (value_in-some found of.0 of.1))
+            let of = contains-map (λ (c : Choice). c.var) found v (subst (λ t. Contains (map (λ (c : Choice). c.var) t) v) trail-is named) in
+            subst (λ w. is_some (value_in found w) ≡ true) of.2 (value_in-some found of.0 of.1)),
       );
     }
 
@@ -334,14 +336,14 @@ module _ (p : Problem) (lawful : Lawful p) where
   extends zero trail found h = let same : trail ≡ found = cc h in ([], sym same ∙ sym (append-nil trail))
   extends (suc fuel) trail found h =
       elim (next_var p trail) as (λ o. next_var p trail ≡ o → (more : List Choice) × (found ≡ trail ++ more)) [
-        None ↦ λ e.
-          let some : Some trail ≡ Some found = sym (ap first_found (steps-none fuel trail e)) ∙ h in
-          let same : trail ≡ found = cc some in
-          ([], sym same ∙ sym (append-nil trail))
-      | Some v ↦ λ e.
-          let at = found-at (steps_with fuel p trail v) (p.order v trail) found (sym (ap first_found (steps-some fuel trail v e)) ∙ h) in
-          let rest = extends fuel (trail ++ choice_of v at.value ∷ []) found (found-with fuel trail v at.value found at.here).1 in
-          (choice_of v at.value ∷ rest.0, rest.1 ∙ append_assoc trail (choice_of v at.value ∷ []) rest.0)
+        | None ↦ λ e.
+            let some : Some trail ≡ Some found = sym (ap first_found (steps-none fuel trail e)) ∙ h in
+            let same : trail ≡ found = cc some in
+            ([], sym same ∙ sym (append-nil trail))
+        | Some v ↦ λ e.
+            let at = found-at (steps_with fuel p trail v) (p.order v trail) found (sym (ap first_found (steps-some fuel trail v e)) ∙ h) in
+            let rest = extends fuel (trail ++ choice_of v at.value ∷ []) found (found-with fuel trail v at.value found at.here).1 in
+            (choice_of v at.value ∷ rest.0, rest.1 ∙ append_assoc trail (choice_of v at.value ∷ []) rest.0)
       ] refl
 
   -- the values before the one that was chosen found nothing
@@ -365,27 +367,27 @@ module _ (p : Problem) (lawful : Lawful p) where
   next-step zero trail found c more h e = let same : trail ≡ found = cc h in absurd (ends trail c more (same ∙ e))
   next-step (suc fuel) trail found c more h e =
       elim (next_var p trail) as (λ o. next_var p trail ≡ o → IsStep trail found c) [
-        None ↦ λ next.
-          let some : Some trail ≡ Some found = sym (ap first_found (steps-none fuel trail next)) ∙ h in
-          let same : trail ≡ found = cc some in
-          absurd (ends trail c more (same ∙ e))
-      | Some v ↦ λ next.
-          let at = found-at (steps_with fuel p trail v) (p.order v trail) found (sym (ap first_found (steps-some fuel trail v next)) ∙ h) in
-          let with = found-with fuel trail v at.value found at.here in
-          let rest = extends fuel (trail ++ choice_of v at.value ∷ []) found with.1 in
-          let both : choice_of v at.value ∷ rest.0 ≡ c ∷ more =
+        | None ↦ λ next.
+            let some : Some trail ≡ Some found = sym (ap first_found (steps-none fuel trail next)) ∙ h in
+            let same : trail ≡ found = cc some in
+            absurd (ends trail c more (same ∙ e))
+        | Some v ↦ λ next.
+            let at = found-at (steps_with fuel p trail v) (p.order v trail) found (sym (ap first_found (steps-some fuel trail v next)) ∙ h) in
+            let with = found-with fuel trail v at.value found at.here in
+            let rest = extends fuel (trail ++ choice_of v at.value ∷ []) found with.1 in
+            let both : choice_of v at.value ∷ rest.0 ≡ c ∷ more =
             cancel-front trail (choice_of v at.value ∷ rest.0) (c ∷ more) (sym (rest.1 ∙ append_assoc trail (choice_of v at.value ∷ []) rest.0) ∙ e) in
-          let same : choice_of v at.value ≡ c = cc both in
-          subst (λ d. IsStep trail found d) same
-          (record {
-            place = record { fuel = fuel; front = at.front; rest = at.rest; all = at.all; before = at.before };
-            fuel = fuel;
-            goes_on = with.1;
-          })
+            let same : choice_of v at.value ≡ c = cc both in
+            subst (λ d. IsStep trail found d) same
+            (record {
+              place = record { fuel = fuel; front = at.front; rest = at.rest; all = at.all; before = at.before };
+              fuel = fuel;
+              goes_on = with.1;
+            })
       ] refl
 
   at-place : (more : List Choice) (fuel : ℕ) (trail found common : List Choice) (c : Choice) (rest : List Choice)
-    → first_found (steps fuel p trail) ≡ Some found → trail ++ more ≡ common → found ≡ common ++ c ∷ rest → IsPlace common c.var c.val
+      → first_found (steps fuel p trail) ≡ Some found → trail ++ more ≡ common → found ≡ common ++ c ∷ rest → IsPlace common c.var c.val
   at-place [] fuel trail found common c rest h e k =
       let same : trail ≡ common = sym (append-nil trail) ∙ e in
       subst (λ t. IsPlace t c.var c.val) same (next-step fuel trail found c rest h (k ∙ ap (λ t. t ++ c ∷ rest) (sym same))).place
@@ -407,7 +409,7 @@ module _ (p : Problem) (lawful : Lawful p) where
         let known = (valid.holds.assignment.choice (choice_of v before.of_A) made).variable in
         let once = (lawful.order v known common choices).once in
         let front = earlier-in-front before.of_B before.of_A place.front place.rest before.earlier.0 before.earlier.1 before.earlier.2
-          (subst (λ l. AllPairs (λ x y. x ≢ y) l) place.all once) (sym place.all ∙ before.earlier.3) in
+        (subst (λ l. AllPairs (λ x y. x ≢ y) l) place.all once) (sym place.all ∙ before.earlier.3) in
         let none = none-each (steps_with place.fuel p common v) place.front before.of_A place.before front in
         complete B valid.holds place.fuel (common ++ choice_of v before.of_A ∷ []) passes
         (none-with place.fuel common v before.of_A none (passes-fits B valid.holds common (choice_of v before.of_A) passes))

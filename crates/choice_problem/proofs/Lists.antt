@@ -29,8 +29,8 @@ pub contains-append : {X : Type 0} (xs ys : List X) (x : X) → Contains (xs ++ 
 contains-append [] ys x h = inr h
 contains-append (y ∷ xs) ys x h =
     elim (contains-cases y (xs ++ ys) x h) [
-      inl e ↦ inl (subst (λ z. Contains (y ∷ xs) z) e (contains-head y xs))
-    | inr k ↦ elim (contains-append xs ys x k) [ inl l ↦ inl (contains-tail y xs x l) | inr r ↦ inr r ]
+      | inl e ↦ inl (subst (λ z. Contains (y ∷ xs) z) e (contains-head y xs))
+      | inr k ↦ elim (contains-append xs ys x k) [ inl l ↦ inl (contains-tail y xs x l) | inr r ↦ inr r ]
     ]
 
 -- where an item of a joined list comes from
@@ -38,32 +38,32 @@ pub contains-flat_map : {X Y : Type 0} (f : X → List Y) (xs : List X) (y : Y) 
 contains-flat_map f [] y h = absurd (contains-none y h)
 contains-flat_map f (x ∷ xs) y h =
     elim (contains-append (f x) (flat_map f xs) y h) [
-      inl l ↦ (x, contains-head x xs, l)
-    | inr r ↦ let found = contains-flat_map f xs y r in (found.0, contains-tail x xs found.0 found.1, found.2)
+      | inl l ↦ (x, contains-head x xs, l)
+      | inr r ↦ let found = contains-flat_map f xs y r in (found.0, contains-tail x xs found.0 found.1, found.2)
     ]
 
 pub flat_map-contains : {X Y : Type 0} (f : X → List Y) (xs : List X) (x : X) (y : Y) → Contains xs x → Contains (f x) y → Contains (flat_map f xs) y
 flat_map-contains f [] x y h k = absurd (contains-none x h)
 flat_map-contains f (z ∷ xs) x y h k =
     elim (contains-cases z xs x h) [
-      inl e ↦ contains-left (f z) (flat_map f xs) y (subst (λ w. Contains (f w) y) (sym e) k)
-    | inr r ↦ contains-right (f z) (flat_map f xs) y (flat_map-contains f xs x y r k)
+      | inl e ↦ contains-left (f z) (flat_map f xs) y (subst (λ w. Contains (f w) y) (sym e) k)
+      | inr r ↦ contains-right (f z) (flat_map f xs) y (flat_map-contains f xs x y r k)
     ]
 
 pub map-contains : {X Y : Type 0} (f : X → Y) (xs : List X) (x : X) → Contains xs x → Contains (map f xs) (f x)
 map-contains f [] x h = absurd (contains-none x h)
 map-contains f (z ∷ xs) x h =
     elim (contains-cases z xs x h) [
-      inl e ↦ subst (λ w. Contains (f z ∷ map f xs) (f w)) e (contains-head (f z) (map f xs))
-    | inr r ↦ contains-tail (f z) (map f xs) (f x) (map-contains f xs x r)
+      | inl e ↦ subst (λ w. Contains (f z ∷ map f xs) (f w)) e (contains-head (f z) (map f xs))
+      | inr r ↦ contains-tail (f z) (map f xs) (f x) (map-contains f xs x r)
     ]
 
 pub contains-map : {X Y : Type 0} (f : X → Y) (xs : List X) (y : Y) → Contains (map f xs) y → (x : X) × Contains xs x × (f x ≡ y)
 contains-map f [] y h = absurd (contains-none y h)
 contains-map f (x ∷ xs) y h =
     elim (contains-cases (f x) (map f xs) y h) [
-      inl e ↦ (x, contains-head x xs, e)
-    | inr r ↦ let found = contains-map f xs y r in (found.0, contains-tail x xs found.0 found.1, found.2)
+      | inl e ↦ (x, contains-head x xs, e)
+      | inr r ↦ let found = contains-map f xs y r in (found.0, contains-tail x xs found.0 found.1, found.2)
     ]
 
 -- an item that a filter kept is an item that passes
@@ -71,11 +71,11 @@ pub contains-filter : {X : Type 0} (test : X → Bool) (xs : List X) (x : X) →
 contains-filter test [] x h = absurd (contains-none x h)
 contains-filter test (y ∷ xs) x h =
     elim (test y) as (λ b. test y ≡ b → Contains (cond b (y ∷ filter test xs) (filter test xs)) x → Contains (y ∷ xs) x × (test x ≡ true)) [
-      true ↦ λ is k. elim (contains-cases y (filter test xs) x k) [
-          inl e ↦ (subst (λ z. Contains (y ∷ xs) z) e (contains-head y xs), subst (λ z. test z ≡ true) e is)
+      | true ↦ λ is k. elim (contains-cases y (filter test xs) x k) [
+        | inl e ↦ (subst (λ z. Contains (y ∷ xs) z) e (contains-head y xs), subst (λ z. test z ≡ true) e is)
         | inr r ↦ let found = contains-filter test xs x r in (contains-tail y xs x found.0, found.1)
-        ]
-    | false ↦ λ is k. let found = contains-filter test xs x k in (contains-tail y xs x found.0, found.1)
+      ]
+      | false ↦ λ is k. let found = contains-filter test xs x k in (contains-tail y xs x found.0, found.1)
     ] refl h
 
 -- a filter that keeps nothing
@@ -83,8 +83,8 @@ pub filter-none : {X : Type 0} (test : X → Bool) (xs : List X) → filter test
 filter-none test [] e x h = absurd (contains-none x h)
 filter-none test (y ∷ xs) e x h =
     elim (test y) as (λ b. test y ≡ b → cond b (y ∷ filter test xs) (filter test xs) ≡ [] → test x ≡ false) [
-      true ↦ λ is k. absurd (cc k)
-    | false ↦ λ is k. elim (contains-cases y xs x h) [ inl same ↦ subst (λ z. test z ≡ false) same is | inr r ↦ filter-none test xs k x r ]
+      | true ↦ λ is k. absurd (cc k)
+      | false ↦ λ is k. elim (contains-cases y xs x h) [ inl same ↦ subst (λ z. test z ≡ false) same is | inr r ↦ filter-none test xs k x r ]
     ] refl e
 
 pub and-left : (a b : Bool) → a && b ≡ true → a ≡ true
@@ -103,8 +103,8 @@ pub all-at : {X : Type 0} (test : X → Bool) (xs : List X) (x : X) → list_all
 all-at test [] x h k = absurd (contains-none x k)
 all-at test (y ∷ xs) x h k =
     elim (contains-cases y xs x k) [
-      inl e ↦ subst (λ z. test z ≡ true) e (and-left (test y) (list_all test xs) h)
-    | inr r ↦ all-at test xs x (and-right (test y) (list_all test xs) h) r
+      | inl e ↦ subst (λ z. test z ≡ true) e (and-left (test y) (list_all test xs) h)
+      | inr r ↦ all-at test xs x (and-right (test y) (list_all test xs) h) r
     ]
 
 pub all-from : {X : Type 0} (test : X → Bool) (xs : List X) → ((x : X) → Contains xs x → test x ≡ true) → list_all test xs ≡ true
@@ -129,13 +129,16 @@ pub without : {X : Type 0} (xs : List X) (x : X) → Contains xs x → (rest : L
 without [] x h = absurd (contains-none x h)
 without (z ∷ xs) x h =
     elim (contains-cases z xs x h) [
-      inl e ↦ (xs, refl, λ y k ne. elim (contains-cases z xs y k) [ inl f ↦ absurd (ne (sym e ∙ f)) | inr r ↦ r ])
-    | inr r ↦
-        let found = without xs x r in
-        (z ∷ found.0, ap suc found.1, λ y k ne. elim (contains-cases z xs y k) [
-          inl f ↦ subst (λ w. Contains (z ∷ found.0) w) f (contains-head z found.0)
-        | inr s ↦ contains-tail z found.0 y (found.2 y s ne)
-        ])
+      | inl e ↦ (xs, refl, λ y k ne. elim (contains-cases z xs y k) [ inl f ↦ absurd (ne (sym e ∙ f)) | inr r ↦ r ])
+      | inr r ↦
+          let found = without xs x r in (
+            z ∷ found.0,
+            ap suc found.1,
+            λ y k ne. elim (contains-cases z xs y k) [
+              | inl f ↦ subst (λ w. Contains (z ∷ found.0) w) f (contains-head z found.0)
+              | inr s ↦ contains-tail z found.0 y (found.2 y s ne)
+            ],
+          )
     ]
 
 pub once-head : {X : Type 0} (x : X) (xs : List X) → AllPairs (λ a b. a ≢ b) (x ∷ xs) → Contains xs x → ⊥
@@ -146,12 +149,12 @@ once-tail x xs h i j d l k = h (suc i) (suc j) d (omega (arith, l)) (omega (arit
 
 -- where each item stands once, what is earlier than an item stands in front of it
 pub earlier-in-front : {X : Type 0} (a b : X) (front rest before between after : List X)
-  → AllPairs (λ x y. x ≢ y) (front ++ a ∷ rest) → front ++ a ∷ rest ≡ before ++ (b ∷ between ++ (a ∷ after)) → Contains front b
+    → AllPairs (λ x y. x ≢ y) (front ++ a ∷ rest) → front ++ a ∷ rest ≡ before ++ (b ∷ between ++ (a ∷ after)) → Contains front b
 earlier-in-front a b [] rest [] between after once e =
     absurd (once-head a rest once (subst (λ l. Contains l a) (sym (cc e)) (contains-right between (a ∷ after) a (contains-head a after))))
 earlier-in-front a b [] rest (x ∷ before) between after once e =
     absurd (once-head a rest once (subst (λ l. Contains l a) (sym (cc e))
-      (contains-right before (b ∷ between ++ (a ∷ after)) a (contains-tail b (between ++ (a ∷ after)) a (contains-right between (a ∷ after) a (contains-head a after))))))
+    (contains-right before (b ∷ between ++ (a ∷ after)) a (contains-tail b (between ++ (a ∷ after)) a (contains-right between (a ∷ after) a (contains-head a after))))))
 earlier-in-front a b (y ∷ front) rest [] between after once e = subst (λ z. Contains (y ∷ front) z) (cc e) (contains-head y front)
 earlier-in-front a b (y ∷ front) rest (x ∷ before) between after once e =
     contains-tail y front b (earlier-in-front a b front rest before between after (once-tail y (front ++ a ∷ rest) once) (cc e))

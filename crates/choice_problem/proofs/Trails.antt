@@ -123,10 +123,10 @@ pub value_in-made : (trail : List Choice) (v : Var) (n : ℕ) → value_in trail
 value_in-made [] v n h = absurd (cc h)
 value_in-made (c ∷ trail) v n h =
     elim (same_var c.var v) as (λ b. same_var c.var v ≡ b → cond b (Some c.val) (value_in trail v) ≡ Some n → Contains (c ∷ trail) (choice_of v n)) [
-      true ↦ λ same k.
+      | true ↦ λ same k.
           let here : c ≡ choice_of v n = ap (λ w. choice_of w c.val) (same_var-is c.var v same) ∙ ap (choice_of v) (cc k) in
           subst (λ d. Contains (c ∷ trail) d) here (contains-head c trail)
-    | false ↦ λ same k. contains-tail c trail (choice_of v n) (value_in-made trail v n k)
+      | false ↦ λ same k. contains-tail c trail (choice_of v n) (value_in-made trail v n k)
     ] refl h
 
 -- a value stays when choices follow
@@ -134,8 +134,8 @@ pub value_in-kept : (trail more : List Choice) (v : Var) (n : ℕ) → value_in 
 value_in-kept [] more v n h = absurd (cc h)
 value_in-kept (c ∷ trail) more v n h =
     elim (same_var c.var v) as (λ b. cond b (Some c.val) (value_in trail v) ≡ Some n → cond b (Some c.val) (value_in (trail ++ more) v) ≡ Some n) [
-      true ↦ λ k. k
-    | false ↦ λ k. value_in-kept trail more v n k
+      | true ↦ λ k. k
+      | false ↦ λ k. value_in-kept trail more v n k
     ] h
 
 -- a variable without a value has the value of the choice that follows
@@ -143,8 +143,8 @@ pub value_in-new : (trail more : List Choice) (v : Var) (n : ℕ) → value_in t
 value_in-new [] more v n h = cond-true (same_var v v) (Some n) (value_in more v) (same_var-refl v)
 value_in-new (c ∷ trail) more v n h =
     elim (same_var c.var v) as (λ b. cond b (Some c.val) (value_in trail v) ≡ None → cond b (Some c.val) (value_in (trail ++ choice_of v n ∷ more) v) ≡ Some n) [
-      true ↦ λ k. absurd (cc k)
-    | false ↦ λ k. value_in-new trail more v n k
+      | true ↦ λ k. absurd (cc k)
+      | false ↦ λ k. value_in-new trail more v n k
     ] h
 
 -- what has no value after a choice had none before it, and isn't its variable
@@ -152,8 +152,8 @@ pub value_in-none : (trail more : List Choice) (v : Var) → value_in (trail ++ 
 value_in-none [] more v h = refl
 value_in-none (c ∷ trail) more v h =
     elim (same_var c.var v) as (λ b. cond b (Some c.val) (value_in (trail ++ more) v) ≡ None → cond b (Some c.val) (value_in trail v) ≡ None) [
-      true ↦ λ k. k
-    | false ↦ λ k. value_in-none trail more v k
+      | true ↦ λ k. k
+      | false ↦ λ k. value_in-none trail more v k
     ] h
 
 -- each variable of a choice has a value
@@ -161,10 +161,10 @@ pub value_in-some : (trail : List Choice) (c : Choice) → Contains trail c → 
 value_in-some [] c h = absurd (contains-none c h)
 value_in-some (d ∷ trail) c h =
     elim (same_var d.var c.var) as (λ b. same_var d.var c.var ≡ b → is_some (cond b (Some d.val) (value_in trail c.var)) ≡ true) [
-      true ↦ λ same. refl
-    | false ↦ λ other. elim (contains-cases d trail c h) [
-        inl e ↦ absurd (false≢true (sym other ∙ ap (λ x. same_var d.var x.var) (sym e) ∙ same_var-refl d.var))
-      | inr r ↦ value_in-some trail c r
+      | true ↦ λ same. refl
+      | false ↦ λ other. elim (contains-cases d trail c h) [
+        | inl e ↦ absurd (false≢true (sym other ∙ ap (λ x. same_var d.var x.var) (sym e) ∙ same_var-refl d.var))
+        | inr r ↦ value_in-some trail c r
       ]
     ] refl
 
@@ -178,8 +178,8 @@ passes-value A trail v n passes h = passes (choice_of v n) (value_in-made trail 
 pub passes-push : (A : Assignment) (trail : List Choice) (c : Choice) → Passes A trail → A c.var ≡ Some c.val → Passes A (trail ++ c ∷ [])
 passes-push A trail c passes h d k =
     elim (contains-append trail (c ∷ []) d k) [
-      inl l ↦ passes d l
-    | inr r ↦ elim (contains-cases c [] d r) [ inl e ↦ subst (λ x. A x.var ≡ Some x.val) e h | inr none ↦ absurd (contains-none d none) ]
+      | inl l ↦ passes d l
+      | inr r ↦ elim (contains-cases c [] d r) [ inl e ↦ subst (λ x. A x.var ≡ Some x.val) e h | inr none ↦ absurd (contains-none d none) ]
     ]
 
 pub passes-front : (A : Assignment) (trail more : List Choice) → Passes A (trail ++ more) → Passes A trail
@@ -196,8 +196,8 @@ eqb-refl m = eq-eqb m m refl
 pub is_made-is : (A : Assignment) (c : Choice) → is_made A c ≡ true → A c.var ≡ Some c.val
 is_made-is A c h =
     elim (A c.var) as (λ o. is_one_of o (c.val ∷ []) ≡ true → o ≡ Some c.val) [
-      None ↦ λ k. absurd (false≢true k)
-    | Some n ↦ λ k. ap Some (eqb-is n c.val (elim (nat_eq n c.val) as (λ b. b || false ≡ true → b ≡ true) [ true ↦ λ z. refl | false ↦ λ z. z ] k))
+      | None ↦ λ k. absurd (false≢true k)
+      | Some n ↦ λ k. ap Some (eqb-is n c.val (elim (nat_eq n c.val) as (λ b. b || false ≡ true → b ≡ true) [ true ↦ λ z. refl | false ↦ λ z. z ] k))
     ] h
 
 pub is_made-from : (A : Assignment) (c : Choice) → A c.var ≡ Some c.val → is_made A c ≡ true
@@ -213,8 +213,8 @@ least_from-some : (v : Var) (vars : List Var) → least_from (Some v) vars ≡ N
 least_from-some v [] h = cc h
 least_from-some v (w ∷ vars) h =
     elim (is_lt (var_cmp w v)) as (λ b. least_from (cond b (Some w) (Some v)) vars ≡ None → ⊥) [
-      true ↦ λ k. least_from-some w vars k
-    | false ↦ λ k. least_from-some v vars k
+      | true ↦ λ k. least_from-some w vars k
+      | false ↦ λ k. least_from-some v vars k
     ] h
 
 pub least_from-none : (vars : List Var) → least_from None vars ≡ None → vars ≡ []
@@ -225,10 +225,10 @@ least_from-best : (v : Var) (vars : List Var) (w : Var) → least_from (Some v) 
 least_from-best v [] w h = subst (λ x. Contains (v ∷ []) x) (cc h) (contains-head v [])
 least_from-best v (u ∷ vars) w h =
     elim (is_lt (var_cmp u v)) as (λ b. least_from (cond b (Some u) (Some v)) vars ≡ Some w → Contains (v ∷ u ∷ vars) w) [
-      true ↦ λ k. contains-tail v (u ∷ vars) w (least_from-best u vars w k)
-    | false ↦ λ k. elim (contains-cases v vars w (least_from-best v vars w k)) [
-        inl e ↦ subst (λ x. Contains (v ∷ u ∷ vars) x) e (contains-head v (u ∷ vars))
-      | inr r ↦ contains-tail v (u ∷ vars) w (contains-tail u vars w r)
+      | true ↦ λ k. contains-tail v (u ∷ vars) w (least_from-best u vars w k)
+      | false ↦ λ k. elim (contains-cases v vars w (least_from-best v vars w k)) [
+        | inl e ↦ subst (λ x. Contains (v ∷ u ∷ vars) x) e (contains-head v (u ∷ vars))
+        | inr r ↦ contains-tail v (u ∷ vars) w (contains-tail u vars w r)
       ]
     ] h
 
@@ -248,13 +248,13 @@ targets_open-append trail xs ys = ap (map (λ d. d.target)) (filter-append (open
 
 -- the least of one list after another
 pub least_open-append : (trail : List Choice) (best : Option Var) (xs ys : List Demand)
-  → least_from (least_from best (targets_open trail xs)) (targets_open trail ys) ≡ least_from best (targets_open trail (xs ++ ys))
+    → least_from (least_from best (targets_open trail xs)) (targets_open trail ys) ≡ least_from best (targets_open trail (xs ++ ys))
 least_open-append trail best xs ys =
     sym (ap (least_from best) (targets_open-append trail xs ys) ∙ least_from-append best (targets_open trail xs) (targets_open trail ys))
 
 -- the least open variable is the target of a demand that opens it
 pub next-opens : (p : Problem) (trail : List Choice) (v : Var) → next_var p trail ≡ Some v
-  → (d : Demand) × Contains (demands_after p trail) d × (opens trail d ≡ true) × (d.target ≡ v)
+    → (d : Demand) × Contains (demands_after p trail) d × (opens trail d ≡ true) × (d.target ≡ v)
 unfolding next_var
 next-opens p trail v h =
     let found = contains-map (λ (d : Demand). d.target) (filter (opens trail) (demands_after p trail)) v (least_from-member (targets_open trail (demands_after p trail)) v h) in
@@ -287,10 +287,10 @@ next-unchosen p trail v h =
 pub demand-after : (p : Problem) (trail : List Choice) (d : Demand) → All (IsChoice p) trail → Contains (demands_after p trail) d → IsDemand p d
 demand-after p trail d choices h =
     elim (contains-append p.roots (flat_map p.demands trail) d h) [
-      inl l ↦ inl l
-    | inr r ↦
-        let found = contains-flat_map p.demands trail d r in
-        inr (found.0, All-contains (IsChoice p) trail found.0 choices found.1, found.2)
+      | inl l ↦ inl l
+      | inr r ↦
+          let found = contains-flat_map p.demands trail d r in
+          inr (found.0, All-contains (IsChoice p) trail found.0 choices found.1, found.2)
     ]
 
 pub target-known : (p : Problem) (d : Demand) → Lawful p → IsDemand p d → IsTrue (p.known d.target)

@@ -1,6 +1,7 @@
 ghost use Rattle.std.specs.Prelude.{IfOk};
 ghost use Rattle.choice_problem.specs.Plain.{Answers};
 
+use crate::search::Search;
 use crate::{Choice, Choices};
 use plan_types::{List, NoMemory};
 use std::alloc::Global;
@@ -16,6 +17,12 @@ pub enum Plain {
 pub fn plain_search<C: Choices>(alloc: Global, choices: &C) -> Result<Plain, NoMemory>
     ensures { IfOk result (Answers (C.problem choices.now)) }
 {
-    let _ = choices.roots(alloc)?;
-    Err(NoMemory)
+    let mut search = Search::new(alloc, choices.roots(alloc)?);
+    while let Some(var) = search.next_open() {
+        let values = choices.order(alloc, var, &search.trail)?;
+        if !search.advance(alloc, choices, var, values)? {
+            return Ok(Plain::NoPlan);
+        }
+    }
+    Ok(Plain::Found(search.into_trail()))
 }
