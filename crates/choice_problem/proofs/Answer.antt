@@ -14,7 +14,7 @@ use Rattle.choice_problem.specs.Assignment.{Assignment, is_one_of, is_yes, is_me
 use Rattle.choice_problem.specs.Trail.{value_in, demands_after, next_var, with_next, with_value, choice_of, trail_from, trail_of}
 use Rattle.choice_problem.specs.Search.{keeps, fits, Steps, steps, steps_with, steps_with_each, first_found}
 use Rattle.choice_problem.specs.Plain.{IsWholeValid, ComesBefore, Answers}
-use Rattle.choice_problem.proofs.Lists.{contains-head, contains-none, contains-cases, contains-right, contains-map, map-contains, and-left, and-right, and-both, all-at, all-from, cancel-front, without, earlier-in-front}
+use Rattle.choice_problem.specs.Lists.{contains-head, contains-none, contains-cases, contains-right, contains-map, map-contains, and-left, and-right, and-both, all-at, all-from, cancel-front, without, earlier-in-front}
 use Rattle.choice_problem.proofs.Trails.{cond-true, value_in-made, value_in-kept, value_in-new, value_in-none, value_in-some, Passes, passes-value, passes-push, passes-front, passes-yes, next-opens, next-none, next-unchosen, demand-after, target-known, yes-after}
 
 -- lists of steps

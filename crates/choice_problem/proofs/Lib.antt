@@ -1,4 +1,3 @@
-pub mod Lists
 pub mod Trails
 pub mod Answer
 pub mod Stack

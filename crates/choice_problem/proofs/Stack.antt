@@ -14,7 +14,7 @@ use Rattle.choice_problem.specs.declared.search.Search.{Search}
 use Rattle.choice_problem.specs.Problem.{Problem, IsChoice, Lawful}
 use Rattle.choice_problem.specs.Trail.{demands_after, next_var, choice_of, least_from}
 use Rattle.choice_problem.specs.Search.{keeps, fits, Steps, steps, steps_with_each, steps_left, left_at, IsStack, bottom, on, steps_at, steps_trying, steps_behind, Stands, IsOpen, Chose, Made, TookBack}
-use Rattle.choice_problem.proofs.Lists.{all-append, all-flat_map}
+use Rattle.choice_problem.specs.Lists.{all-append, all-flat_map}
 use Rattle.choice_problem.proofs.Trails.{cond-true, cond-false, targets_open}
 use Rattle.choice_problem.proofs.Answer.{Room, room-start, room-zero, room-next, next-known, steps-none, steps-some}
 

@@ -7,7 +7,9 @@ mod plain;
 mod problem;
 mod search;
 mod variable;
+mod written;
 
 pub use plain::{Plain, plain_search};
 pub use problem::{Choice, Choices, Demand};
 pub use variable::{Part, Qual, Var};
+pub use written::{Written, WrittenVar};

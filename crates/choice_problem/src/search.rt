@@ -20,7 +20,7 @@ pub struct Point {
 }
 
 // The order's own test, which the definitions of trails use.
-fn is_same(v: Var, w: Var) -> bool
+pub fn is_same(v: Var, w: Var) -> bool
     ensures { result ≡ same_var v w }
 {
     v.cmp(&w).is_eq()
