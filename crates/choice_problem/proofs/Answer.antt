@@ -147,11 +147,11 @@ module _ (p : Problem) (lawful : Lawful p) where
   -- an assignment that holds, and a trail whose choices it makes
 
   module _ (A : Assignment) (holds : HoldsWithin p p.known A) where
-    passes-choices : (trail : List Choice) → Passes A trail → All (IsChoice p) trail
+    pub passes-choices : (trail : List Choice) → Passes A trail → All (IsChoice p) trail
     passes-choices trail passes k d h = holds.assignment.choice (get_or trail k d) (passes (get_or trail k d) (Contains-get_or trail k d h))
 
     -- A has a value for the variable that is open next
-    made-next : (trail : List Choice) (v : Var) → Passes A trail → next_var p trail ≡ Some v → (n : ℕ) × (A v ≡ Some n)
+    pub made-next : (trail : List Choice) (v : Var) → Passes A trail → next_var p trail ≡ Some v → (n : ℕ) × (A v ≡ Some n)
     made-next trail v passes h =
         let found = next-opens p trail v h in
         let d = found.0 in

@@ -1,3 +1,4 @@
 pub mod Trails
 pub mod Answer
 pub mod Stack
+pub mod First

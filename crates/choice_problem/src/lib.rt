@@ -9,7 +9,7 @@ mod search;
 mod variable;
 mod written;
 
-pub use plain::{Plain, plain_search};
+pub use plain::{Plain, one_first, plain_search};
 pub use problem::{Choice, Choices, Demand};
 pub use variable::{Part, Qual, Var};
 pub use written::{Written, WrittenVar};

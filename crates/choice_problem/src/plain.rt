@@ -1,5 +1,8 @@
-ghost use Rattle.std.specs.Prelude.{IfOk};
-ghost use Rattle.choice_problem.specs.Plain.{Answers};
+ghost use Rattle.std.specs.Prelude.{◌≡◌, IfOk};
+ghost use Rattle.choice_problem.specs.Problem.{Problem, Lawful};
+ghost use Rattle.choice_problem.specs.Assignment.{Assignment};
+ghost use Rattle.choice_problem.specs.Trail.{trail_of};
+ghost use Rattle.choice_problem.specs.Plain.{Answers, IsFirst};
 
 use crate::search::Search;
 use crate::{Choice, Choices};
@@ -26,6 +29,11 @@ pub fn plain_search<C: Choices>(alloc: Global, choices: &C) -> Result<Plain, NoM
     }
     Ok(Plain::Found(search.into_trail()))
 }
+
+/// There is one first trail: two whole valid assignments of which nothing comes before either have the same.
+pub fn one_first()
+    ensures { (p : Problem) (A B : Assignment) → Lawful p → IsFirst p A → IsFirst p B → trail_of p A ≡ trail_of p B }
+{}
 
 #[cfg(test)]
 mod tests {
