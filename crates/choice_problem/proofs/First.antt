@@ -1,15 +1,15 @@
 -- Two whole valid assignments have one trail, or one of them comes before the other.
-use Rattle.std.proofs.Common.{◌≡◌, ℕ, zero, suc, Bool, true, false, List, [], ◌∷◌, ◌++◌, Option, Some, None, refl, sym, ap, ◌∙◌, subst, inl, inr, ◌⊎◌, append_assoc}
+use Rattle.std.proofs.Common.{◌≡◌, ℕ, zero, suc, true, false, List, [], ◌∷◌, ◌++◌, Some, None, refl, sym, ap, ◌∙◌, subst, inl, inr, ◌⊎◌, append_assoc}
 use Rattle.std.specs.Prelude.{nat_eq}
-use Rattle.std.specs.List.{Contains, All}
+use Rattle.std.specs.List.{Contains}
 use Rattle.std.proofs.lemmas.Bool.{false≢true, eqb-true, eq-eqb}
 use Rattle.std.proofs.lemmas.List.{append-nil}
 use Rattle.choice_problem.specs.declared.variable.Var.{Var}
 use Rattle.choice_problem.specs.declared.problem.Choice.{Choice}
-use Rattle.choice_problem.specs.Problem.{Problem, IsChoice, Lawful}
+use Rattle.choice_problem.specs.Problem.{Problem, Lawful}
 use Rattle.choice_problem.specs.Assignment.{Assignment, HoldsWithin}
 use Rattle.choice_problem.specs.Trail.{next_var, with_next, with_value, choice_of, trail_from, trail_of}
-use Rattle.choice_problem.specs.Plain.{IsWholeValid, IsEarlier, ComesBefore, IsFirst}
+use Rattle.choice_problem.specs.Plain.{IsEarlier, ComesBefore, IsFirst}
 use Rattle.choice_problem.specs.Lists.{contains-none, contains-cases}
 use Rattle.choice_problem.proofs.Trails.{Passes, passes-push}
 use Rattle.choice_problem.proofs.Answer.{made-next, passes-choices}
