@@ -1,0 +1,3 @@
+pub mod Trails
+pub mod Answer
+pub mod Stack
