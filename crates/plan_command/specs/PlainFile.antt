@@ -96,4 +96,4 @@ plain_file text = do
   version ← line_with is_version 3 (codes "version: ") name.1
   library ← line_with is_empty 4 (codes "library") version.1
   nothing ← nothing_at 5 library.1
-  Ok (record { name = name.0; version = version.0 })
+  Ok (record { name = name.0; version = version.0; numbers = record { parts = [] }; needs = [] })

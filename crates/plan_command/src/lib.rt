@@ -4,7 +4,10 @@
 
 mod answer;
 mod command;
+mod folder_problem;
+mod index;
 mod plain_file;
+mod plan;
 mod root;
 mod text;
 mod trouble;

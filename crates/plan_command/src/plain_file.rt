@@ -7,14 +7,35 @@ ghost use Rattle.outside_folder.specs.Files.{after};
 ghost use Rattle.plan_types.specs.Name.{is_digit};
 ghost use Rattle.plan_command.specs.PlainFile.{Gives, is_boot_name, is_name, is_number, is_version, is_empty, first_line, line_after, line_with, nothing_at, plain_file};
 
-use plan_types::{Cause, Fault, NoMemory, Text, is_package_name};
+use plan_types::{Cause, Fault, List, NoMemory, Text, Version, is_package_name};
 use std::alloc::Global;
 
-/// What a plain file says.
+/// Which versions of a package may stand for it.
+#[derive(Debug, Drop)]
+pub(crate) enum Bound {
+    Any,
+    /// `==v`
+    Equal(Version),
+    /// `>=v`
+    AtLeast(Version),
+    /// `<v`
+    Below(Version),
+}
+
+/// A package that a file asks for.
+#[derive(Debug, Drop)]
+pub(crate) struct Need {
+    pub name: Text,
+    pub bound: Bound,
+}
+
+/// What a plain file says. The numbers are those of the version.
 #[derive(Debug, Drop)]
 pub(crate) struct PlainFile {
     pub name: Text,
     pub version: Text,
+    pub numbers: Version,
+    pub needs: List<Need>,
 }
 
 /// The plain file that a text is. The fault is `Unbuilt` at the first line that isn't as in one, where a
@@ -31,6 +52,10 @@ pub(crate) fn plain_file(alloc: Global, text: &[u8]) -> Result<PlainFile, Fault>
     Ok(PlainFile {
         name: ascii_text(alloc, name)?,
         version: ascii_text(alloc, version)?,
+        numbers: Version {
+            parts: List::new(alloc),
+        },
+        needs: List::new(alloc),
     })
 }
 
