@@ -1,6 +1,7 @@
 -- The problem of a folder: which release of each package is chosen. Packages go by their places in the list, of
 -- which the first is the local one; the number behind the last stands for a name that no package has.
-use Rattle.std.specs.Prelude.{ℕ, zero, suc, ◌+◌, Bool, true, false, ◌&&◌, not, nat_le, List, [], ◌∷◌, ◌++◌, length, slice_index_or, map, filter, position_or_len}
+use Rattle.std.specs.Prelude.{ℕ, zero, suc, ◌+◌, Bool, true, false, ◌&&◌, not, nat_le, List, [], ◌∷◌, ◌++◌, length, slice_index_or, map, filter}
+use Rattle.std.specs.List.{position_or_len}
 use Rattle.std.specs.Ordering.{nat_cmp, is_lt}
 use Rattle.std.specs.Cmp.Lexicographic.{slice_cmp}
 use Rattle.choice_problem.specs.declared.variable.Qual.TheVariants.{Top}

@@ -1,5 +1,6 @@
 -- The problem of any packages keeps the laws.
-use Rattle.std.specs.Prelude.{◌≡◌, ◌≢◌, ℕ, zero, suc, ◌+◌, ◌<◌, ◌≤◌, Bool, true, ◌&&◌, nat_le, IsTrue, List, [], ◌∷◌, ◌++◌, length, map, All, AllPairs, Contains, position_or_len, refl, get_or}
+use Rattle.std.specs.Prelude.{◌≡◌, ◌≢◌, ℕ, zero, suc, ◌+◌, ◌<◌, ◌≤◌, Bool, true, false, cond, ◌&&◌, nat_le, IsTrue, List, [], ◌∷◌, ◌++◌, length, map, All, AllPairs, Contains, refl, get_or}
+use Rattle.std.specs.List.{position_or_len}
 use Rattle.std.proofs.Common.{sym, ap, ◌∙◌, subst, inl, inr, arith}
 use Rattle.std.proofs.lemmas.Bool.{cases_lt, leb-true, le-leb}
 use Rattle.std.proofs.lemmas.List.{length-map, length-append}
@@ -73,9 +74,6 @@ module _ (packages : List Package) where
     same_var-is v (variable v.«package») (and-left (same_var v (variable v.«package»)) (nat_le v.«package» (length packages)) h),
     leb-true v.«package» (length packages) (and-right (same_var v (variable v.«package»)) (nat_le v.«package» (length packages)) h),
   )
-
-  variables : List Var
-  variables = map variable (rising (length packages + 1))
 
   bounded : IsBounded (problem_of packages)
   bounded = record {
