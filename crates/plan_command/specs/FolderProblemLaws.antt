@@ -1,9 +1,10 @@
 -- The problem of any packages keeps the laws.
-use Rattle.std.specs.Prelude.{◌≡◌, ◌≢◌, ℕ, zero, suc, ◌+◌, ◌<◌, ◌≤◌, Bool, true, false, cond, ◌&&◌, nat_le, IsTrue, List, [], ◌∷◌, ◌++◌, length, map, All, AllPairs, Contains, refl, get_or}
+use Rattle.std.specs.Prelude.{◌≡◌, ◌≢◌, ℕ, zero, suc, ◌+◌, ◌<◌, ◌≤◌, Bool, true, ◌&&◌, not, nat_le, IsTrue, List, [], ◌∷◌, ◌++◌, length, map, All, AllPairs, Contains, refl, get_or}
 use Rattle.std.specs.List.{position_or_len}
 use Rattle.std.proofs.Common.{sym, ap, ◌∙◌, subst, inl, inr, arith}
 use Rattle.std.proofs.lemmas.Bool.{cases_lt, leb-true, le-leb}
 use Rattle.std.proofs.lemmas.List.{length-map, length-append}
+use Rattle.std.proofs.lemmas.List.Sums.{prefix_len-le-length}
 use Rattle.std.proofs.lemmas.List.Elements.{All-contains, Contains-get_or}
 use Rattle.choice_problem.specs.declared.variable.Var.{Var}
 use Rattle.choice_problem.specs.declared.problem.Choice.{Choice}
@@ -54,16 +55,14 @@ pairs-cons R x xs h rest (suc i) zero d low high = absurd (omega (arith, low))
 pairs-cons R x xs h rest (suc i) (suc j) d low high = rest i j d (omega (arith, low)) (omega (arith, high))
 
 falling-once : (n : ℕ) → AllPairs (λ x y. x ≢ y) (falling n)
-falling-once zero i j d low high = absurd (omega (arith, high))
+falling-once zero = λ i j d low high. absurd (omega (arith, high))
 falling-once (suc n) = pairs-cons (λ (x y : ℕ). x ≢ y) n (falling n) (λ y k e. omega (arith, falling-below n y k)) (falling-once n)
 
 falling-order : (n : ℕ) → IsOrderBelow n (falling n)
 falling-order n = record { below = all-where (λ x. x < n) (falling n) (falling-below n); each = falling-has n; once = falling-once n }
 
 position-within : {X : Type 0} (test : X → Bool) (xs : List X) → position_or_len test xs ≤ length xs
-position-within test [] = omega arith
-position-within test (x ∷ xs) =
-    elim (test x) as (λ b. cond b 0 (1 + position_or_len test xs) ≤ suc (length xs)) [ true ↦ omega arith | false ↦ omega (arith, position-within test xs) ]
+position-within test xs = prefix_len-le-length (λ x. not (test x)) xs
 
 module _ (packages : List Package) where
   known-at : (n : ℕ) → n ≤ length packages → is_known packages (variable n) ≡ true
