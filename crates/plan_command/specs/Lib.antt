@@ -1,7 +1,11 @@
 pub mod Answer
+pub mod FolderProblem
+pub mod FolderProblemLaws
 pub mod Line
 pub mod Need
 pub mod PlainFile
+pub mod Plan
+pub mod Resolved
 pub mod Root
 pub mod Text
 pub mod Version
