@@ -1,0 +1,33 @@
+-- One element, and what the lines behind it stand for.
+use Rattle.std.proofs.Common.{◌≡◌, ℕ, ◌+◌, Bool, true, false, List, [], ◌∷◌, ◌++◌, refl, sym, ◌∙◌, ap, subst, append_assoc, append-nil}
+use Rattle.plan_types.specs.declared.element.Element.{Element}
+use Rattle.plan_types.specs.declared.refusal.Cause.{Cause}
+use Rattle.cabal_lexer.specs.Lines.{Line}
+use Rattle.cabal_lexer.specs.Layout.{closes, ends, Ends, Inside, Stands, nothing, element, Block, run, braced_run, indented, enclosed, Fails, later, Cut}
+use Rattle.cabal_lexer.proofs.Runs.{Ends-front}
+
+-- a block is one before another rest too, that ends it
+pub block_before : {depth : ℕ} {braced : Bool} {line : Line} {block rest : List Line} {item : Element} → Block depth braced line block rest item →
+    (other : List Line) → (Ends (line.indent + 1) braced rest → Ends (line.indent + 1) braced other) → Block depth braced line block other item
+block_before (run b i x) other t = run b i (t x)
+block_before (braced_run values close b i c) other t = braced_run values close b i c
+block_before (indented b s x) other t = indented b s (t x)
+block_before (enclosed block close b s c) other t = enclosed block close b s c
+
+pub cut_none : (bound depth : ℕ) (braced : Bool) (rest : List Line) → Ends bound braced rest → Cut bound depth braced rest [] rest
+cut_none bound depth braced rest e = record { front = []; whole = refl; stands = nothing; ended = e }
+
+module _ {bound depth : ℕ} {braced : Bool} {line : Line} {block more after : List Line} {item : Element}
+    (e : ends bound braced line ≡ false) (whole : more ≡ block ++ after) (b : Block depth braced line block after item) where
+
+  pub cut_more : {items : List Element} {rest : List Line} → Cut bound depth braced after items rest → Cut bound depth braced (line ∷ more) (item ∷ items) rest
+  cut_more {rest = rest} cut = record {
+    front = line ∷ block ++ cut.front;
+    whole = ap (λ v. line ∷ v) (whole ∙ ap (λ v. block ++ v) cut.whole ∙ sym (append_assoc block cut.front rest));
+    stands = element line block cut.front e
+        (block_before b cut.front (λ k. Ends-front _ braced cut.front rest (subst (λ v. Ends (line.indent + 1) braced v) cut.whole k))) cut.stands;
+    ended = cut.ended;
+  }
+
+  pub fails_more : {at : Line} {cause : Cause} → Fails bound depth braced after at cause → Fails bound depth braced (line ∷ more) at cause
+  fails_more {at} {cause} f = subst (λ v. Fails bound depth braced (line ∷ v) at cause) (sym whole) (later line block after e b f)
