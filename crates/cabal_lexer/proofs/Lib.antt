@@ -4,3 +4,4 @@ pub mod Elements
 pub mod Total
 pub mod Soundness
 pub mod Laws
+pub mod Texts

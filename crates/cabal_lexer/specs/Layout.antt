@@ -6,6 +6,8 @@ use Rattle.plan_types.specs.declared.element.Element.{Element}
 use Rattle.plan_types.specs.declared.element.Element.TheVariants.{Field, Section}
 use Rattle.plan_types.specs.declared.refusal.Cause.{Cause}
 use Rattle.plan_types.specs.declared.refusal.Cause.TheVariants.{UnclosedBrace}
+use Rattle.plan_types.specs.declared.refusal.Fault.{Fault}
+use Rattle.plan_types.specs.declared.refusal.Fault.TheVariants as fault
 use Rattle.cabal_lexer.specs.Lines.{Line}
 use Rattle.cabal_lexer.specs.Opening.{Opening, field, braced_field, section, braced_section, is_lone, opening, within}
 
@@ -98,3 +100,14 @@ pub record Cut (bound depth : ℕ) (braced : Bool) (lines : List Line) (items : 
   pub whole : lines ≡ front ++ rest
   pub stands : Stands bound depth braced front items
   pub ended : Ends bound braced rest
+
+-- The line and the lines behind it are this element, up to this rest.
+pub record IsElement (depth : ℕ) (braced : Bool) (line : Line) (lines : List Line) (item : Element) (rest : List Line) : Type 0 where
+  pub block : List Line
+  pub whole : lines ≡ block ++ rest
+  pub is : Block depth braced line block rest item
+
+-- a fault, unless memory is wanting, at a line that has this
+abbrev pub At : (Line → Cause → Type 0) → Fault → Type 0
+At P fault.NoMemory = Unit {0}
+At P (fault.At number cause) = (line : Line) × (number ≡ line.number) × P line cause

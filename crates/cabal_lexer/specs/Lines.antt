@@ -1,6 +1,6 @@
 -- The kept lines of a text: those that aren't blank and aren't comments.
-use Rattle.std.specs.Prelude.{ℕ, ◌+◌, Bool, ◌&&◌, ◌||◌, not, List, [], ◌∷◌, ◌++◌, ◌==◌, if◌then◌else◌, length, drop, reverse, slice_index}
-use Rattle.std.specs.List.{prefix_len}
+use Rattle.std.specs.Prelude.{ℕ, ◌+◌, Bool, ◌&&◌, ◌||◌, not, List, [], ◌∷◌, ◌++◌, ◌==◌, if◌then◌else◌, length, drop, reverse, slice_index, nat_eq}
+use Rattle.std.specs.List.{prefix_len, starts_with}
 use Rattle.std.specs.Str.Lines.{lines}
 
 -- Lines are numbered from 1. The indent is the number of blanks in front, each one column, and the
@@ -42,10 +42,12 @@ abbrev pub kept_from : ℕ → List (List ℕ) → List Line
 kept_from number [] = []
 kept_from number (raw ∷ raws) = kept_line number raw ++ kept_from (number + 1) raws
 
--- without the byte-order mark, where there is one
+-- the byte-order mark
+abbrev pub mark : List ℕ
+mark = 239 ∷ 187 ∷ 191 ∷ []
+
 unfoldable pub without_mark : List ℕ → List ℕ
-without_mark bytes =
-    if slice_index bytes 0 == 239 && slice_index bytes 1 == 187 && slice_index bytes 2 == 191 then drop 3 bytes else bytes
+without_mark bytes = if starts_with nat_eq bytes mark then drop 3 bytes else bytes
 
 -- Lines are cut at newlines, each without one carriage return in front of it.
 abbrev pub kept_lines : List ℕ → List Line

@@ -7,6 +7,8 @@ use Rattle.std.specs.Char.{to_ascii_lowercase}
 use Rattle.plan_types.specs.declared.refusal.Cause.{Cause}
 use Rattle.plan_types.specs.declared.refusal.Cause.TheVariants.{StrayBrace, BadName, TooDeep}
 use Rattle.plan_types.specs.Name.{is_letter, is_letter_or_digit}
+use Rattle.cabal_lexer.specs.declared.opening.Opening.{Opening as Begun}
+use Rattle.cabal_lexer.specs.declared.opening.Opening.TheVariants as begun
 use Rattle.cabal_lexer.specs.Lines.{trim, trim_start, trim_end}
 
 pub data Opening : Type 0 where
@@ -73,3 +75,14 @@ within depth (Err cause) = Err cause
 abbrev pub cause_of : Result Opening Cause → Cause
 cause_of (Ok opening) = TooDeep
 cause_of (Err cause) = cause
+
+-- what the code gives, with the names in lower case
+abbrev pub shown : Begun → Opening
+shown (begun.Field name first) = field (lower_case name.now) first.now
+shown (begun.BracedField name) = braced_field (lower_case name.now)
+shown (begun.Section name args) = section (lower_case name.now) args.now
+shown (begun.BracedSection name args) = braced_section (lower_case name.now) args.now
+
+abbrev pub seen : Result Begun Cause → Result Opening Cause
+seen (Ok begun) = Ok (shown begun)
+seen (Err cause) = Err cause

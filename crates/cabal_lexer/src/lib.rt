@@ -1,3 +1,6 @@
 //! From the bytes of a file to its fields and sections, by its lines, indents and braces, or to the
 //! first fault; and from these back to a text.
 #![tactic(auto)]
+
+mod lines;
+mod opening;
