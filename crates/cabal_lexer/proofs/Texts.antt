@@ -1,21 +1,17 @@
 -- Texts: where they may be cut, and the lines in them.
 use Rattle.std.proofs.Common.{◌≡◌, ℕ, zero, suc, ◌+◌, ◌-◌, ◌<◌, ◌≤◌, Bool, true, false, cond, List, [], ◌∷◌, ◌++◌, length, take, drop, get_or, refl, sym, ◌∙◌, ap, subst, arith, append_assoc, append-nil, length-append, length-take, length-drop, eqb}
 use Rattle.std.specs.Prelude.{reverse, map, count_by, if◌then◌else◌, ◌==◌, nat_eq}
-use Rattle.std.specs.Option.{MatchOption}
-use Rattle.std.specs.declared.option.Option.{Option}
-use Rattle.std.specs.declared.option.Option.TheVariants.{None, Some}
 use Rattle.std.specs.Borrow.{Bor}
 use Rattle.std.specs.List.{prefix_len, starts_with, slice_split}
 use Rattle.std.specs.Str.{IsUtf8, IsCharBoundary}
-use Rattle.std.specs.Str.Pattern.{FindsTextPrefix, StripsPrefix}
 use Rattle.std.specs.Str.Lines.{lines, lines_of_parts}
 use Rattle.std.proofs.Math.Seq.{drop-append_seam}
-use Rattle.std.proofs.lemmas.List.{take-append-drop, reverse-append, reverse-reverse, length-reverse, get_or-reverse}
+use Rattle.std.proofs.lemmas.List.{take-append-drop, reverse-append, reverse-reverse, length-reverse, get_or-reverse, map-append, length-map}
 use Rattle.std.proofs.lemmas.List.Sums.{prefix_len-le-length, prefix_len_passes, count_by-le-length}
 use Rattle.std.proofs.lemmas.List.Splits.{length-slice_split}
 use Rattle.std.proofs.lemmas.Str.{IsCharBoundary-start, IsCharBoundary-end, IsCharBoundary-before_ascii, IsCharBoundary-after_ascii}
-use Rattle.std.proofs.lemmas.Str.Pattern.{starts_text}
 use Rattle.std.proofs.lemmas.Bool.Decides.{nat_tests}
+use Rattle.cabal_lexer.specs.Opening.{is_name_byte, begins_with, ends_with_brace}
 use Rattle.cabal_lexer.specs.Lines.{Line, is_blank, indent, trim_start, trim_end, kept_line, kept_from, mark, without_mark}
 
 -- where a test passes ASCII alone
@@ -68,18 +64,30 @@ pub trim_end-take : (text : List ℕ) → take (length text - indent (reverse te
 unfolding trim_end trim_start
 trim_end-take text = sym (reverse-drop-reverse text (indent (reverse text)) (trailing-le text))
 
--- ---- the mark
+-- ---- openings
 
-strips : (n s : List ℕ) (r : Option (Bor (List ℕ))) → MatchOption r (FindsTextPrefix n s None) (λ x. StripsPrefix (FindsTextPrefix n) s x.now) →
-    MatchOption r (starts_with eqb s n ≡ false) (λ x. (starts_with eqb s n ≡ true) × (x.now ≡ drop (length n) s))
-strips n s None h = sym (starts_text false n s h)
-strips n s (Some x) h = (sym (starts_text true n s (h.0, h.1, subst (λ k. IsCharBoundary s k) (sym h.1.0) h.1.2)), h.2 ∙ ap (λ k. drop k s) h.1.0)
+pub is_name_byte-ascii : PassesAscii is_name_byte
+is_name_byte-ascii b h = grind (arith, nat_tests)
 
-pub unmarked : (s : List ℕ) (r : Option (Bor (List ℕ))) → MatchOption r (FindsTextPrefix mark s None) (λ x. StripsPrefix (FindsTextPrefix mark) s x.now) →
-    MatchOption r (s ≡ without_mark s) (λ x. x.now ≡ without_mark s)
-unfolding without_mark
-unmarked s None h = ap (λ b. cond b (drop 3 s) s) (sym (strips mark s None h))
-unmarked s (Some x) h = (strips mark s (Some x) h).1 ∙ ap (λ b. cond b (drop 3 s) s) (sym (strips mark s (Some x) h).0)
+pub begins_with-boundary : (b : ℕ) (text : List ℕ) → b < 128 → IsUtf8 text → begins_with b text ≡ true → IsCharBoundary text 1
+begins_with-boundary b [] low u h = cc
+begins_with-boundary b (x ∷ xs) low u h =
+    let same : x ≡ b = grind (arith, nat_tests) in
+    subst (λ k. IsCharBoundary (x ∷ xs) k) (omega arith) (IsCharBoundary-after_ascii (x ∷ xs) 0 u (omega arith) (subst (λ v. v < 128) (sym same) low))
+
+pub ends_with_brace-le : (text : List ℕ) → ends_with_brace text ≡ true → 1 ≤ length text
+unfolding ends_with_brace
+ends_with_brace-le [] h = cc
+ends_with_brace-le (x ∷ xs) h = omega arith
+
+pub ends_with_brace-boundary : (text : List ℕ) → ends_with_brace text ≡ true → IsCharBoundary text (length text - 1)
+unfolding ends_with_brace
+ends_with_brace-boundary text h =
+    let some = ends_with_brace-le text h in
+    let same : get_or text (length text - 1) 0 ≡ 123 = grind (arith, nat_tests) in
+    IsCharBoundary-before_ascii text (length text - 1) (omega arith) (omega arith)
+
+-- ---- lines
 
 without-le : (s : List ℕ) (b : Bool) → length (cond b (drop 3 s) s) ≤ length s
 without-le s true = omega (arith, length-drop 3 s)
@@ -88,8 +96,6 @@ without-le s false = omega arith
 pub without_mark-le : (s : List ℕ) → length (without_mark s) ≤ length s
 unfolding without_mark
 without_mark-le s = without-le s (starts_with nat_eq s mark)
-
--- ---- lines
 
 pub kept_from-push : (n : ℕ) (raws : List (List ℕ)) (raw : List ℕ) → kept_from n (raws ++ raw ∷ []) ≡ kept_from n raws ++ kept_line (n + length raws) raw
 kept_from-push n [] raw = append-nil _ ∙ ap (λ k. kept_line k raw) (omega arith)
@@ -109,3 +115,10 @@ lines_of_parts-le (x ∷ y ∷ more) = omega (arith, lines_of_parts-le (y ∷ mo
 pub lines-le : (text : List ℕ) → length (lines text) ≤ length text + 1
 lines-le text =
     omega (arith, lines_of_parts-le (slice_split (λ b. b == 10) text), length-slice_split (λ b. b == 10) text, count_by-le-length (λ b. b == 10) text)
+
+pub kept_from-yielded : (raws : List (Bor (List ℕ))) (raw : Bor (List ℕ)) →
+    kept_from 1 (map (λ r. r.now) (raws ++ raw ∷ [])) ≡ kept_from 1 (map (λ r. r.now) raws) ++ kept_line (length raws + 1) raw.now
+kept_from-yielded raws raw =
+    ap (kept_from 1) (map-append (λ r. r.now) raws (raw ∷ []))
+    ∙ kept_from-push 1 (map (λ r. r.now) raws) raw.now
+    ∙ ap (λ k. kept_from 1 (map (λ r. r.now) raws) ++ kept_line k raw.now) (omega (arith, length-map raws (λ (r : Bor (List ℕ)). r.now)))

@@ -1,5 +1,5 @@
 -- How the text of a line begins an element.
-use Rattle.std.specs.Prelude.{ℕ, ◌-◌, Bool, true, false, ◌&&◌, ◌||◌, List, ◌==◌, if◌then◌else◌, length, map, take, drop, slice_index, nat_le}
+use Rattle.std.specs.Prelude.{ℕ, ◌-◌, Bool, true, false, ◌&&◌, ◌||◌, List, [], ◌∷◌, ◌==◌, if◌then◌else◌, length, map, take, drop, slice_index, nat_le}
 use Rattle.std.specs.declared.result.Result.{Result}
 use Rattle.std.specs.declared.result.Result.TheVariants.{Ok, Err}
 use Rattle.std.specs.List.{prefix_len, list_any}
@@ -37,6 +37,10 @@ lower_case name = map to_ascii_lowercase name
 unfoldable pub is_lone : ℕ → List ℕ → Bool
 is_lone b text = length text == 1 && slice_index text 0 == b
 
+abbrev pub begins_with : ℕ → List ℕ → Bool
+begins_with b [] = false
+begins_with b (x ∷ xs) = x == b
+
 -- the byte `{`
 unfoldable pub ends_with_brace : List ℕ → Bool
 ends_with_brace text = slice_index text (length text - 1) == 123
@@ -57,12 +61,12 @@ section_opening name args =
 -- what a name and the rest of its line begin
 unfoldable pub named_opening : List ℕ → List ℕ → Result Opening Cause
 named_opening name rest =
-    if slice_index rest 0 == 58 then Ok (field_opening name (trim (drop 1 rest))) else section_opening name (trim rest)
+    if begins_with 58 rest then Ok (field_opening name (trim (drop 1 rest))) else section_opening name (trim rest)
 
 -- A brace comes before a want of a name.
 unfoldable pub opening : List ℕ → Result Opening Cause
 opening text =
-    if slice_index text 0 == 125 then Err StrayBrace
+    if begins_with 125 text then Err StrayBrace
     else (if list_any is_letter (take (name_len text) text) then named_opening (lower_case (take (name_len text) text)) (trim_start (drop (name_len text) text))
     else Err BadName)
 

@@ -1,7 +1,7 @@
 ghost use Rattle.std.specs.Prelude.{◌≡◌, true};
 ghost use Rattle.std.specs.List.{list_any};
 ghost use Rattle.plan_types.specs.Name.{is_letter};
-ghost use Rattle.cabal_lexer.specs.Opening.{is_name_byte, name_len, ends_with_brace, before_brace, field_opening, section_opening, named_opening, lower_case, opening, within, shown, seen};
+ghost use Rattle.cabal_lexer.specs.Opening.{is_name_byte, name_len, begins_with, ends_with_brace, before_brace, field_opening, section_opening, named_opening, lower_case, opening, within, shown, seen};
 
 use crate::lines::{is_lone, trim, trim_end, trim_start};
 use plan_types::Cause;
@@ -31,7 +31,7 @@ pub fn opening_at(text: &str, depth: u32) -> Result<Opening<'_>, Cause>
 fn begun(text: &str) -> Result<Opening<'_>, Cause>
     ensures { seen result ≡ opening text.now }
 {
-    if text.as_bytes().first() == Some(&b'}') {
+    if begins_with(text, b'}') {
         return Err(Cause::StrayBrace);
     }
     let (name, rest) = text.split_at(name_len(text.as_bytes()));
@@ -39,6 +39,12 @@ fn begun(text: &str) -> Result<Opening<'_>, Cause>
         return Err(Cause::BadName);
     }
     named(name, trim_start(rest))
+}
+
+fn begins_with(text: &str, byte: u8) -> bool
+    ensures { result ≡ begins_with byte text.now }
+{
+    text.as_bytes().first() == Some(&byte)
 }
 
 fn is_name_byte(byte: u8) -> bool
@@ -73,7 +79,7 @@ fn ends_with_brace(text: &[u8]) -> bool
 fn named<'a>(name: &'a str, rest: &'a str) -> Result<Opening<'a>, Cause>
     ensures { seen result ≡ named_opening (lower_case name.now) rest.now }
 {
-    if rest.as_bytes().first() == Some(&b':') {
+    if begins_with(rest, b':') {
         let (_, value) = rest.split_at(1);
         Ok(field(name, trim(value)))
     } else {
