@@ -5,3 +5,4 @@ pub mod Total
 pub mod Soundness
 pub mod Laws
 pub mod Texts
+pub mod Made

@@ -2,5 +2,6 @@
 //! first fault; and from these back to a text.
 #![tactic(auto)]
 
+mod fields;
 mod lines;
 mod opening;

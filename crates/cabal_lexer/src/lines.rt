@@ -18,11 +18,14 @@ pub struct Line<'a> {
 }
 
 impl<'a> Model for Line<'a> {
+    ghost use Rattle.std.specs.Prelude.{◌^◌, ◌<◌};
     ghost use Rattle.cabal_lexer.specs.Lines.{Line};
 
     ghost Value = { Line };
 
     ghost view = { λ l. record { number = l.number; indent = l.indent; text = l.text.now } };
+
+    ghost invariant = { λ l. l.indent < 2 ^ 32 };
 }
 
 impl<'a> Line<'a> {
@@ -33,7 +36,8 @@ impl<'a> Line<'a> {
     }
 
     pub fn indent(&self) -> usize
-        ensures { result ≡ self.now.indent }
+        ensures value { result ≡ self.now.indent }
+        ensures small { result < 2 ^ 32 }
     {
         self.indent
     }
@@ -75,7 +79,8 @@ fn is_blank(byte: u8) -> bool
 
 #[tactic(auto, unfolding(crate::specs::Lines::indent))]
 fn indent(text: &[u8]) -> usize
-    ensures { result ≡ indent text.now }
+    ensures value { result ≡ indent text.now }
+    ensures bound { result ≤ length text.now }
 {
     text.iter().take_while(|byte| is_blank(**byte)).count()
 }
@@ -141,6 +146,7 @@ fn without_mark(text: &str) -> &str
 
 #[tactic(auto, unfolding(crate::specs::Lines::kept_line))]
 fn keep<'a>(kept: &mut Vec<Line<'a>>, number: u32, raw: &'a str) -> Result<(), NoMemory>
+    requires { length raw.now < 2 ^ 32 }
     ensures { OnOk result (kept.new.items ≡ kept.old.items ++ kept_line number raw.now) }
 {
     let text = trim(raw);

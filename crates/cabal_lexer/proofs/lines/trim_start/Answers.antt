@@ -8,8 +8,8 @@ pub split_at-requires : goal.split_at-requires
 unfolding indent
 split_at-requires c =
     let text = c.args.text.now in
-    subst (λ n. IsCharBoundary text n) (sym (c.indent.ensures ∙ ap indent c.as_bytes.ensures.value)) (boundary_front is_blank text is_blank-ascii c.utf8.text)
+    subst (λ n. IsCharBoundary text n) (sym (c.indent.ensures.value ∙ ap indent c.as_bytes.ensures.value)) (boundary_front is_blank text is_blank-ascii c.utf8.text)
 
 pub returns : goal.returns
 unfolding trim_start
-returns c = c.split_at.ensures.back ∙ ap (λ n. drop n c.args.text.now) (c.indent.ensures ∙ ap indent c.as_bytes.ensures.value)
+returns c = c.split_at.ensures.back ∙ ap (λ n. drop n c.args.text.now) (c.indent.ensures.value ∙ ap indent c.as_bytes.ensures.value)
