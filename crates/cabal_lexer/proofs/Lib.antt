@@ -1,6 +1,6 @@
 pub mod Runs
 pub mod Reading
-pub mod Elements
+pub mod Blocks
 pub mod Total
 pub mod Soundness
 pub mod Laws

@@ -12,7 +12,7 @@ use Rattle.plan_types.specs.declared.refusal.Cause.TheVariants.{UnclosedBrace}
 use Rattle.cabal_lexer.specs.Lines.{Line}
 use Rattle.cabal_lexer.specs.Opening.{Opening, is_lone, opening, within}
 use Rattle.cabal_lexer.specs.Layout.{closes, ends, Ends, Inside, Stands, nothing, element, Block, run, braced_run, indented, enclosed, Fails, misfit, open_run, open_items, in_indented, in_enclosed, later}
-use Rattle.cabal_lexer.proofs.Elements.{block_before}
+use Rattle.cabal_lexer.proofs.Blocks.{block_before}
 
 -- the lines `}` that close what is open at the end of some lines
 pub record Closing (bound depth : ℕ) (braced : Bool) (front whole : List Line) : Type 0 where

@@ -9,7 +9,7 @@ use Rattle.cabal_lexer.specs.Lines.{Line}
 use Rattle.cabal_lexer.specs.Opening.{Opening, field, braced_field, section, braced_section, opening, within}
 use Rattle.cabal_lexer.specs.Layout.{closes, ends, Ends, Inside, Stands, Block, run, braced_run, indented, enclosed, Fails, misfit, open_run, open_items, in_indented, in_enclosed, Begins, Cut}
 use Rattle.cabal_lexer.proofs.Runs.{run_len, run_take, run_drop, closes-from_ends}
-use Rattle.cabal_lexer.proofs.Elements.{cut_none, cut_more, fails_more}
+use Rattle.cabal_lexer.proofs.Blocks.{cut_none, cut_more, fails_more}
 
 pub data Verdict (bound depth : ℕ) (braced : Bool) (lines : List Line) : Type 0 where
   stands_cut : {items : List Element} {rest : List Line} → Cut bound depth braced lines items rest → Verdict bound depth braced lines

@@ -1,63 +1,66 @@
-ghost use Rattle.std.specs.Prelude.{◌≡◌, ◌+◌, ◌<◌, ◌≤◌, ◌++◌, ◌∷◌, ℕ, Bool, true, false, not, take, IfOk, IfErr, MatchResult, length};
+ghost use Rattle.std.specs.Prelude.{◌≡◌, ◌≤◌, ◌++◌, ◌∷◌, ℕ, Bool, false, not, drop, IfOk, IfErr, length};
 ghost use Rattle.std.specs.List.{prefix_len};
-ghost use Rattle.cabal_lexer.specs.Opening.{field, braced_field, section, braced_section, lower_case, shown};
-ghost use Rattle.cabal_lexer.specs.Layout.{ends, Begins, Fails, Cut, IsElement, At, first_value, texts};
+ghost use Rattle.cabal_lexer.specs.Opening.{field, braced_field, lower_case};
+ghost use Rattle.cabal_lexer.specs.Layout.{ends, Begins, Fails, IsElement, At, first_value, texts};
 
 use crate::lines::Line;
 use plan_types::{Cause, Element, Fault, List, NoMemory, Text};
 use std::alloc::Global;
 
-/// A field, up to the first line that isn't deeper.
-pub fn read_field<'a>(
+/// A field, up to the first line that isn't deeper, and how many lines are its values.
+pub fn read_field(
     alloc: Global,
-    line: &Line<'a>,
+    line: &Line,
     name: &str,
     first: &str,
-    more: &'a [Line<'a>],
+    more: &[Line],
     braced: bool,
-) -> Result<(Element, &'a [Line<'a>]), NoMemory>
-    ensures { IfOk result (λ r. (depth : ℕ) → Begins depth line.now (field (lower_case name.now) first.now) → IsElement depth braced line.now more.now r.0 r.1.now) }
+) -> Result<(Element, usize), NoMemory>
+    ensures ok { IfOk result (λ r. (depth : ℕ) → Begins depth line.now (field (lower_case name.now) first.now) → IsElement depth braced line.now more.now r.0 (drop r.1 more.now)) }
+    ensures taken { IfOk result (λ r. r.1 ≤ length more.now) }
 {
-    let (values, rest) = more.split_at(run_len(more, line.indent() + 1, braced));
+    let count = run_len(more, line.indent() + 1, braced);
+    let (values, _) = more.split_at(count);
     let field = Element::Field {
         line: line.number(),
         name: in_lower_case(alloc, name)?,
         values: values_of(alloc, first, values)?,
     };
-    Ok((field, rest))
+    Ok((field, count))
 }
 
-/// A field in braces, up to the line that closes it.
-pub fn read_braced_field<'a>(
+/// A field in braces, and how many lines follow it up to the one that closes it.
+pub fn read_braced_field(
     alloc: Global,
-    line: &Line<'a>,
+    line: &Line,
     name: &str,
-    more: &'a [Line<'a>],
-) -> Result<(Element, &'a [Line<'a>]), Fault>
-    ensures ok { IfOk result (λ r. (depth : ℕ) (braced : Bool) → Begins depth line.now (braced_field (lower_case name.now)) → IsElement depth braced line.now more.now r.0 r.1.now) }
+    more: &[Line],
+) -> Result<(Element, usize), Fault>
+    ensures ok { IfOk result (λ r. (depth : ℕ) (braced : Bool) → Begins depth line.now (braced_field (lower_case name.now)) → IsElement depth braced line.now more.now r.0 (drop r.1 more.now)) }
+    ensures taken { IfOk result (λ r. r.1 ≤ length more.now) }
     ensures err { (bound depth : ℕ) (braced : Bool) → ends bound braced line.now ≡ false → Begins depth line.now (braced_field (lower_case name.now)) →
         IfErr result (At (Fails bound depth braced (line.now ∷ more.now))) }
 {
-    let (values, rest) = more.split_at(run_len(more, 0, true));
-    match rest {
-        [] => Err(Fault::At {
+    let count = run_len(more, 0, true);
+    if count == more.len() {
+        return Err(Fault::At {
             line: line.number(),
             cause: Cause::UnclosedBrace,
-        }),
-        [_, rest @ ..] => {
-            let field = Element::Field {
-                line: line.number(),
-                name: in_lower_case(alloc, name)?,
-                values: values_of(alloc, "", values)?,
-            };
-            Ok((field, rest))
-        }
+        });
     }
+    let (values, _) = more.split_at(count);
+    let field = Element::Field {
+        line: line.number(),
+        name: in_lower_case(alloc, name)?,
+        values: values_of(alloc, "", values)?,
+    };
+    Ok((field, count + 1))
 }
 
 /// How many lines stand inside.
 fn run_len(lines: &[Line], bound: usize, braced: bool) -> usize
-    ensures { result ≡ prefix_len (λ line. not (ends bound braced line)) lines.now }
+    ensures value { result ≡ prefix_len (λ line. not (ends bound braced line)) lines.now }
+    ensures bounded { result ≤ length lines.now }
 {
     lines
         .iter()

@@ -2,6 +2,7 @@
 //! first fault; and from these back to a text.
 #![tactic(auto)]
 
+mod elements;
 mod fields;
 mod lines;
 mod opening;

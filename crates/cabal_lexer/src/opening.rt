@@ -1,4 +1,4 @@
-ghost use Rattle.std.specs.Prelude.{◌≡◌, true};
+ghost use Rattle.std.specs.Prelude.{◌≡◌, ◌≤◌, true, IfOk};
 ghost use Rattle.std.specs.List.{list_any};
 ghost use Rattle.plan_types.specs.Name.{is_letter};
 ghost use Rattle.cabal_lexer.specs.Opening.{is_name_byte, name_len, begins_with, ends_with_brace, before_brace, field_opening, section_opening, named_opening, lower_case, opening, within, shown, seen};
@@ -17,7 +17,8 @@ pub enum Opening<'a> {
 
 /// What a line begins at a depth, which is 1 at the top.
 pub fn opening_at(text: &str, depth: u32) -> Result<Opening<'_>, Cause>
-    ensures { seen result ≡ within depth (opening text.now) }
+    ensures value { seen result ≡ within depth (opening text.now) }
+    ensures shallow { IfOk result (λ _. depth ≤ 64) }
 {
     let begun = begun(text)?;
     if depth <= 64 {

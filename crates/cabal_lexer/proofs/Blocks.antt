@@ -3,7 +3,7 @@ use Rattle.std.proofs.Common.{◌≡◌, ℕ, ◌+◌, Bool, true, false, List, 
 use Rattle.plan_types.specs.declared.element.Element.{Element}
 use Rattle.plan_types.specs.declared.refusal.Cause.{Cause}
 use Rattle.cabal_lexer.specs.Lines.{Line}
-use Rattle.cabal_lexer.specs.Layout.{closes, ends, Ends, Inside, Stands, nothing, element, Block, run, braced_run, indented, enclosed, Fails, later, Cut}
+use Rattle.cabal_lexer.specs.Layout.{closes, ends, Ends, Inside, Stands, nothing, element, Block, run, braced_run, indented, enclosed, Fails, later, Cut, IsElement}
 use Rattle.cabal_lexer.proofs.Runs.{Ends-front}
 
 -- a block is one before another rest too, that ends it
@@ -31,3 +31,23 @@ module _ {bound depth : ℕ} {braced : Bool} {line : Line} {block more after : L
 
   pub fails_more : {at : Line} {cause : Cause} → Fails bound depth braced after at cause → Fails bound depth braced (line ∷ more) at cause
   fails_more {at} {cause} f = subst (λ v. Fails bound depth braced (line ∷ v) at cause) (sym whole) (later line block after e b f)
+
+-- What the rest of some lines stands for, the lines do behind the front; and where the rest fails, they do.
+pub record Leads (bound depth : ℕ) (braced : Bool) (lines : List Line) (front : List Element) (rest : List Line) : Type 0 where
+  pub cut : (items : List Element) (end : List Line) → Cut bound depth braced rest items end → Cut bound depth braced lines (front ++ items) end
+  pub fails : (at : Line) (cause : Cause) → Fails bound depth braced rest at cause → Fails bound depth braced lines at cause
+
+pub leads_start : (bound depth : ℕ) (braced : Bool) (lines : List Line) → Leads bound depth braced lines [] lines
+leads_start bound depth braced lines = record { cut = λ items end c. c; fails = λ at cause f. f }
+
+pub leads_more : (bound depth : ℕ) (braced : Bool) (lines : List Line) (front : List Element) (line : Line) (more : List Line) (item : Element) (after : List Line) →
+    Leads bound depth braced lines front (line ∷ more) → ends bound braced line ≡ false → IsElement depth braced line more item after →
+    Leads bound depth braced lines (front ++ item ∷ []) after
+leads_more bound depth braced lines front line more item after leads e is = record {
+  cut = λ items end c. subst (λ v. Cut bound depth braced lines v end) (sym (append_assoc front (item ∷ []) items)) (leads.cut (item ∷ items) end (cut_more e is.whole is.is c));
+  fails = λ at cause f. leads.fails at cause (fails_more e is.whole is.is f);
+}
+
+pub leads_end : (bound depth : ℕ) (braced : Bool) (lines : List Line) (front : List Element) (rest : List Line) → Leads bound depth braced lines front rest →
+    Ends bound braced rest → Cut bound depth braced lines front rest
+leads_end bound depth braced lines front rest leads e = subst (λ v. Cut bound depth braced lines v rest) (append-nil front) (leads.cut [] rest (cut_none bound depth braced rest e))
