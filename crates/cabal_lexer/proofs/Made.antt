@@ -6,10 +6,13 @@ use Rattle.std.proofs.lemmas.List.Sums.{prefix_len-le-length}
 use Rattle.std.specs.Prelude.{not}
 use Rattle.plan_types.specs.declared.element.Element.{Element}
 use Rattle.plan_types.specs.declared.element.Element.TheVariants.{Field, Section}
+use Rattle.plan_types.specs.declared.refusal.Cause.{Cause}
 use Rattle.plan_types.specs.declared.refusal.Cause.TheVariants.{UnclosedBrace}
+use Rattle.plan_types.specs.declared.refusal.Fault.{Fault}
+use Rattle.plan_types.specs.declared.refusal.Fault.TheVariants as faults
 use Rattle.cabal_lexer.specs.Lines.{Line}
 use Rattle.cabal_lexer.specs.Opening.{field, braced_field, section, braced_section}
-use Rattle.cabal_lexer.specs.Layout.{closes, ends, Ends, Inside, Begins, texts, first_value, Stands, Block, run, braced_run, indented, enclosed, Fails, open_run, open_items, IsElement, Cut}
+use Rattle.cabal_lexer.specs.Layout.{closes, ends, Ends, Inside, Begins, texts, first_value, Stands, Block, run, braced_run, indented, enclosed, Fails, open_run, open_items, IsElement, Cut, At}
 use Rattle.cabal_lexer.proofs.Runs.{run_len, run_take, run_drop, closes-from_ends}
 
 pub run_len-le : (bound : ℕ) (braced : Bool) (lines : List Line) → run_len bound braced lines ≤ length lines
@@ -85,3 +88,8 @@ pub open_section : (bound depth : ℕ) (braced : Bool) (line : Line) (more : Lis
 open_section bound depth braced line more name args items n c l e b =
     let all : c.front ≡ more = sym (c.whole ∙ ap (λ v. c.front ++ v) (nil-from_drop more n l) ∙ append-nil c.front) in
     open_items line more e b (subst (λ v. Stands 0 (depth + 1) true v items) all c.stands)
+
+-- a fault of one kind as one of another
+pub At-map : {P Q : Line → Cause → Type 0} (fault : Fault) → ((at : Line) (cause : Cause) → P at cause → Q at cause) → At P fault → At Q fault
+At-map faults.NoMemory f p = tt
+At-map (faults.At number cause) f p = (p.0, p.1, f p.0 cause p.2)
