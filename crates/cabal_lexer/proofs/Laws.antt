@@ -1,5 +1,9 @@
 -- A text has one tree at most, one first fault at most, and never both.
 use Rattle.std.proofs.Common.{◌≡◌, ℕ, suc, ◌+◌, ◌<◌, Bool, true, false, List, [], ◌∷◌, ◌++◌, length, refl, sym, ◌∙◌, ap, subst, arith, append_assoc, append-nil}
+use Rattle.std.proofs.Common.{◌⊎◌, inl, inr}
+use Rattle.std.specs.Str.{IsUtf8}
+use Rattle.plan_types.specs.declared.refusal.Fault.{Fault}
+use Rattle.plan_types.specs.declared.refusal.Fault.TheVariants as faults
 use Rattle.std.specs.Prelude.{◌&&◌, nat_lt, nat_le, if◌then◌else◌}
 use Rattle.std.specs.List.{list_all}
 use Rattle.std.proofs.lemmas.Bool.Decides.{nat_tests}
@@ -8,10 +12,10 @@ use Rattle.std.specs.declared.result.Result.TheVariants.{Ok, Err}
 use Rattle.plan_types.specs.declared.element.Element.{Element}
 use Rattle.plan_types.specs.declared.refusal.Cause.{Cause}
 use Rattle.plan_types.specs.declared.refusal.Cause.TheVariants.{UnclosedBrace, TooDeep}
-use Rattle.cabal_lexer.specs.Lines.{Line}
+use Rattle.cabal_lexer.specs.Lines.{Line, kept_lines}
 use Rattle.cabal_lexer.specs.Opening.{Opening, opening, within, cause_of}
-use Rattle.cabal_lexer.specs.Layout.{closes, ends, Ends, Stands, Fails, Cut}
-use Rattle.cabal_lexer.specs.Fault.{StandsFor, Sound, FirstFault}
+use Rattle.cabal_lexer.specs.Layout.{closes, ends, Ends, Stands, Fails, Cut, At}
+use Rattle.cabal_lexer.specs.Fault.{StandsFor, Sound, FirstFault, IsTree, IsFault, Refused}
 use Rattle.cabal_lexer.specs.Fault as fault
 use Rattle.cabal_lexer.proofs.Reading.{Outcome, done, stands_read, fails_read}
 use Rattle.cabal_lexer.proofs.Reading as reading
@@ -43,13 +47,18 @@ one_failure lines f g =
 pub sound_whole : (lines : List Line) {items : List Element} → StandsFor lines items → Sound lines
 sound_whole lines {items} s = record { closers = []; close = refl; items = items; stands = subst (λ v. StandsFor v items) (sym (append-nil lines)) s }
 
-sound_closing : (front whole : List Line) → Closing 0 1 false front whole → Sound front
-sound_closing front whole c = record { closers = c.closers; close = c.close; items = c.items; stands = c.stands }
-
 -- nothing ends a whole text
 no_end : (rest : List Line) → Ends 0 false rest → rest ≡ []
 no_end [] h = refl
 no_end (line ∷ rest) h = absurd (grind (arith, nat_tests))
+
+-- a cut of a whole text leaves nothing
+pub whole_cut : {lines rest : List Line} {items : List Element} → Cut 0 1 false lines items rest → StandsFor lines items
+whole_cut {lines} {rest} {items} c =
+    subst (λ v. StandsFor v items) (sym (c.whole ∙ ap (λ v. c.front ++ v) (no_end rest c.ended) ∙ append-nil c.front)) c.stands
+
+sound_closing : (front whole : List Line) → Closing 0 1 false front whole → Sound front
+sound_closing front whole c = record { closers = c.closers; close = c.close; items = c.items; stands = c.stands }
 
 -- a line that misfits isn't part of what is sound
 misfits_unsound : {lines : List Line} {at : Line} {cause : Cause} (m : Misfits 0 1 false lines at cause) (more : List Line) → Sound (m.front ++ at ∷ more) → ⊥
@@ -58,7 +67,7 @@ misfits_unsound {lines} {at} m more s =
 
 pub sound_front : (front others : List Line) → Sound (front ++ others) → Sound front
 sound_front front others s = elim (judge (suc (length front)) 0 1 false front (omega arith)) [
-  stands_cut c ↦ sound_whole front (subst (λ v. StandsFor v _) (sym (c.whole ∙ ap (λ v. c.front ++ v) (no_end _ c.ended) ∙ append-nil c.front)) c.stands)
+  stands_cut c ↦ sound_whole front (whole_cut c)
   | fails_at {at = at} f ↦ elim (split f) [
     misfits m ↦ absurd (misfits_unsound m (m.rest ++ others)
         (subst Sound (ap (λ v. v ++ others) m.whole ∙ append_assoc m.front (at ∷ m.rest) others) s))
@@ -91,3 +100,62 @@ pub never_both : {lines : List Line} {items : List Element} {line : ℕ} {cause 
 never_both s (fault.misfit front line rest before not_sound) =
     not_sound (sound_front (front ++ line ∷ []) rest (subst Sound (sym (append_assoc front (line ∷ []) rest)) (sound_whole _ s)))
 never_both s (fault.unclosed lines line sound none fails) = none _ s
+
+-- where two fronts of one list end
+parts : {A : Type 0} (front other : List A) (x y : A) (rest more : List A) → front ++ x ∷ rest ≡ other ++ y ∷ more →
+    (x ≡ y) ⊎ (((others : List A) × (other ≡ (front ++ x ∷ []) ++ others)) ⊎ ((others : List A) × (front ≡ (other ++ y ∷ []) ++ others)))
+parts [] [] x y rest more e = inl cc
+parts [] (z ∷ other) x y rest more e = let same : x ≡ z = cc in inr (inl (other, ap (λ v. v ∷ other) (sym same)))
+parts (z ∷ front) [] x y rest more e = let same : z ≡ y = cc in inr (inr (front, ap (λ v. v ∷ front) same))
+parts (z ∷ front) (w ∷ other) x y rest more e =
+    let same : z ≡ w = cc in
+    let tails : front ++ x ∷ rest ≡ other ++ y ∷ more = cc in
+    elim (parts front other x y rest more tails) [
+      inl h ↦ inl h
+    | inr h ↦ elim h [
+        inl k ↦ inr (inl (k.0, ap (λ v. w ∷ v) k.1 ∙ ap (λ v. v ∷ (front ++ x ∷ []) ++ k.0) (sym same)))
+      | inr k ↦ inr (inr (k.0, ap (λ v. z ∷ v) k.1 ∙ ap (λ v. v ∷ (other ++ y ∷ []) ++ k.0) same))
+      ]
+    ]
+
+sound_line : (front : List Line) (line : Line) (rest : List Line) → Sound (front ++ line ∷ rest) → Sound (front ++ line ∷ [])
+sound_line front line rest s = sound_front (front ++ line ∷ []) rest (subst Sound (sym (append_assoc front (line ∷ []) rest)) s)
+
+same_fault : {lines others : List Line} {n m : ℕ} {c d : Cause} → FirstFault lines n c → FirstFault others m d → lines ≡ others → (n ≡ m) × (c ≡ d)
+same_fault (fault.misfit front line rest before not_sound) (fault.misfit other at more sooner unsound) e =
+    elim (parts front other line at rest more e) [
+      inl h ↦ (ap (λ l. l.number) h, ap (λ l. cause_of (opening l.text)) h)
+    | inr h ↦ elim h [
+        inl k ↦ absurd (not_sound (sooner (front ++ line ∷ []) k.0 k.1))
+      | inr k ↦ absurd (unsound (before (other ++ at ∷ []) k.0 k.1))
+      ]
+    ]
+same_fault (fault.misfit front line rest before not_sound) (fault.unclosed lines at sound none fails) e =
+    absurd (not_sound (sound_line front line rest (subst Sound (sym e) sound)))
+same_fault (fault.unclosed lines at sound none fails) (fault.misfit front line rest before not_sound) e =
+    absurd (not_sound (sound_line front line rest (subst Sound e sound)))
+same_fault (fault.unclosed lines line sound none fails) (fault.unclosed others at sound' none' fails') e =
+    let one = one_failure others (subst (λ v. Fails 0 1 false v line UnclosedBrace) e fails) fails' in
+    (ap (λ l. l.number) one.0, refl)
+
+pub one_fault : {lines : List Line} {n m : ℕ} {c d : Cause} → FirstFault lines n c → FirstFault lines m d → (n ≡ m) × (c ≡ d)
+one_fault f g = same_fault f g refl
+
+-- ---- of a text's bytes
+
+pub one_tree : (bytes : List ℕ) (a b : List Element) → IsTree bytes a → IsTree bytes b → a ≡ b
+one_tree bytes a b s t = one_items (kept_lines bytes) s.1 t.1
+
+pub tree_or_fault : (bytes : List ℕ) (items : List Element) (line : ℕ) (cause : Cause) → IsTree bytes items → IsFault bytes line cause → ⊥
+tree_or_fault bytes items line cause s (inl h) = h.0 s.0
+tree_or_fault bytes items line cause s (inr h) = never_both s.1 h.1
+
+pub one_refusal : (bytes : List ℕ) (n m : ℕ) (c d : Cause) → IsFault bytes n c → IsFault bytes m d → (n ≡ m) × (c ≡ d)
+one_refusal bytes n m c d (inl h) (inl k) = (h.1 ∙ sym k.1, h.2 ∙ sym k.2)
+one_refusal bytes n m c d (inl h) (inr k) = absurd (h.0 k.0)
+one_refusal bytes n m c d (inr h) (inl k) = absurd (k.0 h.0)
+one_refusal bytes n m c d (inr h) (inr k) = one_fault h.1 k.1
+
+pub At-refused : {bytes : List ℕ} (f : Fault) → IsUtf8 bytes → At (Fails 0 1 false (kept_lines bytes)) f → Refused (IsFault bytes) f
+At-refused faults.NoMemory u h = tt
+At-refused {bytes} (faults.At number cause) u h = inr (u, subst (λ n. FirstFault (kept_lines bytes) n cause) (sym h.1) (first_fault h.2))
