@@ -3,6 +3,6 @@ pub mod Reading
 pub mod Blocks
 pub mod Total
 pub mod Soundness
-pub mod Laws
+pub mod Exact
 pub mod Texts
 pub mod Made

@@ -4,5 +4,10 @@
 
 mod elements;
 mod fields;
+mod laws;
 mod lines;
 mod opening;
+mod read;
+
+pub use laws::{one_fault, one_tree, tree_or_fault};
+pub use read::read_elements;

@@ -1,6 +1,7 @@
 -- A text has one tree at most, one first fault at most, and never both.
 use Rattle.std.proofs.Common.{◌≡◌, ℕ, suc, ◌+◌, ◌<◌, Bool, true, false, List, [], ◌∷◌, ◌++◌, length, refl, sym, ◌∙◌, ap, subst, arith, append_assoc, append-nil}
 use Rattle.std.proofs.Common.{◌⊎◌, inl, inr}
+use Rattle.std.specs.Result.{IfOk, IfErr, MatchResult}
 use Rattle.std.specs.Str.{IsUtf8}
 use Rattle.plan_types.specs.declared.refusal.Fault.{Fault}
 use Rattle.plan_types.specs.declared.refusal.Fault.TheVariants as faults
@@ -156,6 +157,21 @@ one_refusal bytes n m c d (inl h) (inr k) = absurd (h.0 k.0)
 one_refusal bytes n m c d (inr h) (inl k) = absurd (k.0 h.0)
 one_refusal bytes n m c d (inr h) (inr k) = one_fault h.1 k.1
 
-pub At-refused : {bytes : List ℕ} (f : Fault) → IsUtf8 bytes → At (Fails 0 1 false (kept_lines bytes)) f → Refused (IsFault bytes) f
-At-refused faults.NoMemory u h = tt
-At-refused {bytes} (faults.At number cause) u h = inr (u, subst (λ n. FirstFault (kept_lines bytes) n cause) (sym h.1) (first_fault h.2))
+pub At-refused : {bytes : List ℕ} {lines : List Line} (f : Fault) → lines ≡ kept_lines bytes → IsUtf8 bytes → At (Fails 0 1 false lines) f → Refused (IsFault bytes) f
+At-refused faults.NoMemory e u h = tt
+At-refused {bytes} (faults.At number cause) e u h =
+    inr (u, subst (λ n. FirstFault (kept_lines bytes) n cause) (sym h.1) (first_fault (subst (λ v. Fails 0 1 false v h.0 cause) e h.2)))
+
+-- ---- of a result
+
+pub tree_found : (bytes : List ℕ) (r : Result (List Element) Fault) → IfOk r (λ items. IsTree bytes items) → IfErr r (Refused (IsFault bytes)) →
+    (items : List Element) → IsTree bytes items → MatchResult r (λ found. found ≡ items) (Refused (λ _ _. ⊥))
+tree_found bytes (Ok found) tree fault items s = one_tree bytes found items tree s
+tree_found bytes (Err faults.NoMemory) tree fault items s = tt
+tree_found bytes (Err (faults.At line cause)) tree fault items s = tree_or_fault bytes items line cause s fault
+
+pub fault_found : (bytes : List ℕ) (r : Result (List Element) Fault) → IfOk r (λ items. IsTree bytes items) → IfErr r (Refused (IsFault bytes)) →
+    (line : ℕ) (cause : Cause) → IsFault bytes line cause → MatchResult r (λ _. ⊥) (Refused (λ at why. (at ≡ line) × (why ≡ cause)))
+fault_found bytes (Ok found) tree fault line cause f = tree_or_fault bytes found line cause tree f
+fault_found bytes (Err faults.NoMemory) tree fault line cause f = tt
+fault_found bytes (Err (faults.At at why)) tree fault line cause f = one_refusal bytes at line why cause fault f
