@@ -6,3 +6,4 @@ pub mod Soundness
 pub mod Exact
 pub mod Texts
 pub mod Made
+pub mod Printed

@@ -2,3 +2,4 @@ pub mod Lines
 pub mod Opening
 pub mod Layout
 pub mod Fault
+pub mod Canonical

@@ -7,7 +7,9 @@ mod fields;
 mod laws;
 mod lines;
 mod opening;
+mod print;
 mod read;
 
 pub use laws::{one_fault, one_tree, tree_or_fault};
+pub use print::print_elements;
 pub use read::read_elements;
