@@ -19,7 +19,6 @@ cut_none bound depth braced rest e = record { front = []; whole = refl; stands =
 
 module _ {bound depth : ℕ} {braced : Bool} {line : Line} {block more after : List Line} {item : Element}
     (e : ends bound braced line ≡ false) (whole : more ≡ block ++ after) (b : Block depth braced line block after item) where
-
   pub cut_more : {items : List Element} {rest : List Line} → Cut bound depth braced after items rest → Cut bound depth braced (line ∷ more) (item ∷ items) rest
   cut_more {rest = rest} cut = record {
     front = line ∷ block ++ cut.front;

@@ -68,13 +68,13 @@ misfits_unsound {lines} {at} m more s =
 
 pub sound_front : (front others : List Line) → Sound (front ++ others) → Sound front
 sound_front front others s = elim (judge (suc (length front)) 0 1 false front (omega arith)) [
-  stands_cut c ↦ sound_whole front (whole_cut c)
+  | stands_cut c ↦ sound_whole front (whole_cut c)
   | fails_at {at = at} f ↦ elim (split f) [
-    misfits m ↦ absurd (misfits_unsound m (m.rest ++ others)
+    | misfits m ↦ absurd (misfits_unsound m (m.rest ++ others)
         (subst Sound (ap (λ v. v ++ others) m.whole ∙ append_assoc m.front (at ∷ m.rest) others) s))
-  | left_open is c ↦ sound_closing front front c
+    | left_open is c ↦ sound_closing front front c
   ]
-  ]
+]
 
 -- ---- the first fault
 
@@ -88,14 +88,14 @@ cause-within depth (Ok o) cause e = too_deep (nat_le depth 64) o cause e
 
 pub first_fault : {lines : List Line} {at : Line} {cause : Cause} → Fails 0 1 false lines at cause → FirstFault lines at.number cause
 first_fault {lines} {at} {cause} f = elim (split f) [
-  misfits m ↦
+  | misfits m ↦
       subst (λ v. FirstFault v at.number cause) (sym m.whole)
       (subst (λ v. FirstFault (m.front ++ at ∷ m.rest) at.number v) (sym (cause-within m.inner (opening at.text) cause m.because))
       (fault.misfit m.front at m.rest (λ shorter others w. sound_front shorter others (subst Sound w (sound_closing m.front _ m.closing))) (misfits_unsound m [])))
   | left_open is c ↦
       subst (λ v. FirstFault lines at.number v) (sym is)
       (fault.unclosed lines at (sound_closing lines lines c) (λ items s. stands_or_fails lines s f) (subst (λ v. Fails 0 1 false lines at v) is f))
-  ]
+]
 
 pub never_both : {lines : List Line} {items : List Element} {line : ℕ} {cause : Cause} → StandsFor lines items → FirstFault lines line cause → ⊥
 never_both s (fault.misfit front line rest before not_sound) =
@@ -112,10 +112,10 @@ parts (z ∷ front) (w ∷ other) x y rest more e =
     let same : z ≡ w = cc in
     let tails : front ++ x ∷ rest ≡ other ++ y ∷ more = cc in
     elim (parts front other x y rest more tails) [
-      inl h ↦ inl h
-    | inr h ↦ elim h [
-        inl k ↦ inr (inl (k.0, ap (λ v. w ∷ v) k.1 ∙ ap (λ v. v ∷ (front ++ x ∷ []) ++ k.0) (sym same)))
-      | inr k ↦ inr (inr (k.0, ap (λ v. z ∷ v) k.1 ∙ ap (λ v. v ∷ (other ++ y ∷ []) ++ k.0) same))
+      | inl h ↦ inl h
+      | inr h ↦ elim h [
+        | inl k ↦ inr (inl (k.0, ap (λ v. w ∷ v) k.1 ∙ ap (λ v. v ∷ (front ++ x ∷ []) ++ k.0) (sym same)))
+        | inr k ↦ inr (inr (k.0, ap (λ v. z ∷ v) k.1 ∙ ap (λ v. v ∷ (other ++ y ∷ []) ++ k.0) same))
       ]
     ]
 
@@ -125,10 +125,10 @@ sound_line front line rest s = sound_front (front ++ line ∷ []) rest (subst So
 same_fault : {lines others : List Line} {n m : ℕ} {c d : Cause} → FirstFault lines n c → FirstFault others m d → lines ≡ others → (n ≡ m) × (c ≡ d)
 same_fault (fault.misfit front line rest before not_sound) (fault.misfit other at more sooner unsound) e =
     elim (parts front other line at rest more e) [
-      inl h ↦ (ap (λ l. l.number) h, ap (λ l. cause_of (opening l.text)) h)
-    | inr h ↦ elim h [
-        inl k ↦ absurd (not_sound (sooner (front ++ line ∷ []) k.0 k.1))
-      | inr k ↦ absurd (unsound (before (other ++ at ∷ []) k.0 k.1))
+      | inl h ↦ (ap (λ l. l.number) h, ap (λ l. cause_of (opening l.text)) h)
+      | inr h ↦ elim h [
+        | inl k ↦ absurd (not_sound (sooner (front ++ line ∷ []) k.0 k.1))
+        | inr k ↦ absurd (unsound (before (other ++ at ∷ []) k.0 k.1))
       ]
     ]
 same_fault (fault.misfit front line rest before not_sound) (fault.unclosed lines at sound none fails) e =

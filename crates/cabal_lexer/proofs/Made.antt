@@ -31,7 +31,6 @@ line_at (line ∷ lines) (suc n) l =
     (next.0, next.1 ∙ ap (λ k. next.0 ∷ drop k (line ∷ lines)) one_more)
 
 module _ (depth : ℕ) (braced : Bool) (line : Line) (more : List Line) (number : ℕ) (text : List ℕ) (number_is : number ≡ line.number) where
-
   pub made_field : (name first : List ℕ) (values : List (List ℕ)) (n : ℕ) (front : List Line) → text ≡ name → n ≡ run_len (line.indent + 1) braced more →
       front ≡ take n more → values ≡ first_value first ++ texts front → Begins depth line (field name first) →
       IsElement depth braced line more (Field number text values) (drop n more)
@@ -63,7 +62,6 @@ open_field bound depth braced line more name n k l e b =
     open_run line more e b (subst (λ w. Inside 0 true w) all (run_take 0 true more))
 
 module _ (depth : ℕ) (braced : Bool) (line : Line) (more : List Line) (number : ℕ) (text given : List ℕ) (number_is : number ≡ line.number) where
-
   pub made_section : (name args : List ℕ) (items : List Element) (bound : ℕ) (rest : List Line) → text ≡ name → given ≡ args → bound ≡ line.indent →
       Cut (bound + 1) (depth + 1) braced more items rest → Begins depth line (section name args) → IsElement depth braced line more (Section number text given items) rest
   made_section name args items bound rest t g i cut b =

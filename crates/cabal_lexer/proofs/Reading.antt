@@ -89,6 +89,7 @@ steps go bound depth braced line more r e b =
 
 mutual
   unfolding read
+
   pub stands_read : {bound depth : ℕ} {braced : Bool} {lines : List Line} {items : List Element} → Stands bound depth braced lines items →
       (tail : List Line) (n : ℕ) → Ends bound braced tail → length (lines ++ tail) < n → read n bound depth braced (lines ++ tail) ≡ done items tail
   stands_read {bound} {depth} {braced} nothing tail n h l = ended_read bound depth braced tail n h
@@ -106,12 +107,12 @@ mutual
   block_read {depth} {braced} {line} (run {name = name} {first = first} {values = values} b i x) bound after n e t l =
       steps (read n) bound depth braced line (values ++ after) (Ok (field name first)) e b
       ∙ past_seam (read n bound depth braced) (λ vs. Field line.number name (first_value first ++ texts vs)) (run_len (line.indent + 1) braced (values ++ after)) values after
-          (run_len-append (line.indent + 1) braced values after i (t x))
+      (run_len-append (line.indent + 1) braced values after i (t x))
   block_read {depth} {braced} {line} (braced_run {name = name} values close b i c) bound after n e t l =
       steps (read n) bound depth braced line ((values ++ close ∷ []) ++ after) (Ok (braced_field name)) e b
       ∙ ap (λ v. past (read n) bound depth braced line v (Ok (braced_field name))) (append_assoc values (close ∷ []) after)
       ∙ past_braced_seam (read n bound depth braced) (λ vs. Field line.number name (texts vs)) line (run_len 0 true (values ++ close ∷ after)) values (close ∷ after)
-          (run_len-append 0 true values (close ∷ after) i (Ends-close close after c))
+      (run_len-append 0 true values (close ∷ after) i (Ends-close close after c))
   block_read {depth} {braced} {line} (indented {name = name} {args = args} {block = block} b s x) bound after n e t l =
       steps (read n) bound depth braced line (block ++ after) (Ok (section name args)) e b
       ∙ ap (past_items (read n bound depth braced) (λ items. Section line.number name args items)) (stands_read s after n (t x) l)
@@ -119,7 +120,7 @@ mutual
       steps (read n) bound depth braced line ((block ++ close ∷ []) ++ after) (Ok (braced_section name args)) e b
       ∙ ap (λ v. past (read n) bound depth braced line v (Ok (braced_section name args))) (append_assoc block (close ∷ []) after)
       ∙ ap (past_block (read n bound depth braced) (λ items. Section line.number name args items) line)
-          (stands_read s (close ∷ after) n (Ends-close close after c) (subst (λ v. length v < n) (append_assoc block (close ∷ []) after) l))
+      (stands_read s (close ∷ after) n (Ends-close close after c) (subst (λ v. length v < n) (append_assoc block (close ∷ []) after) l))
 
 -- ---- what fails is read so
 
@@ -141,7 +142,7 @@ fails_read {bound} {depth} {braced} (open_items {name = name} {args = args} line
     ap (λ v. step (read n) bound depth braced line v) (sym (append-nil block))
     ∙ steps (read n) bound depth braced line (block ++ []) (Ok (braced_section name args)) e b
     ∙ ap (past_block (read n bound depth braced) (λ items. Section line.number name args items) line)
-        (stands_read s [] n tt (subst (λ v. length v < n) (sym (append-nil block)) (omega arith)))
+    (stands_read s [] n tt (subst (λ v. length v < n) (sym (append-nil block)) (omega arith)))
 fails_read {bound} {depth} {braced} (in_indented {name = name} {args = args} line lines e b f) (suc n) l =
     steps (read n) bound depth braced line lines (Ok (section name args)) e b
     ∙ ap (past_items (read n bound depth braced) (λ items. Section line.number name args items)) (fails_read f n (omega arith))

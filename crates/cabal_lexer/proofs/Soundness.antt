@@ -109,7 +109,7 @@ split (open_items line block e b s) = left_open refl (record {
   head = λ _ _ h. h;
 })
 split (in_indented line lines e b f) = elim (split f) [
-  misfits m ↦ misfits (record {
+  | misfits m ↦ misfits (record {
     front = line ∷ m.front;
     rest = m.rest;
     whole = ap (λ v. line ∷ v) m.whole;
@@ -119,9 +119,9 @@ split (in_indented line lines e b f) = elim (split f) [
     again = λ others. in_indented line _ e b (m.again others);
   })
   | left_open is c ↦ left_open is (in_section line lines lines e b c)
-  ]
+]
 split (in_enclosed line lines e b f) = elim (split f) [
-  misfits m ↦ misfits (record {
+  | misfits m ↦ misfits (record {
     front = line ∷ m.front;
     rest = m.rest;
     whole = ap (λ v. line ∷ v) m.whole;
@@ -131,9 +131,9 @@ split (in_enclosed line lines e b f) = elim (split f) [
     again = λ others. in_enclosed line _ e b (m.again others);
   })
   | left_open is c ↦ left_open is (in_braces line lines lines e b c)
-  ]
+]
 split {bound} {depth} {braced} (later {at = at} {cause = cause} line block rest e b f) = elim (split f) [
-  misfits m ↦ misfits (record {
+  | misfits m ↦ misfits (record {
     front = line ∷ block ++ m.front;
     rest = m.rest;
     whole = ap (λ v. line ∷ block ++ v) m.whole ∙ ap (λ v. line ∷ v) (sym (append_assoc block m.front (at ∷ m.rest)));
@@ -143,8 +143,8 @@ split {bound} {depth} {braced} (later {at = at} {cause = cause} line block rest 
     because = m.because;
     again = λ others. subst (λ v. Fails bound depth braced (line ∷ v) at cause) (sym (append_assoc block m.front (at ∷ others)))
         (later line block (m.front ++ at ∷ others) e
-          (block_before b (m.front ++ at ∷ others) (λ k. Ends-swap m.front at m.rest others _ braced (subst (λ v. Ends (line.indent + 1) braced v) m.whole k)))
-          (m.again others));
+        (block_before b (m.front ++ at ∷ others) (λ k. Ends-swap m.front at m.rest others _ braced (subst (λ v. Ends (line.indent + 1) braced v) m.whole k)))
+        (m.again others));
   })
   | left_open is c ↦ left_open is (behind line block rest rest rest e b refl c)
-  ]
+]

@@ -24,8 +24,8 @@ module _ (n bound depth : ℕ) (braced : Bool) (line : Line) (go : Judge n) (e :
   past_block {block} {after} more whole b l =
       let lens = ap length whole ∙ length-append block after in
       elim (go bound depth braced after (omega arith)) [
-        stands_cut c ↦ stands_cut (cut_more e whole b c)
-      | fails_at f ↦ fails_at (fails_more e whole b f)
+        | stands_cut c ↦ stands_cut (cut_more e whole b c)
+        | fails_at f ↦ fails_at (fails_more e whole b f)
       ]
 
   past_braced_run : {name : List ℕ} (values rest : List Line) → Begins depth line (braced_field name) → Inside 0 true values → Ends 0 true rest →
@@ -52,14 +52,14 @@ module _ (n bound depth : ℕ) (braced : Bool) (line : Line) (go : Judge n) (e :
       (past_braced_run (take k more) (drop k more) b (run_take 0 true more) (run_drop 0 true more) (subst (λ v. length v < n) (sym whole) l))
   past_opening more (Ok (section name args)) b l =
       elim (go (line.indent + 1) (depth + 1) braced more l) [
-        stands_cut c ↦ past_block more c.whole (indented b c.stands c.ended) l
-      | fails_at f ↦ fails_at (in_indented line more e b f)
+        | stands_cut c ↦ past_block more c.whole (indented b c.stands c.ended) l
+        | fails_at f ↦ fails_at (in_indented line more e b f)
       ]
   past_opening more (Ok (braced_section name args)) b l =
       elim (go 0 (depth + 1) true more l) [
-        stands_cut c ↦ subst (λ v. Verdict bound depth braced (line ∷ v)) (sym c.whole)
+        | stands_cut c ↦ subst (λ v. Verdict bound depth braced (line ∷ v)) (sym c.whole)
             (past_enclosed c.front _ b c.stands c.ended (subst (λ v. length v < n) c.whole l))
-      | fails_at f ↦ fails_at (in_enclosed line more e b f)
+        | fails_at f ↦ fails_at (in_enclosed line more e b f)
       ]
 
 judged : (n bound depth : ℕ) (braced : Bool) (line : Line) (more : List Line) → Judge n → length more < n → (b : Bool) → ends bound braced line ≡ b →

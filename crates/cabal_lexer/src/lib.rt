@@ -13,3 +13,6 @@ mod read;
 pub use laws::{one_fault, one_tree, tree_or_fault};
 pub use print::print_elements;
 pub use read::read_elements;
+
+#[cfg(test)]
+mod tests;

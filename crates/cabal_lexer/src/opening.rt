@@ -58,9 +58,7 @@ fn is_name_byte(byte: u8) -> bool
 fn name_len(text: &[u8]) -> usize
     ensures { result ≡ name_len text.now }
 {
-    text.iter()
-        .take_while(|byte| is_name_byte(**byte))
-        .count()
+    text.iter().take_while(|byte| is_name_byte(**byte)).count()
 }
 
 fn has_letter(name: &[u8]) -> bool

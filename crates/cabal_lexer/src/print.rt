@@ -46,7 +46,10 @@ fn print_element(
             print_field(text, indent, name.as_str(), values.as_slice())
         }
         Element::Section {
-            name, args, items, ..
+            name,
+            args,
+            items,
+            ..
         } => {
             print_section_line(text, indent, name.as_str(), args.as_str())?;
             let inner = deeper(alloc, indent)?;
@@ -64,12 +67,7 @@ fn deeper(alloc: Global, indent: &str) -> Result<Text, NoMemory>
 }
 
 #[tactic(auto, unfolding(crate::specs::Canonical::section_line))]
-fn print_section_line(
-    text: &mut Text,
-    indent: &str,
-    name: &str,
-    args: &str,
-) -> Result<(), NoMemory>
+fn print_section_line(text: &mut Text, indent: &str, name: &str, args: &str) -> Result<(), NoMemory>
     ensures { OnOk result (text.new ≡ text.old ++ section_line indent.now name.now args.now) }
 {
     text.push_str(indent)?;
@@ -82,12 +80,7 @@ fn print_section_line(
 }
 
 #[tactic(auto, unfolding(crate::specs::Canonical::field_text))]
-fn print_field(
-    text: &mut Text,
-    indent: &str,
-    name: &str,
-    values: &[Text],
-) -> Result<(), NoMemory>
+fn print_field(text: &mut Text, indent: &str, name: &str, values: &[Text]) -> Result<(), NoMemory>
     ensures { OnOk result (text.new ≡ text.old ++ field_text indent.now name.now values.now) }
 {
     text.push_str(indent)?;

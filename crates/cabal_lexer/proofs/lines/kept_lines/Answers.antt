@@ -23,12 +23,13 @@ loop-raw-init c =
 
 pub loop-raw-preserved : goal.loop-raw-preserved
 loop-raw-preserved c =
-    let kept = c.in_ok-keep.ensures in
-    (kept ∙ ap (λ v. v ++ kept_line (c.loop-raw.number + 1) c.in-Some.raw.now) c.loop-raw.invariant.0
-        ∙ ap (λ n. kept_from 1 (map (λ r. r.now) c.loop-raw.yielded) ++ kept_line (n + 1) c.in-Some.raw.now) c.loop-raw.invariant.1
-        ∙ sym (kept_from-yielded c.loop-raw.yielded c.in-Some.raw),
-    omega (arith, length_push c.loop-raw.yielded c.in-Some.raw),
-    omega (arith, c.in-Some.ensures.steps.0.1))
+    let kept = c.in_ok-keep.ensures in (
+      kept ∙ ap (λ v. v ++ kept_line (c.loop-raw.number + 1) c.in-Some.raw.now) c.loop-raw.invariant.0
+          ∙ ap (λ n. kept_from 1 (map (λ r. r.now) c.loop-raw.yielded) ++ kept_line (n + 1) c.in-Some.raw.now) c.loop-raw.invariant.1
+          ∙ sym (kept_from-yielded c.loop-raw.yielded c.in-Some.raw),
+      omega (arith, length_push c.loop-raw.yielded c.in-Some.raw),
+      omega (arith, c.in-Some.ensures.steps.0.1),
+    )
 
 pub returns : goal.returns
 returns c =
