@@ -1,9 +1,9 @@
 -- One element, and what the lines behind it stand for.
-use Rattle.std.proofs.Common.{◌≡◌, ℕ, ◌+◌, Bool, true, false, List, [], ◌∷◌, ◌++◌, refl, sym, ◌∙◌, ap, subst, append_assoc, append-nil}
+use Rattle.std.proofs.Common.{◌≡◌, ℕ, ◌+◌, Bool, false, List, [], ◌∷◌, ◌++◌, refl, sym, ◌∙◌, ap, subst, append_assoc, append-nil}
 use Rattle.plan_types.specs.declared.element.Element.{Element}
 use Rattle.plan_types.specs.declared.refusal.Cause.{Cause}
 use Rattle.cabal_lexer.specs.Lines.{Line}
-use Rattle.cabal_lexer.specs.Layout.{closes, ends, Ends, Inside, Stands, nothing, element, Block, run, braced_run, indented, enclosed, Fails, later, Cut, IsElement}
+use Rattle.cabal_lexer.specs.Layout.{ends, Ends, nothing, element, Block, run, braced_run, indented, enclosed, Fails, later, Cut, IsElement}
 use Rattle.cabal_lexer.proofs.Runs.{Ends-front}
 
 -- a block is one before another rest too, that ends it

@@ -1,12 +1,11 @@
 -- A text has one tree at most, one first fault at most, and never both.
-use Rattle.std.proofs.Common.{◌≡◌, ℕ, suc, ◌+◌, ◌<◌, Bool, true, false, List, [], ◌∷◌, ◌++◌, length, refl, sym, ◌∙◌, ap, subst, arith, append_assoc, append-nil}
+use Rattle.std.proofs.Common.{◌≡◌, ℕ, suc, Bool, true, false, List, [], ◌∷◌, ◌++◌, length, refl, sym, ◌∙◌, ap, subst, arith, append_assoc, append-nil}
 use Rattle.std.proofs.Common.{◌⊎◌, inl, inr}
 use Rattle.std.specs.Result.{IfOk, IfErr, MatchResult}
 use Rattle.std.specs.Str.{IsUtf8}
 use Rattle.plan_types.specs.declared.refusal.Fault.{Fault}
 use Rattle.plan_types.specs.declared.refusal.Fault.TheVariants as faults
-use Rattle.std.specs.Prelude.{◌&&◌, nat_lt, nat_le, if◌then◌else◌}
-use Rattle.std.specs.List.{list_all}
+use Rattle.std.specs.Prelude.{nat_le, if◌then◌else◌}
 use Rattle.std.proofs.lemmas.Bool.Decides.{nat_tests}
 use Rattle.std.specs.declared.result.Result.{Result}
 use Rattle.std.specs.declared.result.Result.TheVariants.{Ok, Err}
@@ -15,13 +14,13 @@ use Rattle.plan_types.specs.declared.refusal.Cause.{Cause}
 use Rattle.plan_types.specs.declared.refusal.Cause.TheVariants.{UnclosedBrace, TooDeep}
 use Rattle.cabal_lexer.specs.Lines.{Line, kept_lines}
 use Rattle.cabal_lexer.specs.Opening.{Opening, opening, within, cause_of}
-use Rattle.cabal_lexer.specs.Layout.{closes, ends, Ends, Stands, Fails, Cut, At}
+use Rattle.cabal_lexer.specs.Layout.{Ends, Stands, Fails, Cut, At}
 use Rattle.cabal_lexer.specs.Fault.{StandsFor, Sound, FirstFault, IsTree, IsFault, Refused}
 use Rattle.cabal_lexer.specs.Fault as fault
 use Rattle.cabal_lexer.proofs.Reading.{Outcome, done, stands_read, fails_read}
 use Rattle.cabal_lexer.proofs.Reading as reading
-use Rattle.cabal_lexer.proofs.Total.{Verdict, stands_cut, fails_at, judge}
-use Rattle.cabal_lexer.proofs.Soundness.{Closing, Misfits, Split, misfits, left_open, split}
+use Rattle.cabal_lexer.proofs.Total.{stands_cut, fails_at, judge}
+use Rattle.cabal_lexer.proofs.Soundness.{Closing, Misfits, misfits, left_open, split}
 
 -- ---- what stands for items doesn't fail
 

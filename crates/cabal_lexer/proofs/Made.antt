@@ -1,5 +1,5 @@
 -- The elements that the code makes.
-use Rattle.std.proofs.Common.{◌≡◌, ℕ, zero, suc, ◌+◌, ◌-◌, ◌<◌, ◌≤◌, Bool, true, false, List, [], ◌∷◌, ◌++◌, length, take, drop, get_or, refl, sym, ◌∙◌, ap, subst, arith, append_assoc, append-nil, length-append}
+use Rattle.std.proofs.Common.{◌≡◌, ℕ, zero, suc, ◌+◌, ◌<◌, ◌≤◌, Bool, true, false, List, [], ◌∷◌, ◌++◌, length, take, drop, refl, sym, ◌∙◌, ap, subst, arith, append_assoc, append-nil}
 use Rattle.std.proofs.Math.Seq.{take-length, drop-length}
 use Rattle.std.proofs.lemmas.List.{take-append-drop}
 use Rattle.std.proofs.lemmas.List.Sums.{prefix_len-le-length}
@@ -12,7 +12,7 @@ use Rattle.plan_types.specs.declared.refusal.Fault.{Fault}
 use Rattle.plan_types.specs.declared.refusal.Fault.TheVariants as faults
 use Rattle.cabal_lexer.specs.Lines.{Line}
 use Rattle.cabal_lexer.specs.Opening.{field, braced_field, section, braced_section}
-use Rattle.cabal_lexer.specs.Layout.{closes, ends, Ends, Inside, Begins, texts, first_value, Stands, Block, run, braced_run, indented, enclosed, Fails, open_run, open_items, IsElement, Cut, At}
+use Rattle.cabal_lexer.specs.Layout.{closes, ends, Ends, Inside, Begins, texts, first_value, Stands, run, braced_run, indented, enclosed, Fails, open_run, open_items, IsElement, Cut, At}
 use Rattle.cabal_lexer.proofs.Runs.{run_len, run_take, run_drop, closes-from_ends}
 
 pub run_len-le : (bound : ℕ) (braced : Bool) (lines : List Line) → run_len bound braced lines ≤ length lines

@@ -1,5 +1,5 @@
 -- The canonical text of an element, by its kind.
-use Rattle.std.proofs.Common.{◌≡◌, ℕ, List, [], ◌∷◌, ◌++◌, refl, sym, ◌∙◌, ap, append_assoc}
+use Rattle.std.proofs.Common.{◌≡◌, ℕ, List, [], ◌∷◌, ◌++◌, sym, ◌∙◌, ap, append_assoc}
 use Rattle.std.proofs.lemmas.List.Folds.{flat_map-map}
 use Rattle.plan_types.specs.declared.element.Element.{Element, fold-Element, fold-roll-Element}
 use Rattle.plan_types.specs.declared.element.Element.TheOpen as open'

@@ -1,5 +1,5 @@
 -- A reading of lines, from the first on, in numbered steps. It shows that lines stand for one list of items at most.
-use Rattle.std.proofs.Common.{◌≡◌, ℕ, zero, suc, ◌+◌, ◌<◌, ◌≤◌, Bool, true, false, cond, List, [], ◌∷◌, ◌++◌, length, take, drop, refl, sym, ◌∙◌, ap, subst, arith, append_assoc, append-nil, length-append}
+use Rattle.std.proofs.Common.{◌≡◌, ℕ, zero, suc, ◌+◌, ◌<◌, Bool, true, false, cond, List, [], ◌∷◌, ◌++◌, length, take, drop, refl, sym, ◌∙◌, ap, subst, arith, append_assoc, append-nil, length-append}
 use Rattle.std.proofs.Math.Seq.{take-append_seam, drop-append_seam}
 use Rattle.std.specs.declared.result.Result.{Result}
 use Rattle.std.specs.declared.result.Result.TheVariants.{Ok, Err}
@@ -9,8 +9,8 @@ use Rattle.plan_types.specs.declared.refusal.Cause.{Cause}
 use Rattle.plan_types.specs.declared.refusal.Cause.TheVariants.{UnclosedBrace}
 use Rattle.cabal_lexer.specs.Lines.{Line}
 use Rattle.cabal_lexer.specs.Opening.{Opening, field, braced_field, section, braced_section, opening, within}
-use Rattle.cabal_lexer.specs.Layout.{closes, ends, Ends, Inside, texts, first_value, Stands, nothing, element, Block, run, braced_run, indented, enclosed, Fails, misfit, open_run, open_items, in_indented, in_enclosed, later, Cut}
-use Rattle.cabal_lexer.proofs.Runs.{run_len, run_len-append, run_take, run_drop, Ends-deeper, Ends-append, Ends-front, Ends-close, closes-from_ends}
+use Rattle.cabal_lexer.specs.Layout.{ends, Ends, texts, first_value, Stands, nothing, element, Block, run, braced_run, indented, enclosed, Fails, misfit, open_run, open_items, in_indented, in_enclosed, later}
+use Rattle.cabal_lexer.proofs.Runs.{run_len, run_len-append, Ends-deeper, Ends-append, Ends-close}
 
 pub data Outcome : Type 0 where
   done : List Element → List Line → Outcome

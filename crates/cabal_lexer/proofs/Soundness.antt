@@ -1,9 +1,8 @@
 -- What fails is sound up to the line at which it fails, and no further.
-use Rattle.std.proofs.Common.{◌≡◌, ℕ, suc, ◌+◌, ◌<◌, Bool, true, false, List, [], ◌∷◌, ◌++◌, length, refl, sym, ◌∙◌, ap, subst, arith, append_assoc, append-nil}
+use Rattle.std.proofs.Common.{◌≡◌, ℕ, ◌+◌, Bool, true, false, List, [], ◌∷◌, ◌++◌, refl, sym, ◌∙◌, ap, subst, append_assoc, append-nil}
 use Rattle.std.specs.Prelude.{◌&&◌}
 use Rattle.std.specs.List.{list_all}
 use Rattle.std.proofs.lemmas.List.Folds.{list_all-append}
-use Rattle.std.specs.declared.result.Result.{Result}
 use Rattle.std.specs.declared.result.Result.TheVariants.{Ok, Err}
 use Rattle.plan_types.specs.declared.element.Element.{Element}
 use Rattle.plan_types.specs.declared.element.Element.TheVariants.{Section}
@@ -11,7 +10,7 @@ use Rattle.plan_types.specs.declared.refusal.Cause.{Cause}
 use Rattle.plan_types.specs.declared.refusal.Cause.TheVariants.{UnclosedBrace}
 use Rattle.cabal_lexer.specs.Lines.{Line}
 use Rattle.cabal_lexer.specs.Opening.{Opening, is_lone, opening, within}
-use Rattle.cabal_lexer.specs.Layout.{closes, ends, Ends, Inside, Stands, nothing, element, Block, run, braced_run, indented, enclosed, Fails, misfit, open_run, open_items, in_indented, in_enclosed, later}
+use Rattle.cabal_lexer.specs.Layout.{closes, ends, Ends, Stands, nothing, element, Block, braced_run, indented, enclosed, Fails, misfit, open_run, open_items, in_indented, in_enclosed, later}
 use Rattle.cabal_lexer.proofs.Blocks.{block_before}
 
 -- the lines `}` that close what is open at the end of some lines

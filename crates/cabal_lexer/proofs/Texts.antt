@@ -1,6 +1,6 @@
 -- Texts: where they may be cut, and the lines in them.
-use Rattle.std.proofs.Common.{◌≡◌, ℕ, zero, suc, ◌+◌, ◌-◌, ◌<◌, ◌≤◌, Bool, true, false, cond, List, [], ◌∷◌, ◌++◌, length, take, drop, get_or, refl, sym, ◌∙◌, ap, subst, arith, append_assoc, append-nil, length-append, length-take, length-drop, eqb}
-use Rattle.std.specs.Prelude.{reverse, map, count_by, if◌then◌else◌, ◌==◌, nat_eq}
+use Rattle.std.proofs.Common.{◌≡◌, ℕ, zero, suc, ◌+◌, ◌-◌, ◌<◌, ◌≤◌, Bool, true, false, cond, List, [], ◌∷◌, ◌++◌, length, take, drop, get_or, refl, sym, ◌∙◌, ap, subst, arith, append_assoc, append-nil, length-drop}
+use Rattle.std.specs.Prelude.{reverse, map, ◌==◌, nat_eq}
 use Rattle.std.specs.Borrow.{Bor}
 use Rattle.std.specs.List.{prefix_len, starts_with, slice_split}
 use Rattle.std.specs.Str.{IsUtf8, IsCharBoundary}
@@ -12,7 +12,7 @@ use Rattle.std.proofs.lemmas.List.Splits.{length-slice_split}
 use Rattle.std.proofs.lemmas.Str.{IsCharBoundary-start, IsCharBoundary-end, IsCharBoundary-before_ascii, IsCharBoundary-after_ascii}
 use Rattle.std.proofs.lemmas.Bool.Decides.{nat_tests}
 use Rattle.cabal_lexer.specs.Opening.{is_name_byte, begins_with, ends_with_brace}
-use Rattle.cabal_lexer.specs.Lines.{Line, is_blank, indent, trim_start, trim_end, kept_line, kept_from, mark, without_mark}
+use Rattle.cabal_lexer.specs.Lines.{is_blank, indent, trim_start, trim_end, kept_line, kept_from, mark, without_mark}
 
 -- where a test passes ASCII alone
 abbrev pub PassesAscii : (ℕ → Bool) → Type 0

@@ -7,7 +7,7 @@ use Rattle.plan_types.specs.declared.element.Element.{Element}
 use Rattle.plan_types.specs.declared.refusal.Cause.{Cause}
 use Rattle.cabal_lexer.specs.Lines.{Line}
 use Rattle.cabal_lexer.specs.Opening.{Opening, field, braced_field, section, braced_section, opening, within}
-use Rattle.cabal_lexer.specs.Layout.{closes, ends, Ends, Inside, Stands, Block, run, braced_run, indented, enclosed, Fails, misfit, open_run, open_items, in_indented, in_enclosed, Begins, Cut}
+use Rattle.cabal_lexer.specs.Layout.{ends, Ends, Inside, Stands, Block, run, braced_run, indented, enclosed, Fails, misfit, open_run, open_items, in_indented, in_enclosed, Begins, Cut}
 use Rattle.cabal_lexer.proofs.Runs.{run_len, run_take, run_drop, closes-from_ends}
 use Rattle.cabal_lexer.proofs.Blocks.{cut_none, cut_more, fails_more}
 

@@ -1,6 +1,5 @@
 -- The canonical text of a tree.
-use Rattle.std.specs.Prelude.{ℕ, Bool, List, [], ◌∷◌, ◌++◌, map, flat_map, if◌then◌else◌}
-use Rattle.std.specs.List.{concat}
+use Rattle.std.specs.Prelude.{ℕ, List, [], ◌∷◌, ◌++◌, flat_map, if◌then◌else◌}
 use Rattle.plan_types.specs.declared.element.Element.{Element, Element-F, fold-Element}
 use Rattle.plan_types.specs.declared.element.Element.TheOpen.{Field, Section}
 use Rattle.cabal_lexer.specs.Opening.{is_lone}

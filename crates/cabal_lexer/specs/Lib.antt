@@ -3,3 +3,4 @@ pub mod Opening
 pub mod Layout
 pub mod Fault
 pub mod Canonical
+pub mod Examples

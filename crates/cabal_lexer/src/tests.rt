@@ -41,14 +41,17 @@ fn trees(rt: HostRuntime) -> Result<(), Fail> {
         ("a.b_c-1 x y\t \n", "a.b_c-1 x y\n"),
     ];
     for (text, want) in cases {
-        let bytes = text.as_bytes();
-        assert!(rt; bytes.len() <= 1_048_576);
-        match read_elements(rt.alloc(), bytes) {
-            Err(_) => assert!(rt; false, "refused: {text}"),
-            Ok(items) => match print_elements(rt.alloc(), &items) {
-                Err(_) => assert!(rt; false, "not printed: {text}"),
-                Ok(printed) => assert_eq!(rt; printed.as_str(), want, "at {text}"),
-            },
+        // The canonical text stands for the same tree.
+        for source in [text, want] {
+            let bytes = source.as_bytes();
+            assert!(rt; bytes.len() <= 1_048_576);
+            match read_elements(rt.alloc(), bytes) {
+                Err(_) => assert!(rt; false, "refused: {source}"),
+                Ok(items) => match print_elements(rt.alloc(), &items) {
+                    Err(_) => assert!(rt; false, "not printed: {source}"),
+                    Ok(printed) => assert_eq!(rt; printed.as_str(), want, "at {source}"),
+                },
+            }
         }
     }
     Ok(())

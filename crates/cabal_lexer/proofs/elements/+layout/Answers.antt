@@ -1,9 +1,7 @@
-use Rattle.std.proofs.Common.{◌≡◌, ◌+◌, ◌<◌, ◌++◌, [], ◌∷◌, length, drop, drop-drop, sym, ◌∙◌, ap, subst, arith}
+use Rattle.std.proofs.Common.{◌≡◌, ◌+◌, ◌++◌, [], ◌∷◌, drop, drop-drop, sym, ◌∙◌, ap, subst, arith}
 use Rattle.std.proofs.lemmas.Result.{err_from_is_err_and}
-use Rattle.plan_types.specs.declared.element.Element.{Element}
-use Rattle.cabal_lexer.specs.Lines.{Line}
 use Rattle.cabal_lexer.specs.Opening.{lower_case, opening, within}
-use Rattle.cabal_lexer.specs.Layout.{Ends, Fails, misfit, in_indented, in_enclosed, Cut, IsElement}
+use Rattle.cabal_lexer.specs.Layout.{Fails, misfit, in_indented, in_enclosed, IsElement}
 use Rattle.cabal_lexer.proofs.Blocks.{Leads, leads_more, leads_end}
 use Rattle.cabal_lexer.proofs.Made.{made_section, made_braced_section, open_section, At-map}
 use Rattle.cabal_lexer.proofs.elements.+layout.Goals as goal

@@ -1,4 +1,4 @@
-use Rattle.std.proofs.Common.{◌≡◌, ◌+◌, true, length, sym, ◌∙◌, ap, refl, arith}
+use Rattle.std.proofs.Common.{arith}
 use Rattle.cabal_lexer.specs.Opening.{lower_case}
 use Rattle.cabal_lexer.proofs.Made.{made_braced_field, open_field}
 use Rattle.cabal_lexer.proofs.fields.read_braced_field.Goals as goal

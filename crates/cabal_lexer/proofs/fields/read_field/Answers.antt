@@ -1,4 +1,4 @@
-use Rattle.std.proofs.Common.{◌≡◌, ◌+◌, length, sym, ◌∙◌, ap, arith}
+use Rattle.std.proofs.Common.{◌+◌, ◌∙◌, ap}
 use Rattle.cabal_lexer.specs.Opening.{lower_case}
 use Rattle.cabal_lexer.proofs.Runs.{run_len}
 use Rattle.cabal_lexer.proofs.Made.{made_field}

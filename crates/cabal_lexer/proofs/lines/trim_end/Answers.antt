@@ -1,4 +1,4 @@
-use Rattle.std.proofs.Common.{◌≡◌, ◌-◌, length, take, sym, ◌∙◌, ap, subst, reverse, arith}
+use Rattle.std.proofs.Common.{◌-◌, length, take, sym, ◌∙◌, ap, subst, reverse, arith}
 use Rattle.std.specs.Str.{IsCharBoundary}
 use Rattle.cabal_lexer.specs.Lines.{is_blank, indent}
 use Rattle.cabal_lexer.proofs.Texts.{boundary_end, is_blank-ascii, trailing-le, trim_end-take}

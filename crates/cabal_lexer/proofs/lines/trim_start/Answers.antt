@@ -1,4 +1,4 @@
-use Rattle.std.proofs.Common.{◌≡◌, drop, sym, ◌∙◌, ap, subst}
+use Rattle.std.proofs.Common.{drop, sym, ◌∙◌, ap, subst}
 use Rattle.std.specs.Str.{IsCharBoundary}
 use Rattle.cabal_lexer.specs.Lines.{is_blank, indent, trim_start}
 use Rattle.cabal_lexer.proofs.Texts.{boundary_front, is_blank-ascii}

@@ -1,4 +1,4 @@
-use Rattle.std.proofs.Common.{◌≡◌, sym, ◌∙◌, ap, subst}
+use Rattle.std.proofs.Common.{sym, ◌∙◌, ap, subst}
 use Rattle.std.specs.Str.{IsCharBoundary}
 use Rattle.cabal_lexer.specs.Opening.{is_name_byte, name_len}
 use Rattle.cabal_lexer.proofs.Texts.{boundary_front, is_name_byte-ascii}

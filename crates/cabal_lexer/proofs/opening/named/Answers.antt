@@ -1,4 +1,4 @@
-use Rattle.std.proofs.Common.{◌∙◌, sym, arith}
+use Rattle.std.proofs.Common.{sym, arith}
 use Rattle.cabal_lexer.proofs.Texts.{begins_with-boundary}
 use Rattle.cabal_lexer.proofs.opening.named.Goals as goal
 

@@ -1,4 +1,4 @@
-use Rattle.std.proofs.Common.{◌≡◌, ◌∙◌}
+use Rattle.std.proofs.Common.{◌∙◌}
 use Rattle.std.proofs.lemmas.Result.{on_ok_weaker}
 use Rattle.cabal_lexer.proofs.Printed.{section_printed}
 use Rattle.cabal_lexer.proofs.print.+print.Goals as goal
