@@ -1,0 +1,8 @@
+//! Versions and ranges of versions: their texts, which versions a range has, and the sorted cuts in
+//! which a planner asks.
+#![tactic(auto)]
+
+mod number;
+mod version;
+
+pub use version::{print_version, read_version};
