@@ -2,7 +2,10 @@
 //! which a planner asks.
 #![tactic(auto)]
 
+mod cuts;
+mod merge;
 mod number;
 mod version;
 
+pub use cuts::Cuts;
 pub use version::{print_version, read_version};
