@@ -1,13 +1,13 @@
 -- The order of versions, and lists of ends that rise.
-use Rattle.std.proofs.Common.{◌≡◌, ◌≢◌, ◌⊎◌, inl, inr, ℕ, zero, suc, ◌+◌, ◌<◌, ◌≤◌, Bool, true, false, not, ◌&&◌, ◌||◌, List, [], ◌∷◌, ◌++◌, length, drop, get_or, cond, refl, sym, ap, ◌∙◌, subst, ⊎_elim, arith, rules, append_assoc}
+use Rattle.std.proofs.Common.{◌≡◌, ◌≢◌, ◌⊎◌, inl, inr, ℕ, ◌<◌, Bool, true, false, not, ◌||◌, List, [], ◌∷◌, ◌++◌, length, refl, sym, ap, ◌∙◌, subst, ⊎_elim, arith, append_assoc}
 use Rattle.std.specs.declared.cmp.Ordering.{Ordering}
 use Rattle.std.specs.declared.cmp.Ordering.TheVariants.{Less, Equal, Greater}
-use Rattle.std.specs.Ordering.{is_lt, is_eq, is_gt, is_ge, ordering_reverse, nat_cmp}
+use Rattle.std.specs.Ordering.{is_lt, ordering_reverse}
 use Rattle.std.specs.Cmp.{IsTotalOrder}
-use Rattle.std.specs.Cmp.Lexicographic.{slice_cmp, on_texts}
+use Rattle.std.specs.Cmp.Lexicographic.{on_texts}
 use Rattle.std.proofs.lemmas.Cmp.{alike_right, tied_itself, tied_back}
-use Rattle.std.proofs.lemmas.Bool.{true≢false, false≢true, and_parts, and_from, cases_Bool}
-use Rattle.std.proofs.lemmas.List.{append-nil, at_drop_more, drop_all}
+use Rattle.std.proofs.lemmas.Bool.{true≢false, false≢true, and_parts, and_from}
+use Rattle.std.proofs.lemmas.List.{append-nil}
 use Rattle.std.proofs.lemmas.Map.Lookups.{exact_bytes}
 use Rattle.plan_types.specs.declared.version.Version.{Version}
 use Rattle.plan_types.specs.Members.{order}
@@ -90,12 +90,12 @@ above_to v e (x ∷ xs) p h =
 
 -- ---- two lists merged
 
-flip_not : (a b : Bool) → flip a (not b) ≡ flip (not a) b
+pub flip_not : (a b : Bool) → flip a (not b) ≡ flip (not a) b
 flip_not true true = refl
 flip_not true false = refl
 flip_not false b = refl
 
-flip_off : (a : Bool) → flip a false ≡ a
+pub flip_off : (a : Bool) → flip a false ≡ a
 flip_off true = refl
 flip_off false = refl
 
@@ -149,8 +149,8 @@ module _ (j : Joint) (a b : Bool) (xs ys : List Version) (e : Version) (s t : Bo
   still v p =
       flip_held now (inside more v)
       (goes_on v
-       ∙ (λ i. join j (flip (flip s a) (quiet v xs' (above_down v e xs' p step.first_above) i)) (flip (flip t b) (quiet v ys' (above_down v e ys' p step.second_above) i)))
-       ∙ (λ i. join j (flip_off (flip s a) i) (flip_off (flip t b) i)))
+      ∙ (λ i. join j (flip (flip s a) (quiet v xs' (above_down v e xs' p step.first_above) i)) (flip (flip t b) (quiet v ys' (above_down v e ys' p step.second_above) i)))
+      ∙ (λ i. join j (flip_off (flip s a) i) (flip_off (flip t b) i)))
 
   unreached : (v : Version) → is_below v e ≡ true → join j (flip a (inside xs v)) (flip b (inside ys v)) ≡ was
   unreached v p =
@@ -174,14 +174,14 @@ module _ (j : Joint) (a b : Bool) (xs ys : List Version) (e : Version) (s t : Bo
 
 -- ---- lists that rise
 
-all_above_append : (v : Version) (xs ys : List Version) → all_above v (xs ++ ys) ≡ true → (all_above v xs ≡ true) × (all_above v ys ≡ true)
+pub all_above_append : (v : Version) (xs ys : List Version) → all_above v (xs ++ ys) ≡ true → (all_above v xs ≡ true) × (all_above v ys ≡ true)
 all_above_append v [] ys h = (refl, h)
 all_above_append v (x ∷ xs) ys h =
     let p = and_parts (is_below v x) (all_above v (xs ++ ys)) h in
     let q = all_above_append v xs ys p.1 in
     (and_from (is_below v x) (all_above v xs) p.0 q.0, q.1)
 
-all_above_both : (v : Version) (xs ys : List Version) → all_above v xs ≡ true → all_above v ys ≡ true → all_above v (xs ++ ys) ≡ true
+pub all_above_both : (v : Version) (xs ys : List Version) → all_above v xs ≡ true → all_above v ys ≡ true → all_above v (xs ++ ys) ≡ true
 all_above_both v [] ys h k = k
 all_above_both v (x ∷ xs) ys h k =
     let p = and_parts (is_below v x) (all_above v xs) h in
@@ -215,13 +215,13 @@ step_rises out xs ys e false true xs' ys' p q a b one h k =
     (rises_put out e ys' xs' second (ap (λ l. rises (out ++ l)) (sym p) ∙ h) a, second)
 step_rises out xs ys e false false xs' ys' p q a b one h k = absurd (false≢true one)
 
-not_same_true : (a b : Bool) → not_same a b ≡ true → a ≢ b
+pub not_same_true : (a b : Bool) → not_same a b ≡ true → a ≢ b
 not_same_true true true h e = false≢true h
 not_same_true true false h e = true≢false e
 not_same_true false true h e = false≢true e
 not_same_true false false h e = false≢true h
 
-not_same_false : (a b : Bool) → not_same a b ≡ false → a ≡ b
+pub not_same_false : (a b : Bool) → not_same a b ≡ false → a ≡ b
 not_same_false true true h = refl
 not_same_false true false h = absurd (true≢false h)
 not_same_false false true h = absurd (true≢false h)
@@ -261,9 +261,10 @@ merges_step j xs ys out a b xs' ys' e s t xs'' ys'' w out' m step wanted pushed_
     })
 
 pub merges_all : (j : Joint) (xs ys out : List Version) (a b : Bool) (xs' ys' : List Version) → Merges j xs ys out a b xs' ys' → xs' ≡ [] → ys' ≡ [] → (are_ends out ≡ true) × ((v : Version) → inside out v ≡ join j (inside xs v) (inside ys v))
-merges_all j xs ys out a b xs' ys' m p q =
-    (ap are_ends (sym (append-nil out) ∙ ap (λ l. out ++ l) (sym p)) ∙ m.first_rises,
-     λ v. ap (λ l. inside l v) (sym (append-nil out)) ∙ m.follows [] (λ w. flip_off (join j a b) ∙ (λ i. join j (sym (flip_off a) i) (sym (flip_off b) i)) ∙ (λ i. join j (flip a (inside (sym p i) w)) (flip b (inside (sym q i) w)))) v)
+merges_all j xs ys out a b xs' ys' m p q = (
+  ap are_ends (sym (append-nil out) ∙ ap (λ l. out ++ l) (sym p)) ∙ m.first_rises,
+  λ v. ap (λ l. inside l v) (sym (append-nil out)) ∙ m.follows [] (λ w. flip_off (join j a b) ∙ (λ i. join j (sym (flip_off a) i) (sym (flip_off b) i)) ∙ (λ i. join j (flip a (inside (sym p i) w)) (flip b (inside (sym q i) w)))) v,
+)
 
 rises_tail : (out xs : List Version) → rises (out ++ xs) ≡ true → rises xs ≡ true
 rises_tail [] xs h = h
@@ -317,24 +318,15 @@ module _ (first second : List Version) (x : Version) (xs : List Version) (y : Ve
         one = refl;
         shorter = omega (arith, ap length p, ap length q);
       }
--- ---- the test
-
-pub has_step : (ends : List Version) (i : ℕ) (e v : Version) (s s' : Bool) (whole : Bool) → i < length ends → e ≡ get_or ends i e → s' ≡ flip (is_ge (R v e)) s → flip s (inside (drop i ends) v) ≡ whole → flip s' (inside (drop (i + 1) ends) v) ≡ whole
-has_step ends i e v s s' whole within here turned h =
-    ap (λ t. flip t (inside (drop (i + 1) ends) v)) turned
-    ∙ sym (turn (R v e) s (inside (drop (i + 1) ends) v))
-    ∙ sym (ap (flip s) (at_drop_more (λ l. inside l v) ends i e within ∙ ap (λ x. inside (x ∷ drop (i + 1) ends) v) (sym here)))
-    ∙ h
-  where
-    turn : (o : Ordering) (s t : Bool) → flip s (cond (is_lt o) t (not t)) ≡ flip (flip (is_ge o) s) t
-    turn Less s t = refl
-    turn Equal s t = flip_not s t
-    turn Greater s t = flip_not s t
-
-pub has_all : (ends : List Version) (v : Version) (s : Bool) (n : ℕ) → length ends ≤ n → flip s (inside (drop n ends) v) ≡ inside ends v → s ≡ inside ends v
-has_all ends v s n le h = sym (flip_off s) ∙ ap (λ l. flip s (inside l v)) (sym (drop_all n ends le)) ∙ h
 
 -- ---- emptiness
+
+pub has_numbers : (e : Version) → is_below no_numbers e ≡ true → HasNumbers e
+has_numbers e b = by e.parts b
+  where
+    by : (ps : List ℕ) → is_lt (order [] ps) ≡ true → 0 < length ps
+    by [] b = absurd (false≢true b)
+    by (p ∷ ps) b = omega arith
 
 pub empty_when : (ends : List Version) → are_ends ends ≡ true → (ends ≡ [] → (v : Version) → HasNumbers v → inside ends v ≡ false) × (((v : Version) → HasNumbers v → inside ends v ≡ false) → ends ≡ [])
 empty_when [] h = (λ e v n. refl, λ f. refl)
@@ -346,16 +338,9 @@ empty_when (e ∷ es) h =
     first_inside : (e : Version) (es : List Version) → rises (e ∷ es) ≡ true → inside (e ∷ es) e ≡ true
     first_inside e es r = rw (not_itself e) (ap not (quiet e es (and_parts (all_above e es) (rises es) r).0))
 
-    has_numbers : (e : Version) → is_below no_numbers e ≡ true → HasNumbers e
-    has_numbers e b = by e.parts b
-      where
-        by : (ps : List ℕ) → is_lt (order [] ps) ≡ true → 0 < length ps
-        by [] b = absurd (false≢true b)
-        by (p ∷ ps) b = omega arith
-
 -- the same, where the code names the values
 pub merges_turn : (j : Joint) (xs ys out : List Version) (a b : Bool) (xs' ys' : List Version) (e : Version) (s t : Bool) (xs'' ys'' : List Version) (out' : List Version) (a' b' w w' d : Bool) → Merges j xs ys out a b xs' ys' → IsStep xs' ys' e s xs'' t ys'' → w ≡ join j a b → a' ≡ flip s a → b' ≡ flip t b → w' ≡ join j a' b' → d ≡ flip w w' → out' ≡ pushed d out e → Merges j xs ys out' a' b' xs'' ys''
 merges_turn j xs ys out a b xs' ys' e s t xs'' ys'' out' a' b' w w' d m step p q r u v o =
     subst (λ z. Merges j xs ys out' z b' xs'' ys'') (sym q)
     (subst (λ z. Merges j xs ys out' (flip s a) z xs'' ys'') (sym r)
-     (merges_step j xs ys out a b xs' ys' e s t xs'' ys'' d out' m step (v ∙ (λ i. flip (p i) ((u ∙ (λ k. join j (q k) (r k))) i)) ∙ refl) o))
+    (merges_step j xs ys out a b xs' ys' e s t xs'' ys'' d out' m step (v ∙ (λ i. flip (p i) ((u ∙ (λ k. join j (q k) (r k))) i)) ∙ refl) o))

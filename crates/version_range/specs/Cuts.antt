@@ -1,8 +1,10 @@
 -- Sorted cuts, and the relaxed range.
-use Rattle.std.specs.Prelude.{◌≡◌, ◌≢◌, ℕ, ◌+◌, ◌<◌, Bool, true, false, not, ◌&&◌, ◌||◌, if◌then◌else◌, ◌⊎◌, List, [], ◌∷◌, ◌++◌, length, IsTrue}
+use Rattle.std.specs.Prelude.{◌≡◌, ℕ, ◌+◌, ◌<◌, Bool, true, false, not, ◌&&◌, ◌||◌, if◌then◌else◌, ◌⊎◌, List, [], ◌∷◌, ◌++◌, length, IsTrue}
 use Rattle.std.specs.Ordering.{is_lt}
 use Rattle.plan_types.specs.declared.version.Version.{Version}
-use Rattle.plan_types.specs.Members.{order}
+use Rattle.plan_types.specs.declared.range.Range.{Range, size-Range}
+use Rattle.plan_types.specs.Members.{order, members}
+use Rattle.version_range.specs.Version.{has_versions}
 use Rattle.version_range.specs.declared.merge.Joint.{Joint}
 use Rattle.version_range.specs.declared.merge.Joint.TheVariants.{Both, Either}
 
@@ -71,6 +73,13 @@ joined Both [] v = true
 joined Either [] v = false
 joined joint (ends ∷ more) v = join joint (inside ends v) (joined joint more v)
 
+-- The range is these two, joined so.
+pub record IsSplit (joint : Joint) (range left right : Range) : Type 0 where
+  pub members_are : (v : Version) → members range v ≡ join joint (members left v) (members right v)
+  pub versions_are : has_versions range ≡ true → (has_versions left ≡ true) × (has_versions right ≡ true)
+  pub left_smaller : size-Range left < size-Range range
+  pub right_smaller : size-Range right < size-Range range
+
 -- some member is below v
 abbrev pub SomeBelow : (Version → Bool) → Version → Type 0
 SomeBelow has v = (w : Version) × HasNumbers w × IsTrue (has w) × IsTrue (is_below w v)
@@ -85,3 +94,9 @@ IsRelaxedAbove has v = IsTrue (has v) ⊎ (SomeBelow has v × (SomeAbove has v �
 -- The range relaxed below: its members, and what is below some member where no member is below it.
 abbrev pub IsRelaxedBelow : (Version → Bool) → Version → Type 0
 IsRelaxedBelow has v = IsTrue (has v) ⊎ (SomeAbove has v × (SomeBelow has v → ⊥))
+
+-- the least list of numbers above all that begin with these
+abbrev pub raised : List ℕ → List ℕ
+raised [] = []
+raised (n ∷ []) = (n + 1) ∷ []
+raised (n ∷ m ∷ ns) = n ∷ raised (m ∷ ns)

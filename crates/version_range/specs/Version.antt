@@ -1,7 +1,10 @@
 -- The text of a version.
-use Rattle.std.specs.Prelude.{ℕ, ◌+◌, ◌-◌, ◌*◌, ◌^◌, ◌<◌, Bool, false, List, [], ◌∷◌, ◌++◌}
+use Rattle.std.specs.Prelude.{ℕ, ◌+◌, ◌-◌, ◌*◌, ◌^◌, ◌<◌, Bool, true, false, ◌&&◌, nat_lt, List, [], ◌∷◌, ◌++◌}
 use Rattle.std.specs.Char.{is_ascii_digit}
 use Rattle.std.specs.Fmt.{decimal}
+use Rattle.plan_types.specs.declared.range.Range.{Range}
+use Rattle.plan_types.specs.declared.range.Range.TheOpen.{Range-F, Any, Nothing, Equal, Prefix, AtLeast, Above, AtMost, Below, Major, Both, Either}
+use Rattle.plan_types.specs.declared.range.Range.TheFolds.{fold-Range}
 use Rattle.plan_types.specs.declared.refusal.Cause.{Cause}
 use Rattle.plan_types.specs.declared.refusal.TextFault.{TextFault}
 use Rattle.plan_types.specs.declared.refusal.TextFault.TheVariants.{NoMemory, Bad}
@@ -40,3 +43,27 @@ number_after n (b ∷ bs) = number_after (10 * n + (b - 48)) bs
 abbrev pub Refuses : (Cause → Type 0) → TextFault → Type 0
 Refuses P NoMemory = Unit {0}
 Refuses P (Bad cause) = P cause
+
+-- the same as a test
+abbrev pub is_version : List ℕ → Bool
+is_version [] = false
+is_version (n ∷ []) = nat_lt n (10 ^ 9)
+is_version (n ∷ m ∷ ns) = nat_lt n (10 ^ 9) && is_version (m ∷ ns)
+
+-- one layer of a range whose parts were tested
+abbrev pub versions_step : Range-F Bool → Bool
+versions_step Any = true
+versions_step Nothing = true
+versions_step (Equal x) = is_version x.parts
+versions_step (Prefix x) = is_version x.parts
+versions_step (AtLeast x) = is_version x.parts
+versions_step (Above x) = is_version x.parts
+versions_step (AtMost x) = is_version x.parts
+versions_step (Below x) = is_version x.parts
+versions_step (Major x) = is_version x.parts
+versions_step (Both left right) = left && right
+versions_step (Either left right) = left && right
+
+-- each version that stands in the range can be read
+abbrev pub has_versions : Range → Bool
+has_versions = fold-Range Bool versions_step

@@ -3,6 +3,7 @@
 #![tactic(auto)]
 
 mod cuts;
+mod interval;
 mod merge;
 mod number;
 mod version;

@@ -92,12 +92,42 @@ fn next<'a>(first: &'a [Version], second: &'a [Version]) -> Option<Least<'a>>
 {
     match (first.split_first(), second.split_first()) {
         (None, None) => None,
-        (Some((x, xs)), None) => Some(Least { end: x, from_first: true, first: xs, from_second: false, second }),
-        (None, Some((y, ys))) => Some(Least { end: y, from_first: false, first, from_second: true, second: ys }),
+        (Some((x, xs)), None) => Some(Least {
+            end: x,
+            from_first: true,
+            first: xs,
+            from_second: false,
+            second,
+        }),
+        (None, Some((y, ys))) => Some(Least {
+            end: y,
+            from_first: false,
+            first,
+            from_second: true,
+            second: ys,
+        }),
         (Some((x, xs)), Some((y, ys))) => match x.compare(y) {
-            Ordering::Less => Some(Least { end: x, from_first: true, first: xs, from_second: false, second }),
-            Ordering::Equal => Some(Least { end: x, from_first: true, first: xs, from_second: true, second: ys }),
-            Ordering::Greater => Some(Least { end: y, from_first: false, first, from_second: true, second: ys }),
+            Ordering::Less => Some(Least {
+                end: x,
+                from_first: true,
+                first: xs,
+                from_second: false,
+                second,
+            }),
+            Ordering::Equal => Some(Least {
+                end: x,
+                from_first: true,
+                first: xs,
+                from_second: true,
+                second: ys,
+            }),
+            Ordering::Greater => Some(Least {
+                end: y,
+                from_first: false,
+                first,
+                from_second: true,
+                second: ys,
+            }),
         },
     }
 }
