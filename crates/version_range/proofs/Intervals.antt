@@ -14,11 +14,6 @@ use Rattle.version_range.specs.Cuts.{is_below, HasNumbers, inside, all_above, ri
 use Rattle.version_range.proofs.Ends.{below_through, not_below_through}
 use Rattle.version_range.proofs.Relaxing.{least}
 
-pub version_from : (ps : List ℕ) → is_version ps ≡ true → IsVersion ps
-version_from [] h = absurd (false≢true h)
-version_from (n ∷ []) h = ltb-true n (10 ^ 9) h
-version_from (n ∷ m ∷ ns) h = let p = and_parts (nat_lt n (10 ^ 9)) (is_version (m ∷ ns)) h in (ltb-true n (10 ^ 9) p.0, version_from (m ∷ ns) p.1)
-
 pub version_some : (ps : List ℕ) → IsVersion ps → 0 < length ps
 version_some [] h = absurd h
 version_some (n ∷ ns) h = omega arith

@@ -8,10 +8,11 @@ use Rattle.std.specs.Int.{IsInRange}
 use Rattle.std.proofs.lemmas.List.{append-nil, at_drop_more, take_more}
 use Rattle.std.proofs.Math.Nat.{pow-le-pow_right}
 use Rattle.std.proofs.lemmas.Grind.{pow_more}
-use Rattle.std.proofs.lemmas.Bool.{false≢true}
+use Rattle.std.proofs.lemmas.Bool.{false≢true, and_parts, and_from, ltb-true, lt-ltb}
+use Rattle.std.specs.Prelude.{nat_lt}
 use Rattle.std.proofs.lemmas.Str.Parse.{IsNumeralModel, numerals_by_fold, digits_value_short, tells_all_ascii_digits}
 use Rattle.std.proofs.lemmas.Fmt.{digits_decimal, decimal-digits_value, decimal_injective, decimal_nonempty, length-decimal-le, first_decimal, decimal_digit}
-use Rattle.version_range.specs.Version.{IsNumber, IsVersion, version_text, led_by_points, begins_with_digit, number_after}
+use Rattle.version_range.specs.Version.{IsNumber, IsVersion, is_version, version_text, led_by_points, begins_with_digit, number_after}
 
 own : IsNumeralModel (λ ds. all_ascii_digits ds ≡ true) (number_after 0)
 own = numerals_by_fold _ (search rules) number_after (search rules)
@@ -202,3 +203,14 @@ pub is_number : (text digits rest : List ℕ) (n : ℕ) → text ≡ digits ++ r
 is_number text digits rest n e all end ok value =
     let t = numeral_text digits all ok.0 ok.1 ok.2 in
     (subst IsNumber (sym value) t.0, e ∙ ap (λ ds. ds ++ rest) (t.1 ∙ ap decimal (sym value)), end)
+
+-- the test of a version
+pub version_from : (ps : List ℕ) → is_version ps ≡ true → IsVersion ps
+version_from [] h = absurd (false≢true h)
+version_from (n ∷ []) h = ltb-true n (10 ^ 9) h
+version_from (n ∷ m ∷ ns) h = let p = and_parts (nat_lt n (10 ^ 9)) (is_version (m ∷ ns)) h in (ltb-true n (10 ^ 9) p.0, version_from (m ∷ ns) p.1)
+
+pub version_to : (ps : List ℕ) → IsVersion ps → is_version ps ≡ true
+version_to [] h = absurd h
+version_to (n ∷ []) h = lt-ltb n (10 ^ 9) h
+version_to (n ∷ m ∷ ns) h = and_from (nat_lt n (10 ^ 9)) (is_version (m ∷ ns)) (lt-ltb n (10 ^ 9) h.0) (version_to (m ∷ ns) h.1)

@@ -10,3 +10,6 @@ mod version;
 
 pub use cuts::Cuts;
 pub use version::{print_version, read_version};
+
+#[cfg(test)]
+mod tests;

@@ -1,7 +1,7 @@
-ghost use Rattle.std.specs.Prelude.{◌≡◌, ◌≢◌, ℕ, ◌++◌, List, IfOk, IfErr, OnOk};
+ghost use Rattle.std.specs.Prelude.{◌≡◌, ◌≢◌, ℕ, ◌++◌, List, IsTrue, IfOk, IfErr, OnOk};
 ghost use Rattle.std.specs.Fmt.{decimal};
 ghost use Rattle.plan_types.specs.declared.refusal.Cause.TheVariants.{BadVersion};
-ghost use Rattle.version_range.specs.Version.{IsVersion, version_text, led_by_points, Refuses};
+ghost use Rattle.version_range.specs.Version.{is_version, version_text, led_by_points, Refuses};
 
 use crate::number::{number_at, strip_byte};
 use plan_types::{Cause, List, NoMemory, Text, TextFault, Version};
@@ -10,10 +10,10 @@ use std::alloc::Global;
 /// Reads a version: numbers joined by points, each of one to nine digits and with no leading zero
 /// unless it is `0`. Nothing may stand around it.
 pub fn read_version(alloc: Global, text: &[u8]) -> Result<Version, TextFault>
-    ensures found { IfOk result (λ v. IsVersion v.parts × (text.now ≡ version_text v.parts)) }
-    ensures only { IfOk result (λ v. (ps : List ℕ) → IsVersion ps → text.now ≡ version_text ps → v.parts ≡ ps) }
+    ensures found { IfOk result (λ v. IsTrue (is_version v.parts) × (text.now ≡ version_text v.parts)) }
+    ensures only { IfOk result (λ v. (ps : List ℕ) → IsTrue (is_version ps) → text.now ≡ version_text ps → v.parts ≡ ps) }
     ensures refused { IfErr result (Refuses (λ cause. (cause ≡ BadVersion)
-        × ((ps : List ℕ) → IsVersion ps → text.now ≢ version_text ps))) }
+        × ((ps : List ℕ) → IsTrue (is_version ps) → text.now ≢ version_text ps))) }
 {
     let mut parts = List::new(alloc);
     let mut rest = text;
