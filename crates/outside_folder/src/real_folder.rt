@@ -1,5 +1,5 @@
 // What a real folder holds isn't told, so that these lines are trusted as to content.
-ghost use Rattle.std.specs.Prelude.{◌≢◌, ◌<◌, ◌^◌, ◌-◌, None, IfOk, IsErrOf};
+ghost use Rattle.std.specs.Prelude.{◌≡◌, ◌≢◌, ◌<◌, ◌^◌, ◌-◌, None, IfOk, IsErrOf};
 ghost use Rattle.outside_folder.specs.Folder.{IsWithinLimit};
 
 use crate::{FILE_LIMIT, Folder, FolderFault, Name};
@@ -21,7 +21,10 @@ pub struct RealFolder<'a, R: Files> {
 }
 
 impl<'a, R: Files> RealFolder<'a, R> {
-    pub fn new(rt: &'a R, root: Text) -> RealFolder<'a, R> {
+    pub fn new(rt: &'a R, root: Text) -> RealFolder<'a, R>
+        ensures root { result.root ≡ root }
+        ensures no_faults { result.faults ≡ 0 }
+    {
         RealFolder {
             rt,
             root,

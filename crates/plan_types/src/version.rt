@@ -1,4 +1,4 @@
-ghost use Rattle.std.specs.Prelude.{◌≡◌, IfOk};
+ghost use Rattle.std.specs.Prelude.{◌≡◌, ◌<◌, [], ◌∷◌, length, IfOk};
 ghost use Rattle.std.specs.Ordering.{nat_cmp};
 ghost use Rattle.std.specs.Cmp.Lexicographic.{slice_cmp};
 
@@ -18,6 +18,15 @@ impl Version {
         ensures { result ≡ slice_cmp nat_cmp self.now.parts other.now.parts }
     {
         self.parts.as_slice().cmp(other.parts.as_slice())
+    }
+
+    /// Makes it `0`, the least version.
+    pub fn make_least(&mut self)
+        requires { 0 < length self.old.parts }
+        ensures { self.new.parts ≡ 0 ∷ [] }
+    {
+        self.parts.truncate(1);
+        self.parts.set(0, 0);
     }
 
     pub fn copy(&self, alloc: Global) -> Result<Version, NoMemory>
