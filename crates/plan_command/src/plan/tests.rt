@@ -15,8 +15,10 @@ enum To {
     Below(u32),
 }
 
-// A release: its package, its version, and what it asks for.
-type Release<'a> = (&'a str, u32, &'a [(&'a str, To)]);
+// A release by its package and version, and a need by the release that asks and the package.
+type Release<'a> = (&'a str, u32);
+
+type Asks<'a> = (&'a str, u32, &'a str, To);
 
 fn version(alloc: Global, number: u32) -> Result<Version, Fail> {
     let mut parts = List::new(alloc);
@@ -33,37 +35,56 @@ fn bound(alloc: Global, to: To) -> Result<Bound, Fail> {
     }
 }
 
-fn file(alloc: Global, release: &Release) -> Result<PlainFile, Fail> {
+fn needs_of(alloc: Global, name: &str, number: u32, asks: &[Asks]) -> Result<List<Need>, Fail> {
     let mut needs = List::new(alloc);
-    for (name, to) in release.2 {
-        needs.push(Need {
-            name: Text::from_str(alloc, name)?,
-            bound: bound(alloc, *to)?,
-        })?;
+    for (owner, at, asked, to) in asks {
+        if *owner == name && *at == number {
+            needs.push(Need {
+                name: Text::from_str(alloc, asked)?,
+                bound: bound(alloc, *to)?,
+            })?;
+        }
     }
-    let number = release.1;
+    Ok(needs)
+}
+
+fn file(alloc: Global, name: &str, number: u32, asks: &[Asks]) -> Result<PlainFile, Fail> {
     Ok(PlainFile {
-        name: Text::from_str(alloc, release.0)?,
+        name: Text::from_str(alloc, name)?,
         version: Text::from_string(format!(in alloc; "{number}")?),
         numbers: version(alloc, number)?,
-        needs,
+        needs: needs_of(alloc, name, number, asks)?,
+    })
+}
+
+fn package_of(
+    alloc: Global,
+    name: &str,
+    releases: &[Release],
+    asks: &[Asks],
+) -> Result<Package, Fail> {
+    let mut found = List::new(alloc);
+    for (released, number) in releases {
+        if *released == name {
+            found.push(file(alloc, name, *number, asks)?)?;
+        }
+    }
+    Ok(Package {
+        name: Text::from_str(alloc, name)?,
+        releases: found,
     })
 }
 
 // The packages of these names, each with its releases in the order in which they are listed.
-fn packages(alloc: Global, names: &[&str], releases: &[Release]) -> Result<List<Package>, Fail> {
+fn packages(
+    alloc: Global,
+    names: &[&str],
+    releases: &[Release],
+    asks: &[Asks],
+) -> Result<List<Package>, Fail> {
     let mut packages = List::new(alloc);
     for name in names {
-        let mut found = List::new(alloc);
-        for release in releases {
-            if release.0 == *name {
-                found.push(file(alloc, release)?)?;
-            }
-        }
-        packages.push(Package {
-            name: Text::from_str(alloc, name)?,
-            releases: found,
-        })?;
+        packages.push(package_of(alloc, name, releases, asks)?)?;
     }
     Ok(packages)
 }
@@ -72,6 +93,7 @@ fn packages(alloc: Global, names: &[&str], releases: &[Release]) -> Result<List<
 struct Case<'a> {
     names: &'a [&'a str],
     releases: &'a [Release<'a>],
+    asks: &'a [Asks<'a>],
     status: Status,
     text: &'a str,
 }
@@ -83,53 +105,59 @@ fn plans(rt: HostRuntime) -> Result<(), Fail> {
         Case {
             names: &["main", "a", "b", "c", "missing"],
             releases: &[
-                ("main", 1, &[("b", To::Any), ("c", To::Any)]),
-                ("a", 1, &[]),
-                ("a", 2, &[]),
-                ("b", 1, &[("a", To::Any)]),
-                ("b", 2, &[("c", To::Equal(1))]),
-                ("c", 1, &[("missing", To::Any)]),
-                ("c", 2, &[]),
+                ("main", 1),
+                ("a", 1),
+                ("a", 2),
+                ("b", 1),
+                ("b", 2),
+                ("c", 1),
+                ("c", 2),
+            ],
+            asks: &[
+                ("main", 1, "b", To::Any),
+                ("main", 1, "c", To::Any),
+                ("b", 1, "a", To::Any),
+                ("b", 2, "c", To::Equal(1)),
+                ("c", 1, "missing", To::Any),
             ],
             status: Status::Planned,
             text: "plan\nchoose main 1 local\nchoose b 1 source\nchoose a 2 source\nchoose c 2 source\n",
         },
         Case {
             names: &["main", "foo"],
-            releases: &[("main", 1, &[("foo", To::Any)])],
+            releases: &[("main", 1)],
+            asks: &[("main", 1, "foo", To::Any)],
             status: Status::NoPlan,
             text: "no plan\n",
         },
         Case {
             names: &["main"],
-            releases: &[("main", 1, &[("foo", To::Any)])],
+            releases: &[("main", 1)],
+            asks: &[("main", 1, "foo", To::Any)],
             status: Status::NoPlan,
             text: "no plan\n",
         },
         Case {
             names: &["main", "a"],
-            releases: &[
-                ("main", 1, &[("a", To::AtLeast(2)), ("a", To::Below(3))]),
-                ("a", 1, &[]),
-                ("a", 2, &[]),
-                ("a", 3, &[]),
+            releases: &[("main", 1), ("a", 1), ("a", 2), ("a", 3)],
+            asks: &[
+                ("main", 1, "a", To::AtLeast(2)),
+                ("main", 1, "a", To::Below(3)),
             ],
             status: Status::Planned,
             text: "plan\nchoose main 1 local\nchoose a 2 source\n",
         },
         Case {
             names: &["main", "a"],
-            releases: &[
-                ("main", 1, &[("a", To::Any)]),
-                ("a", 1, &[]),
-                ("a", 2, &[("main", To::Below(1))]),
-            ],
+            releases: &[("main", 1), ("a", 1), ("a", 2)],
+            asks: &[("main", 1, "a", To::Any), ("a", 2, "main", To::Below(1))],
             status: Status::Planned,
             text: "plan\nchoose main 1 local\nchoose a 1 source\n",
         },
     ];
     for case in &cases {
-        let answer = plan_of(alloc, packages(alloc, case.names, case.releases)?)?;
+        let packages = packages(alloc, case.names, case.releases, case.asks)?;
+        let answer = plan_of(alloc, packages)?;
         assert_eq!(rt; answer.status, case.status);
         assert_eq!(rt; answer.text.as_str(), case.text);
     }
