@@ -1,5 +1,6 @@
 pub mod Answer
 pub mod FolderProblem
+pub mod FolderProblemExamples
 pub mod FolderProblemLaws
 pub mod Line
 pub mod Need

@@ -61,10 +61,8 @@ impl Choices for FolderProblem {
     }
 
     fn order(&self, alloc: Global, v: Var, _trail: &List<Choice>) -> Result<List<u64>, NoMemory> {
-        falling(
-            alloc,
-            releases_of(self.packages.as_slice(), v.package).len(),
-        )
+        let releases = releases_of(self.packages.as_slice(), v.package);
+        falling(alloc, releases.len())
     }
 
     fn barred(&self, _c: Choice) -> bool {

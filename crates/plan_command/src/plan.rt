@@ -38,3 +38,6 @@ fn answer_of_plain(alloc: Global, packages: &[Package], plain: &Plain) -> Result
         }),
     }
 }
+
+#[cfg(test)]
+mod tests;
