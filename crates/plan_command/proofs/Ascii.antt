@@ -7,7 +7,8 @@ use Rattle.std.proofs.lemmas.Str.Ascii.{IsAscii-nil, IsAscii-cons}
 use Rattle.std.proofs.lemmas.Bool.{false≢true}
 use Rattle.std.proofs.lemmas.Bool.Decides.{nat_tests}
 use Rattle.plan_types.specs.Name.{is_letter_or_digit, is_digit, is_group, is_package_name}
-use Rattle.plan_command.specs.PlainFile.{is_boot_name, is_name, is_number, is_version}
+use Rattle.plan_command.specs.PlainFile.{is_boot_name, is_name}
+use Rattle.plan_command.specs.Version.{is_number, is_version}
 
 both : (a b : Bool) → a && b ≡ true → (a ≡ true) × (b ≡ true)
 both true b h = (refl, h)

@@ -45,7 +45,7 @@ answer_of_file path (Err (At line cause)) = refused path line cause
 -- the answer to the bytes of a local file
 abbrev pub answer_of_read : Bytes → Option Bytes → Answer
 answer_of_read path None = refused path 0 TooLarge
-answer_of_read path (Some bytes) = answer_of_file path (plain_file bytes)
+answer_of_read path (Some bytes) = answer_of_file path (plain_file None bytes)
 
 abbrev pub answer_of_local : Files → Option Bytes → Answer
 answer_of_local files None = refused (codes ".") 0 NoPackages

@@ -1,13 +1,14 @@
 -- The plain file of a package, and the first line of a text that isn't as in one.
-use Rattle.std.specs.Prelude.{◌≡◌, ℕ, ◌+◌, Bool, false, ◌==◌, ◌&&◌, ◌||◌, not, nat_lt, nat_eq, List, [], ◌∷◌, ◌++◌, length, take, drop, codes, position, IsTrue, Result, Ok, Err, if◌then◌else◌, Option, Some, None}
-use Rattle.std.specs.List.{list_all, list_any, slice_split}
+use Rattle.std.specs.Prelude.{◌≡◌, ℕ, ◌+◌, Bool, false, ◌==◌, ◌&&◌, ◌||◌, not, nat_eq, List, [], ◌∷◌, ◌++◌, length, take, drop, codes, position, IsTrue, Result, Ok, Err, if◌then◌else◌, Option, Some, None}
+use Rattle.std.specs.List.{list_any}
 use Rattle.std.specs.Cmp.Lexicographic.{pointwise}
-use Rattle.plan_types.specs.Name.{is_digit, is_package_name}
+use Rattle.plan_types.specs.Name.{is_package_name}
 use Rattle.plan_types.specs.declared.refusal.Cause.TheVariants.{Unbuilt}
 use Rattle.plan_types.specs.declared.refusal.Fault.{Fault}
 use Rattle.plan_types.specs.declared.refusal.Fault.TheVariants.{At, NoMemory}
 use Rattle.outside_folder.specs.Files.{Bytes, after}
 use Rattle.plan_command.specs.declared.plain_file.PlainFile.{PlainFile}
+use Rattle.plan_command.specs.Version.{is_version}
 
 abbrev pub is_text : Bytes → Bytes → Bool
 is_text one other = pointwise nat_eq one other
@@ -21,15 +22,6 @@ is_boot_name name = list_any (is_text name) boot_names
 
 abbrev pub is_name : Bytes → Bool
 is_name name = is_package_name name && not (is_boot_name name)
-
--- one to nine digits, without a leading zero unless it is `0`
-abbrev pub is_number : Bytes → Bool
-is_number [] = false
-is_number (b ∷ bs) = list_all is_digit (b ∷ bs) && nat_lt (length bs) 9 && (not (b == 48) || length bs == 0)
-
--- numbers joined by `.`
-abbrev pub is_version : Bytes → Bool
-is_version text = list_all is_number (slice_split (λ b. b == 46) text)
 
 abbrev pub line : Bytes → Bytes
 line text = text ++ 10 ∷ []
@@ -89,11 +81,11 @@ abbrev pub nothing_at : ℕ → Bytes → Result Bool Fault
 nothing_at n text = if is_empty text then Ok false else unbuilt_at n
 
 -- the plain file that a text is, or the fault at the first line that isn't as in one
-unfoldable pub plain_file : Bytes → Result PlainFile Fault
-plain_file text = do
+unfoldable pub plain_file : Option (Bytes × Bytes) → Bytes → Result PlainFile Fault
+plain_file place text = do
   head ← line_with is_empty 1 (codes "cabal-version: 2.4") text
   name ← line_with is_name 2 (codes "name: ") head.1
   version ← line_with is_version 3 (codes "version: ") name.1
   library ← line_with is_empty 4 (codes "library") version.1
   nothing ← nothing_at 5 library.1
-  Ok (record { name = name.0; version = version.0 })
+  Ok (record { name = name.0; version = version.0; numbers = record { parts = [] }; needs = [] })

@@ -74,7 +74,7 @@ fn answer_of_read(alloc: Global, path: &str, read: Option<List<u8>>) -> Result<A
 {
     match read {
         None => refused(alloc, path, 0, Cause::TooLarge),
-        Some(bytes) => match plain_file(alloc, bytes.as_slice()) {
+        Some(bytes) => match plain_file(alloc, None, bytes.as_slice()) {
             Ok(file) => planned(alloc, &file),
             Err(Fault::NoMemory) => Err(NoMemory),
             Err(Fault::At { line, cause }) => refused(alloc, path, line, cause),

@@ -4,10 +4,13 @@
 
 mod answer;
 mod command;
+mod need;
 mod plain_file;
+mod releases;
 mod root;
 mod text;
 mod trouble;
+mod version;
 
 pub use command::{Status, run};
 

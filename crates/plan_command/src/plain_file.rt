@@ -1,13 +1,14 @@
 // A plain file is read line by line; the first line that isn't as it must be is the fault.
-ghost use Rattle.std.specs.Prelude.{◌≡◌, ◌==◌, ◌<◌, IfOk, IfSome, codes, length, position};
-ghost use Rattle.std.specs.List.{list_all};
+ghost use Rattle.std.specs.Prelude.{◌≡◌, ◌==◌, ◌<◌, ◌≤◌, IfOk, IfSome, codes, length, position};
 ghost use Rattle.std.specs.Option.{option_copied, option_map};
 ghost use Rattle.std.specs.Str.{IsAscii};
 ghost use Rattle.outside_folder.specs.Files.{after};
-ghost use Rattle.plan_types.specs.Name.{is_digit};
-ghost use Rattle.plan_command.specs.PlainFile.{Gives, is_boot_name, is_name, is_number, is_version, is_empty, first_line, line_after, line_with, nothing_at, plain_file};
+ghost use Rattle.plan_command.specs.Version.{is_version};
+ghost use Rattle.plan_command.specs.PlainFile.{Gives, is_boot_name, is_name, is_empty, first_line, line_after, line_with, nothing_at, plain_file};
 
-use plan_types::{Cause, Fault, NoMemory, Text, is_package_name};
+use crate::need::Need;
+use crate::version::is_version;
+use plan_types::{Cause, Fault, List, NoMemory, Text, Version, is_package_name};
 use std::alloc::Global;
 
 /// What a plain file says.
@@ -15,13 +16,20 @@ use std::alloc::Global;
 pub(crate) struct PlainFile {
     pub name: Text,
     pub version: Text,
+    pub numbers: Version,
+    pub needs: List<Need>,
 }
 
 /// The plain file that a text is. The fault is `Unbuilt` at the first line that isn't as in one, where a
 /// missing line counts as the line after the last.
 #[tactic(auto, unfolding(crate::specs::PlainFile::plain_file))]
-pub(crate) fn plain_file(alloc: Global, text: &[u8]) -> Result<PlainFile, Fault>
-    ensures { Gives (λ file. file) result (plain_file text.now) }
+pub(crate) fn plain_file(
+    alloc: Global,
+    place: Option<(&str, &str)>,
+    text: &[u8],
+) -> Result<PlainFile, Fault>
+    ensures gives { Gives (λ file. file) result (plain_file (option_map (λ p. (p.0.now, p.1.now)) place.entry) text.now) }
+    ensures within { IfOk result (λ file. length file.needs ≤ length text.now) }
 {
     let (_, rest) = plain_line(text, 1, b"cabal-version: 2.4")?;
     let (name, rest) = name_line(rest)?;
@@ -31,6 +39,10 @@ pub(crate) fn plain_file(alloc: Global, text: &[u8]) -> Result<PlainFile, Fault>
     Ok(PlainFile {
         name: ascii_text(alloc, name)?,
         version: ascii_text(alloc, version)?,
+        numbers: Version {
+            parts: List::new(alloc),
+        },
+        needs: List::new(alloc),
     })
 }
 
@@ -146,35 +158,6 @@ fn is_boot_name(name: &[u8]) -> bool
         || name == b"integer-gmp".as_slice()
         || name == b"integer-simple".as_slice()
         || name == b"template-haskell".as_slice()
-}
-
-fn is_version(text: &[u8]) -> bool
-    ensures { result ≡ is_version text.now }
-{
-    text.split(|byte| *byte == b'.').all(is_number)
-}
-
-fn is_number(digits: &[u8]) -> bool
-    ensures { result ≡ is_number digits.now }
-{
-    match digits {
-        [] => false,
-        [first, rest @ ..] => are_digits(digits)
-            && rest.len() < 9
-            && (*first != b'0' || rest.is_empty()),
-    }
-}
-
-fn are_digits(text: &[u8]) -> bool
-    ensures { result ≡ list_all is_digit text.now }
-{
-    text.iter().all(|byte| is_digit(*byte))
-}
-
-fn is_digit(byte: u8) -> bool
-    ensures { result ≡ is_digit byte }
-{
-    byte.is_ascii_digit()
 }
 
 fn ascii_text(alloc: Global, bytes: &[u8]) -> Result<Text, NoMemory>
