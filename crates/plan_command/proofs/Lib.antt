@@ -1,1 +1,4 @@
 pub mod Ascii
+pub mod Closure
+pub mod Kept
+pub mod Reads

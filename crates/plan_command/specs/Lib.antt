@@ -4,3 +4,6 @@ pub mod Root
 pub mod Text
 pub mod Version
 pub mod Releases
+pub mod Index
+pub mod Visits
+pub mod Totals

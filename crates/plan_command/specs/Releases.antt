@@ -1,5 +1,5 @@
 -- What is read of a name: the files under it in the index, and what they say.
-use Rattle.std.specs.Prelude.{◌≡◌, ℕ, ◌+◌, nat_lt, Bool, true, false, ◌||◌, IsTrue, List, [], ◌∷◌, ◌++◌, length, map, filter, flat_map, fold, sum_by, codes, is_some, Option, Some, None, unwrap_or, Result, Ok, Err}
+use Rattle.std.specs.Prelude.{◌≡◌, ℕ, ◌+◌, Bool, true, false, List, [], ◌∷◌, ◌++◌, length, map, filter, flat_map, fold, sum_by, codes, is_some, Option, Some, None, unwrap_or, Result, Ok, Err}
 use Rattle.std.specs.Option.{option_map}
 use Rattle.std.specs.Ordering.{nat_cmp}
 use Rattle.std.specs.Cmp.Lexicographic.{slice_cmp}
@@ -12,10 +12,11 @@ use Rattle.outside_folder.specs.Files.{Bytes, Files, file_at, listing}
 use Rattle.plan_command.specs.declared.plain_file.PlainFile.{PlainFile}
 use Rattle.plan_command.specs.declared.releases.IndexFault.{IndexFault}
 use Rattle.plan_command.specs.declared.releases.Releases.{Releases}
-use Rattle.plan_command.specs.declared.releases.Totals.{Totals}
+use Rattle.plan_command.specs.declared.totals.Totals.{Totals}
 use Rattle.plan_command.specs.declared.need.Need.{Need}
 use Rattle.plan_command.specs.Answer.{within_limit}
 use Rattle.plan_command.specs.PlainFile.{plain_file}
+use Rattle.plan_command.specs.Totals.{is_too_many}
 use Rattle.plan_command.specs.Version.{version_of}
 
 -- the directory of a name's versions
@@ -114,16 +115,12 @@ pub record ReadsMore (old new : Releases) (reads : List IndexRead) : Type 0 wher
   pub mentioned : new.mentioned ≡ old.mentioned ++ mentioned_in (plain_files reads)
   pub faults : new.faults ≡ old.faults ++ faults_in reads
 
--- more files of the index, or more bytes in them, than are read
-abbrev pub is_too_many : ℕ → ℕ → Bool
-is_too_many files bytes = nat_lt 20000 files || nat_lt 268435456 bytes
-
 pub record Counts (old new : Totals) (reads : List IndexRead) : Type 0 where
   pub files : new.files ≡ old.files + length reads
   pub bytes : new.bytes ≡ old.bytes + bytes_of reads
 
 abbrev pub IsBeyond : Totals → List IndexRead → Type 0
-IsBeyond totals reads = IsTrue (is_too_many (totals.files + length reads) (totals.bytes + bytes_of reads))
+IsBeyond totals reads = is_too_many (totals.files + length reads) (totals.bytes + bytes_of reads) ≡ true
 
 -- the files were counted and what they say was kept, or they were too many
 abbrev pub Takes : Totals → Totals → Releases → Releases → List IndexRead → Bool → Type 0

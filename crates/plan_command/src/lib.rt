@@ -4,11 +4,13 @@
 
 mod answer;
 mod command;
+mod index;
 mod need;
 mod plain_file;
 mod releases;
 mod root;
 mod text;
+mod totals;
 mod trouble;
 mod version;
 

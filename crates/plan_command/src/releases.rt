@@ -1,5 +1,5 @@
 // What the files of a name in the index say. They are read one by one, in the order of the listing.
-ghost use Rattle.std.specs.Prelude.{◌≡◌, ◌+◌, ◌≤◌, [], ◌∷◌, ◌++◌, true, false, length, map, unwrap_or, IfOk, IfSome, OnOk, IsTrue, IsErrOf};
+ghost use Rattle.std.specs.Prelude.{◌≡◌, ◌+◌, ◌≤◌, [], ◌∷◌, ◌++◌, true, false, length, map, flat_map, unwrap_or, IfOk, IfSome, OnOk, IsTrue, IsErrOf};
 ghost use Rattle.std.specs.Ordering.{nat_cmp};
 ghost use Rattle.std.specs.Cmp.Lexicographic.{slice_cmp};
 ghost use Rattle.std.specs.BTreeMap.{insert_entry};
@@ -8,22 +8,17 @@ ghost use Rattle.outside_folder.specs.Faults.{Rose};
 ghost use Rattle.outside_folder.specs.Files.{file_at};
 ghost use Rattle.plan_command.specs.Answer.{within_limit};
 ghost use Rattle.plan_command.specs.PlainFile.{Gives};
-ghost use Rattle.plan_command.specs.Releases.{name_dir, release_path, versions_among, versions_in, reads_at, reads_of, read_of, read_bytes, found, names_of, by_numbers, ReadsMore, is_too_many, Takes, TakesName};
+ghost use Rattle.plan_command.specs.Releases.{name_dir, release_path, versions_among, versions_in, reads_at, reads_of, read_of, read_bytes, found, names_of, by_numbers, ReadsMore, Takes, TakesName};
 
 use crate::need::Need;
 use crate::plain_file::{PlainFile, plain_file};
+use crate::totals::Totals;
 use crate::trouble::Trouble;
 use crate::version::is_version;
 use outside_folder::{Folder, FolderFault, Name};
 use plan_types::{Cause, Fault, List, NoMemory, Text, Version};
 use std::alloc::Global;
 use std::collections::BTreeMap;
-
-/// How many files of the index are read at most.
-const FILES_LIMIT: usize = 20_000;
-
-/// How many bytes they have together at most.
-const BYTES_LIMIT: usize = 268_435_456;
 
 /// Why a file of the index can't be read.
 #[derive(Debug, Drop)]
@@ -40,37 +35,6 @@ pub(crate) struct Releases {
     pub files: BTreeMap<List<u32>, PlainFile>,
     pub mentioned: List<Text>,
     pub faults: List<IndexFault>,
-}
-
-/// How many files of the index were read, and how many bytes they had.
-#[derive(Debug, Drop)]
-pub(crate) struct Totals {
-    pub files: usize,
-    pub bytes: usize,
-    ghost few_files: { files ≤ 20000 },
-    ghost few_bytes: { bytes ≤ 268435456 },
-}
-
-impl Totals {
-    pub fn new() -> Totals
-        ensures files { result.files ≡ 0 }
-        ensures bytes { result.bytes ≡ 0 }
-    {
-        Totals { files: 0, bytes: 0 }
-    }
-
-    // Counts a file with so many bytes, unless it is one too many.
-    fn count(&mut self, len: usize) -> bool
-        ensures counted { result ≡ true → (self.new.files ≡ self.old.files + 1) × (self.new.bytes ≡ self.old.bytes + len) }
-        ensures beyond { result ≡ false → IsTrue (is_too_many (self.old.files + 1) (self.old.bytes + len)) }
-    {
-        if self.files == FILES_LIMIT || len > BYTES_LIMIT - self.bytes {
-            return false;
-        }
-        self.files += 1;
-        self.bytes += len;
-        true
-    }
 }
 
 impl Releases {
@@ -101,8 +65,24 @@ pub(crate) fn read_releases<F: Folder>(
     ensures later { F.faults folder.old ≤ F.faults folder.new }
 {
     let versions = versions_in(alloc, folder, name)?;
+    read_versions(alloc, folder, name, versions.as_slice(), totals)
+}
+
+fn read_versions<F: Folder>(
+    alloc: Global,
+    folder: &mut F,
+    name: &str,
+    versions: &[Text],
+    totals: &mut Totals,
+) -> Result<Option<Releases>, Trouble>
+    ensures told { IfSome (F.tells folder.old) (λ files. IfOk result (TakesName totals.old totals.new (flat_map (reads_at files name.now) versions.now))) }
+    ensures few { IfOk result (λ kept. IfSome kept (λ kept. length kept.mentioned + totals.old.bytes ≤ totals.new.bytes)) }
+    ensures same_files { F.tells folder.new ≡ F.tells folder.old }
+    ensures failed { IsErrOf result Trouble.Failed → Rose (F.faults folder.old) (F.faults folder.new) }
+    ensures later { F.faults folder.old ≤ F.faults folder.new }
+{
     let mut kept = Releases::new(alloc);
-    for version in versions.as_slice() {
+    for version in versions {
         if !read_release(alloc, folder, name, version.as_str(), &mut kept, totals)? {
             return Ok(None);
         }
