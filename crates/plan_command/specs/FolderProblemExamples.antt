@@ -2,9 +2,9 @@
 use Rattle.std.specs.Prelude.{◌≡◌, ℕ, Bool, true, false, List, [], ◌∷◌, ◌++◌, codes, refl}
 use Rattle.choice_problem.specs.declared.problem.Choice.{Choice}
 use Rattle.outside_folder.specs.Files.{Bytes}
-use Rattle.plan_command.specs.declared.plain_file.Bound.{Bound}
-use Rattle.plan_command.specs.declared.plain_file.Bound.TheVariants.{Any, AtLeast}
-use Rattle.plan_command.specs.declared.plain_file.Need.{Need}
+use Rattle.plan_command.specs.declared.need.Bound.{Bound}
+use Rattle.plan_command.specs.declared.need.Bound.TheVariants.{Any, AtLeast}
+use Rattle.plan_command.specs.declared.need.Need.{Need}
 use Rattle.plan_command.specs.declared.plain_file.PlainFile.{PlainFile}
 use Rattle.plan_command.specs.declared.index.Package.{Package}
 use Rattle.plan_command.specs.FolderProblem.{number_of, releases_of, variable, is_known, is_below, meeting, problem_of}

@@ -4,14 +4,16 @@
 
 mod answer;
 mod command;
-mod line;
-mod need;
 mod folder_problem;
 mod index;
+mod line;
+mod need;
 mod plain_file;
 mod plan;
+mod releases;
 mod root;
 mod text;
+mod totals;
 mod trouble;
 mod version;
 
