@@ -1,7 +1,7 @@
 pub mod Ascii
 pub mod Closure
 pub mod Digits
+pub mod InTurn
 pub mod Kept
 pub mod Pieces
-pub mod Reads
 pub mod Resolved

@@ -10,6 +10,7 @@ pub mod Plan
 pub mod Releases
 pub mod Resolved
 pub mod Root
+pub mod Run
 pub mod Text
 pub mod Totals
 pub mod Version

@@ -39,10 +39,6 @@ refusal_text refusal = refusal_line (where_of refusal.path refusal.line) (cause_
 abbrev pub usage_text : Bytes
 usage_text = codes "usage: cabal-plan plan or generate, with options" ++ 10 ∷ []
 
--- the plan of a local package that asks for nothing
-abbrev pub plan_text : Bytes → Bytes → Bytes
-plan_text name version = codes "plan" ++ 10 ∷ codes "choose " ++ name ++ codes " " ++ version ++ codes " local" ++ 10 ∷ []
-
 -- a package that is chosen, with its version
 abbrev pub choose_line : Bytes → Bytes → Bytes → Bytes
 choose_line name version source = codes "choose " ++ name ++ codes " " ++ version ++ codes " " ++ source ++ 10 ∷ []

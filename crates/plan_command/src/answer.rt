@@ -1,12 +1,16 @@
 // The answer of a folder is made whole before anything is written.
-ghost use Rattle.std.specs.Prelude.{◌≡◌, ◌≢◌, ◌≤◌, IfOk, IfSome, IsErrOf};
+ghost use Rattle.std.specs.Prelude.{◌≡◌, ◌≢◌, ◌≤◌, None, IfOk, IfSome, IsErrOf};
 ghost use Rattle.outside_folder.specs.Faults.{Rose};
-ghost use Rattle.plan_command.specs.Answer.{IsMade, refused, planned, usage, read_of, answer_of_read, answer_of_folder};
+ghost use Rattle.plan_command.specs.Answer.{IsMade, refused, usage, read_of};
+ghost use Rattle.plan_command.specs.PlainFile.{plain_file};
+ghost use Rattle.plan_command.specs.Run.{IsAnswerOfReading, IsAnswerOfIndex, IsAnswerOfFile, IsAnswerOfBytes, IsAnswerOfFolder};
 
 use crate::Status;
+use crate::index::{Reading, read_index};
 use crate::plain_file::{PlainFile, plain_file};
+use crate::plan::plan_of;
 use crate::root::{cabal_file, root_names, unbuilt_name};
-use crate::text::{USAGE, text_of_plan, text_of_refusal};
+use crate::text::{USAGE, text_of_refusal};
 use crate::trouble::Trouble;
 use outside_folder::{Folder, FolderFault};
 use plan_types::{Cause, Fault, List, NoMemory, Refusal, Text};
@@ -20,9 +24,9 @@ pub(crate) struct Answer {
 }
 
 /// The answer to the command `plan`.
-#[tactic(auto, unfolding(crate::specs::Answer::answer_of_folder))]
+#[tactic(auto, unfolding(crate::specs::Run::IsAnswerOfFolder))]
 pub(crate) fn answer_of_folder<F: Folder>(alloc: Global, folder: &mut F) -> Result<Answer, Trouble>
-    ensures told { IfSome (F.tells folder.old) (λ files. IfOk result (λ answer. answer ≡ answer_of_folder files)) }
+    ensures told { IfSome (F.tells folder.old) (λ files. IfOk result (IsAnswerOfFolder files)) }
     ensures failed { IsErrOf result Trouble.Failed → Rose (F.faults folder.old) (F.faults folder.new) }
     ensures made { IfOk result (λ answer. IsMade answer.status) }
     ensures read { IfOk result (λ answer. answer.status ≢ Status.Usage) }
@@ -38,13 +42,58 @@ pub(crate) fn answer_of_folder<F: Folder>(alloc: Global, folder: &mut F) -> Resu
 }
 
 fn answer_of_local<F: Folder>(alloc: Global, folder: &mut F, path: &str) -> Result<Answer, Trouble>
-    ensures told { IfSome (F.tells folder.old) (λ files. IfOk result (λ answer. answer ≡ answer_of_read path.now (read_of files path.now))) }
+    ensures told { IfSome (F.tells folder.old) (λ files. IfOk result (IsAnswerOfBytes files path.now (read_of files path.now))) }
     ensures failed { IsErrOf result Trouble.Failed → Rose (F.faults folder.old) (F.faults folder.new) }
     ensures made { IfOk result (λ answer. IsMade answer.status) }
     ensures read { IfOk result (λ answer. answer.status ≢ Status.Usage) }
 {
-    let read = read_file(alloc, folder, path)?;
-    Ok(answer_of_read(alloc, path, read)?)
+    match read_file(alloc, folder, path)? {
+        None => Ok(refused(alloc, path, 0, Cause::TooLarge)?),
+        Some(bytes) => answer_of_bytes(alloc, folder, path, bytes.as_slice()),
+    }
+}
+
+fn answer_of_bytes<F: Folder>(
+    alloc: Global,
+    folder: &mut F,
+    path: &str,
+    bytes: &[u8],
+) -> Result<Answer, Trouble>
+    ensures told { IfSome (F.tells folder.old) (λ files. IfOk result (IsAnswerOfFile files path.now (plain_file None bytes.now))) }
+    ensures failed { IsErrOf result Trouble.Failed → Rose (F.faults folder.old) (F.faults folder.new) }
+    ensures made { IfOk result (λ answer. IsMade answer.status) }
+    ensures read { IfOk result (λ answer. answer.status ≢ Status.Usage) }
+{
+    match plain_file(alloc, None, bytes) {
+        Ok(local) => answer_of_index(alloc, folder, local),
+        Err(Fault::NoMemory) => Err(Trouble::NoMemory),
+        Err(Fault::At { line, cause }) => Ok(refused(alloc, path, line, cause)?),
+    }
+}
+
+fn answer_of_index<F: Folder>(
+    alloc: Global,
+    folder: &mut F,
+    local: PlainFile,
+) -> Result<Answer, Trouble>
+    ensures told { IfSome (F.tells folder.old) (λ files. IfOk result (IsAnswerOfIndex files local)) }
+    ensures failed { IsErrOf result Trouble.Failed → Rose (F.faults folder.old) (F.faults folder.new) }
+    ensures made { IfOk result (λ answer. IsMade answer.status) }
+    ensures read { IfOk result (λ answer. answer.status ≢ Status.Usage) }
+{
+    let reading = read_index(alloc, folder, local)?;
+    Ok(answer_of_reading(alloc, reading)?)
+}
+
+fn answer_of_reading(alloc: Global, reading: Reading) -> Result<Answer, NoMemory>
+    ensures answer { IfOk result (IsAnswerOfReading reading) }
+    ensures made { IfOk result (λ answer. IsMade answer.status) }
+    ensures read { IfOk result (λ answer. answer.status ≢ Status.Usage) }
+{
+    match reading {
+        Reading::Refused { path, line, cause } => refused(alloc, path.as_str(), line, cause),
+        Reading::Read(packages) => plan_of(alloc, packages),
+    }
 }
 
 /// The bytes of a file, of which a missing one has none; `None` where they are too many.
@@ -65,32 +114,6 @@ pub(crate) fn read_file<F: Folder>(
         Err(FolderFault::Failed) => Err(Trouble::Failed),
         Err(FolderFault::NoMemory) => Err(Trouble::NoMemory),
     }
-}
-
-fn answer_of_read(alloc: Global, path: &str, read: Option<List<u8>>) -> Result<Answer, NoMemory>
-    ensures answer { IfOk result (λ answer. answer ≡ answer_of_read path.now read) }
-    ensures made { IfOk result (λ answer. IsMade answer.status) }
-    ensures read { IfOk result (λ answer. answer.status ≢ Status.Usage) }
-{
-    match read {
-        None => refused(alloc, path, 0, Cause::TooLarge),
-        Some(bytes) => match plain_file(alloc, None, bytes.as_slice()) {
-            Ok(file) => planned(alloc, &file),
-            Err(Fault::NoMemory) => Err(NoMemory),
-            Err(Fault::At { line, cause }) => refused(alloc, path, line, cause),
-        },
-    }
-}
-
-fn planned(alloc: Global, file: &PlainFile) -> Result<Answer, NoMemory>
-    ensures answer { IfOk result (λ answer. answer ≡ planned file.now) }
-    ensures made { IfOk result (λ answer. IsMade answer.status) }
-    ensures read { IfOk result (λ answer. answer.status ≢ Status.Usage) }
-{
-    Ok(Answer {
-        status: Status::Planned,
-        text: text_of_plan(alloc, file)?,
-    })
 }
 
 fn refused(alloc: Global, path: &str, line: u32, cause: Cause) -> Result<Answer, NoMemory>

@@ -1,7 +1,7 @@
 ghost use Rattle.std.specs.Prelude.{◌≡◌, ◌≢◌, ◌≤◌, false, IfOk, IfSome, IsErrOf};
 ghost use Rattle.outside_folder.specs.Faults.{Rose};
-ghost use Rattle.plan_command.specs.declared.answer.Answer.{Answer};
-ghost use Rattle.plan_command.specs.Answer.{answer_of, is_plan, IsMade, IsUsage, IsUsageAnswer, Prints};
+ghost use Rattle.plan_command.specs.Answer.{is_plan, IsMade, IsUsage, IsUsageAnswer};
+ghost use Rattle.plan_command.specs.Run.{HasNone, IsAnswerOf, PlansFirst, Prints};
 
 use crate::answer::{Answer, answer_of_folder, usage};
 use crate::trouble::Trouble;
@@ -27,13 +27,23 @@ pub enum Status {
     Usage,
 }
 
-/// Plans the packages of a folder, and writes the plan or the refusal.
-pub fn run<F: Folder, S: Sink>(alloc: Global, words: &[Text], folder: &mut F, out: &mut S) -> Status
-    // Where the folder tells its files, the answer is that of the files, whether or not a count rose.
-    ensures told { IfSome (F.tells folder.old) (λ files. Prints (answer_of words.now files) (S.bytes out.old) (S.bytes out.new) result) }
+/// Plans the packages of a folder, and writes the plan, that there is none, or the refusal.
+pub fn run<F: Folder, S: Sink>(
+    alloc: Global,
+    words: &[Text],
+    folder: &mut F,
+    out: &mut S,
+) -> Status
+    // Where the folder tells its files, the plan is that of the first of all whole valid assignments of the problem
+    // that they make, and there is no plan exactly where there is no such assignment.
+    ensures planned { result ≡ Status.Planned → IfSome (F.tells folder.old) (λ files. PlansFirst files (S.bytes out.old) (S.bytes out.new)) }
+    ensures no_plan { result ≡ Status.NoPlan → IfSome (F.tells folder.old) (λ files. HasNone files (S.bytes out.old) (S.bytes out.new)) }
+
+    // There the whole answer is that of the files, whether or not a count rose.
+    ensures told { IfSome (F.tells folder.old) (λ files. Prints (IsAnswerOf words.now files) (S.bytes out.old) (S.bytes out.new) result) }
 
     // In any case one text is written, a prefix of it, or nothing.
-    ensures one_text { (answer : Answer) × Prints answer (S.bytes out.old) (S.bytes out.new) result }
+    ensures one_text { Prints (λ answer. Unit {0}) (S.bytes out.old) (S.bytes out.new) result }
 
     ensures read_fault { result ≡ Status.ReadFault → Rose (F.faults folder.old) (F.faults folder.new) }
     ensures write_fault { result ≡ Status.WriteFault → Rose (S.faults out.old) (S.faults out.new) }
@@ -48,7 +58,7 @@ pub fn run<F: Folder, S: Sink>(alloc: Global, words: &[Text], folder: &mut F, ou
 }
 
 fn answer<F: Folder>(alloc: Global, words: &[Text], folder: &mut F) -> Result<Answer, Trouble>
-    ensures told { IfSome (F.tells folder.old) (λ files. IfOk result (λ answer. answer ≡ answer_of words.now files)) }
+    ensures told { IfSome (F.tells folder.old) (λ files. IfOk result (IsAnswerOf words.now files)) }
     ensures failed { IsErrOf result Trouble.Failed → Rose (F.faults folder.old) (F.faults folder.new) }
     ensures made { IfOk result (λ answer. IsMade answer.status) }
     ensures usage { IfOk result (λ answer. answer.status ≡ Status.Usage → is_plan words.now ≡ false) }
@@ -73,7 +83,7 @@ fn is_plan(words: &[Text]) -> bool
 // Writes the text of an answer, and gives its status where all of it was written.
 fn print<S: Sink>(answer: &Answer, out: &mut S) -> Status
     requires { IsMade answer.now.status }
-    ensures prints { Prints answer.now (S.bytes out.old) (S.bytes out.new) result }
+    ensures prints { Prints (λ printed. printed ≡ answer.now) (S.bytes out.old) (S.bytes out.new) result }
     ensures write_fault { result ≡ Status.WriteFault → Rose (S.faults out.old) (S.faults out.new) }
     ensures status { result ≢ Status.WriteFault → result ≡ answer.now.status }
     ensures no_read_fault { result ≢ Status.ReadFault }

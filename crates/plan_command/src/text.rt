@@ -1,11 +1,10 @@
 // Lines of the output.
 ghost use Rattle.std.specs.Prelude.{◌≡◌, IfOk, slice_index_or};
 ghost use Rattle.plan_command.specs.FolderProblem.{no_package, release_at};
-ghost use Rattle.plan_command.specs.Text.{cause_name, where_of, refusal_line, refusal_text, plan_text, choose_line, source_of, choice_line, trail_text};
+ghost use Rattle.plan_command.specs.Text.{cause_name, where_of, refusal_line, refusal_text, choose_line, source_of, choice_line, trail_text};
 
 use crate::folder_problem::releases_of;
 use crate::index::Package;
-use crate::plain_file::PlainFile;
 use choice_problem::Choice;
 use plan_types::{Cause, List, NoMemory, Refusal, Text};
 use std::alloc::Global;
@@ -27,20 +26,6 @@ pub(crate) fn text_of_refusal(alloc: Global, refusal: &Refusal) -> Result<Text, 
         cause_name(refusal.cause),
         refusal.detail.as_str(),
     )
-}
-
-/// The plan of a local package that asks for nothing.
-pub(crate) fn text_of_plan(alloc: Global, file: &PlainFile) -> Result<Text, NoMemory>
-    ensures { IfOk result (λ text. text ≡ plan_text file.now.name file.now.version) }
-{
-    plan_lines(alloc, file.name.as_str(), file.version.as_str())
-}
-
-fn plan_lines(alloc: Global, name: &str, version: &str) -> Result<Text, NoMemory>
-    ensures { IfOk result (λ text. text ≡ plan_text name.now version.now) }
-{
-    let text = format!(in alloc; "plan\nchoose {name} {version} local\n")?;
-    Ok(Text::from_string(text))
 }
 
 /// The plan that the choices of a trail make, in their order.
