@@ -1,4 +1,5 @@
 pub mod Ascii
 pub mod Closure
 pub mod Kept
-pub mod Reads
+pub mod InTurn
+pub mod Progress

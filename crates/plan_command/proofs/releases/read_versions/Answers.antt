@@ -2,7 +2,7 @@ use Rattle.std.proofs.Common.{◌≡◌, ◌+◌, ◌≤◌, Bool, Some, length,
 use Rattle.std.specs.Prelude.{flat_map}
 use Rattle.outside_folder.specs.Files.{Files}
 use Rattle.plan_command.specs.Releases.{reads_at, Takes, HasRead, Counts, ReadsMore, IsBeyond}
-use Rattle.plan_command.proofs.Reads.{some_at, if_some, kept_more, counts_more, beyond_more, flat_map_take, flat_map_rest}
+use Rattle.plan_command.proofs.InTurn.{some_at, if_some, kept_more, counts_more, beyond_more, flat_map_take, flat_map_rest}
 use Rattle.plan_command.proofs.releases.read_versions.Goals as goal
 
 pub returns-then-not-branch-clause-told : goal.returns-then-not-branch-clause-told
