@@ -8,7 +8,7 @@ use Rattle.outside_folder.specs.Files.{Bytes, Files}
 use Rattle.plan_command.specs.declared.plain_file.PlainFile.{PlainFile}
 use Rattle.plan_command.specs.declared.totals.Totals.{Totals}
 use Rattle.plan_command.specs.Releases.{names_of}
-use Rattle.plan_command.specs.Index.{IsOneOf}
+use Rattle.plan_command.specs.Index.{IsOneOf, mentioned_by}
 use Rattle.plan_command.specs.Visits.{Kept, IsPartly, IsVisited}
 use Rattle.plan_command.proofs.Closure.{begun, skipped, visited}
 
@@ -28,5 +28,5 @@ pub read_name : (files : Files) (local : PlainFile) (pending rest new : List Byt
     → IsVisited files name before after rest new kept more → IsPartly files local new more after
 read_name files local pending rest new name kept more before after p e apart v =
     subst (λ names. IsPartly files local names more after) (sym v.pending)
-    (subst (λ es. IsPartly files local _ es after) (sym v.kept_more)
+    (subst (λ es. IsPartly files local (rest ++ mentioned_by files name) es after) (sym v.kept_more)
     (visited files local rest name before after apart.0 v.counts v.found kept v.is apart.1 (subst (λ names. IsPartly files local names kept before) e p)))

@@ -1,4 +1,4 @@
-use Rattle.std.proofs.Common.{◌≡◌, ◌++◌, Bool, [], rules, refl, ◌∙◌, subst, arith}
+use Rattle.std.proofs.Common.{◌≡◌, Bool, [], rules, refl, ◌∙◌, subst, arith}
 use Rattle.plan_command.specs.Releases.{reads_of, names_of, IsBeyond}
 use Rattle.plan_command.specs.Visits.{IsPartly, Visits, IsVisited}
 use Rattle.plan_command.proofs.Closure.{too_many, all_kept}
@@ -9,7 +9,7 @@ use Rattle.plan_command.proofs.index.read_names.Goals as goal
 pub loop-name-init : goal.loop-name-init
 loop-name-init g c =
     let pending : c.push_names.new.names ≡ names_of c.args.local.now.needs =
-        first_of (c.in_ok-push_names.ensures ∙ (λ i. c.new-pending.ensures i ++ names_of (c.as_slice.ensures i)), cc, search rules) in
+        first_of (search rules, cc, grind arith) in
     record {
       told = λ files t. begun_with files c.args.local.now c.push_names.new.names c.new-kept.result.entries c.new-totals.result
           pending c.new-kept.ensures.empty c.new-totals.ensures.files c.new-totals.ensures.bytes;
@@ -53,6 +53,6 @@ returns-then-not-branch-clause-told g c = if_some _ _ (λ files t.
 
 pub returns-clause-told : goal.returns-clause-told
 returns-clause-told g c = if_some _ _ (λ files t.
-    let nil : c.loop-name.pending ≡ [] = first_of (c.in_default.ensures.0, search rules, grind arith) in
+    let nil : c.loop-name.pending ≡ [] = first_of (search rules, cc, grind arith) in
     let partly = subst (λ names. IsPartly files c.args.local.now names c.loop-name.kept.entries c.loop-name.totals) nil (c.loop-name.invariant.told files t) in
     all_kept files c.args.local.now c.loop-name.kept.entries c.loop-name.totals partly c.loop-name.invariant.rising c.loop-name.totals.few_files c.loop-name.totals.few_bytes)
