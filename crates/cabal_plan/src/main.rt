@@ -50,6 +50,7 @@ fn planned<R: Files + Print + AllocGlobal + Clone + Drop>(
 fn ended(rt: &impl Eprint, status: Status) -> ExitCode {
     match status {
         Status::Planned => ExitCode::SUCCESS,
+        Status::NoPlan => ExitCode::from(1),
         Status::Refused => ExitCode::from(3),
         Status::ReadFault => failed(rt, "a file or folder could not be read", 4),
         Status::WriteFault => failed(rt, "the output could not be written", 5),

@@ -1,5 +1,5 @@
 -- What stands behind a text at the front of another.
-use Rattle.std.proofs.Common.{◌≡◌, ℕ, List, length, drop, Option, Some, None, true, false, ap, ◌∙◌, sym, subst}
+use Rattle.std.proofs.Common.{◌≡◌, ℕ, List, drop, Option, Some, None, true, false, ap, ◌∙◌, sym, subst}
 use Rattle.std.specs.Option.{MatchOption, option_copied}
 use Rattle.std.specs.Str.{IsCharBoundary}
 use Rattle.std.specs.Str.Pattern.{FindsTextPrefix, StripsPrefix}

@@ -6,6 +6,10 @@ use Rattle.std.specs.List.{list_any}
 abbrev pub Rose : ℕ → ℕ → Type 0
 Rose before now = min (before + 1) (2 ^ 64 - 1) ≤ now
 
+-- a count of calls after one more, which stands still at its end
+abbrev pub next_count : ℕ → ℕ
+next_count calls = min (calls + 1) (2 ^ 64 - 1)
+
 -- where no call is to fail, there is never a fault
 abbrev pub ceiling_of : List ℕ → ℕ
 ceiling_of [] = 0

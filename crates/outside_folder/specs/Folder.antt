@@ -1,5 +1,5 @@
 -- What a folder answers, where it tells its files.
-use Rattle.std.specs.Prelude.{◌≡◌, ℕ, ◌<◌, ◌≤◌, List, length, Option, Some, None, Result, Ok, Err, IfSome, IsSomeAnd}
+use Rattle.std.specs.Prelude.{◌≡◌, ◌<◌, ◌≤◌, List, length, Option, Some, None, Result, Ok, Err, IfSome, IsSomeAnd}
 use Rattle.outside_folder.specs.declared.folder.Name.{Name}
 use Rattle.outside_folder.specs.declared.folder.FolderFault.{FolderFault}
 use Rattle.outside_folder.specs.declared.folder.FolderFault.TheVariants.{Failed, TooLarge, NoMemory}

@@ -1,6 +1,6 @@
-ghost use Rattle.std.specs.Prelude.{◌≡◌, ◌≢◌, ◌≤◌, ℕ, List, Option, length, IfOk, IsErrOf};
+ghost use Rattle.std.specs.Prelude.{◌≡◌, ◌≢◌, ◌≤◌, ℕ, List, Option, length, IfOk, IfSome, IsErrOf, IsTrue};
 ghost use Rattle.outside_folder.specs.declared.folder.FolderFault.TheVariants.{NoMemory as folder_no_memory};
-ghost use Rattle.outside_folder.specs.Files.{Files};
+ghost use Rattle.outside_folder.specs.Files.{Files, is_tree};
 ghost use Rattle.outside_folder.specs.Folder.{Lists, Reads, IsWithinLimit};
 ghost use Rattle.outside_folder.specs.Faults.{Rose};
 
@@ -59,6 +59,7 @@ pub trait Folder {
         ensures later { faults self.old ≤ faults self.new }
         ensures bounded { faults self.new ≤ ceiling self.new }
 
+        ensures tree { IfSome (tells self.old) (λ files. IsTrue (is_tree files)) }
         ensures same_files { tells self.new ≡ tells self.old }
         ensures same_ceiling { ceiling self.new ≡ ceiling self.old };
 
@@ -71,6 +72,7 @@ pub trait Folder {
         ensures later { faults self.old ≤ faults self.new }
         ensures bounded { faults self.new ≤ ceiling self.new }
 
+        ensures tree { IfSome (tells self.old) (λ files. IsTrue (is_tree files)) }
         ensures same_files { tells self.new ≡ tells self.old }
         ensures same_ceiling { ceiling self.new ≡ ceiling self.old };
 }

@@ -4,7 +4,7 @@ ghost use Rattle.std.specs.Option.{option_copied, option_map};
 ghost use Rattle.outside_folder.specs.Files.{is_tree, is_path, clashes, after, inside, first_name, name_in, with_name, names_in, as_names, file_at, listing};
 ghost use Rattle.outside_folder.specs.MemFile.{told};
 ghost use Rattle.outside_folder.specs.Folder.{Lists, Reads, IsWithinLimit};
-ghost use Rattle.outside_folder.specs.Faults.{Rose, among, ceiling_of, fails_next};
+ghost use Rattle.outside_folder.specs.Faults.{Rose, among, ceiling_of, fails_next, next_count};
 
 use crate::{FILE_LIMIT, Folder, FolderFault, Name};
 use plan_types::{List, NoMemory, Text};
@@ -37,6 +37,7 @@ pub struct MemFolder {
     fail_at: List<u64>,
     calls: u64,
     faults: u64,
+    ghost tree: { IsTrue (is_tree (told files)) },
     ghost counted: { faults ≤ calls },
     ghost bounded: { faults ≤ ceiling_of fail_at },
 }
@@ -66,6 +67,7 @@ impl MemFolder {
     // Counts a call, and says whether it is one of those that fail.
     fn fails(&mut self) -> bool
         ensures answer { result ≡ fails_next (mem_fail_at self.old) (mem_calls self.old) }
+        ensures counts { mem_calls self.new ≡ next_count (mem_calls self.old) }
         ensures failed { IsTrue result → Rose (mem_faults self.old) (mem_faults self.new) }
         ensures later { mem_faults self.old ≤ mem_faults self.new }
         ensures bounded { mem_faults self.new ≤ ceiling_of (mem_fail_at self.new) }
@@ -99,10 +101,13 @@ impl Folder for MemFolder {
 
         // It fails at the calls that are to fail, and at no other.
         ensures fails { IsErrOf result FolderFault.Failed ↔ IsTrue (fails_next (mem_fail_at self.old) (mem_calls self.old)) }
+        ensures counts { mem_calls self.new ≡ next_count (mem_calls self.old) }
+        ensures fail_at { mem_fail_at self.new ≡ mem_fail_at self.old }
         ensures failed { IsErrOf result FolderFault.Failed → Rose (mem_faults self.old) (mem_faults self.new) }
         ensures later { mem_faults self.old ≤ mem_faults self.new }
         ensures bounded { mem_faults self.new ≤ ceiling_of (mem_fail_at self.new) }
 
+        ensures tree { IsTrue (is_tree (mem_files self.old)) }
         ensures same_files { Some (mem_files self.new) ≡ Some (mem_files self.old) }
         ensures same_ceiling { ceiling_of (mem_fail_at self.new) ≡ ceiling_of (mem_fail_at self.old) }
     {
@@ -117,17 +122,21 @@ impl Folder for MemFolder {
         ensures within { IfOk result IsWithinLimit }
 
         ensures fails { IsErrOf result FolderFault.Failed ↔ IsTrue (fails_next (mem_fail_at self.old) (mem_calls self.old)) }
+        ensures counts { mem_calls self.new ≡ next_count (mem_calls self.old) }
+        ensures fail_at { mem_fail_at self.new ≡ mem_fail_at self.old }
         ensures failed { IsErrOf result FolderFault.Failed → Rose (mem_faults self.old) (mem_faults self.new) }
         ensures later { mem_faults self.old ≤ mem_faults self.new }
         ensures bounded { mem_faults self.new ≤ ceiling_of (mem_fail_at self.new) }
 
+        ensures tree { IsTrue (is_tree (mem_files self.old)) }
         ensures same_files { Some (mem_files self.new) ≡ Some (mem_files self.old) }
         ensures same_ceiling { ceiling_of (mem_fail_at self.new) ≡ ceiling_of (mem_fail_at self.old) }
     {
         if self.fails() {
-            return Err(FolderFault::Failed);
+            Err(FolderFault::Failed)
+        } else {
+            bytes_at(alloc, self.files.as_slice(), path)
         }
-        bytes_at(alloc, self.files.as_slice(), path)
     }
 }
 
@@ -287,4 +296,129 @@ fn clashes(one: &str, other: &str) -> bool
     ensures { result ≡ clashes one.now other.now }
 {
     one == other || inside(one, other).is_some() || inside(other, one).is_some()
+}
+
+#[cfg(test)]
+mod tests {
+    use super::*;
+    use std::test::Fail;
+
+    // Each file holds its path.
+    fn folder_of(
+        alloc: Global,
+        paths: &[&str],
+        fail_at: &[u64],
+    ) -> Result<Result<MemFolder, MemFault>, NoMemory> {
+        let mut files = List::new(alloc);
+        for path in paths {
+            let bytes = List::from_vec(path.as_bytes().to_vec(alloc)?);
+            let path = Text::from_str(alloc, path)?;
+            files.push(MemFile { path, bytes })?;
+        }
+        let fail_at = List::from_vec(fail_at.to_vec(alloc)?);
+        Ok(MemFolder::new(files, fail_at))
+    }
+
+    // The names, with a `/` behind those of directories, each with a space behind it.
+    fn line_of(alloc: Global, names: &List<Name>) -> Result<Text, NoMemory> {
+        let mut line = Text::new(alloc);
+        for name in names.as_slice() {
+            line.push_str(name.text.as_str())?;
+            line.push_str(if name.folder { "/ " } else { " " })?;
+        }
+        Ok(line)
+    }
+
+    #[test]
+    fn takes_trees_alone(rt: HostRuntime) -> Result<(), Fail> {
+        let cases: [(&[&str], bool); 11] = [
+            (&[], true),
+            (&["a"], true),
+            (&["a/b", "a/c/d", "b"], true),
+            (&["a", "ab", "a.b"], true),
+            (&["a", "b", "a"], false),
+            (&["a", "a/b"], false),
+            (&["a/b/c", "x", "a/b"], false),
+            (&[""], false),
+            (&["/a"], false),
+            (&["a/"], false),
+            (&["a//b"], false),
+        ];
+        for (at, (paths, good)) in cases.iter().enumerate() {
+            match folder_of(rt.alloc(), paths, &[])? {
+                Ok(_) => assert!(rt; *good, "at {at}"),
+                Err(fault) => {
+                    assert!(rt; !*good, "at {at}");
+                    assert_eq!(rt; fault, MemFault::BadTree);
+                }
+            }
+        }
+        Ok(())
+    }
+
+    #[test]
+    fn lists_and_reads(rt: HostRuntime) -> Result<(), Fail> {
+        let paths = ["z", "a/b/c", "b.cabal", "a/b/d", "a/x", "Z/y"];
+        let mut folder = folder_of(rt.alloc(), &paths, &[])??;
+        for (dir, line) in [
+            ("", Some("Z/ a/ b.cabal z ")),
+            ("a", Some("b/ x ")),
+            ("a/b", Some("c d ")),
+            ("b", None),
+            ("z", None),
+            ("a/", None),
+            ("a/b/c", None),
+        ] {
+            match folder.list(rt.alloc(), dir)? {
+                None => assert!(rt; line.is_none(), "{dir}"),
+                Some(names) => {
+                    let listed = line_of(rt.alloc(), &names)?;
+                    assert_eq!(rt; Some(listed.as_str()), line, "{dir}");
+                }
+            }
+        }
+        for (path, there) in [("z", true), ("a/b/c", true), ("a/b", false), ("y", false)] {
+            match folder.read(rt.alloc(), path)? {
+                None => assert!(rt; !there, "{path}"),
+                Some(bytes) => {
+                    assert!(rt; there, "{path}");
+                    assert_eq!(rt; bytes.as_slice(), path.as_bytes());
+                }
+            }
+        }
+        let mut empty = folder_of(rt.alloc(), &[], &[])??;
+        assert_eq!(rt; empty.list(rt.alloc(), "")?, Some(List::new(rt.alloc())));
+        Ok(())
+    }
+
+    #[test]
+    fn fails_at_the_calls_that_are_to_fail(rt: HostRuntime) -> Result<(), Fail> {
+        let mut folder = folder_of(rt.alloc(), &["a"], &[4, 2])??;
+        assert!(rt; folder.list(rt.alloc(), "").is_ok());
+        assert_eq!(rt; folder.read(rt.alloc(), "a"), Err(FolderFault::Failed));
+        assert!(rt; folder.read(rt.alloc(), "a").is_ok());
+        assert_eq!(rt; folder.list(rt.alloc(), ""), Err(FolderFault::Failed));
+        assert!(rt; folder.list(rt.alloc(), "").is_ok());
+        Ok(())
+    }
+
+    #[test]
+    fn reads_up_to_the_limit(rt: HostRuntime) -> Result<(), Fail> {
+        for (length, fits) in [(1_048_576, true), (1_048_577, false)] {
+            let mut files = List::new(rt.alloc());
+            files.push(MemFile {
+                path: Text::from_str(rt.alloc(), "a")?,
+                bytes: List::from_vec(vec![in rt.alloc(); 7u8; length]?),
+            })?;
+            let mut folder = MemFolder::new(files, List::new(rt.alloc()))?;
+            match folder.read(rt.alloc(), "a") {
+                Ok(_) => assert!(rt; fits),
+                Err(fault) => {
+                    assert!(rt; !fits);
+                    assert_eq!(rt; fault, FolderFault::TooLarge);
+                }
+            }
+        }
+        Ok(())
+    }
 }

@@ -1,6 +1,6 @@
 ghost use Rattle.std.specs.Prelude.{◌≡◌, ◌≤◌, ◌<◌, ◌^◌, ◌-◌, ◌↔◌, ◌⊎◌, true, [], Some, length, take, vec_len, vec_capacity, IfOk, IsErr, OnErr};
 ghost use Rattle.outside_folder.specs.Sink.{Appends, IsCount};
-ghost use Rattle.outside_folder.specs.Faults.{Rose};
+ghost use Rattle.outside_folder.specs.Faults.{Rose, next_count};
 
 use crate::mem_folder::is_among;
 use crate::{Sink, SinkFault};
@@ -59,11 +59,12 @@ impl MemSink {
 }
 
 impl MemSink {
-    ghost use Rattle.outside_folder.specs.MemSink.{written_bytes, sink_faults, number_fails, keeps};
+    ghost use Rattle.outside_folder.specs.MemSink.{written_bytes, sink_faults, sink_writes, number_fails, keeps};
 
     // Counts a write, and says whether its number is one of those that fail.
     fn fails(&mut self) -> bool
         ensures answer { result ≡ number_fails self.old }
+        ensures counts { sink_writes self.new ≡ next_count (sink_writes self.old) }
         ensures keeps { keeps self.old self.new }
         ensures faults { sink_faults self.new ≡ sink_faults self.old }
     {
@@ -77,6 +78,7 @@ impl MemSink {
     fn failed(&mut self) -> SinkFault
         ensures rose { Rose (sink_faults self.old) (sink_faults self.new) }
         ensures bounded { sink_faults self.new ≤ 2 ^ 64 - 1 }
+        ensures writes { sink_writes self.new ≡ sink_writes self.old }
         ensures keeps { keeps self.old self.new }
     {
         self.faults = self.faults.saturating_add(1);
@@ -85,7 +87,7 @@ impl MemSink {
 }
 
 impl Sink for MemSink {
-    ghost use Rattle.outside_folder.specs.MemSink.{written_bytes, sink_faults, number_fails, taken_of};
+    ghost use Rattle.outside_folder.specs.MemSink.{written_bytes, sink_faults, sink_fail_at, sink_writes, sink_room, sink_most, number_fails, taken_of};
 
     ghost bytes = { λ sink. Some (written_bytes sink) };
 
@@ -99,6 +101,10 @@ impl Sink for MemSink {
         // It takes as much as it can, and fails where it is to fail or can take nothing.
         ensures taken { IfOk result (λ n. n ≡ taken_of self.old piece.now) }
         ensures fails { IsErr result ↔ ((number_fails self.old ≡ true) ⊎ ((0 < length piece.now) × (taken_of self.old piece.now ≡ 0))) }
+        ensures counts { sink_writes self.new ≡ next_count (sink_writes self.old) }
+        ensures room { sink_room self.new ≡ sink_room self.old }
+        ensures most { sink_most self.new ≡ sink_most self.old }
+        ensures fail_at { sink_fail_at self.new ≡ sink_fail_at self.old }
 
         ensures failed { OnErr result (Rose (sink_faults self.old) (sink_faults self.new)) }
         ensures later { sink_faults self.old ≤ sink_faults self.new }
@@ -116,5 +122,32 @@ impl Sink for MemSink {
         }
         self.written.extend_from_slice(&piece[..taken]).unwrap();
         Ok(taken)
+    }
+}
+
+#[cfg(test)]
+mod tests {
+    use super::*;
+    use crate::write_all;
+    use std::test::Fail;
+
+    #[test]
+    fn takes_pieces_until_it_fails(rt: HostRuntime) -> Result<(), Fail> {
+        // the room, the most bytes of a write, the write that fails; what is left in the sink, and whether it is all
+        for (room, most, fail_at, left, whole) in [
+            (100, 100, 9, "plan\nchoose main 1 local\n", true),
+            (26, 1, 27, "plan\nchoose main 1 local\n", true),
+            (100, 10, 3, "plan\nchoose main 1 l", false),
+            (100, 10, 1, "", false),
+            (7, 100, 9, "plan\nch", false),
+            (100, 0, 9, "", false),
+        ] {
+            let fail_at = List::from_vec([fail_at].to_vec(rt.alloc())?);
+            let mut sink = MemSink::new(rt.alloc(), room, most, fail_at)?;
+            let written = write_all(&mut sink, b"plan\nchoose main 1 local\n");
+            assert_eq!(rt; written.is_ok(), whole, "{left}");
+            assert_eq!(rt; sink.bytes(), left.as_bytes());
+        }
+        Ok(())
     }
 }

@@ -1,5 +1,5 @@
 // What a real folder holds isn't told, so that these lines are trusted as to content.
-ghost use Rattle.std.specs.Prelude.{◌≢◌, ◌<◌, ◌^◌, ◌-◌, None, IfOk, IsErrOf};
+ghost use Rattle.std.specs.Prelude.{◌≡◌, ◌≢◌, ◌<◌, ◌^◌, ◌-◌, None, IfOk, IsErrOf};
 ghost use Rattle.outside_folder.specs.Folder.{IsWithinLimit};
 
 use crate::{FILE_LIMIT, Folder, FolderFault, Name};
@@ -21,7 +21,10 @@ pub struct RealFolder<'a, R: Files> {
 }
 
 impl<'a, R: Files> RealFolder<'a, R> {
-    pub fn new(rt: &'a R, root: Text) -> RealFolder<'a, R> {
+    pub fn new(rt: &'a R, root: Text) -> RealFolder<'a, R>
+        ensures root { result.root ≡ root }
+        ensures no_faults { result.faults ≡ 0 }
+    {
         RealFolder {
             rt,
             root,
@@ -156,4 +159,57 @@ fn read_at<R: Files>(
         return Err(FolderFault::TooLarge);
     }
     Ok(Some(List::from_vec(bytes)))
+}
+
+#[cfg(test)]
+mod tests {
+    use super::*;
+    use std::os::unix::fs::symlink;
+    use std::test::Fail;
+    use std::{env, process};
+
+    // A folder of the test's own, with two directories, two files at the limit and a link that leads nowhere.
+    fn made(rt: &HostRuntime) -> Result<Text, Fail> {
+        let name = format!(in rt.alloc(); "outside-folder-{}", process::id(rt.process()))?;
+        let root = env::temp_dir(rt)?.join(rt.alloc(), name.as_str())?;
+        fs::create_dir_all(rt, root.join(rt.alloc(), "b/empty")?.as_path())?;
+        fs::write(rt, root.join(rt.alloc(), "b/c")?.as_path(), "the bytes")?;
+        let bytes = vec![in rt.alloc(); 7u8; FILE_LIMIT + 1]?;
+        fs::write(rt, root.join(rt.alloc(), "a")?.as_path(), &bytes[1..])?;
+        fs::write(rt, root.join(rt.alloc(), "Z")?.as_path(), &bytes[..])?;
+        symlink(rt, "nowhere", root.join(rt.alloc(), "d")?.as_str())?;
+        Ok(Text::from_str(rt.alloc(), root.as_str())?)
+    }
+
+    #[test]
+    fn lists_and_reads_a_folder(rt: HostRuntime) -> Result<(), Fail> {
+        let root = made(&rt)?;
+        let mut folder = RealFolder::new(&rt, root.copy()?);
+
+        let names = folder.list(rt.alloc(), "")?.ok_or("no root")?;
+        let wanted = [("Z", false), ("a", false), ("b", true), ("d", false)];
+        assert_eq!(rt; names.len(), wanted.len());
+        for (name, (text, is_folder)) in names.as_slice().iter().zip(wanted) {
+            assert_eq!(rt; name.text.as_str(), text);
+            assert_eq!(rt; name.folder, is_folder, "{text}");
+        }
+        let inner = folder.list(rt.alloc(), "b")?.ok_or("no b")?;
+        assert_eq!(rt; inner.len(), 2);
+        let empty = folder.list(rt.alloc(), "b/empty")?.ok_or("no b/empty")?;
+        assert!(rt; empty.is_empty());
+        assert_eq!(rt; folder.list(rt.alloc(), "x")?, None);
+        assert_eq!(rt; folder.list(rt.alloc(), "a")?, None);
+
+        let bytes = folder.read(rt.alloc(), "b/c")?.ok_or("no b/c")?;
+        assert_eq!(rt; bytes.as_slice(), b"the bytes".as_slice());
+        let largest = folder.read(rt.alloc(), "a")?.ok_or("no a")?;
+        assert_eq!(rt; largest.len(), FILE_LIMIT);
+        assert_eq!(rt; folder.read(rt.alloc(), "Z"), Err(FolderFault::TooLarge));
+        for missing in ["x", "b/x", "a/x", "b", "d"] {
+            assert_eq!(rt; folder.read(rt.alloc(), missing)?, None, "{missing}");
+        }
+        fs::remove_dir_all(&rt, root.as_str())?;
+        assert_eq!(rt; folder.list(rt.alloc(), ""), Err(FolderFault::Failed));
+        Ok(())
+    }
 }

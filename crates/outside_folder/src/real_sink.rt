@@ -1,5 +1,5 @@
 // What standard output received isn't told, so that these lines are trusted as to content.
-ghost use Rattle.std.specs.Prelude.{◌<◌, ◌^◌, None};
+ghost use Rattle.std.specs.Prelude.{◌≡◌, ◌<◌, ◌^◌, None};
 
 use crate::{Sink, SinkFault};
 
@@ -12,7 +12,9 @@ pub struct RealSink<'a, R: Print> {
 }
 
 impl<'a, R: Print> RealSink<'a, R> {
-    pub fn new(rt: &'a R) -> RealSink<'a, R> {
+    pub fn new(rt: &'a R) -> RealSink<'a, R>
+        ensures no_faults { result.faults ≡ 0 }
+    {
         RealSink { rt, faults: 0 }
     }
 }
@@ -31,5 +33,18 @@ impl<R: Print> Sink for RealSink<'_, R> {
                 Err(SinkFault::Failed)
             }
         }
+    }
+}
+
+#[cfg(test)]
+mod tests {
+    use super::*;
+    use crate::write_all;
+
+    #[test]
+    fn writes_to_standard_output(rt: HostRuntime) {
+        let mut sink = RealSink::new(&rt);
+        assert_eq!(rt; write_all(&mut sink, b""), Ok(()));
+        assert_eq!(rt; write_all(&mut sink, b"a line of the test\n"), Ok(()));
     }
 }

@@ -7,10 +7,9 @@ use Rattle.std.proofs.lemmas.Str.Ascii.{IsAscii-nil, IsAscii-cons}
 use Rattle.std.proofs.lemmas.Bool.{false≢true}
 use Rattle.std.proofs.lemmas.Bool.Decides.{nat_tests}
 use Rattle.plan_types.specs.Name.{is_letter_or_digit, is_digit, is_group, is_package_name}
-use Rattle.plan_command.specs.PlainFile.{is_boot_name, is_name}
 use Rattle.plan_command.specs.Version.{is_number, is_version}
 
-both : (a b : Bool) → a && b ≡ true → (a ≡ true) × (b ≡ true)
+pub both : (a b : Bool) → a && b ≡ true → (a ≡ true) × (b ≡ true)
 both true b h = (refl, h)
 both false b h = absurd (false≢true h)
 
@@ -52,12 +51,12 @@ small_dash b h = grind (arith, nat_tests)
 small_dot : (b : ℕ) → (b == 46) ≡ true → b < 128
 small_dot b h = grind (arith, nat_tests)
 
-digits_of : (bs : List ℕ) → is_number bs ≡ true → list_all is_digit bs ≡ true
+pub digits_of : (bs : List ℕ) → is_number bs ≡ true → list_all is_digit bs ≡ true
 digits_of [] h = refl
 digits_of (b ∷ bs) h = (both _ _ (both _ _ h).0).0
 
 pub ascii_version : (bs : List ℕ) → is_version bs ≡ true → IsAscii bs
 ascii_version bs h = ascii_from_pieces is_digit (λ b. b == 46) small_digit small_dot bs (all_weaker is_number (list_all is_digit) digits_of (slice_split (λ b. b == 46) bs) h)
 
-pub ascii_name : (bs : List ℕ) → is_name bs ≡ true → IsAscii bs
-ascii_name bs h = ascii_from_pieces is_letter_or_digit (λ b. b == 45) small_letter small_dash bs (all_weaker is_group (list_all is_letter_or_digit) (λ g k. (both _ _ k).0) (slice_split (λ b. b == 45) bs) (both (is_package_name bs) (not (is_boot_name bs)) h).0)
+pub ascii_package : (bs : List ℕ) → is_package_name bs ≡ true → IsAscii bs
+ascii_package bs h = ascii_from_pieces is_letter_or_digit (λ b. b == 45) small_letter small_dash bs (all_weaker is_group (list_all is_letter_or_digit) (λ g k. (both _ _ k).0) (slice_split (λ b. b == 45) bs) h)

@@ -19,7 +19,7 @@ use Rattle.plan_command.specs.declared.totals.Totals.{Totals}
 use Rattle.plan_command.specs.declared.index.Found.{Found}
 use Rattle.plan_command.specs.Releases.{IndexRead, reads_of, bytes_of, names_of, Counts, IsBeyond}
 use Rattle.plan_command.specs.Totals.{is_too_many}
-use Rattle.plan_command.specs.PlainFile.{is_text}
+use Rattle.plan_command.specs.Line.{is_text}
 use Rattle.plan_command.specs.Index.{IsOneOf, InClosure, of_local, needed, mentioned, IsRead, IsClosure, IsFound, IsTooMany, mentioned_by, index_reads, reads_too_many}
 use Rattle.plan_command.specs.Visits.{Kept, IsCovered, IsPartly, IsVisited, Visits, IsKept}
 

@@ -1,5 +1,8 @@
 pub mod Ascii
 pub mod Closure
-pub mod Kept
+pub mod Digits
 pub mod InTurn
+pub mod Kept
+pub mod Pieces
 pub mod Progress
+pub mod Resolved

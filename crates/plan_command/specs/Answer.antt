@@ -13,7 +13,8 @@ use Rattle.plan_command.specs.declared.trouble.Trouble.{Trouble}
 use Rattle.plan_command.specs.declared.trouble.Trouble.TheVariants as trouble
 use Rattle.plan_command.specs.declared.command.Status.{Status}
 use Rattle.plan_command.specs.declared.command.Status.TheVariants as status
-use Rattle.plan_command.specs.PlainFile.{plain_file, is_text}
+use Rattle.plan_command.specs.Line.{is_text}
+use Rattle.plan_command.specs.PlainFile.{plain_file}
 use Rattle.plan_command.specs.Root.{root_names, cabal_file, unbuilt_name}
 use Rattle.plan_command.specs.Text.{refusal_text, plan_text, usage_text}
 
@@ -76,12 +77,14 @@ Prints answer old new status.ReadFault = new ≡ old
 Prints answer old new status.NoMemory = new ≡ old
 Prints answer old new status.WriteFault = AppendsPrefix old new answer.text
 Prints answer old new status.Planned = (status.Planned ≡ answer.status) × Appends old new answer.text
+Prints answer old new status.NoPlan = (status.NoPlan ≡ answer.status) × Appends old new answer.text
 Prints answer old new status.Refused = (status.Refused ≡ answer.status) × Appends old new answer.text
 Prints answer old new status.Usage = (status.Usage ≡ answer.status) × Appends old new answer.text
 
 -- a status of an answer that is made, not that of a run that failed
 abbrev pub IsMade : Status → Type 0
 IsMade status.Planned = Unit {0}
+IsMade status.NoPlan = Unit {0}
 IsMade status.Refused = Unit {0}
 IsMade status.Usage = Unit {0}
 IsMade status.ReadFault = ⊥
@@ -94,6 +97,7 @@ IsUsage status.Usage = Unit {0}
 IsUsage status.WriteFault = Unit {0}
 IsUsage status.NoMemory = Unit {0}
 IsUsage status.Planned = ⊥
+IsUsage status.NoPlan = ⊥
 IsUsage status.Refused = ⊥
 IsUsage status.ReadFault = ⊥
 

@@ -13,7 +13,7 @@ use Rattle.plan_command.specs.declared.index.Found.{Found}
 use Rattle.plan_command.specs.declared.index.Package.{Package}
 use Rattle.plan_command.specs.declared.index.Reading.{Reading}
 use Rattle.plan_command.specs.declared.index.Reading.TheVariants.{Refused, Read}
-use Rattle.plan_command.specs.PlainFile.{is_text}
+use Rattle.plan_command.specs.Line.{is_text}
 use Rattle.plan_command.specs.Releases.{IndexRead, reads_of, bytes_of, names_of, plain_files, faults_in, mentioned_in, in_order}
 use Rattle.plan_command.specs.Totals.{is_too_many}
 

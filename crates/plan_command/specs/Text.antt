@@ -1,10 +1,13 @@
 -- The lines of the output.
-use Rattle.std.specs.Prelude.{ℕ, ◌==◌, [], ◌∷◌, ◌++◌, length, codes, if◌then◌else◌}
+use Rattle.std.specs.Prelude.{ℕ, ◌==◌, List, [], ◌∷◌, ◌++◌, length, slice_index_or, flat_map, codes, if◌then◌else◌}
 use Rattle.std.specs.Fmt.{decimal}
 use Rattle.plan_types.specs.declared.refusal.Cause.{Cause}
 use Rattle.plan_types.specs.declared.refusal.Cause.TheVariants.{NotUtf8, StrayBrace, UnclosedBrace, BadName, TooDeep, BadVersion, BadRange, NeedsVersion, NoPackages, TooLarge, TooMany, Unbuilt}
 use Rattle.plan_types.specs.declared.refusal.Refusal.{Refusal}
+use Rattle.choice_problem.specs.declared.problem.Choice.{Choice}
 use Rattle.outside_folder.specs.Files.{Bytes}
+use Rattle.plan_command.specs.declared.index.Package.{Package}
+use Rattle.plan_command.specs.FolderProblem.{no_package, release_at}
 
 abbrev pub cause_name : Cause → Bytes
 cause_name NotUtf8 = codes "NotUtf8"
@@ -39,3 +42,24 @@ usage_text = codes "usage: cabal-plan plan or generate, with options" ++ 10 ∷ 
 -- the plan of a local package that asks for nothing
 abbrev pub plan_text : Bytes → Bytes → Bytes
 plan_text name version = codes "plan" ++ 10 ∷ codes "choose " ++ name ++ codes " " ++ version ++ codes " local" ++ 10 ∷ []
+
+-- a package that is chosen, with its version
+abbrev pub choose_line : Bytes → Bytes → Bytes → Bytes
+choose_line name version source = codes "choose " ++ name ++ codes " " ++ version ++ codes " " ++ source ++ 10 ∷ []
+
+-- the local package is the first, and all others come from the index
+abbrev pub source_of : ℕ → Bytes
+source_of number = if number == 0 then codes "local" else codes "source"
+
+abbrev pub choice_line : List Package → Choice → Bytes
+choice_line packages choice =
+    choose_line (slice_index_or packages choice.var.«package» no_package).name
+    (release_at packages choice.var.«package» choice.val).version
+    (source_of choice.var.«package»)
+
+-- the choices of a trail, in its order
+abbrev pub trail_text : List Package → List Choice → Bytes
+trail_text packages trail = codes "plan" ++ 10 ∷ flat_map (choice_line packages) trail
+
+abbrev pub no_plan_text : Bytes
+no_plan_text = codes "no plan" ++ 10 ∷ []

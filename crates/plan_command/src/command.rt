@@ -14,6 +14,8 @@ use std::alloc::Global;
 pub enum Status {
     /// A plan was printed.
     Planned,
+    /// There is no plan, which was printed.
+    NoPlan,
     /// The input was refused; the line that says why was printed.
     Refused,
     /// A file or folder could not be read.

@@ -4,9 +4,12 @@
 
 mod answer;
 mod command;
-mod index;
+mod line;
 mod need;
+mod folder_problem;
+mod index;
 mod plain_file;
+mod plan;
 mod releases;
 mod root;
 mod text;

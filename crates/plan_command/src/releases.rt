@@ -7,7 +7,7 @@ ghost use Rattle.std.specs.Option.{option_map};
 ghost use Rattle.outside_folder.specs.Faults.{Rose};
 ghost use Rattle.outside_folder.specs.Files.{file_at};
 ghost use Rattle.plan_command.specs.Answer.{within_limit};
-ghost use Rattle.plan_command.specs.PlainFile.{Gives};
+ghost use Rattle.plan_command.specs.Line.{Gives};
 ghost use Rattle.plan_command.specs.Releases.{name_dir, release_path, versions_among, versions_in, reads_at, reads_of, read_of, read_bytes, found, names_of, by_numbers, ReadsMore, Takes, TakesName};
 
 use crate::need::Need;

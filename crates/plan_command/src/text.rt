@@ -1,13 +1,20 @@
 // Lines of the output.
-ghost use Rattle.std.specs.Prelude.{◌≡◌, IfOk};
-ghost use Rattle.plan_command.specs.Text.{cause_name, where_of, refusal_line, refusal_text, plan_text};
+ghost use Rattle.std.specs.Prelude.{◌≡◌, IfOk, slice_index_or};
+ghost use Rattle.plan_command.specs.FolderProblem.{no_package, release_at};
+ghost use Rattle.plan_command.specs.Text.{cause_name, where_of, refusal_line, refusal_text, plan_text, choose_line, source_of, choice_line, trail_text};
 
+use crate::folder_problem::releases_of;
+use crate::index::Package;
 use crate::plain_file::PlainFile;
-use plan_types::{Cause, NoMemory, Refusal, Text};
+use choice_problem::Choice;
+use plan_types::{Cause, List, NoMemory, Refusal, Text};
 use std::alloc::Global;
 
 /// What is printed where the words have no reading.
 pub(crate) const USAGE: &str = "usage: cabal-plan plan or generate, with options\n";
+
+/// What is printed where there is no plan.
+pub(crate) const NO_PLAN: &str = "no plan\n";
 
 /// The line of a refusal.
 pub(crate) fn text_of_refusal(alloc: Global, refusal: &Refusal) -> Result<Text, NoMemory>
@@ -33,6 +40,65 @@ fn plan_lines(alloc: Global, name: &str, version: &str) -> Result<Text, NoMemory
     ensures { IfOk result (λ text. text ≡ plan_text name.now version.now) }
 {
     let text = format!(in alloc; "plan\nchoose {name} {version} local\n")?;
+    Ok(Text::from_string(text))
+}
+
+/// The plan that the choices of a trail make, in their order.
+pub(crate) fn text_of_trail(
+    alloc: Global,
+    packages: &[Package],
+    trail: &List<Choice>,
+) -> Result<Text, NoMemory>
+    ensures { IfOk result (λ text. text ≡ trail_text packages.now trail.now) }
+{
+    let mut text = Text::from_str(alloc, "plan\n")?;
+    for choice in trail.as_slice() {
+        let line = choice_line(alloc, packages, *choice)?;
+        text.push_str(line.as_str())?;
+    }
+    Ok(text)
+}
+
+fn choice_line(alloc: Global, packages: &[Package], choice: Choice) -> Result<Text, NoMemory>
+    ensures { IfOk result (λ line. line ≡ choice_line packages.now choice) }
+{
+    let number = choice.var.package;
+    choose_line(
+        alloc,
+        name_at(packages, number),
+        version_at(packages, number, choice.val),
+        source_of(number),
+    )
+}
+
+fn name_at(packages: &[Package], number: u64) -> &str
+    ensures { result.now ≡ (slice_index_or packages.now number no_package).name }
+{
+    match packages.get(number as usize) {
+        Some(found) => found.name.as_str(),
+        None => "",
+    }
+}
+
+fn version_at(packages: &[Package], number: u64, release: u64) -> &str
+    ensures { result.now ≡ (release_at packages.now number release).version }
+{
+    match releases_of(packages, number).get(release as usize) {
+        Some(file) => file.version.as_str(),
+        None => "",
+    }
+}
+
+fn source_of(number: u64) -> &'static str
+    ensures { result.now ≡ source_of number }
+{
+    if number == 0 { "local" } else { "source" }
+}
+
+fn choose_line(alloc: Global, name: &str, version: &str, source: &str) -> Result<Text, NoMemory>
+    ensures { IfOk result (λ line. line ≡ choose_line name.now version.now source.now) }
+{
+    let text = format!(in alloc; "choose {name} {version} {source}\n")?;
     Ok(Text::from_string(text))
 }
 

@@ -5,6 +5,7 @@
 mod boxed;
 mod element;
 mod list;
+mod members;
 mod memory;
 mod name;
 mod range;

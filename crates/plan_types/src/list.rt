@@ -1,4 +1,4 @@
-ghost use Rattle.std.specs.Prelude.{◌≡◌, ◌≢◌, ◌+◌, ◌<◌, ◌↔◌, ◌++◌, [], ◌∷◌, IsTrue, IfOk, OnOk, OnErr, MatchOption, length, slice_index_or};
+ghost use Rattle.std.specs.Prelude.{◌≡◌, ◌≢◌, ◌+◌, ◌<◌, ◌↔◌, ◌++◌, [], ◌∷◌, IsTrue, IfOk, OnOk, OnErr, MatchOption, length, take, slice_index_or, slice_set};
 ghost use Rattle.std.specs.Cmp.{partial_equiv_from_equiv};
 ghost use Rattle.std.specs.Cmp.Lexicographic.{pointwise, slice_cmp, slice_partial_cmp, lists_per, lists_equiv, lists_po, lists_total, lists_agrees, lists_ties};
 
@@ -75,6 +75,21 @@ impl<T> List<T> {
 }
 
 impl<T: Drop> List<T> {
+    /// Keeps the first items.
+    pub fn truncate(&mut self, len: usize)
+        ensures { self.new ≡ take len self.old }
+    {
+        self.items.truncate(len);
+    }
+
+    /// Puts an item in the place of another.
+    pub fn set(&mut self, index: usize, item: T)
+        requires { index < length self.old }
+        ensures { self.new ≡ slice_set self.old index item }
+    {
+        self.items[index] = item;
+    }
+
     /// Appends an item. After the refusal the item is dropped.
     pub fn push(&mut self, item: T) -> Result<(), NoMemory>
         ensures ok { OnOk result (self.new ≡ self.old ++ item ∷ []) }
@@ -97,6 +112,32 @@ impl<T: PartialEq> PartialEq for List<T> {
 
 impl<T: Eq> Eq for List<T> {
     ghost laws = { lists_equiv T.Eq.laws };
+}
+
+#[cfg(test)]
+mod tests {
+    use super::*;
+    use std::test::Fail;
+
+    #[test]
+    fn grows_and_shrinks_at_its_end(rt: HostRuntime) -> Result<(), Fail> {
+        let mut list = List::new(rt.alloc());
+        assert!(rt; list.is_empty());
+        assert_eq!(rt; list.pop(), None);
+        for number in [7u32, 8, 9] {
+            list.push(number)?;
+        }
+        assert_eq!(rt; list.pop(), Some(9));
+        assert_eq!(rt; list.len(), 2);
+        assert!(rt; !list.is_empty());
+        assert_eq!(rt; list.as_slice(), [7, 8].as_slice());
+
+        let same = List::from_vec([7u32, 8].to_vec(rt.alloc())?);
+        assert!(rt; list == same);
+        assert!(rt; list != List::new(rt.alloc()));
+        assert_eq!(rt; same.into_vec().as_slice(), [7, 8].as_slice());
+        Ok(())
+    }
 }
 
 impl<T: PartialOrd> PartialOrd for List<T> {

@@ -62,3 +62,34 @@ impl Drop for Range {
         }
     }
 }
+
+#[cfg(test)]
+mod tests {
+    use super::*;
+    use std::test::Fail;
+
+    // A drop that called itself for the left side would run out of stack.
+    #[test]
+    fn drops_a_long_chain(rt: HostRuntime) -> Result<(), Fail> {
+        let mut range = Range::Nothing;
+        for turn in 0..300_000u32 {
+            let left = Boxed::new(rt.alloc(), range)?;
+            let right = Boxed::new(rt.alloc(), Range::Any)?;
+            range = if turn % 2 == 0 {
+                Range::Both(left, right)
+            } else {
+                Range::Either(left, right)
+            };
+        }
+        drop(range);
+        Ok(())
+    }
+
+    #[test]
+    fn holds_its_sides(rt: HostRuntime) -> Result<(), Fail> {
+        let boxed = Boxed::new(rt.alloc(), 7u32)?;
+        assert_eq!(rt; boxed.get(), &7);
+        assert_eq!(rt; boxed.into_inner(), 7);
+        Ok(())
+    }
+}

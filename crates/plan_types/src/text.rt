@@ -138,3 +138,52 @@ impl Hash for Text {
         self.string.hash(state);
     }
 }
+
+#[cfg(test)]
+mod tests {
+    use super::*;
+    use std::hash::DefaultHasher;
+    use std::test::Fail;
+
+    fn hash_of(text: &Text) -> u64 {
+        let mut state = DefaultHasher::new();
+        text.hash(&mut state);
+        state.finish()
+    }
+
+    #[test]
+    fn holds_its_bytes(rt: HostRuntime) -> Result<(), Fail> {
+        let mut text = Text::new(rt.alloc());
+        assert_eq!(rt; text.as_bytes(), b"".as_slice());
+        text.push_str("gr")?;
+        text.push_str("\u{fc}n")?;
+        assert_eq!(rt; text.as_str(), "gr\u{fc}n");
+        assert_eq!(rt; text.as_bytes(), b"gr\xc3\xbcn".as_slice());
+        assert_eq!(rt; AsStr::as_str(&text), "gr\u{fc}n");
+        let string = String::from_str(rt.alloc(), "gr\u{fc}n")?;
+        assert_eq!(rt; Text::from_string(string), text);
+        Ok(())
+    }
+
+    #[test]
+    fn compares_by_bytes(rt: HostRuntime) -> Result<(), Fail> {
+        for (one, other, order) in [
+            ("a", "a", Ordering::Equal),
+            ("", "a", Ordering::Less),
+            ("a", "ab", Ordering::Less),
+            ("Z", "a", Ordering::Less),
+            ("\u{e4}", "z", Ordering::Greater),
+        ] {
+            let one = Text::from_str(rt.alloc(), one)?;
+            let other = Text::from_str(rt.alloc(), other)?;
+            assert_eq!(rt; one.cmp(&other), order, "{one:?} and {other:?}");
+            assert_eq!(rt; one.partial_cmp(&other), Some(order));
+            assert_eq!(rt; one == other, order == Ordering::Equal);
+        }
+        let one = Text::from_str(rt.alloc(), "main")?;
+        let copied = one.copy()?;
+        assert_eq!(rt; copied, one);
+        assert_eq!(rt; hash_of(&copied), hash_of(&one));
+        Ok(())
+    }
+}

@@ -1,5 +1,6 @@
-use Rattle.std.proofs.Common.{rules, tests, ◌≡◌, ◌==◌, Bool, true, false, Some, None, refl, ◌∙◌}
+use Rattle.std.proofs.Common.{rules, tests, ◌≡◌, ◌==◌, Bool, true, false, Some, None, refl, sym, ◌∙◌}
 use Rattle.std.specs.Prelude.{is_some, if◌then◌else◌}
+use Rattle.plan_command.proofs.Ascii.{ascii_version}
 use Rattle.std.proofs.lemmas.Iterator.Search.{all_from_yields_List}
 use Rattle.std.proofs.lemmas.Iterator.Splits.{YieldsList-from_slice_split}
 use Rattle.plan_command.specs.Version.{is_number}
@@ -17,3 +18,6 @@ returns-clause-test c =
 
 pub returns-clause-reads : goal.returns-clause-reads
 returns-clause-reads c = returns-clause-test c ∙ some_if _ _
+
+pub returns-clause-ascii : goal.returns-clause-ascii
+returns-clause-ascii c = λ yes. ascii_version c.args.text.now (sym (returns-clause-test c) ∙ yes)

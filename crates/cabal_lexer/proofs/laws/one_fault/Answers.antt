@@ -1,0 +1,5 @@
+use Rattle.cabal_lexer.proofs.Exact.{one_refusal}
+use Rattle.cabal_lexer.proofs.laws.one_fault.Goals as goal
+
+pub returns : goal.returns
+returns c = one_refusal

@@ -1,0 +1,5 @@
+use Rattle.cabal_lexer.proofs.Exact.{one_tree}
+use Rattle.cabal_lexer.proofs.laws.one_tree.Goals as goal
+
+pub returns : goal.returns
+returns c = one_tree

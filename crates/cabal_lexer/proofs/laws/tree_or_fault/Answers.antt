@@ -1,0 +1,5 @@
+use Rattle.cabal_lexer.proofs.Exact.{tree_or_fault}
+use Rattle.cabal_lexer.proofs.laws.tree_or_fault.Goals as goal
+
+pub returns : goal.returns
+returns c = tree_or_fault

@@ -1,0 +1,8 @@
+use Rattle.cabal_lexer.proofs.Exact.{tree_found, fault_found}
+use Rattle.cabal_lexer.proofs.read.read_elements.Goals as goal
+
+pub returns-clause-exactly_trees : goal.returns-clause-exactly_trees
+returns-clause-exactly_trees c = tree_found c.args.bytes.now c.read_tree.result c.read_tree.ensures.tree c.read_tree.ensures.fault
+
+pub returns-clause-exactly_faults : goal.returns-clause-exactly_faults
+returns-clause-exactly_faults c = fault_found c.args.bytes.now c.read_tree.result c.read_tree.ensures.tree c.read_tree.ensures.fault

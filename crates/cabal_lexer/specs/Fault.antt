@@ -1,0 +1,50 @@
+-- The tree of a text, and its first fault.
+use Rattle.std.specs.Prelude.{ℕ, ◌≡◌, ◌+◌, true, false, ◌⊎◌, List, [], ◌∷◌, ◌++◌, take, ◌==◌, count_by}
+use Rattle.std.specs.Str.{IsUtf8}
+use Rattle.std.specs.Str.Lossy.{utf8_valid_len}
+use Rattle.std.specs.List.{list_all}
+use Rattle.plan_types.specs.declared.element.Element.{Element}
+use Rattle.plan_types.specs.declared.refusal.Cause.{Cause}
+use Rattle.plan_types.specs.declared.refusal.Cause.TheVariants.{NotUtf8, UnclosedBrace}
+use Rattle.plan_types.specs.declared.refusal.Fault.{Fault}
+use Rattle.plan_types.specs.declared.refusal.Fault.TheVariants as fault
+use Rattle.cabal_lexer.specs.Lines.{Line, kept_lines}
+use Rattle.cabal_lexer.specs.Opening.{opening, cause_of}
+use Rattle.cabal_lexer.specs.Layout.{Stands, Fails, closes}
+
+-- a whole text's lines: without a bound, at depth 1, inside no brace
+abbrev pub StandsFor : List Line → List Element → Type 0
+StandsFor lines items = Stands 0 1 false lines items
+
+-- Lines are sound where, with some lines `}` behind them, they stand for items.
+pub record Sound (lines : List Line) : Type 0 where
+  pub closers : List Line
+  pub close : list_all closes closers ≡ true
+  pub items : List Element
+  pub stands : StandsFor (lines ++ closers) items
+
+-- The first fault of lines is at the last line of the shortest front that isn't sound. Where all of
+-- them are sound but don't stand for items, it is the brace that was opened last and is still open.
+pub data FirstFault : List Line → ℕ → Cause → Type 0 where
+  misfit : (front : List Line) (line : Line) (rest : List Line) →
+      ((shorter others : List Line) → front ≡ shorter ++ others → Sound shorter) → (Sound (front ++ line ∷ []) → ⊥) →
+      FirstFault (front ++ line ∷ rest) line.number (cause_of (opening line.text))
+  unclosed : (lines : List Line) (line : Line) → Sound lines → ((items : List Element) → StandsFor lines items → ⊥) →
+      Fails 0 1 false lines line UnclosedBrace → FirstFault lines line.number UnclosedBrace
+
+-- the bytes of a text are a tree's
+abbrev pub IsTree : List ℕ → List Element → Type 0
+IsTree bytes items = IsUtf8 bytes × StandsFor (kept_lines bytes) items
+
+-- the line of the first byte that isn't UTF-8
+abbrev pub bad_line : List ℕ → ℕ
+bad_line bytes = count_by (λ b. b == 10) (take (utf8_valid_len bytes) bytes) + 1
+
+abbrev pub IsFault : List ℕ → ℕ → Cause → Type 0
+IsFault bytes line cause =
+    ((IsUtf8 bytes → ⊥) × (line ≡ bad_line bytes) × (cause ≡ NotUtf8)) ⊎ (IsUtf8 bytes × FirstFault (kept_lines bytes) line cause)
+
+-- the fault is a line and a cause that have this, unless memory is wanting
+abbrev pub Refused : (ℕ → Cause → Type 0) → Fault → Type 0
+Refused P fault.NoMemory = Unit {0}
+Refused P (fault.At line cause) = P line cause

@@ -1,0 +1,6 @@
+pub mod Lines
+pub mod Opening
+pub mod Layout
+pub mod Fault
+pub mod Canonical
+pub mod Examples

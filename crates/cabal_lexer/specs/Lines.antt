@@ -1,0 +1,54 @@
+-- The kept lines of a text: those that aren't blank and aren't comments.
+use Rattle.std.specs.Prelude.{ℕ, ◌+◌, Bool, ◌&&◌, ◌||◌, not, List, [], ◌∷◌, ◌++◌, ◌==◌, if◌then◌else◌, length, drop, reverse, slice_index, nat_eq}
+use Rattle.std.specs.List.{prefix_len, starts_with}
+use Rattle.std.specs.Str.Lines.{lines}
+
+-- Lines are numbered from 1. The indent is the number of blanks in front, each one column, and the
+-- text is the rest without the blanks at its end.
+pub record Line : Type 0 where
+  pub number : ℕ
+  pub indent : ℕ
+  pub text : List ℕ
+
+-- a space or a tab
+abbrev pub is_blank : ℕ → Bool
+is_blank b = b == 32 || b == 9
+
+unfoldable pub indent : List ℕ → ℕ
+indent text = prefix_len is_blank text
+
+unfoldable pub trim_start : List ℕ → List ℕ
+trim_start text = drop (indent text) text
+
+unfoldable pub trim_end : List ℕ → List ℕ
+trim_end text = reverse (trim_start (reverse text))
+
+unfoldable pub trim : List ℕ → List ℕ
+trim text = trim_end (trim_start text)
+
+-- a comment begins with `--`
+unfoldable pub is_comment : List ℕ → Bool
+is_comment text = slice_index text 0 == 45 && slice_index text 1 == 45
+
+unfoldable pub is_kept : List ℕ → Bool
+is_kept text = not (length text == 0) && not (is_comment text)
+
+-- a raw line, where it is kept
+unfoldable pub kept_line : ℕ → List ℕ → List Line
+kept_line number raw =
+    if is_kept (trim raw) then record { number = number; indent = indent raw; text = trim raw } ∷ [] else []
+
+abbrev pub kept_from : ℕ → List (List ℕ) → List Line
+kept_from number [] = []
+kept_from number (raw ∷ raws) = kept_line number raw ++ kept_from (number + 1) raws
+
+-- the byte-order mark
+abbrev pub mark : List ℕ
+mark = 239 ∷ 187 ∷ 191 ∷ []
+
+unfoldable pub without_mark : List ℕ → List ℕ
+without_mark bytes = if starts_with nat_eq bytes mark then drop 3 bytes else bytes
+
+-- Lines are cut at newlines, each without one carriage return in front of it.
+abbrev pub kept_lines : List ℕ → List Line
+kept_lines bytes = kept_from 1 (lines (without_mark bytes))

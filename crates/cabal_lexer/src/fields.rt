@@ -1,0 +1,99 @@
+ghost use Rattle.std.specs.Prelude.{◌≡◌, ◌≤◌, ◌++◌, ◌∷◌, ℕ, Bool, false, not, drop, IfOk, IfErr, length};
+ghost use Rattle.std.specs.List.{prefix_len};
+ghost use Rattle.cabal_lexer.specs.Opening.{field, braced_field, lower_case};
+ghost use Rattle.cabal_lexer.specs.Layout.{ends, Begins, Fails, IsElement, At, first_value, texts};
+
+use crate::lines::Line;
+use plan_types::{Cause, Element, Fault, List, NoMemory, Text};
+use std::alloc::Global;
+
+/// A field, up to the first line that isn't deeper, and how many lines are its values.
+pub fn read_field(
+    alloc: Global,
+    line: &Line,
+    name: &str,
+    first: &str,
+    more: &[Line],
+    braced: bool,
+) -> Result<(Element, usize), NoMemory>
+    ensures ok { IfOk result (λ r. (depth : ℕ) → Begins depth line.now (field (lower_case name.now) first.now) → IsElement depth braced line.now more.now r.0 (drop r.1 more.now)) }
+    ensures taken { IfOk result (λ r. r.1 ≤ length more.now) }
+{
+    let count = run_len(more, line.indent() + 1, braced);
+    let (values, _) = more.split_at(count);
+    let field = Element::Field {
+        line: line.number(),
+        name: in_lower_case(alloc, name)?,
+        values: values_of(alloc, first, values)?,
+    };
+    Ok((field, count))
+}
+
+/// A field in braces, and how many lines follow it up to the one that closes it.
+pub fn read_braced_field(
+    alloc: Global,
+    line: &Line,
+    name: &str,
+    more: &[Line],
+) -> Result<(Element, usize), Fault>
+    ensures ok { IfOk result (λ r. (depth : ℕ) (braced : Bool) → Begins depth line.now (braced_field (lower_case name.now)) → IsElement depth braced line.now more.now r.0 (drop r.1 more.now)) }
+    ensures taken { IfOk result (λ r. r.1 ≤ length more.now) }
+    ensures err { (bound depth : ℕ) (braced : Bool) → ends bound braced line.now ≡ false → Begins depth line.now (braced_field (lower_case name.now)) →
+        IfErr result (At (Fails bound depth braced (line.now ∷ more.now))) }
+{
+    let count = run_len(more, 0, true);
+    if count == more.len() {
+        return Err(Fault::At {
+            line: line.number(),
+            cause: Cause::UnclosedBrace,
+        });
+    }
+    let (values, _) = more.split_at(count);
+    let field = Element::Field {
+        line: line.number(),
+        name: in_lower_case(alloc, name)?,
+        values: values_of(alloc, "", values)?,
+    };
+    Ok((field, count + 1))
+}
+
+/// How many lines stand inside.
+fn run_len(lines: &[Line], bound: usize, braced: bool) -> usize
+    ensures value { result ≡ prefix_len (λ line. not (ends bound braced line)) lines.now }
+    ensures bounded { result ≤ length lines.now }
+{
+    lines
+        .iter()
+        .take_while(|line| !line.ends(bound, braced))
+        .count()
+}
+
+/// A copy of a name, in lower case.
+#[tactic(auto, unfolding(crate::specs::Opening::lower_case))]
+pub fn in_lower_case(alloc: Global, name: &str) -> Result<Text, NoMemory>
+    ensures { IfOk result (λ text. text ≡ lower_case name.now) }
+{
+    let name = name.to_ascii_lowercase(alloc)?;
+    Text::from_str(alloc, name.as_str())
+}
+
+/// The values of a field: the first, where it isn't empty, and the texts of the lines.
+fn values_of(alloc: Global, first: &str, lines: &[Line]) -> Result<List<Text>, NoMemory>
+    ensures { IfOk result (λ values. values ≡ first_value first.now ++ texts lines.now) }
+{
+    let mut values = first_value(alloc, first)?;
+    for line in lines {
+        values.push(Text::from_str(alloc, line.text())?)?;
+    }
+    Ok(values)
+}
+
+fn first_value(alloc: Global, first: &str) -> Result<List<Text>, NoMemory>
+    ensures { IfOk result (λ values. values ≡ first_value first.now) }
+{
+    let mut values = List::new(alloc);
+    if !first.is_empty() {
+        values.push(Text::from_str(alloc, first)?)?;
+    }
+    Ok(values)
+}

@@ -1,0 +1,19 @@
+ghost use Rattle.std.specs.Prelude.{◌≡◌, ℕ, List};
+ghost use Rattle.plan_types.specs.declared.element.Element.{Element};
+ghost use Rattle.plan_types.specs.declared.refusal.Cause.{Cause};
+ghost use Rattle.cabal_lexer.specs.Fault.{IsTree, IsFault};
+
+/// A text has one tree at most.
+pub fn one_tree()
+    ensures { (bytes : List ℕ) (a b : List Element) → IsTree bytes a → IsTree bytes b → a ≡ b }
+{}
+
+/// A text has one first fault at most.
+pub fn one_fault()
+    ensures { (bytes : List ℕ) (n m : ℕ) (c d : Cause) → IsFault bytes n c → IsFault bytes m d → (n ≡ m) × (c ≡ d) }
+{}
+
+/// A text never has both a tree and a fault.
+pub fn tree_or_fault()
+    ensures { (bytes : List ℕ) (items : List Element) (line : ℕ) (cause : Cause) → IsTree bytes items → IsFault bytes line cause → ⊥ }
+{}

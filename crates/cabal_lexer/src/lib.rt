@@ -1,0 +1,18 @@
+//! From the bytes of a file to its fields and sections, by its lines, indents and braces, or to the
+//! first fault; and from these back to a text.
+#![tactic(auto)]
+
+mod elements;
+mod fields;
+mod laws;
+mod lines;
+mod opening;
+mod print;
+mod read;
+
+pub use laws::{one_fault, one_tree, tree_or_fault};
+pub use print::print_elements;
+pub use read::read_elements;
+
+#[cfg(test)]
+mod tests;

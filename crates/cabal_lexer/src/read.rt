@@ -1,0 +1,70 @@
+ghost use Rattle.std.specs.Prelude.{◌≡◌, ◌+◌, ◌≤◌, ◌<◌, ◌==◌, ℕ, List, take, length, count_by, IfOk, IfErr, MatchResult};
+ghost use Rattle.std.specs.Str.{IsUtf8};
+ghost use Rattle.plan_types.specs.declared.element.Element.{Element};
+ghost use Rattle.plan_types.specs.declared.refusal.Cause.{Cause};
+ghost use Rattle.cabal_lexer.specs.Fault.{IsTree, IsFault, Refused, bad_line};
+
+use crate::elements::read_items;
+use crate::lines::kept_lines;
+use plan_types::{Cause, Element, Fault, List};
+use std::alloc::Global;
+use std::str;
+
+/// The tree of a text, or its first fault.
+///
+/// `NotUtf8` comes before every other fault, and then the one with the least line. `UnclosedBrace`
+/// comes only where there is no other.
+pub fn read_elements(alloc: Global, bytes: &[u8]) -> Result<List<Element>, Fault>
+    requires { length bytes.now ≤ 1048576 }
+    ensures tree { IfOk result (λ items. IsTree bytes.now items) }
+    ensures fault { IfErr result (Refused (IsFault bytes.now)) }
+    // A text that has a tree isn't refused, but for want of memory.
+    ensures exactly_trees { (items : List Element) → IsTree bytes.now items →
+        MatchResult result (λ found. found ≡ items) (Refused (λ _ _. ⊥)) }
+    // A text that has a fault gives no tree, and no other fault.
+    ensures exactly_faults { (line : ℕ) (cause : Cause) → IsFault bytes.now line cause →
+        MatchResult result (λ _. ⊥) (Refused (λ at why. (at ≡ line) × (why ≡ cause))) }
+{
+    read_tree(alloc, bytes)
+}
+
+fn read_tree(alloc: Global, bytes: &[u8]) -> Result<List<Element>, Fault>
+    requires { length bytes.now ≤ 1048576 }
+    ensures tree { IfOk result (λ items. IsTree bytes.now items) }
+    ensures fault { IfErr result (Refused (IsFault bytes.now)) }
+{
+    let text = decoded(bytes)?;
+    let lines = kept_lines(alloc, text)?;
+    let (items, _) = read_items(alloc, lines.as_slice(), 0, 1, false)?;
+    Ok(items)
+}
+
+fn decoded(bytes: &[u8]) -> Result<&str, Fault>
+    requires { length bytes.now ≤ 1048576 }
+    ensures { MatchResult result (λ text. (text.now ≡ bytes.now) × IsUtf8 bytes.now) (Refused (IsFault bytes.now)) }
+{
+    match str::from_utf8(bytes) {
+        Ok(text) => Ok(text),
+        Err(error) => {
+            let (front, _) = bytes.split_at(error.valid_up_to());
+            Err(Fault::At {
+                line: newlines(front) + 1,
+                cause: Cause::NotUtf8,
+            })
+        }
+    }
+}
+
+fn newlines(bytes: &[u8]) -> u32
+    requires { length bytes.now ≤ 1048576 }
+    ensures value { result ≡ count_by (λ b. b == 10) bytes.now }
+    ensures few { result ≤ 1048576 }
+{
+    let mut count = 0;
+    for byte in bytes {
+        if *byte == b'\n' {
+            count += 1;
+        }
+    }
+    count
+}

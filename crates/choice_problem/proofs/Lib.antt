@@ -1,0 +1,4 @@
+pub mod Trails
+pub mod Answer
+pub mod Stack
+pub mod First

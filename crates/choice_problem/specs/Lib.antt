@@ -1,0 +1,11 @@
+pub mod Variable
+pub mod Problem
+pub mod Assignment
+pub mod Trail
+pub mod Search
+pub mod Plain
+pub mod Written
+pub mod Lists
+pub mod SameVariable
+pub mod WrittenLaws
+pub mod Examples

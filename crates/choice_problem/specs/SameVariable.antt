@@ -1,0 +1,95 @@
+-- Variables that compare alike are one.
+use Rattle.std.proofs.Common.{◌≡◌, ℕ, true, refl, ap, ◌∙◌}
+use Rattle.std.specs.Ordering.{nat_cmp, ordering_then, ordering_reverse}
+use Rattle.std.specs.declared.cmp.Ordering.{Ordering}
+use Rattle.std.specs.declared.cmp.Ordering.TheVariants.{Less, Equal, Greater}
+use Rattle.std.proofs.lemmas.Bool.{false≢true}
+use Rattle.std.proofs.lemmas.Cmp.{nat_cmp_total}
+use Rattle.std.proofs.lemmas.Map.Lookups.{exact_unsigned}
+use Rattle.choice_problem.specs.declared.variable.Qual.{Qual}
+use Rattle.choice_problem.specs.declared.variable.Qual.TheVariants.{Top, Setup, Exe}
+use Rattle.choice_problem.specs.declared.variable.Part.{Part}
+use Rattle.choice_problem.specs.declared.variable.Part.TheVariants.{Package, Flag, Tests, Benches}
+use Rattle.choice_problem.specs.declared.variable.Var.{Var}
+use Rattle.choice_problem.specs.Variable.{qual_cmp, part_cmp, var_cmp, is_equal, same_var}
+
+pub is_equal-is : (o : Ordering) → is_equal o ≡ true → o ≡ Equal
+is_equal-is Less h = absurd (false≢true h)
+is_equal-is Equal h = refl
+is_equal-is Greater h = absurd (false≢true h)
+
+then-first : (a b : Ordering) → ordering_then a b ≡ Equal → a ≡ Equal
+then-first Less b h = h
+then-first Equal b h = refl
+then-first Greater b h = h
+
+then-second : (a b : Ordering) → ordering_then a b ≡ Equal → b ≡ Equal
+then-second Less b h = absurd (cc h)
+then-second Equal b h = h
+then-second Greater b h = absurd (cc h)
+
+pub qual-is : (q r : Qual) → qual_cmp q r ≡ Equal → q ≡ r
+qual-is Top Top h = refl
+qual-is Top (Setup q) h = absurd (cc h)
+qual-is Top (Exe q u) h = absurd (cc h)
+qual-is (Setup p) Top h = absurd (cc h)
+qual-is (Setup p) (Setup q) h = ap Setup (exact_unsigned p q h)
+qual-is (Setup p) (Exe q u) h = absurd (cc h)
+qual-is (Exe p t) Top h = absurd (cc h)
+qual-is (Exe p t) (Setup q) h = absurd (cc h)
+qual-is (Exe p t) (Exe q u) h =
+    ap (λ x. Exe x t) (exact_unsigned p q (then-first (nat_cmp p q) (nat_cmp t u) h)) ∙ ap (Exe q) (exact_unsigned t u (then-second (nat_cmp p q) (nat_cmp t u) h))
+
+part-is : (q r : Part) → part_cmp q r ≡ Equal → q ≡ r
+part-is Package Package h = refl
+part-is Package (Flag n) h = absurd (cc h)
+part-is Package Tests h = absurd (cc h)
+part-is Package Benches h = absurd (cc h)
+part-is (Flag m) Package h = absurd (cc h)
+part-is (Flag m) (Flag n) h = ap Flag (exact_unsigned m n h)
+part-is (Flag m) Tests h = absurd (cc h)
+part-is (Flag m) Benches h = absurd (cc h)
+part-is Tests Package h = absurd (cc h)
+part-is Tests (Flag n) h = absurd (cc h)
+part-is Tests Tests h = refl
+part-is Tests Benches h = absurd (cc h)
+part-is Benches Package h = absurd (cc h)
+part-is Benches (Flag n) h = absurd (cc h)
+part-is Benches Tests h = absurd (cc h)
+part-is Benches Benches h = refl
+
+pub same_var-is : (v w : Var) → same_var v w ≡ true → v ≡ w
+same_var-is v w h =
+    let e = is_equal-is (var_cmp v w) h in
+    let q = qual-is v.qual w.qual (then-first (qual_cmp v.qual w.qual) (ordering_then (nat_cmp v.«package» w.«package») (part_cmp v.part w.part)) e) in
+    let rest = then-second (qual_cmp v.qual w.qual) (ordering_then (nat_cmp v.«package» w.«package») (part_cmp v.part w.part)) e in
+    let n = exact_unsigned v.«package» w.«package» (then-first (nat_cmp v.«package» w.«package») (part_cmp v.part w.part) rest) in
+    let r = part-is v.part w.part (then-second (nat_cmp v.«package» w.«package») (part_cmp v.part w.part) rest) in
+    ap (λ x. record { qual = x; «package» = v.«package»; part = v.part }) q
+    ∙ ap (λ x. record { qual = w.qual; «package» = x; part = v.part }) n
+    ∙ ap (λ x. record { qual = w.qual; «package» = w.«package»; part = x }) r
+
+self-reverse : (o : Ordering) → o ≡ ordering_reverse o → o ≡ Equal
+self-reverse Less h = absurd (cc h)
+self-reverse Equal h = refl
+self-reverse Greater h = absurd (cc h)
+
+nat_cmp-refl : (n : ℕ) → nat_cmp n n ≡ Equal
+nat_cmp-refl n = self-reverse (nat_cmp n n) (nat_cmp_total.antisymm n n)
+
+pub qual-refl : (q : Qual) → qual_cmp q q ≡ Equal
+qual-refl Top = refl
+qual-refl (Setup p) = nat_cmp-refl p
+qual-refl (Exe p t) = ap (λ o. ordering_then o (nat_cmp t t)) (nat_cmp-refl p) ∙ nat_cmp-refl t
+
+part-refl : (q : Part) → part_cmp q q ≡ Equal
+part-refl Package = refl
+part-refl (Flag n) = nat_cmp-refl n
+part-refl Tests = refl
+part-refl Benches = refl
+
+pub same_var-refl : (v : Var) → same_var v v ≡ true
+same_var-refl v =
+    ap (λ o. is_equal (ordering_then o (ordering_then (nat_cmp v.«package» v.«package») (part_cmp v.part v.part)))) (qual-refl v.qual)
+    ∙ ap (λ o. is_equal (ordering_then o (part_cmp v.part v.part))) (nat_cmp-refl v.«package»)
+    ∙ ap is_equal (part-refl v.part)

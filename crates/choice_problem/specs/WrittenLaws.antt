@@ -1,0 +1,273 @@
+-- Lists that pass the tests keep the laws, and those that keep them pass.
+use Rattle.std.specs.Prelude.{◌≡◌, ◌≢◌, ℕ, zero, suc, ◌<◌, Bool, true, false, cond, not, ◌&&◌, ◌||◌, nat_eq, nat_lt, IsTrue, List, [], ◌∷◌, length, get_or, map, filter, All, AllPairs, Contains, refl}
+use Rattle.std.specs.List.{list_all, list_any}
+use Rattle.std.proofs.Common.{sym, ap, ◌∙◌, subst, inl, inr, arith}
+use Rattle.std.proofs.lemmas.Bool.{false≢true, eqb-true, eq-eqb, cases_lt, ltb-true, lt-ltb}
+use Rattle.std.proofs.lemmas.List.{length-map}
+use Rattle.std.proofs.lemmas.List.Elements.{All-contains, Contains-get_or}
+use Rattle.choice_problem.specs.declared.variable.Var.{Var}
+use Rattle.choice_problem.specs.declared.problem.Choice.{Choice}
+use Rattle.choice_problem.specs.declared.problem.Demand.{Demand}
+use Rattle.choice_problem.specs.declared.written.WrittenVar.{WrittenVar}
+use Rattle.choice_problem.specs.Variable.{qual_cmp, is_equal, same_var}
+use Rattle.choice_problem.specs.Problem.{Problem, IsOrderBelow, IsBeside, IsRoot, IsOwned, Lawful}
+use Rattle.choice_problem.specs.Written.{is_among, is_listed, order_of, begins_with, problem_of, AreLawful, has_each_below, is_once, is_order, are_listed_once, is_beside, is_empty, is_condition, are_lawful}
+use Rattle.choice_problem.specs.Lists.{contains-head, contains-tail, contains-none, contains-cases, contains-filter, map-contains, and-left, and-right, and-both, all-at, all-from}
+use Rattle.choice_problem.specs.SameVariable.{is_equal-is, qual-is, qual-refl, same_var-is, same_var-refl}
+
+abbrev choice_with : Var → ℕ → Choice
+choice_with v n = record { var = v; val = n }
+
+any-at : {X : Type 0} (test : X → Bool) (xs : List X) → list_any test xs ≡ true → (x : X) × Contains xs x × (test x ≡ true)
+any-at test [] h = absurd (false≢true h)
+any-at test (y ∷ xs) h =
+    elim (test y) as (λ b. test y ≡ b → b || list_any test xs ≡ true → (x : _) × Contains (y ∷ xs) x × (test x ≡ true)) [
+      | true ↦ λ e k. (y, contains-head y xs, e)
+      | false ↦ λ e k. let found = any-at test xs k in (found.0, contains-tail y xs found.0 found.1, found.2)
+    ] refl h
+
+any-from : {X : Type 0} (test : X → Bool) (xs : List X) (x : X) → Contains xs x → test x ≡ true → list_any test xs ≡ true
+any-from test [] x h k = absurd (contains-none x h)
+any-from test (y ∷ xs) x h k =
+    elim (test y) as (λ b. test y ≡ b → b || list_any test xs ≡ true) [
+      | true ↦ λ e. refl
+      | false ↦ λ e. elim (contains-cases y xs x h) [
+        | inl same ↦ absurd (false≢true (sym e ∙ ap test same ∙ k))
+        | inr r ↦ any-from test xs x r k
+      ]
+    ] refl
+
+not-any : (b : Bool) → not b ≡ true → b ≡ true → ⊥
+not-any true h k = false≢true h
+not-any false h k = false≢true k
+
+not-from : (b : Bool) → (b ≡ true → ⊥) → not b ≡ true
+not-from true h = absurd (h refl)
+not-from false h = refl
+
+all-where : {X : Type 0} (P : X → Type 0) (xs : List X) → ((x : X) → Contains xs x → P x) → All P xs
+all-where P xs h k d below = h (get_or xs k d) (Contains-get_or xs k d below)
+
+-- pairs
+
+pairs-cons : {X : Type 0} (R : X → X → Type 0) (x : X) (xs : List X) → ((y : X) → Contains xs y → R x y) → AllPairs R xs → AllPairs R (x ∷ xs)
+pairs-cons R x xs h rest zero zero d low high = absurd (omega (arith, low))
+pairs-cons R x xs h rest zero (suc j) d low high = h (get_or xs j d) (Contains-get_or xs j d (omega (arith, high)))
+pairs-cons R x xs h rest (suc i) zero d low high = absurd (omega (arith, low))
+pairs-cons R x xs h rest (suc i) (suc j) d low high = rest i j d (omega (arith, low)) (omega (arith, high))
+
+pairs-head : {X : Type 0} (R : X → X → Type 0) (x : X) (xs : List X) (y : X) → AllPairs R (x ∷ xs) → Contains xs y → R x y
+pairs-head R x xs y h k = subst (λ z. R x z) k.2 (h 0 (suc k.0) y (omega arith) (omega (arith, k.1)))
+
+pairs-tail : {X : Type 0} (R : X → X → Type 0) (x : X) (xs : List X) → AllPairs R (x ∷ xs) → AllPairs R xs
+pairs-tail R x xs h i j d low high = h (suc i) (suc j) d (omega (arith, low)) (omega (arith, high))
+
+pairs-nil : {X : Type 0} (R : X → X → Type 0) → AllPairs R []
+pairs-nil R i j d low high = absurd (omega (arith, high))
+
+-- orders
+
+among-at : (values : List ℕ) (n : ℕ) → is_among values n ≡ true → Contains values n
+among-at values n h = let found = any-at (λ m. nat_eq m n) values h in subst (λ m. Contains values m) (eqb-true found.0 n found.2) found.1
+
+among-from : (values : List ℕ) (n : ℕ) → Contains values n → is_among values n ≡ true
+among-from values n h = any-from (λ m. nat_eq m n) values n h (eq-eqb n n refl)
+
+each-at : (n : ℕ) (values : List ℕ) → has_each_below n values ≡ true → (x : ℕ) → x < n → Contains values x
+each-at zero values h x below = absurd (omega (arith, below))
+each-at (suc n) values h x below =
+    elim (cases_lt x n) [
+      | inl less ↦ each-at n values (and-right (is_among values n) (has_each_below n values) h) x less
+      | inr last ↦ let same : n ≡ x = omega arith in subst (λ m. Contains values m) same (among-at values n (and-left (is_among values n) (has_each_below n values) h))
+    ]
+
+each-from : (n : ℕ) (values : List ℕ) → ((x : ℕ) → x < n → Contains values x) → has_each_below n values ≡ true
+each-from zero values h = refl
+each-from (suc n) values h = and-both (is_among values n) (has_each_below n values) (among-from values n (h n (omega arith))) (each-from n values (λ x less. h x (omega (arith, less))))
+
+once-at : (values : List ℕ) → is_once values ≡ true → AllPairs (λ x y. x ≢ y) values
+once-at [] h = pairs-nil (λ (x y : ℕ). x ≢ y)
+once-at (n ∷ values) h =
+    pairs-cons (λ (x y : ℕ). x ≢ y) n values
+    (λ y k e. not-any (is_among values n) (and-left (not (is_among values n)) (is_once values) h) (among-from values n (subst (λ m. Contains values m) (sym e) k)))
+    (once-at values (and-right (not (is_among values n)) (is_once values) h))
+
+once-from : (values : List ℕ) → AllPairs (λ x y. x ≢ y) values → is_once values ≡ true
+once-from [] h = refl
+once-from (n ∷ values) h =
+    and-both (not (is_among values n)) (is_once values)
+    (not-from (is_among values n) (λ k. pairs-head (λ (x y : ℕ). x ≢ y) n values n h (among-at values n k) refl))
+    (once-from values (pairs-tail (λ (x y : ℕ). x ≢ y) n values h))
+
+abbrev IsOrder : List ℕ → Type 0
+IsOrder values = IsOrderBelow (length values) values
+
+order-at : (values : List ℕ) → is_order values ≡ true → IsOrder values
+order-at values h =
+    let below = list_all (λ n. nat_lt n (length values)) values in
+    let rest = and-right below (has_each_below (length values) values && is_once values) h in
+    record {
+      below = all-where (λ x. x < length values) values (λ x k. ltb-true x (length values) (all-at (λ n. nat_lt n (length values)) values x (and-left below (has_each_below (length values) values && is_once values) h) k));
+      each = each-at (length values) values (and-left (has_each_below (length values) values) (is_once values) rest);
+      once = once-at values (and-right (has_each_below (length values) values) (is_once values) rest);
+    }
+
+order-from : (values : List ℕ) → IsOrder values → is_order values ≡ true
+order-from values h =
+    and-both (list_all (λ n. nat_lt n (length values)) values) (has_each_below (length values) values && is_once values)
+    (all-from (λ n. nat_lt n (length values)) values (λ x k. lt-ltb x (length values) (All-contains (λ y. y < length values) values x h.below k)))
+    (and-both (has_each_below (length values) values) (is_once values) (each-from (length values) values h.each) (once-from values h.once))
+
+-- variables
+
+abbrev Differ : WrittenVar → WrittenVar → Type 0
+Differ v w = v.var ≢ w.var
+
+listed-from : (variables : List WrittenVar) (w : WrittenVar) → Contains variables w → is_listed variables w.var ≡ true
+listed-from variables w h = any-from (λ (u : WrittenVar). same_var u.var w.var) variables w h (same_var-refl w.var)
+
+variables-at : (variables : List WrittenVar) → are_listed_once variables ≡ true → AllPairs Differ variables
+variables-at [] h = pairs-nil Differ
+variables-at (w ∷ variables) h =
+    pairs-cons Differ w variables
+    (λ u k e. not-any (is_listed variables w.var) (and-left (not (is_listed variables w.var)) (are_listed_once variables) h)
+    (subst (λ v. is_listed variables v ≡ true) (sym e) (listed-from variables u k)))
+    (variables-at variables (and-right (not (is_listed variables w.var)) (are_listed_once variables) h))
+
+variables-from : (variables : List WrittenVar) → AllPairs Differ variables → are_listed_once variables ≡ true
+variables-from [] h = refl
+variables-from (w ∷ variables) h =
+    and-both (not (is_listed variables w.var)) (are_listed_once variables)
+    (not-from (is_listed variables w.var) (λ k.
+    let found = any-at (λ (u : WrittenVar). same_var u.var w.var) variables k in
+    pairs-head Differ w variables found.0 h found.1 (sym (same_var-is found.0.var w.var found.2))))
+    (variables-from variables (pairs-tail Differ w variables h))
+
+-- the order of a listed variable is one of the orders
+order-listed : (P : List ℕ → Type 0) (variables : List WrittenVar) (v : Var) → ((w : WrittenVar) → Contains variables w → P w.order) → is_listed variables v ≡ true → P (order_of variables v)
+order-listed P [] v h k = absurd (false≢true k)
+order-listed P (w ∷ variables) v h k =
+    elim (same_var w.var v) as (λ b. b || is_listed variables v ≡ true → P (cond b w.order (order_of variables v))) [
+      | true ↦ λ e. h w (contains-head w variables)
+      | false ↦ λ e. order-listed P variables v (λ u j. h u (contains-tail w variables u j)) e
+    ] k
+
+-- demands
+
+beside-at : (owner c : Choice) → is_beside owner c ≡ true → IsBeside owner c
+beside-at owner c h =
+    let quals = is_equal (qual_cmp c.var.qual owner.var.qual) in
+    let names = nat_eq c.var.«package» owner.var.«package» in
+    record {
+      same_qualifier = qual-is c.var.qual owner.var.qual (is_equal-is (qual_cmp c.var.qual owner.var.qual) (and-left quals names h));
+      same_package = eqb-true c.var.«package» owner.var.«package» (and-right quals names h);
+    }
+
+beside-from : (owner c : Choice) → IsBeside owner c → is_beside owner c ≡ true
+beside-from owner c h =
+    and-both (is_equal (qual_cmp c.var.qual owner.var.qual)) (nat_eq c.var.«package» owner.var.«package»)
+    (ap is_equal (ap (λ q. qual_cmp q owner.var.qual) h.same_qualifier ∙ qual-refl owner.var.qual))
+    (eq-eqb c.var.«package» owner.var.«package» h.same_package)
+
+empty-at : (when : List Choice) → is_empty when ≡ true → when ≡ []
+empty-at [] h = refl
+empty-at (c ∷ when) h = absurd (false≢true h)
+
+record HasOwner (when : List Choice) : Type 0 where
+  owner : Choice
+  others : List Choice
+  is : when ≡ owner ∷ others
+  beside : All (IsBeside owner) others
+
+condition-at : (when : List Choice) → is_condition when ≡ true → HasOwner when
+condition-at [] h = absurd (false≢true h)
+condition-at (owner ∷ others) h =
+    record { owner = owner; others = others; is = refl; beside = all-where (IsBeside owner) others (λ c k. beside-at owner c (all-at (is_beside owner) others c h k)) }
+
+condition-from : (when : List Choice) (owner : Choice) (others : List Choice) → when ≡ owner ∷ others → All (IsBeside owner) others → is_condition when ≡ true
+condition-from when owner others e h = ap is_condition e ∙ all-from (is_beside owner) others (λ c k. beside-from owner c (All-contains (IsBeside owner) others c h k))
+
+module _ (variables : List WrittenVar) (roots demands : List Demand) where
+  abbrev written : Problem
+  written = problem_of variables roots demands
+
+  abbrev root_test : Demand → Bool
+  root_test d = is_empty d.when && is_listed variables d.target
+
+  abbrev demand_test : Demand → Bool
+  demand_test d = is_condition d.when && is_listed variables d.target
+
+  abbrev IsOwnedByOne : Demand → Type 0
+  IsOwnedByOne d = (owner : Choice) × IsOwned written owner d
+
+  root-at : (d : Demand) → root_test d ≡ true → IsRoot written d
+  root-at d h = record { condition = empty-at d.when (and-left (is_empty d.when) (is_listed variables d.target) h); target = and-right (is_empty d.when) (is_listed variables d.target) h }
+
+  root-from : (d : Demand) → IsRoot written d → root_test d ≡ true
+  root-from d h = and-both (is_empty d.when) (is_listed variables d.target) (ap is_empty h.condition) h.target
+
+  demand-at : (d : Demand) → demand_test d ≡ true → IsOwnedByOne d
+  demand-at d h =
+      let has = condition-at d.when (and-left (is_condition d.when) (is_listed variables d.target) h) in
+      (has.owner, record { others = has.others; condition = has.is; beside = has.beside; target = and-right (is_condition d.when) (is_listed variables d.target) h })
+
+  demand-from : (d : Demand) → IsOwnedByOne d → demand_test d ≡ true
+  demand-from d h =
+      and-both (is_condition d.when) (is_listed variables d.target) (condition-from d.when h.0 h.1.others h.1.condition h.1.beside) h.1.target
+
+  abbrev front_test : Bool
+  front_test = are_listed_once variables && list_all (λ w. is_order w.order) variables
+
+  abbrev back_test : Bool
+  back_test = list_all root_test roots && list_all demand_test demands
+
+  pub tests-lawful : are_lawful variables roots demands ≡ true → AreLawful variables roots demands
+  tests-lawful h =
+      let front = and-left front_test back_test h in
+      let back = and-right front_test back_test h in
+      record {
+        once = variables-at variables (and-left (are_listed_once variables) (list_all (λ w. is_order w.order) variables) front);
+        orders = all-where (λ (w : WrittenVar). IsOrder w.order) variables
+            (λ w k. order-at w.order (all-at (λ (u : WrittenVar). is_order u.order) variables w (and-right (are_listed_once variables) (list_all (λ u. is_order u.order) variables) front) k));
+        roots_are = all-where (IsRoot written) roots (λ d k. root-at d (all-at root_test roots d (and-left (list_all root_test roots) (list_all demand_test demands) back) k));
+        demands_are = all-where IsOwnedByOne demands (λ d k. demand-at d (all-at demand_test demands d (and-right (list_all root_test roots) (list_all demand_test demands) back) k));
+      }
+
+  pub lawful-tests : AreLawful variables roots demands → are_lawful variables roots demands ≡ true
+  lawful-tests h =
+      and-both front_test back_test
+      (and-both (are_listed_once variables) (list_all (λ w. is_order w.order) variables) (variables-from variables h.once)
+      (all-from (λ (w : WrittenVar). is_order w.order) variables (λ w k. order-from w.order (All-contains (λ (u : WrittenVar). IsOrder u.order) variables w h.orders k))))
+      (and-both (list_all root_test roots) (list_all demand_test demands)
+      (all-from root_test roots (λ d k. root-from d (All-contains (IsRoot written) roots d h.roots_are k)))
+      (all-from demand_test demands (λ d k. demand-from d (All-contains IsOwnedByOne demands d h.demands_are k))))
+
+  begins-same : (owner first : Choice) (others when : List Choice) → when ≡ first ∷ others → begins_with owner when ≡ true → first ≡ owner
+  begins-same owner first others when e h =
+      let both = sym (ap (begins_with owner) e) ∙ h in
+      let vars = same_var-is first.var owner.var (and-left (same_var first.var owner.var) (nat_eq first.val owner.val) both) in
+      let vals = eqb-true first.val owner.val (and-right (same_var first.var owner.var) (nat_eq first.val owner.val) both) in
+      ap (λ v. choice_with v first.val) vars ∙ ap (choice_with owner.var) vals
+
+  owned-at : (owner : Choice) → All IsOwnedByOne demands → All (IsOwned written owner) (filter (λ d. begins_with owner d.when) demands)
+  owned-at owner h =
+      all-where (IsOwned written owner) (filter (λ d. begins_with owner d.when) demands) (λ d k.
+      let found = contains-filter (λ (e : Demand). begins_with owner e.when) demands d k in
+      let one = All-contains IsOwnedByOne demands d h found.0 in
+      subst (λ c. IsOwned written c d) (begins-same owner one.0 one.1.others d.when one.1.condition found.1) one.1)
+
+  pub written_lawful : IsTrue (are_lawful variables roots demands) → Lawful (problem_of variables roots demands)
+  written_lawful h =
+      let laws = tests-lawful h in
+      record {
+        bounded = record {
+          variables = map (λ (w : WrittenVar). w.var) variables;
+          count = omega (arith, length-map variables (λ (w : WrittenVar). w.var));
+          each = λ v known.
+              let found = any-at (λ (w : WrittenVar). same_var w.var v) variables known in
+              subst (λ u. Contains (map (λ (w : WrittenVar). w.var) variables) u) (same_var-is found.0.var v found.2) (map-contains (λ (w : WrittenVar). w.var) variables found.0 found.1);
+        };
+        order = λ v known trail choices. order-listed IsOrder variables v (λ w k. All-contains (λ (u : WrittenVar). IsOrder u.order) variables w laws.orders k) known;
+        roots = laws.roots_are;
+        demands = λ owner is. owned-at owner laws.demands_are;
+      }

@@ -1,0 +1,58 @@
+ghost use Rattle.std.specs.Prelude.{◌≡◌, IfOk, IsTrue, All};
+ghost use Rattle.choice_problem.specs.Problem.{Problem, IsChoice, Lawful};
+
+use crate::Var;
+use plan_types::{List, NoMemory};
+use std::alloc::Global;
+
+/// A variable with one of its values.
+#[derive(Clone, Copy, Debug, Drop, PartialEq, Eq)]
+pub struct Choice {
+    pub var: Var,
+    pub val: u64,
+}
+
+/// Where all choices of `when` are made, the target must have one of the allowed values. The first choice
+/// of `when` is the owner; a root has none.
+#[derive(Debug, Drop)]
+pub struct Demand {
+    pub when: List<Choice>,
+    pub target: Var,
+    pub allowed: List<u64>,
+}
+
+/// A problem of choices. Each answer is a function of the arguments, which `problem` collects.
+pub trait Choices {
+    ghost problem: { Self → Problem };
+
+    /// Whether the problem has this variable.
+    fn known(&self, v: Var) -> bool
+        ensures { result ≡ (problem self.now).known v };
+
+    /// How many values a variable has. They are numbered from 0.
+    fn domain(&self, v: Var) -> u64
+        requires { IsTrue ((problem self.now).known v) }
+        ensures { result ≡ (problem self.now).domain v };
+
+    /// The demands that hold before anything is chosen.
+    fn roots(&self, alloc: Global) -> Result<List<Demand>, NoMemory>
+        ensures { IfOk result (λ found. found ≡ (problem self.now).roots) };
+
+    /// The values of a variable, the best first, after the choices of a trail.
+    fn order(&self, alloc: Global, v: Var, trail: &List<Choice>) -> Result<List<u64>, NoMemory>
+        requires variable { IsTrue ((problem self.now).known v) }
+        requires choices { All (IsChoice (problem self.now)) trail.now }
+        ensures { IfOk result (λ found. found ≡ (problem self.now).order v trail.now) };
+
+    /// Whether a value may not be chosen, whatever else is.
+    fn barred(&self, c: Choice) -> bool
+        requires { IsChoice (problem self.now) c }
+        ensures { result ≡ (problem self.now).barred c };
+
+    /// The demands that a choice owns.
+    fn demands(&self, alloc: Global, owner: Choice) -> Result<List<Demand>, NoMemory>
+        requires { IsChoice (problem self.now) owner }
+        ensures { IfOk result (λ found. found ≡ (problem self.now).demands owner) };
+
+    ghost lawful: { (choices : Self) → Lawful (problem choices) };
+}

@@ -1,0 +1,286 @@
+// The problem of a folder: which release of each package is chosen. The needs are resolved once, when it is made.
+ghost use Rattle.std.specs.Prelude.{◌≡◌, ◌&&◌, nat_le, length, map, slice_index_or, unwrap_or, IfOk, ℕ, List, [], ◌∷◌};
+ghost use Rattle.std.specs.Ordering.{nat_cmp};
+ghost use Rattle.std.specs.Cmp.Lexicographic.{slice_cmp};
+ghost use Rattle.std.specs.BTreeMap as tree;
+ghost use Rattle.plan_command.specs.FolderProblem.{rising, falling, no_file, releases_of, number_of, is_below, meets, meeting, variable, is_known, root_of};
+ghost use Rattle.plan_command.specs.Resolved.{resolved, resolved_needs, resolved_releases, table_of, needs_at, demanded};
+
+use crate::index::Package;
+use crate::need::{Bound, Need};
+use crate::plain_file::PlainFile;
+use choice_problem::{Choice, Choices, Demand, Part, Qual, Var};
+use plan_types::{List, NoMemory, Text, Version};
+use std::alloc::Global;
+use std::collections::BTreeMap;
+
+/// A need of a file: the number of the package that it names, and the releases that may stand for it.
+#[derive(Debug, Drop)]
+pub(crate) struct Resolved {
+    pub target: u64,
+    pub allowed: List<u64>,
+}
+
+/// The problem that packages make. The needs in the table are those of the packages.
+#[derive(Debug, Drop)]
+pub(crate) struct FolderProblem {
+    pub packages: List<Package>,
+    table: List<List<List<Resolved>>>,
+    ghost resolved: { table ≡ table_of packages },
+}
+
+impl FolderProblem {
+    pub(crate) fn new(alloc: Global, packages: List<Package>) -> Result<FolderProblem, NoMemory>
+        ensures { IfOk result (λ made. made.packages ≡ packages) }
+    {
+        let table = table_of(alloc, packages.as_slice())?;
+        Ok(FolderProblem { packages, table })
+    }
+}
+
+impl Choices for FolderProblem {
+    ghost use Rattle.plan_command.specs.FolderProblem.{problem_of};
+    ghost use Rattle.plan_command.specs.FolderProblemLaws.{folder_lawful};
+
+    ghost problem = { λ w. problem_of w.packages };
+
+    ghost lawful = { λ w. folder_lawful w.packages };
+
+    fn known(&self, v: Var) -> bool {
+        is_known(self.packages.as_slice(), v)
+    }
+
+    fn domain(&self, v: Var) -> u64 {
+        releases_of(self.packages.as_slice(), v.package).len() as u64
+    }
+
+    fn roots(&self, alloc: Global) -> Result<List<Demand>, NoMemory> {
+        let mut roots = List::new(alloc);
+        roots.push(root_of(alloc, self.packages.as_slice())?)?;
+        Ok(roots)
+    }
+
+    fn order(&self, alloc: Global, v: Var, _trail: &List<Choice>) -> Result<List<u64>, NoMemory> {
+        falling(
+            alloc,
+            releases_of(self.packages.as_slice(), v.package).len(),
+        )
+    }
+
+    fn barred(&self, _c: Choice) -> bool {
+        false
+    }
+
+    fn demands(&self, alloc: Global, owner: Choice) -> Result<List<Demand>, NoMemory> {
+        let needs = needs_at(self.table.as_slice(), owner.var.package, owner.val);
+        demands_of(alloc, owner, needs)
+    }
+}
+
+fn variable(number: u64) -> Var
+    ensures { result ≡ variable number }
+{
+    Var {
+        qual: Qual::Top,
+        package: number,
+        part: Part::Package,
+    }
+}
+
+fn is_known(packages: &[Package], v: Var) -> bool
+    ensures { result ≡ is_known packages.now v }
+{
+    v.cmp(&variable(v.package)).is_eq() && v.package <= packages.len() as u64
+}
+
+/// The releases of the package with this number.
+pub(crate) fn releases_of(packages: &[Package], number: u64) -> &[PlainFile]
+    ensures { result.now ≡ releases_of packages.now number }
+{
+    match packages.get(number as usize) {
+        Some(found) => found.releases.as_slice(),
+        None => &[],
+    }
+}
+
+fn root_of(alloc: Global, packages: &[Package]) -> Result<Demand, NoMemory>
+    ensures { IfOk result (λ root. root ≡ root_of packages.now) }
+{
+    Ok(Demand {
+        when: List::new(alloc),
+        target: variable(0),
+        allowed: rising(alloc, releases_of(packages, 0).len())?,
+    })
+}
+
+fn rising(alloc: Global, count: usize) -> Result<List<u64>, NoMemory>
+    ensures { IfOk result (λ numbers. numbers ≡ rising count) }
+{
+    let mut numbers = List::new(alloc);
+    for number in 0..count {
+        numbers.push(number as u64)?;
+    }
+    Ok(numbers)
+}
+
+fn falling(alloc: Global, count: usize) -> Result<List<u64>, NoMemory>
+    ensures { IfOk result (λ numbers. numbers ≡ falling count) }
+{
+    let mut numbers = List::new(alloc);
+    let mut number = count;
+    while number > 0 {
+        number -= 1;
+        numbers.push(number as u64)?;
+    }
+    Ok(numbers)
+}
+
+fn needs_at(table: &[List<List<Resolved>>], number: u64, release: u64) -> &[Resolved]
+    ensures { result.now ≡ needs_at table.now number release }
+{
+    match table.get(number as usize) {
+        Some(releases) => needs_of_release(releases.as_slice(), release),
+        None => &[],
+    }
+}
+
+fn needs_of_release(releases: &[List<Resolved>], release: u64) -> &[Resolved]
+    ensures { result.now ≡ slice_index_or releases.now release [] }
+{
+    match releases.get(release as usize) {
+        Some(needs) => needs.as_slice(),
+        None => &[],
+    }
+}
+
+fn demands_of(alloc: Global, owner: Choice, needs: &[Resolved]) -> Result<List<Demand>, NoMemory>
+    ensures { IfOk result (λ demands. demands ≡ map (demanded owner) needs.now) }
+{
+    let mut demands = List::new(alloc);
+    for need in needs {
+        demands.push(demanded(alloc, owner, need)?)?;
+    }
+    Ok(demands)
+}
+
+fn demanded(alloc: Global, owner: Choice, need: &Resolved) -> Result<Demand, NoMemory>
+    ensures { IfOk result (λ demand. demand ≡ demanded owner need.now) }
+{
+    let mut when = List::new(alloc);
+    when.push(owner)?;
+    let allowed = List::from_vec(Vec::from_slice(alloc, need.allowed.as_slice())?);
+    Ok(Demand {
+        when,
+        target: variable(need.target),
+        allowed,
+    })
+}
+
+fn table_of(alloc: Global, packages: &[Package]) -> Result<List<List<List<Resolved>>>, NoMemory>
+    ensures { IfOk result (λ table. table ≡ table_of packages.now) }
+{
+    let numbers = numbers_of(alloc, packages)?;
+    let mut table = List::new(alloc);
+    for found in packages {
+        table.push(resolved_releases(alloc, packages, &numbers, found)?)?;
+    }
+    Ok(table)
+}
+
+// The number of each name, which for a name that stands twice is its first place.
+fn numbers_of(alloc: Global, packages: &[Package]) -> Result<BTreeMap<Text, u64>, NoMemory>
+    ensures { IfOk result (λ numbers. (name : List ℕ) → unwrap_or (tree.get (slice_cmp nat_cmp) numbers name) (length packages.now) ≡ number_of packages.now name) }
+{
+    let mut numbers = BTreeMap::new(alloc);
+    let mut place = packages.len();
+    while place > 0 {
+        place -= 1;
+        numbers.insert(packages[place].name.copy()?, place as u64)?;
+    }
+    Ok(numbers)
+}
+
+fn resolved_releases(
+    alloc: Global,
+    packages: &[Package],
+    numbers: &BTreeMap<Text, u64>,
+    found: &Package,
+) -> Result<List<List<Resolved>>, NoMemory>
+    requires { (name : List ℕ) → unwrap_or (tree.get (slice_cmp nat_cmp) numbers.now name) (length packages.now) ≡ number_of packages.now name }
+    ensures { IfOk result (λ releases. releases ≡ resolved_releases packages.now found.now) }
+{
+    let mut releases = List::new(alloc);
+    for file in found.releases.as_slice() {
+        releases.push(resolved_needs(alloc, packages, numbers, file)?)?;
+    }
+    Ok(releases)
+}
+
+fn resolved_needs(
+    alloc: Global,
+    packages: &[Package],
+    numbers: &BTreeMap<Text, u64>,
+    file: &PlainFile,
+) -> Result<List<Resolved>, NoMemory>
+    requires { (name : List ℕ) → unwrap_or (tree.get (slice_cmp nat_cmp) numbers.now name) (length packages.now) ≡ number_of packages.now name }
+    ensures { IfOk result (λ needs. needs ≡ resolved_needs packages.now file.now) }
+{
+    let mut needs = List::new(alloc);
+    for need in file.needs.as_slice() {
+        needs.push(resolve(alloc, packages, numbers, need)?)?;
+    }
+    Ok(needs)
+}
+
+fn resolve(
+    alloc: Global,
+    packages: &[Package],
+    numbers: &BTreeMap<Text, u64>,
+    need: &Need,
+) -> Result<Resolved, NoMemory>
+    requires { (name : List ℕ) → unwrap_or (tree.get (slice_cmp nat_cmp) numbers.now name) (length packages.now) ≡ number_of packages.now name }
+    ensures { IfOk result (λ found. found ≡ resolved packages.now need.now) }
+{
+    let target = number_of(packages, numbers, &need.name);
+    let allowed = meeting(alloc, &need.bound, releases_of(packages, target))?;
+    Ok(Resolved { target, allowed })
+}
+
+fn number_of(packages: &[Package], numbers: &BTreeMap<Text, u64>, name: &Text) -> u64
+    requires { (name : List ℕ) → unwrap_or (tree.get (slice_cmp nat_cmp) numbers.now name) (length packages.now) ≡ number_of packages.now name }
+    ensures { result ≡ number_of packages.now name.now }
+{
+    match numbers.get(name) {
+        Some(number) => *number,
+        None => packages.len() as u64,
+    }
+}
+
+fn meeting(alloc: Global, bound: &Bound, releases: &[PlainFile]) -> Result<List<u64>, NoMemory>
+    ensures { IfOk result (λ found. found ≡ meeting bound.now releases.now) }
+{
+    let mut found = List::new(alloc);
+    for (place, file) in releases.iter().enumerate() {
+        if meets(bound, &file.numbers) {
+            found.push(place as u64)?;
+        }
+    }
+    Ok(found)
+}
+
+fn meets(bound: &Bound, version: &Version) -> bool
+    ensures { result ≡ meets bound.now version.now.parts }
+{
+    match bound {
+        Bound::Any => true,
+        Bound::Equal(other) => version == other,
+        Bound::AtLeast(least) => !is_below(version, least),
+        Bound::Below(end) => is_below(version, end),
+    }
+}
+
+fn is_below(version: &Version, other: &Version) -> bool
+    ensures { result ≡ is_below version.now.parts other.now.parts }
+{
+    version.compare(other).is_lt()
+}

@@ -1,0 +1,94 @@
+-- Chains of sets that are joined alike.
+use Rattle.std.proofs.Common.{◌≡◌, Bool, true, false, ◌&&◌, ◌||◌, List, [], ◌∷◌, ◌++◌, ◌≤◌, arith, refl, sym, ap, ◌∙◌}
+use Rattle.plan_types.specs.declared.version.Version.{Version}
+use Rattle.version_range.specs.declared.merge.Joint.{Joint}
+use Rattle.version_range.specs.declared.merge.Joint.TheVariants.{Both, Either}
+use Rattle.plan_types.specs.declared.range.Range.{Range, size-Range}
+use Rattle.plan_types.specs.Members.{members}
+use Rattle.version_range.specs.Version.{has_versions}
+use Rattle.version_range.specs.Cuts.{HasNumbers, inside, join, joined, IsSplit}
+
+and_assoc : (a b c : Bool) → (a && b) && c ≡ a && (b && c)
+and_assoc true b c = refl
+and_assoc false b c = refl
+
+or_assoc : (a b c : Bool) → (a || b) || c ≡ a || (b || c)
+or_assoc true b c = refl
+or_assoc false b c = refl
+
+pub joined_append : (j : Joint) (xs ys : List (List Version)) (v : Version) → joined j (xs ++ ys) v ≡ join j (joined j xs v) (joined j ys v)
+joined_append Both [] ys v = refl
+joined_append Either [] ys v = refl
+joined_append Both (x ∷ xs) ys v = ap (λ t. inside x v && t) (joined_append Both xs ys v) ∙ sym (and_assoc (inside x v) (joined Both xs v) (joined Both ys v))
+joined_append Either (x ∷ xs) ys v = ap (λ t. inside x v || t) (joined_append Either xs ys v) ∙ sym (or_assoc (inside x v) (joined Either xs v) (joined Either ys v))
+
+pub joined_one : (j : Joint) (x : List Version) (v : Version) → joined j (x ∷ []) v ≡ inside x v
+joined_one Both x v = by (inside x v)
+  where
+    by : (t : Bool) → t && true ≡ t
+    by true = refl
+    by false = refl
+joined_one Either x v = by (inside x v)
+  where
+    by : (t : Bool) → t || false ≡ t
+    by true = refl
+    by false = refl
+
+pub joined_push : (j : Joint) (xs : List (List Version)) (y : List Version) (v : Version) → joined j (xs ++ y ∷ []) v ≡ join j (joined j xs v) (inside y v)
+joined_push j xs y v = joined_append j xs (y ∷ []) v ∙ ap (join j (joined j xs v)) (joined_one j y v)
+
+-- an operand goes over from what is left to what was taken
+pub join_over : (j : Joint) (l r t : Bool) → join j l (join j t r) ≡ join j (join j l r) t
+join_over Both true true true = refl
+join_over Both true true false = refl
+join_over Both true false true = refl
+join_over Both true false false = refl
+join_over Both false r t = refl
+join_over Either true r t = refl
+join_over Either false true true = refl
+join_over Either false true false = refl
+join_over Either false false true = refl
+join_over Either false false false = refl
+
+pub join_back : (j : Joint) (t r : Bool) → join j t r ≡ join j r t
+join_back Both true true = refl
+join_back Both true false = refl
+join_back Both false true = refl
+join_back Both false false = refl
+join_back Either true true = refl
+join_back Either true false = refl
+join_back Either false true = refl
+join_back Either false false = refl
+
+-- Some operands of a chain are taken from its right end, and a range is left.
+pub record Takes_over (j : Joint) (left right : Range) (operands : List (List Version)) (rest : Range) : Type 0 where
+  pub members_are : (v : Version) → HasNumbers v → join j (members rest v) (joined j operands v) ≡ join j (members left v) (members right v)
+  pub versions_are : has_versions rest ≡ true
+  pub no_larger : size-Range rest ≤ size-Range left
+
+pub takes_first : (j : Joint) (left right : Range) (operands : List (List Version)) (cuts : List Version) → operands ≡ [] ++ cuts ∷ [] → ((v : Version) → HasNumbers v → inside cuts v ≡ members right v) → has_versions left ≡ true → Takes_over j left right operands left
+takes_first j left right operands cuts e are h = record {
+  members_are = λ v n. ap (join j (members left v)) (ap (λ l. joined j l v) e ∙ joined_one j cuts v ∙ are v n);
+  versions_are = h;
+  no_larger = omega arith;
+}
+
+pub takes_next : (j : Joint) (left right : Range) (operands operands' : List (List Version)) (rest l r : Range) (cuts : List Version) → Takes_over j left right operands rest → IsSplit j rest l r → operands' ≡ operands ++ cuts ∷ [] → ((v : Version) → HasNumbers v → inside cuts v ≡ members r v) → Takes_over j left right operands' l
+takes_next j left right operands operands' rest l r cuts t s e are = record {
+  members_are = λ v n.
+      ap (λ o. join j (members l v) (joined j o v)) e
+      ∙ ap (join j (members l v)) (joined_push j operands cuts v ∙ ap (join j (joined j operands v)) (are v n))
+      ∙ join_over j (members l v) (members r v) (joined j operands v)
+      ∙ ap (λ b. join j b (joined j operands v)) (sym (s.members_are v))
+      ∙ t.members_are v n;
+  versions_are = (s.versions_are t.versions_are).0;
+  no_larger = omega (arith, s.left_smaller, t.no_larger);
+}
+
+pub takes_last : (j : Joint) (left right : Range) (operands operands' : List (List Version)) (rest : Range) (cuts : List Version) → Takes_over j left right operands rest → operands' ≡ operands ++ cuts ∷ [] → ((v : Version) → HasNumbers v → inside cuts v ≡ members rest v) → (v : Version) → HasNumbers v → joined j operands' v ≡ join j (members left v) (members right v)
+takes_last j left right operands operands' rest cuts t e are v n =
+    ap (λ o. joined j o v) e
+    ∙ joined_push j operands cuts v
+    ∙ ap (join j (joined j operands v)) (are v n)
+    ∙ join_back j (joined j operands v) (members rest v)
+    ∙ t.members_are v n

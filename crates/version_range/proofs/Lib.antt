@@ -1,0 +1,6 @@
+pub mod Ends
+pub mod Intervals
+pub mod Joined
+pub mod Numbers
+pub mod Operators
+pub mod Relaxing

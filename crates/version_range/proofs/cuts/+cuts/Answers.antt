@@ -1,0 +1,37 @@
+use Rattle.std.proofs.Common.{ap, ◌∙◌}
+use Rattle.std.proofs.lemmas.Result.{IfOk-weaker}
+use Rattle.version_range.specs.Cuts.{joined}
+use Rattle.version_range.proofs.Joined.{takes_next, takes_last}
+use Rattle.version_range.proofs.Operators.{version_Equal, version_Prefix, version_AtLeast, version_Above, version_AtMost, version_Below, version_Major}
+use Rattle.version_range.proofs.cuts.+cuts.Goals as goal
+
+pub Cuts::of-equal-requires : goal.Cuts::of-equal-requires
+Cuts::of-equal-requires t c = version_Equal c.args.range.now c.in-Equal.x c.requires c.in-Equal.is
+
+pub Cuts::of-prefix-requires : goal.Cuts::of-prefix-requires
+Cuts::of-prefix-requires t c = version_Prefix c.args.range.now c.in-Prefix.x c.requires c.in-Prefix.is
+
+pub Cuts::of-at_least-requires : goal.Cuts::of-at_least-requires
+Cuts::of-at_least-requires t c = version_AtLeast c.args.range.now c.in-AtLeast.x c.requires c.in-AtLeast.is
+
+pub Cuts::of-above-requires : goal.Cuts::of-above-requires
+Cuts::of-above-requires t c = version_Above c.args.range.now c.in-Above.x c.requires c.in-Above.is
+
+pub Cuts::of-at_most-requires : goal.Cuts::of-at_most-requires
+Cuts::of-at_most-requires t c = version_AtMost c.args.range.now c.in-AtMost.x c.requires c.in-AtMost.is
+
+pub Cuts::of-below-requires : goal.Cuts::of-below-requires
+Cuts::of-below-requires t c = version_Below c.args.range.now c.in-Below.x c.requires c.in-Below.is
+
+pub Cuts::of-major-requires : goal.Cuts::of-major-requires
+Cuts::of-major-requires t c = version_Major c.args.range.now c.in-Major.x c.requires c.in-Major.is
+
+pub chain-loop-left-preserved : goal.chain-loop-left-preserved
+chain-loop-left-preserved t c =
+    takes_next c.args.joint c.args.left.now c.args.right.now c.loop-left.operands c.push-in-Some.new.self c.loop-left.rest.now c.in-Some.left.now c.in-Some.right.now c.in_ok-of-2.field-0 c.loop-left.invariant c.in-Some.ensures c.in_ok-push-2.ensures.ok c.in_ok-of-2.ensures
+
+pub chain-returns : goal.chain-returns
+chain-returns t c =
+    IfOk-weaker c.combined.result _ _
+    (λ cuts h v n. h v ∙ ap (λ l. joined c.args.joint l v) c.as_slice.ensures ∙ takes_last c.args.joint c.args.left.now c.args.right.now c.loop-left.operands c.push-2.new.self c.loop-left.rest.now c.in_ok-of-3.field-0 c.loop-left.invariant c.in_ok-push-3.ensures.ok c.in_ok-of-3.ensures v n)
+    c.combined.ensures

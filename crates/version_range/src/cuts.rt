@@ -1,0 +1,183 @@
+ghost use Rattle.std.specs.Prelude.{◌≡◌, ◌≢◌, ◌+◌, ◌<◌, ◌++◌, ◌∷◌, [], ◌↔◌, ℕ, IsTrue, IfOk, OnOk, OnErr, IfSome, IfNone, if◌then◌else◌, true, false, length};
+ghost use Rattle.plan_types.specs.declared.version.Version.{Version};
+ghost use Rattle.plan_types.specs.Members.{members};
+ghost use Rattle.version_range.specs.Version.{has_versions};
+ghost use Rattle.version_range.specs.Cuts.{inside, are_ends, join, joined, HasNumbers, IsSplit, IsRelaxedAbove, IsRelaxedBelow};
+
+use crate::interval::{above, any, at_least, at_most, below, equal, major, prefix};
+use crate::merge::{Joint, flip, merged};
+use plan_types::{List, NoMemory, Range, Version};
+use std::alloc::Global;
+use std::marker::Model;
+
+/// A set of versions, as the sorted ends of half-open intervals.
+#[derive(Debug, Drop)]
+pub struct Cuts {
+    ends: Vec<Version>,
+}
+
+impl Model for Cuts {
+    ghost use Rattle.std.specs.Prelude.{List, IsTrue};
+    ghost use Rattle.plan_types.specs.declared.version.Version.{Version};
+
+    ghost Value = { List Version };
+
+    ghost use Rattle.version_range.specs.Cuts.{are_ends};
+
+    ghost view = { λ c. c.ends.items };
+
+    ghost invariant = { λ c. IsTrue (are_ends c.ends.items) };
+}
+
+impl Cuts {
+    /// Whether the version is a member.
+    pub fn has(&self, v: &Version) -> bool
+        ensures { result ≡ inside self.now v.now }
+    {
+        let mut is_inside = false;
+        for end in &self.ends {
+            is_inside = flip(v.compare(end).is_ge(), is_inside);
+        }
+        is_inside
+    }
+
+    /// Whether no version is a member.
+    pub fn is_empty(&self) -> bool
+        ensures { IsTrue result ↔ ((v : Version) → HasNumbers v → inside self.now v ≡ false) }
+    {
+        self.ends.is_empty()
+    }
+
+    /// The members of a range.
+    #[cycle(cuts)]
+    pub fn of(alloc: Global, range: &Range) -> Result<Cuts, NoMemory>
+        requires { has_versions range.now ≡ true }
+        ensures { IfOk result (λ c. (v : Version) → HasNumbers v → inside c v ≡ members range.now v) }
+    {
+        match range {
+            Range::Any => Ok(Cuts::from_ends(any(alloc)?)),
+            Range::Nothing => Ok(Cuts::from_ends(List::new(alloc))),
+            Range::Equal(x) => Ok(Cuts::from_ends(equal(alloc, x)?)),
+            Range::Prefix(x) => Ok(Cuts::from_ends(prefix(alloc, x)?)),
+            Range::AtLeast(x) => Ok(Cuts::from_ends(at_least(alloc, x)?)),
+            Range::Above(x) => Ok(Cuts::from_ends(above(alloc, x)?)),
+            Range::AtMost(x) => Ok(Cuts::from_ends(at_most(alloc, x)?)),
+            Range::Below(x) => Ok(Cuts::from_ends(below(alloc, x)?)),
+            Range::Major(x) => Ok(Cuts::from_ends(major(alloc, x)?)),
+            Range::Both(left, right) => chain(alloc, left.get(), right.get(), Joint::Both),
+            Range::Either(left, right) => chain(alloc, left.get(), right.get(), Joint::Either),
+        }
+    }
+
+    fn from_ends(ends: List<Version>) -> Cuts
+        requires { are_ends ends ≡ true }
+        ensures { result ≡ ends }
+    {
+        Cuts {
+            ends: ends.into_vec(),
+        }
+    }
+
+    fn copy(&self, alloc: Global) -> Result<Cuts, NoMemory>
+        ensures { IfOk result (λ c. c ≡ self.now) }
+    {
+        let mut ends = Vec::new(alloc);
+        for end in &self.ends {
+            ends.push(end.copy(alloc)?)?;
+        }
+        Ok(Cuts { ends })
+    }
+
+    fn merge(&self, alloc: Global, other: &Cuts, joint: Joint) -> Result<Cuts, NoMemory>
+        ensures { IfOk result (λ c. (v : Version)
+            → inside c v ≡ join joint (inside self.now v) (inside other.now v)) }
+    {
+        let ends = merged(alloc, self.ends.as_slice(), other.ends.as_slice(), joint)?;
+        Ok(Cuts::from_ends(ends))
+    }
+
+    /// Lets in what is above some member where no member is above it: the last interval loses its end.
+    pub fn relax_upper(&mut self)
+        ensures { (v : Version) → HasNumbers v
+            → IsTrue (inside self.new v) ↔ IsRelaxedAbove (inside self.old) v }
+    {
+        without_stop(&mut self.ends);
+    }
+
+    /// Lets in what is below some member where no member is below it: the first interval begins at
+    /// the least version.
+    pub fn relax_lower(&mut self)
+        ensures { (v : Version) → HasNumbers v
+            → IsTrue (inside self.new v) ↔ IsRelaxedBelow (inside self.old) v }
+    {
+        from_least(&mut self.ends);
+    }
+}
+
+// An even number of ends has a last stop.
+fn without_stop(ends: &mut Vec<Version>)
+    requires { are_ends ends.old.items ≡ true }
+    ensures ends { are_ends ends.new.items ≡ true }
+    ensures relaxed { (v : Version) → HasNumbers v
+        → IsTrue (inside ends.new.items v) ↔ IsRelaxedAbove (inside ends.old.items) v }
+{
+    if ends.len() % 2 == 0 {
+        ends.pop();
+    }
+}
+
+fn from_least(ends: &mut Vec<Version>)
+    requires { are_ends ends.old.items ≡ true }
+    ensures ends { are_ends ends.new.items ≡ true }
+    ensures relaxed { (v : Version) → HasNumbers v
+        → IsTrue (inside ends.new.items v) ↔ IsRelaxedBelow (inside ends.old.items) v }
+{
+    if ends.is_empty() {
+        return;
+    }
+    let first = &mut ends[0];
+    first.make_least();
+}
+
+// The members of a chain: its operands are taken from the right, and merged two and two.
+#[cycle(cuts)]
+fn chain(alloc: Global, left: &Range, right: &Range, joint: Joint) -> Result<Cuts, NoMemory>
+    requires left { has_versions left.now ≡ true }
+    requires right { has_versions right.now ≡ true }
+    ensures { IfOk result (λ c. (v : Version) → HasNumbers v
+        → inside c v ≡ join joint (members left.now v) (members right.now v)) }
+{
+    let mut operands = List::new(alloc);
+    operands.push(Cuts::of(alloc, right)?)?;
+    let mut rest = left;
+    while let Some((left, right)) = sides(rest, joint) {
+        operands.push(Cuts::of(alloc, right)?)?;
+        rest = left;
+    }
+    operands.push(Cuts::of(alloc, rest)?)?;
+    combined(alloc, operands.as_slice(), joint)
+}
+
+// The two sides of a range that is joined so.
+fn sides(range: &Range, joint: Joint) -> Option<(&Range, &Range)>
+    ensures { IfSome result (λ p. IsSplit joint range.now p.0.now p.1.now) }
+{
+    match (range, joint) {
+        (Range::Both(left, right), Joint::Both) => Some((left.get(), right.get())),
+        (Range::Either(left, right), Joint::Either) => Some((left.get(), right.get())),
+        _ => None,
+    }
+}
+
+fn combined(alloc: Global, operands: &[Cuts], joint: Joint) -> Result<Cuts, NoMemory>
+    requires { 0 < length operands.now }
+    ensures { IfOk result (λ c. (v : Version) → inside c v ≡ joined joint operands.now v) }
+{
+    if operands.len() == 1 {
+        return operands[0].copy(alloc);
+    }
+    let (front, back) = operands.split_at(operands.len() / 2);
+    let front = combined(alloc, front, joint)?;
+    let back = combined(alloc, back, joint)?;
+    front.merge(alloc, &back, joint)
+}

@@ -1,0 +1,15 @@
+//! Versions and ranges of versions: their texts, which versions a range has, and the sorted cuts in
+//! which a planner asks.
+#![tactic(auto)]
+
+mod cuts;
+mod interval;
+mod merge;
+mod number;
+mod version;
+
+pub use cuts::Cuts;
+pub use version::{print_version, read_version};
+
+#[cfg(test)]
+mod tests;

@@ -1,0 +1,68 @@
+ghost use Rattle.std.specs.Prelude.{◌≡◌, ◌≢◌, ◌∷◌, ◌<◌, ◌≤◌, ◌++◌, ◌↔◌, ℕ, List, IsTrue, IfSome, IfNone, true, false, length, take, drop, slice_index};
+ghost use Rattle.std.specs.Fmt.{decimal};
+ghost use Rattle.std.specs.Str.{all_ascii_digits};
+ghost use Rattle.version_range.specs.Version.{IsNumber, begins_with_digit, number_after};
+
+/// The number at the front, and what follows it. A number has one to nine digits and no leading zero
+/// unless it is `0`, and no digit follows it.
+pub fn number_at(text: &[u8]) -> Option<(u32, &[u8])>
+    ensures found { IfSome result (λ p. IsNumber p.0
+        × (text.now ≡ decimal p.0 ++ p.1.now) × (begins_with_digit p.1.now ≡ false)) }
+    ensures none { IfNone result ((n : ℕ) (rest : List ℕ) → IsNumber n
+        → text.now ≡ decimal n ++ rest → begins_with_digit rest ≡ true) }
+{
+    let count = digit_count(text);
+    let (digits, rest) = text.split_at(count);
+    if is_number(digits) {
+        Some((number_of(digits), rest))
+    } else {
+        None
+    }
+}
+
+/// What follows the byte, where the text begins with it.
+pub fn strip_byte(text: &[u8], byte: u8) -> Option<&[u8]>
+    ensures some { IfSome result (λ rest. text.now ≡ byte ∷ rest.now) }
+    ensures none { IfNone result ((rest : List ℕ) → text.now ≢ byte ∷ rest) }
+{
+    match text {
+        [first, rest @ ..] if *first == byte => Some(rest),
+        _ => None,
+    }
+}
+
+fn digit_count(text: &[u8]) -> usize
+    ensures within { result ≤ length text.now }
+    ensures digits { all_ascii_digits (take result text.now) ≡ true }
+    ensures rest { begins_with_digit (drop result text.now) ≡ false }
+{
+    for (i, b) in text.iter().enumerate() {
+        if !b.is_ascii_digit() {
+            return i;
+        }
+    }
+    text.len()
+}
+
+fn is_number(digits: &[u8]) -> bool
+    ensures { IsTrue result ↔ ((0 < length digits.now) × (length digits.now ≤ 9)
+        × (slice_index digits.now 0 ≡ 48 → length digits.now ≡ 1)) }
+{
+    match digits {
+        [] => false,
+        [_] => true,
+        [first, ..] => *first != b'0' && digits.len() <= 9,
+    }
+}
+
+fn number_of(digits: &[u8]) -> u32
+    requires digits { all_ascii_digits digits.now ≡ true }
+    requires short { length digits.now ≤ 9 }
+    ensures { result ≡ number_after 0 digits.now }
+{
+    let mut number = 0;
+    for b in digits {
+        number = 10 * number + u32::from(*b - b'0');
+    }
+    number
+}
