@@ -114,6 +114,30 @@ impl<T: Eq> Eq for List<T> {
     ghost laws = { lists_equiv T.Eq.laws };
 }
 
+impl<T: PartialOrd> PartialOrd for List<T> {
+    ghost partial_cmp = { slice_partial_cmp T.partial_cmp };
+
+    ghost laws = { lists_po T.PartialOrd.laws };
+
+    fn partial_cmp(&self, other: &List<T>) -> Option<Ordering> {
+        self.items.partial_cmp(&other.items)
+    }
+}
+
+impl<T: Ord> Ord for List<T> {
+    ghost cmp = { slice_cmp T.cmp };
+
+    ghost total = { lists_total T.total };
+
+    ghost matches_partial_cmp = { lists_agrees T.matches_partial_cmp };
+
+    ghost matches_eq = { lists_ties T.cmp T.matches_eq };
+
+    fn cmp(&self, other: &List<T>) -> Ordering {
+        self.items.cmp(&other.items)
+    }
+}
+
 #[cfg(test)]
 mod tests {
     use super::*;
@@ -137,29 +161,5 @@ mod tests {
         assert!(rt; list != List::new(rt.alloc()));
         assert_eq!(rt; same.into_vec().as_slice(), [7, 8].as_slice());
         Ok(())
-    }
-}
-
-impl<T: PartialOrd> PartialOrd for List<T> {
-    ghost partial_cmp = { slice_partial_cmp T.partial_cmp };
-
-    ghost laws = { lists_po T.PartialOrd.laws };
-
-    fn partial_cmp(&self, other: &List<T>) -> Option<Ordering> {
-        self.items.partial_cmp(&other.items)
-    }
-}
-
-impl<T: Ord> Ord for List<T> {
-    ghost cmp = { slice_cmp T.cmp };
-
-    ghost total = { lists_total T.total };
-
-    ghost matches_partial_cmp = { lists_agrees T.matches_partial_cmp };
-
-    ghost matches_eq = { lists_ties T.cmp T.matches_eq };
-
-    fn cmp(&self, other: &List<T>) -> Ordering {
-        self.items.cmp(&other.items)
     }
 }
