@@ -55,7 +55,7 @@ beyond_more a b before reads rest h k =
     let g2 = bytes_of-append (before ++ reads) rest in
     let f : b.files ≡ a.files + length before = h.files in
     let g : b.bytes ≡ a.bytes + bytes_of before = h.bytes in
-    more_is_too_many (b.files + length reads) (b.bytes + bytes_of reads) _ _ (omega (arith, f, f1, f2)) (omega (arith, g, g1, g2)) k
+    more_is_too_many (b.files + length reads) (b.bytes + bytes_of reads) (a.files + length ((before ++ reads) ++ rest)) (a.bytes + bytes_of ((before ++ reads) ++ rest)) (omega (arith, f, f1, f2)) (omega (arith, g, g1, g2)) k
 
 -- ---- one more place of a list
 

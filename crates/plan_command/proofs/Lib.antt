@@ -4,4 +4,5 @@ pub mod Digits
 pub mod InTurn
 pub mod Kept
 pub mod Pieces
+pub mod Progress
 pub mod Resolved

@@ -216,3 +216,6 @@ fn earlier(first: Option<IndexFault>, fault: IndexFault) -> Option<IndexFault>
         }
     }
 }
+
+#[cfg(test)]
+mod tests;
