@@ -3,6 +3,7 @@ pub mod FolderProblem
 pub mod FolderProblemExamples
 pub mod FolderProblemLaws
 pub mod Index
+pub mod IndexExamples
 pub mod Line
 pub mod Need
 pub mod PlainFile
