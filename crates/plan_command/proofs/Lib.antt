@@ -3,6 +3,7 @@ pub mod Closure
 pub mod Digits
 pub mod InTurn
 pub mod Kept
+pub mod Outcomes
 pub mod Pieces
 pub mod Progress
 pub mod Resolved

@@ -82,7 +82,8 @@ fn answer_of_index<F: Folder>(
     ensures read { IfOk result (λ answer. answer.status ≢ Status.Usage) }
 {
     let reading = read_index(alloc, folder, local)?;
-    Ok(answer_of_reading(alloc, reading)?)
+    let answer = answer_of_reading(alloc, reading)?;
+    Ok(answer)
 }
 
 fn answer_of_reading(alloc: Global, reading: Reading) -> Result<Answer, NoMemory>
