@@ -1,5 +1,5 @@
 -- The demands of resolved needs are those of the needs.
-use Rattle.std.proofs.Common.{◌≡◌, ℕ, List, [], ◌∷◌, get_or, map, refl, sym, ap, ◌∙◌}
+use Rattle.std.proofs.Common.{◌≡◌, ℕ, List, [], ◌∷◌, get_or, map, refl, ap, ◌∙◌}
 use Rattle.std.proofs.Math.ListN.{get_or-map}
 use Rattle.choice_problem.specs.declared.problem.Choice.{Choice}
 use Rattle.plan_command.specs.declared.folder_problem.Resolved.{Resolved}
