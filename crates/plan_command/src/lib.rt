@@ -8,6 +8,7 @@ mod folder_problem;
 mod index;
 mod plain_file;
 mod plan;
+mod resolved;
 mod root;
 mod text;
 mod trouble;
