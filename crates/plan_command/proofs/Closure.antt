@@ -160,12 +160,12 @@ module _ (files : Files) (local : PlainFile) where
   without : (rest : List Bytes) (name : Bytes) (kept : Kept) → (name ≡ local.name) ⊎ IsOneOf name (keys_of kept) → (other : Bytes) → IsCovered local (rest ++ name ∷ []) kept other → IsCovered local rest kept other
   without rest name kept done other (inr h) = inr h
   without rest name kept done other (inl h) = elim (one_of_cases other rest (name ∷ []) h) [
-      inl k ↦ inl k
+    | inl k ↦ inl k
     | inr k ↦ elim k [
-          inl e ↦ elim done [ inl l ↦ inr (inr (e ∙ l)) | inr m ↦ inr (inl (subst (λ n. IsOneOf n (keys_of kept)) (sym e) m)) ]
-        | inr never ↦ absurd never
-        ]
+      | inl e ↦ elim done [ inl l ↦ inr (inr (e ∙ l)) | inr m ↦ inr (inl (subst (λ n. IsOneOf n (keys_of kept)) (sym e) m)) ]
+      | inr never ↦ absurd never
     ]
+  ]
 
   pub skipped : (rest : List Bytes) (name : Bytes) (kept : Kept) (totals : Totals) → IsPartly files local (rest ++ name ∷ []) kept totals → (name ≡ local.name) ⊎ IsOneOf name (keys_of kept) → IsPartly files local rest kept totals
   skipped rest name kept totals p done = record {
@@ -191,12 +191,12 @@ module _ (files : Files) (local : PlainFile) where
 
       covered : (other : Bytes) → IsCovered local old_pending (xs ++ ys) other → IsCovered local new_pending more other
       covered other (inl h) = elim (one_of_cases other rest (name ∷ []) h) [
-          inl k ↦ inl (one_of_left other rest (mentioned_by files name) k)
+        | inl k ↦ inl (one_of_left other rest (mentioned_by files name) k)
         | inr k ↦ elim k [
-              inl e ↦ inr (inl (subst (λ n. IsOneOf n (keys_of more)) (sym e) (one_between xs ys (name, found))))
-            | inr never ↦ absurd never
-            ]
+          | inl e ↦ inr (inl (subst (λ n. IsOneOf n (keys_of more)) (sym e) (one_between xs ys (name, found))))
+          | inr never ↦ absurd never
         ]
+      ]
       covered other (inr h) = elim h [ inl k ↦ inr (inl (still_one other xs ys (name, found) k)) | inr e ↦ inr (inr e) ]
 
       reached_now : InClosure files local name
@@ -204,9 +204,9 @@ module _ (files : Files) (local : PlainFile) where
 
       closed_now : (n m : Bytes) → IsOneOf n (keys_of more) → IsOneOf m (mentioned_by files n) → IsCovered local new_pending more m
       closed_now n m h k = elim (new_or_old n xs ys (name, found) h) [
-          inl e ↦ inl (one_of_right m rest (mentioned_by files name) (subst (λ n. IsOneOf m (mentioned_by files n)) e k))
+        | inl e ↦ inl (one_of_right m rest (mentioned_by files name) (subst (λ n. IsOneOf m (mentioned_by files n)) e k))
         | inr o ↦ covered m (p.closed n m o k)
-        ]
+      ]
 
       visited_between : IsPartly files local new_pending more after
       visited_between = record {
@@ -252,9 +252,9 @@ module _ (files : Files) (local : PlainFile) where
     inside = ((last_of (InClosure files local) pending name p.reached, apart), all_keys (IsRead files local) kept p.inside);
     beyond =
         let f : length (index_reads files (name ∷ keys_of kept)) ≡ totals.files + length (reads_of files name) =
-            (let a = length-append (reads_of files name) (index_reads files (keys_of kept)) in let b = p.file_count in omega (arith, a, b)) in
+        (let a = length-append (reads_of files name) (index_reads files (keys_of kept)) in let b = p.file_count in omega (arith, a, b)) in
         let g : bytes_of (index_reads files (name ∷ keys_of kept)) ≡ totals.bytes + bytes_of (reads_of files name) =
-            (let a = bytes_of-append (reads_of files name) (index_reads files (keys_of kept)) in let b = p.byte_count in omega (arith, a, b)) in
+        (let a = bytes_of-append (reads_of files name) (index_reads files (keys_of kept)) in let b = p.byte_count in omega (arith, a, b)) in
         (λ i. is_too_many (f i) (g i)) ∙ beyond;
   }
 
@@ -267,9 +267,9 @@ module _ (files : Files) (local : PlainFile) where
     reached_all _ of_local = inl refl
     reached_all _ (needed name h) = within_cover name (p.needs name h)
     reached_all _ (mentioned name other reach apart h) = elim (reached_all name reach) [
-        inl e ↦ absurd (apart e)
+      | inl e ↦ absurd (apart e)
       | inr k ↦ within_cover other (p.closed name other k h)
-      ]
+    ]
 
     read_all : (name : Bytes) → IsRead files local name → IsOneOf name (keys_of kept)
     read_all name h = elim (reached_all name h.0) [ inl e ↦ absurd (h.1 e) | inr k ↦ k ]

@@ -67,8 +67,8 @@ flat_map_take f xs i x l e =
     ap (flat_map f) (take_more xs i x l) ∙ flat_map-append f (take i xs) (get_or xs i x ∷ []) ∙ ap (λ ys. flat_map f (take i xs) ++ ys) (flat_map_one f x (get_or xs i x) e)
 
 pub flat_map_rest : {X A : Type 0} (f : X → List A) (xs : List X) (i : ℕ) (x : X) → i < length xs → x ≡ get_or xs i x → (rest : List A) × (flat_map f xs ≡ (flat_map f (take i xs) ++ f x) ++ rest)
-flat_map_rest f xs i x l e =
-    (flat_map f (drop (i + 1) xs),
-     ap (flat_map f) (sym (take-append-drop (i + 1) xs)) ∙ flat_map-append f (take (i + 1) xs) (drop (i + 1) xs)
-     ∙ ap (λ ys. ys ++ flat_map f (drop (i + 1) xs)) (flat_map_take f xs i x l e))
-
+flat_map_rest f xs i x l e = (
+  flat_map f (drop (i + 1) xs),
+  ap (flat_map f) (sym (take-append-drop (i + 1) xs)) ∙ flat_map-append f (take (i + 1) xs) (drop (i + 1) xs)
+      ∙ ap (λ ys. ys ++ flat_map f (drop (i + 1) xs)) (flat_map_take f xs i x l e),
+)

@@ -1,5 +1,5 @@
 -- The definitions of a folder's problem on two packages: main-1 asks for `a >=2` and for `b`, a has releases 1 and 2.
-use Rattle.std.specs.Prelude.{◌≡◌, ℕ, Bool, true, false, List, [], ◌∷◌, ◌++◌, codes, refl}
+use Rattle.std.specs.Prelude.{◌≡◌, ℕ, true, false, List, [], ◌∷◌, ◌++◌, codes, refl}
 use Rattle.choice_problem.specs.declared.problem.Choice.{Choice}
 use Rattle.outside_folder.specs.Files.{Bytes}
 use Rattle.plan_command.specs.declared.need.Bound.{Bound}
@@ -7,7 +7,7 @@ use Rattle.plan_command.specs.declared.need.Bound.TheVariants.{Any, AtLeast}
 use Rattle.plan_command.specs.declared.need.Need.{Need}
 use Rattle.plan_command.specs.declared.plain_file.PlainFile.{PlainFile}
 use Rattle.plan_command.specs.declared.index.Package.{Package}
-use Rattle.plan_command.specs.FolderProblem.{number_of, releases_of, variable, is_known, is_below, meeting, problem_of}
+use Rattle.plan_command.specs.FolderProblem.{number_of, variable, is_known, is_below, problem_of}
 use Rattle.plan_command.specs.Text.{trail_text}
 
 abbrev need : Bytes → Bound → Need

@@ -1,20 +1,19 @@
 -- The problem of any packages keeps the laws.
-use Rattle.std.specs.Prelude.{◌≡◌, ◌≢◌, ℕ, zero, suc, ◌+◌, ◌<◌, ◌≤◌, Bool, true, ◌&&◌, not, nat_le, IsTrue, List, [], ◌∷◌, ◌++◌, length, map, All, AllPairs, Contains, refl, get_or}
+use Rattle.std.specs.Prelude.{◌≡◌, ◌≢◌, ℕ, zero, suc, ◌+◌, ◌<◌, ◌≤◌, Bool, true, not, nat_le, List, [], ◌∷◌, ◌++◌, length, map, All, AllPairs, Contains, refl, get_or}
 use Rattle.std.specs.List.{position_or_len}
-use Rattle.std.proofs.Common.{sym, ap, ◌∙◌, subst, inl, inr, arith}
+use Rattle.std.proofs.Common.{sym, subst, inl, inr, arith}
 use Rattle.std.proofs.lemmas.Bool.{cases_lt, leb-true, le-leb}
 use Rattle.std.proofs.lemmas.List.{length-map, length-append}
 use Rattle.std.proofs.lemmas.List.Sums.{prefix_len-le-length}
-use Rattle.std.proofs.lemmas.List.Elements.{All-contains, Contains-get_or}
+use Rattle.std.proofs.lemmas.List.Elements.{Contains-get_or}
 use Rattle.choice_problem.specs.declared.variable.Var.{Var}
 use Rattle.choice_problem.specs.declared.problem.Choice.{Choice}
 use Rattle.choice_problem.specs.declared.problem.Demand.{Demand}
 use Rattle.choice_problem.specs.Variable.{same_var}
-use Rattle.choice_problem.specs.Problem.{Problem, IsChoice, IsOrderBelow, IsRoot, IsOwned, IsBounded, Lawful}
+use Rattle.choice_problem.specs.Problem.{IsOrderBelow, IsRoot, IsOwned, IsBounded, Lawful}
 use Rattle.choice_problem.specs.Lists.{contains-head, contains-tail, contains-none, contains-cases, contains-left, contains-right, contains-map, map-contains, and-left, and-right, and-both}
 use Rattle.choice_problem.specs.SameVariable.{same_var-is, same_var-refl}
 use Rattle.plan_command.specs.declared.index.Package.{Package}
-use Rattle.plan_command.specs.declared.need.Need.{Need}
 use Rattle.plan_command.specs.FolderProblem.{rising, falling, variable, is_known, number_of, releases_of, release_at, root_of, demand_of, problem_of}
 
 length-rising : (n : ℕ) → length (rising n) ≡ n

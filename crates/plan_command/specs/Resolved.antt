@@ -2,7 +2,7 @@
 use Rattle.std.specs.Prelude.{ℕ, List, [], ◌∷◌, slice_index_or, map}
 use Rattle.choice_problem.specs.declared.problem.Choice.{Choice}
 use Rattle.choice_problem.specs.declared.problem.Demand.{Demand}
-use Rattle.plan_command.specs.declared.folder_problem.Resolved.{Resolved}
+use Rattle.plan_command.specs.declared.resolved.Resolved.{Resolved}
 use Rattle.plan_command.specs.declared.need.Need.{Need}
 use Rattle.plan_command.specs.declared.plain_file.PlainFile.{PlainFile}
 use Rattle.plan_command.specs.declared.index.Package.{Package}

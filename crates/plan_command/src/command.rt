@@ -28,12 +28,7 @@ pub enum Status {
 }
 
 /// Plans the packages of a folder, and writes the plan, that there is none, or the refusal.
-pub fn run<F: Folder, S: Sink>(
-    alloc: Global,
-    words: &[Text],
-    folder: &mut F,
-    out: &mut S,
-) -> Status
+pub fn run<F: Folder, S: Sink>(alloc: Global, words: &[Text], folder: &mut F, out: &mut S) -> Status
     // Where the folder tells its files, the plan is that of the first of all whole valid assignments of the problem
     // that they make, and there is no plan exactly where there is no such assignment.
     ensures planned { result ≡ Status.Planned → IfSome (F.tells folder.old) (λ files. PlansFirst files (S.bytes out.old) (S.bytes out.new)) }

@@ -1,25 +1,19 @@
 // The problem of a folder: which release of each package is chosen. The needs are resolved once, when it is made.
-ghost use Rattle.std.specs.Prelude.{◌≡◌, ◌&&◌, nat_le, length, map, slice_index_or, unwrap_or, IfOk, ℕ, List, [], ◌∷◌};
+ghost use Rattle.std.specs.Prelude.{◌≡◌, length, unwrap_or, IfOk, ℕ, List};
 ghost use Rattle.std.specs.Ordering.{nat_cmp};
 ghost use Rattle.std.specs.Cmp.Lexicographic.{slice_cmp};
 ghost use Rattle.std.specs.BTreeMap as tree;
-ghost use Rattle.plan_command.specs.FolderProblem.{rising, falling, no_file, releases_of, number_of, is_below, meets, meeting, variable, is_known, root_of};
-ghost use Rattle.plan_command.specs.Resolved.{resolved, resolved_needs, resolved_releases, table_of, needs_at, demanded};
+ghost use Rattle.plan_command.specs.FolderProblem.{rising, falling, releases_of, number_of, is_below, meets, meeting, variable, is_known, root_of};
+ghost use Rattle.plan_command.specs.Resolved.{table_of};
 
 use crate::index::Package;
-use crate::need::{Bound, Need};
+use crate::need::Bound;
 use crate::plain_file::PlainFile;
+use crate::resolved::{Resolved, demands_of, needs_at, table_of};
 use choice_problem::{Choice, Choices, Demand, Part, Qual, Var};
 use plan_types::{List, NoMemory, Text, Version};
 use std::alloc::Global;
 use std::collections::BTreeMap;
-
-/// A need of a file: the number of the package that it names, and the releases that may stand for it.
-#[derive(Debug, Drop)]
-pub(crate) struct Resolved {
-    pub target: u64,
-    pub allowed: List<u64>,
-}
 
 /// The problem that packages make. The needs in the table are those of the packages.
 #[derive(Debug, Drop)]
@@ -75,7 +69,7 @@ impl Choices for FolderProblem {
     }
 }
 
-fn variable(number: u64) -> Var
+pub(crate) fn variable(number: u64) -> Var
     ensures { result ≡ variable number }
 {
     Var {
@@ -133,60 +127,11 @@ fn falling(alloc: Global, count: usize) -> Result<List<u64>, NoMemory>
     Ok(numbers)
 }
 
-fn needs_at(table: &[List<List<Resolved>>], number: u64, release: u64) -> &[Resolved]
-    ensures { result.now ≡ needs_at table.now number release }
-{
-    match table.get(number as usize) {
-        Some(releases) => needs_of_release(releases.as_slice(), release),
-        None => &[],
-    }
-}
-
-fn needs_of_release(releases: &[List<Resolved>], release: u64) -> &[Resolved]
-    ensures { result.now ≡ slice_index_or releases.now release [] }
-{
-    match releases.get(release as usize) {
-        Some(needs) => needs.as_slice(),
-        None => &[],
-    }
-}
-
-fn demands_of(alloc: Global, owner: Choice, needs: &[Resolved]) -> Result<List<Demand>, NoMemory>
-    ensures { IfOk result (λ demands. demands ≡ map (demanded owner) needs.now) }
-{
-    let mut demands = List::new(alloc);
-    for need in needs {
-        demands.push(demanded(alloc, owner, need)?)?;
-    }
-    Ok(demands)
-}
-
-fn demanded(alloc: Global, owner: Choice, need: &Resolved) -> Result<Demand, NoMemory>
-    ensures { IfOk result (λ demand. demand ≡ demanded owner need.now) }
-{
-    let mut when = List::new(alloc);
-    when.push(owner)?;
-    let allowed = List::from_vec(Vec::from_slice(alloc, need.allowed.as_slice())?);
-    Ok(Demand {
-        when,
-        target: variable(need.target),
-        allowed,
-    })
-}
-
-fn table_of(alloc: Global, packages: &[Package]) -> Result<List<List<List<Resolved>>>, NoMemory>
-    ensures { IfOk result (λ table. table ≡ table_of packages.now) }
-{
-    let numbers = numbers_of(alloc, packages)?;
-    let mut table = List::new(alloc);
-    for found in packages {
-        table.push(resolved_releases(alloc, packages, &numbers, found)?)?;
-    }
-    Ok(table)
-}
-
 // The number of each name, which for a name that stands twice is its first place.
-fn numbers_of(alloc: Global, packages: &[Package]) -> Result<BTreeMap<Text, u64>, NoMemory>
+pub(crate) fn numbers_of(
+    alloc: Global,
+    packages: &[Package],
+) -> Result<BTreeMap<Text, u64>, NoMemory>
     ensures { IfOk result (λ numbers. (name : List ℕ) → unwrap_or (tree.get (slice_cmp nat_cmp) numbers name) (length packages.now) ≡ number_of packages.now name) }
 {
     let mut numbers = BTreeMap::new(alloc);
@@ -198,53 +143,7 @@ fn numbers_of(alloc: Global, packages: &[Package]) -> Result<BTreeMap<Text, u64>
     Ok(numbers)
 }
 
-fn resolved_releases(
-    alloc: Global,
-    packages: &[Package],
-    numbers: &BTreeMap<Text, u64>,
-    found: &Package,
-) -> Result<List<List<Resolved>>, NoMemory>
-    requires { (name : List ℕ) → unwrap_or (tree.get (slice_cmp nat_cmp) numbers.now name) (length packages.now) ≡ number_of packages.now name }
-    ensures { IfOk result (λ releases. releases ≡ resolved_releases packages.now found.now) }
-{
-    let mut releases = List::new(alloc);
-    for file in found.releases.as_slice() {
-        releases.push(resolved_needs(alloc, packages, numbers, file)?)?;
-    }
-    Ok(releases)
-}
-
-fn resolved_needs(
-    alloc: Global,
-    packages: &[Package],
-    numbers: &BTreeMap<Text, u64>,
-    file: &PlainFile,
-) -> Result<List<Resolved>, NoMemory>
-    requires { (name : List ℕ) → unwrap_or (tree.get (slice_cmp nat_cmp) numbers.now name) (length packages.now) ≡ number_of packages.now name }
-    ensures { IfOk result (λ needs. needs ≡ resolved_needs packages.now file.now) }
-{
-    let mut needs = List::new(alloc);
-    for need in file.needs.as_slice() {
-        needs.push(resolve(alloc, packages, numbers, need)?)?;
-    }
-    Ok(needs)
-}
-
-fn resolve(
-    alloc: Global,
-    packages: &[Package],
-    numbers: &BTreeMap<Text, u64>,
-    need: &Need,
-) -> Result<Resolved, NoMemory>
-    requires { (name : List ℕ) → unwrap_or (tree.get (slice_cmp nat_cmp) numbers.now name) (length packages.now) ≡ number_of packages.now name }
-    ensures { IfOk result (λ found. found ≡ resolved packages.now need.now) }
-{
-    let target = number_of(packages, numbers, &need.name);
-    let allowed = meeting(alloc, &need.bound, releases_of(packages, target))?;
-    Ok(Resolved { target, allowed })
-}
-
-fn number_of(packages: &[Package], numbers: &BTreeMap<Text, u64>, name: &Text) -> u64
+pub(crate) fn number_of(packages: &[Package], numbers: &BTreeMap<Text, u64>, name: &Text) -> u64
     requires { (name : List ℕ) → unwrap_or (tree.get (slice_cmp nat_cmp) numbers.now name) (length packages.now) ≡ number_of packages.now name }
     ensures { result ≡ number_of packages.now name.now }
 {
@@ -254,7 +153,11 @@ fn number_of(packages: &[Package], numbers: &BTreeMap<Text, u64>, name: &Text) -
     }
 }
 
-fn meeting(alloc: Global, bound: &Bound, releases: &[PlainFile]) -> Result<List<u64>, NoMemory>
+pub(crate) fn meeting(
+    alloc: Global,
+    bound: &Bound,
+    releases: &[PlainFile],
+) -> Result<List<u64>, NoMemory>
     ensures { IfOk result (λ found. found ≡ meeting bound.now releases.now) }
 {
     let mut found = List::new(alloc);

@@ -150,7 +150,10 @@ fn append(pending: &mut List<Text>, names: List<Text>) -> Result<(), NoMemory>
     Ok(())
 }
 
-fn in_order(alloc: Global, files: BTreeMap<List<u32>, PlainFile>) -> Result<List<PlainFile>, NoMemory>
+fn in_order(
+    alloc: Global,
+    files: BTreeMap<List<u32>, PlainFile>,
+) -> Result<List<PlainFile>, NoMemory>
     ensures { IfOk result (λ releases. releases ≡ values_of files.entries) }
 {
     let mut releases = List::new(alloc);
@@ -160,7 +163,11 @@ fn in_order(alloc: Global, files: BTreeMap<List<u32>, PlainFile>) -> Result<List
     Ok(releases)
 }
 
-fn reading_of(alloc: Global, local: PlainFile, kept: BTreeMap<Text, Found>) -> Result<Reading, NoMemory>
+fn reading_of(
+    alloc: Global,
+    local: PlainFile,
+    kept: BTreeMap<Text, Found>,
+) -> Result<Reading, NoMemory>
     ensures { IfOk result (λ reading. reading ≡ reading_kept local kept.entries) }
 {
     let mut packages = List::new(alloc);
@@ -216,6 +223,3 @@ fn earlier(first: Option<IndexFault>, fault: IndexFault) -> Option<IndexFault>
         }
     }
 }
-
-#[cfg(test)]
-mod tests;

@@ -11,6 +11,7 @@ mod need;
 mod plain_file;
 mod plan;
 mod releases;
+mod resolved;
 mod root;
 mod text;
 mod totals;

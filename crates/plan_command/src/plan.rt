@@ -38,6 +38,3 @@ fn answer_of_plain(alloc: Global, packages: &[Package], plain: &Plain) -> Result
         }),
     }
 }
-
-#[cfg(test)]
-mod tests;

@@ -90,11 +90,7 @@ fn read_versions<F: Folder>(
     Ok(Some(kept))
 }
 
-fn versions_in<F: Folder>(
-    alloc: Global,
-    folder: &mut F,
-    name: &str,
-) -> Result<List<Text>, Trouble>
+fn versions_in<F: Folder>(alloc: Global, folder: &mut F, name: &str) -> Result<List<Text>, Trouble>
     ensures told { IfSome (F.tells folder.old) (λ files. IfOk result (λ versions. versions ≡ versions_in files name.now)) }
     ensures same_files { F.tells folder.new ≡ F.tells folder.old }
     ensures failed { IsErrOf result Trouble.Failed → Rose (F.faults folder.old) (F.faults folder.new) }
@@ -232,7 +228,12 @@ fn keep(
     }
 }
 
-fn read_as(alloc: Global, name: &str, version: &str, bytes: Option<List<u8>>) -> Result<PlainFile, Fault>
+fn read_as(
+    alloc: Global,
+    name: &str,
+    version: &str,
+    bytes: Option<List<u8>>,
+) -> Result<PlainFile, Fault>
     ensures gives { Gives (λ file. file) result (read_bytes name.now version.now bytes) }
     ensures few { IfOk result (λ file. length file.needs ≤ length (unwrap_or bytes [])) }
 {

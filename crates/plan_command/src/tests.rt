@@ -3,9 +3,52 @@ use crate::{Status, run};
 use outside_folder::{MemFile, MemFolder, MemSink};
 use plan_types::{List, Text};
 use std::alloc::Global;
+use std::process::Abort;
 use std::test::Fail;
 
 const PLAIN: &str = "cabal-version: 2.4\nname: main\nversion: 1\nlibrary\n";
+
+const MAIN: &str = "cabal-version: 2.4\nname: main\nversion: 1\nlibrary\n  build-depends: b, c\n";
+
+const FOO: &str = "cabal-version: 2.4\nname: main\nversion: 1\nlibrary\n  build-depends: foo\n";
+
+const BOUNDED: &str =
+    "cabal-version: 2.4\nname: main\nversion: 1\nlibrary\n  build-depends: foo >=2, foo <10\n";
+
+const FOO_1: &str = "cabal-version: 2.4\nname: foo\nversion: 1\nlibrary\n";
+
+const FOO_2: &str = "cabal-version: 2.4\nname: foo\nversion: 2\nlibrary\n";
+
+const FOO_10: &str = "cabal-version: 2.4\nname: foo\nversion: 10\nlibrary\n";
+
+// A package that b asks for, which opens late and is smaller in goal order than c.
+const LATE: [(&str, &str); 7] = [
+    ("main.cabal", MAIN),
+    (
+        "index/b/2/b.cabal",
+        "cabal-version: 2.4\nname: b\nversion: 2\nlibrary\n  build-depends: c ==1\n",
+    ),
+    (
+        "index/b/1/b.cabal",
+        "cabal-version: 2.4\nname: b\nversion: 1\nlibrary\n  build-depends: a\n",
+    ),
+    (
+        "index/a/1/a.cabal",
+        "cabal-version: 2.4\nname: a\nversion: 1\nlibrary\n",
+    ),
+    (
+        "index/a/2/a.cabal",
+        "cabal-version: 2.4\nname: a\nversion: 2\nlibrary\n",
+    ),
+    (
+        "index/c/1/c.cabal",
+        "cabal-version: 2.4\nname: c\nversion: 1\nlibrary\n  build-depends: missing\n",
+    ),
+    (
+        "index/c/2/c.cabal",
+        "cabal-version: 2.4\nname: c\nversion: 2\nlibrary\n",
+    ),
+];
 
 fn texts(alloc: Global, words: &[&str]) -> Result<List<Text>, Fail> {
     let mut texts = List::new(alloc);
@@ -54,6 +97,34 @@ fn refused<'a>(files: &'a [(&'a str, &'a str)], text: &'a str) -> Case<'a> {
         status: Status::Refused,
         text,
     }
+}
+
+fn planned<'a>(files: &'a [(&'a str, &'a str)], text: &'a str) -> Case<'a> {
+    Case {
+        words: &["plan"],
+        files,
+        status: Status::Planned,
+        text,
+    }
+}
+
+fn no_plan<'a>(files: &'a [(&'a str, &'a str)]) -> Case<'a> {
+    Case {
+        words: &["plan"],
+        files,
+        status: Status::NoPlan,
+        text: "no plan\n",
+    }
+}
+
+fn try_case(rt: &impl Abort, alloc: Global, case: &Case) -> Result<(), Fail> {
+    let words = texts(alloc, case.words)?;
+    let mut folder = folder_of(alloc, case.files, &[])?;
+    let mut out = MemSink::new(alloc, 1000, 1000, numbers(alloc, &[])?)?;
+    let status = run(alloc, words.as_slice(), &mut folder, &mut out);
+    assert_eq!(rt; status, case.status);
+    assert_eq!(rt; out.bytes(), case.text.as_bytes());
+    Ok(())
 }
 
 #[test]
@@ -117,12 +188,69 @@ fn answers(rt: HostRuntime) -> Result<(), Fail> {
         usage(&["generate"]),
     ];
     for case in &cases {
-        let words = texts(alloc, case.words)?;
-        let mut folder = folder_of(alloc, case.files, &[])?;
-        let mut out = MemSink::new(alloc, 1000, 1000, numbers(alloc, &[])?)?;
-        let status = run(alloc, words.as_slice(), &mut folder, &mut out);
-        assert_eq!(rt; status, case.status);
-        assert_eq!(rt; out.bytes(), case.text.as_bytes());
+        try_case(&rt, alloc, case)?;
+    }
+    Ok(())
+}
+
+#[test]
+fn answers_over_an_index(rt: HostRuntime) -> Result<(), Fail> {
+    let alloc = rt.alloc();
+    let cases = [
+        planned(
+            &LATE,
+            "plan\nchoose main 1 local\nchoose b 1 source\nchoose a 2 source\nchoose c 2 source\n",
+        ),
+        // `1` stands before `10` in the listing, and `2` behind it. What isn't a version is passed over, and so
+        // are a directory without the file, a name that isn't reached, and the local name.
+        planned(
+            &[
+                ("main.cabal", FOO),
+                ("index/foo/1/foo.cabal", FOO_1),
+                ("index/foo/10/foo.cabal", FOO_10),
+                ("index/foo/2/foo.cabal", FOO_2),
+                ("index/foo/3/x.cabal", ""),
+                ("index/foo/x/foo.cabal", ""),
+                ("index/other/1/other.cabal", ""),
+                ("index/main/2/main.cabal", ""),
+            ],
+            "plan\nchoose main 1 local\nchoose foo 10 source\n",
+        ),
+        planned(
+            &[
+                ("main.cabal", BOUNDED),
+                ("index/foo/1/foo.cabal", FOO_1),
+                ("index/foo/10/foo.cabal", FOO_10),
+                ("index/foo/2/foo.cabal", FOO_2),
+            ],
+            "plan\nchoose main 1 local\nchoose foo 2 source\n",
+        ),
+        no_plan(&[("main.cabal", FOO)]),
+        no_plan(&[("main.cabal", BOUNDED), ("index/foo/1/foo.cabal", FOO_1)]),
+        // Paths are ordered by bytes: a point is below a slash.
+        refused(
+            &[
+                ("main.cabal", FOO),
+                ("index/foo/1/foo.cabal", ""),
+                ("index/foo/1.0/foo.cabal", FOO_1),
+            ],
+            "refused index/foo/1.0/foo.cabal:3 Unbuilt\n",
+        ),
+        // A file with a fault mentions no names, and the package itself is none.
+        refused(
+            &[
+                ("main.cabal", FOO),
+                (
+                    "index/foo/1/foo.cabal",
+                    "cabal-version: 2.4\nname: foo\nversion: 1\nlibrary\n  build-depends: a, foo\n",
+                ),
+                ("index/a/1/a.cabal", ""),
+            ],
+            "refused index/foo/1/foo.cabal:5 Unbuilt\n",
+        ),
+    ];
+    for case in &cases {
+        try_case(&rt, alloc, case)?;
     }
     Ok(())
 }

@@ -9,11 +9,11 @@ pub returns-then-not-branch-clause-told : goal.returns-then-not-branch-clause-to
 returns-then-not-branch-clause-told g c = if_some _ _ (λ files t.
     let here = reads_at files c.args.name.now c.version-item.result in
     let told : Takes c.loop-version.totals c.read_release.new.totals c.loop-version.kept c.read_release.new.kept (reads_at files c.args.name.now c.as_str.result.now) c.in_ok-read_release.field-0 =
-        some_at _ _ files (c.loop-version.invariant.same ∙ t) c.in_ok-read_release.ensures.told in
+    some_at _ _ files (c.loop-version.invariant.same ∙ t) c.in_ok-read_release.ensures.told in
     let same : Takes c.loop-version.totals c.read_release.new.totals c.loop-version.kept c.read_release.new.kept here c.in_ok-read_release.field-0 =
-        rw (← c.as_str.ensures) told in
+    rw (← c.as_str.ensures) told in
     let beyond : IsBeyond c.loop-version.totals here =
-        subst (λ (b : Bool). Takes c.loop-version.totals c.read_release.new.totals c.loop-version.kept c.read_release.new.kept here b) c.if-not-branch.true same in
+    subst (λ (b : Bool). Takes c.loop-version.totals c.read_release.new.totals c.loop-version.kept c.read_release.new.kept here b) c.if-not-branch.true same in
     let rest = flat_map_rest (reads_at files c.args.name.now) c.args.versions.now c.loop-version.version-index c.version-item.result c.loop-version-test.true c.version-item.is in
     subst (λ reads. IsBeyond c.args.totals.now reads) (sym rest.1)
     (beyond_more c.args.totals.now c.loop-version.totals _ here rest.0 (c.loop-version.invariant.counts files t) beyond))
@@ -21,11 +21,11 @@ returns-then-not-branch-clause-told g c = if_some _ _ (λ files t.
 pub loop-version-preserved : goal.loop-version-preserved
 loop-version-preserved g c =
     let taken = λ (files : Files) (t : g.F.Folder.tells c.args.folder.now ≡ Some files).
-        let told : Takes c.loop-version.totals c.read_release.new.totals c.loop-version.kept c.read_release.new.kept (reads_at files c.args.name.now c.as_str.result.now) c.in_ok-read_release.field-0 =
-            some_at _ _ files (c.loop-version.invariant.same ∙ t) c.in_ok-read_release.ensures.told in
-        let same : Takes c.loop-version.totals c.read_release.new.totals c.loop-version.kept c.read_release.new.kept (reads_at files c.args.name.now c.version-item.result) c.in_ok-read_release.field-0 =
-            rw (← c.as_str.ensures) told in
-        subst (λ (b : Bool). Takes c.loop-version.totals c.read_release.new.totals c.loop-version.kept c.read_release.new.kept (reads_at files c.args.name.now c.version-item.result) b) c.if-not-branch.false same in
+    let told : Takes c.loop-version.totals c.read_release.new.totals c.loop-version.kept c.read_release.new.kept (reads_at files c.args.name.now c.as_str.result.now) c.in_ok-read_release.field-0 =
+    some_at _ _ files (c.loop-version.invariant.same ∙ t) c.in_ok-read_release.ensures.told in
+    let same : Takes c.loop-version.totals c.read_release.new.totals c.loop-version.kept c.read_release.new.kept (reads_at files c.args.name.now c.version-item.result) c.in_ok-read_release.field-0 =
+    rw (← c.as_str.ensures) told in
+    subst (λ (b : Bool). Takes c.loop-version.totals c.read_release.new.totals c.loop-version.kept c.read_release.new.kept (reads_at files c.args.name.now c.version-item.result) b) c.if-not-branch.false same in
     record {
       kept = λ files t.
           subst (λ reads. HasRead c.read_release.new.kept reads)

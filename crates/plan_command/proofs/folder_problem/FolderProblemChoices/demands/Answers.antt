@@ -1,8 +1,8 @@
-use Rattle.std.proofs.Common.{◌≡◌, List, map, ap, ◌∙◌, subst}
+use Rattle.std.proofs.Common.{◌≡◌, List, ap, ◌∙◌, subst}
 use Rattle.std.specs.Prelude.{IfOk}
 use Rattle.choice_problem.specs.declared.problem.Demand.{Demand}
 use Rattle.plan_command.specs.Resolved.{needs_at}
-use Rattle.plan_command.proofs.Resolved.{demands-resolved}
+use Rattle.plan_command.proofs.Demands.{demands-resolved}
 use Rattle.plan_command.proofs.folder_problem.FolderProblemChoices.demands.Goals as goal
 
 pub returns : goal.returns

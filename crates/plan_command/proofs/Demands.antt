@@ -1,8 +1,8 @@
 -- The demands of resolved needs are those of the needs.
-use Rattle.std.proofs.Common.{◌≡◌, ℕ, List, [], ◌∷◌, get_or, map, refl, sym, ap, ◌∙◌}
+use Rattle.std.proofs.Common.{◌≡◌, ℕ, List, [], ◌∷◌, get_or, map, refl, ap, ◌∙◌}
 use Rattle.std.proofs.Math.ListN.{get_or-map}
 use Rattle.choice_problem.specs.declared.problem.Choice.{Choice}
-use Rattle.plan_command.specs.declared.folder_problem.Resolved.{Resolved}
+use Rattle.plan_command.specs.declared.resolved.Resolved.{Resolved}
 use Rattle.plan_command.specs.declared.index.Package.{Package}
 use Rattle.plan_command.specs.declared.need.Need.{Need}
 use Rattle.plan_command.specs.FolderProblem.{no_package, no_file, releases_of, release_at, demand_of}

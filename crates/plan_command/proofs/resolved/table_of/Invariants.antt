@@ -1,7 +1,7 @@
 -- the needs of the packages so far
 use Rattle.std.proofs.Common.{◌≡◌, map, take}
 use Rattle.plan_command.specs.Resolved.{resolved_releases}
-use Rattle.plan_command.proofs.folder_problem.table_of.Given as goal
+use Rattle.plan_command.proofs.resolved.table_of.Given as goal
 
 abbrev pub invariant-loop-found : goal.invariant-loop-found
 invariant-loop-found l = l.table ≡ map (resolved_releases l.packages) (take l.found-index l.packages)
