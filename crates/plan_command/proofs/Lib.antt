@@ -6,3 +6,4 @@ pub mod Kept
 pub mod Pieces
 pub mod Progress
 pub mod Resolved
+pub mod TooMany

@@ -2,6 +2,7 @@ pub mod Answer
 pub mod FolderProblem
 pub mod FolderProblemLaws
 pub mod Index
+pub mod IndexExamples
 pub mod Line
 pub mod Need
 pub mod PlainFile

@@ -108,12 +108,8 @@ fn readings(rt: HostRuntime) -> Result<(), Fail> {
     ];
     for (files, expected) in &cases {
         let mut folder = folder_of(alloc, files)?;
-        let Ok(local) = plain_file(alloc, None, MAIN.as_bytes()) else {
-            return Err(Fail::new());
-        };
-        let Ok(reading) = read_index(alloc, &mut folder, local) else {
-            return Err(Fail::new());
-        };
+        let local = plain_file(alloc, None, MAIN.as_bytes())?;
+        let reading = read_index(alloc, &mut folder, local)?;
         assert_eq!(rt; shown(alloc, reading)?.as_str(), *expected);
     }
     Ok(())
