@@ -25,16 +25,16 @@ use Rattle.plan_command.specs.Visits.{Kept, IsCovered, IsPartly, IsVisited, Visi
 
 -- ---- members of lists
 
-one_of_left : (name : Bytes) (xs ys : List Bytes) → IsOneOf name xs → IsOneOf name (xs ++ ys)
+pub one_of_left : (name : Bytes) (xs ys : List Bytes) → IsOneOf name xs → IsOneOf name (xs ++ ys)
 one_of_left name [] ys h = absurd h
 one_of_left name (x ∷ xs) ys (inl e) = inl e
 one_of_left name (x ∷ xs) ys (inr h) = inr (one_of_left name xs ys h)
 
-one_of_right : (name : Bytes) (xs ys : List Bytes) → IsOneOf name ys → IsOneOf name (xs ++ ys)
+pub one_of_right : (name : Bytes) (xs ys : List Bytes) → IsOneOf name ys → IsOneOf name (xs ++ ys)
 one_of_right name [] ys h = h
 one_of_right name (x ∷ xs) ys h = inr (one_of_right name xs ys h)
 
-one_of_cases : (name : Bytes) (xs ys : List Bytes) → IsOneOf name (xs ++ ys) → IsOneOf name xs ⊎ IsOneOf name ys
+pub one_of_cases : (name : Bytes) (xs ys : List Bytes) → IsOneOf name (xs ++ ys) → IsOneOf name xs ⊎ IsOneOf name ys
 one_of_cases name [] ys h = inr h
 one_of_cases name (x ∷ xs) ys (inl e) = inl (inl e)
 one_of_cases name (x ∷ xs) ys (inr h) = elim (one_of_cases name xs ys h) [ inl k ↦ inl (inr k) | inr k ↦ inr k ]
@@ -59,7 +59,7 @@ all_keys : {X : Type 0} (P : Bytes → Type 0) (es : List (Bytes × X)) → AllB
 all_keys P [] h = tt
 all_keys P (e ∷ es) h = (h.0, all_keys P es h.1)
 
-at_one_of : (P : Bytes → Type 0) (xs : List Bytes) (x : Bytes) → AllByRecursion P xs → IsOneOf x xs → P x
+pub at_one_of : (P : Bytes → Type 0) (xs : List Bytes) (x : Bytes) → AllByRecursion P xs → IsOneOf x xs → P x
 at_one_of P [] x h k = absurd k
 at_one_of P (y ∷ xs) x h (inl e) = subst P (sym e) h.0
 at_one_of P (y ∷ xs) x h (inr k) = at_one_of P xs x h.1 k

@@ -43,7 +43,7 @@ counts_more a b c before reads h k = record {
   bytes = k.bytes ∙ ap (λ n. n + bytes_of reads) h.bytes ∙ (let e = bytes_of-append before reads in omega (arith, e));
 }
 
-more_is_too_many : (m n j k : ℕ) → m ≤ j → n ≤ k → is_too_many m n ≡ true → is_too_many j k ≡ true
+pub more_is_too_many : (m n j k : ℕ) → m ≤ j → n ≤ k → is_too_many m n ≡ true → is_too_many j k ≡ true
 more_is_too_many m n j k h g t = grind (arith, nat_tests)
 
 -- those that come later make it no fewer

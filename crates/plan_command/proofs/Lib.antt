@@ -7,3 +7,5 @@ pub mod Kept
 pub mod Outcomes
 pub mod Pieces
 pub mod Progress
+pub mod Resolved
+pub mod TooMany

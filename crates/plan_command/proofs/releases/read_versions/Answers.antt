@@ -16,7 +16,7 @@ returns-then-not-branch-clause-told g c = if_some _ _ (λ files t.
     subst (λ (b : Bool). Takes c.loop-version.totals c.read_release.new.totals c.loop-version.kept c.read_release.new.kept here b) c.if-not-branch.true same in
     let rest = flat_map_rest (reads_at files c.args.name.now) c.args.versions.now c.loop-version.version-index c.version-item.result c.loop-version-test.true c.version-item.is in
     subst (λ reads. IsBeyond c.args.totals.now reads) (sym rest.1)
-    (beyond_more c.args.totals.now c.loop-version.totals _ here rest.0 (c.loop-version.invariant.counts files t) beyond))
+    (beyond_more c.args.totals.now c.loop-version.totals (flat_map (reads_at files c.args.name.now) (take c.loop-version.version-index c.args.versions.now)) here rest.0 (c.loop-version.invariant.counts files t) beyond))
 
 pub loop-version-preserved : goal.loop-version-preserved
 loop-version-preserved g c =
