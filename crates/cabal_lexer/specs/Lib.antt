@@ -3,4 +3,5 @@ pub mod Opening
 pub mod Layout
 pub mod Fault
 pub mod Canonical
+pub mod RoundTrip
 pub mod Examples
