@@ -1,50 +1,28 @@
 -- The canonical text of a tree stands for the tree again, but for the numbers of its lines.
-use Rattle.std.proofs.Common.{◌≡◌, ℕ, zero, suc, ◌+◌, ◌-◌, ◌<◌, ◌≤◌, Bool, true, false, cond, List, [], ◌∷◌, ◌++◌, length, take, drop, get_or, refl, sym, ◌∙◌, ap, subst, arith, append_assoc, append-nil, length-append}
-use Rattle.std.specs.Prelude.{reverse, map, not, ◌&&◌, ◌||◌, ◌==◌, nat_le, nat_lt, flat_map, if◌then◌else◌}
+use Rattle.std.proofs.Common.{◌≡◌, ℕ, zero, suc, ◌+◌, ◌-◌, ◌<◌, ◌≤◌, Bool, true, false, cond, List, [], ◌∷◌, ◌++◌, length, take, drop, refl, sym, ◌∙◌, ap, subst, arith, append_assoc, length-append}
+use Rattle.std.specs.Prelude.{reverse, map, not, ◌&&◌, ◌||◌, ◌==◌, nat_le, if◌then◌else◌}
 use Rattle.std.specs.declared.result.Result.TheVariants.{Ok}
-use Rattle.std.specs.List.{prefix_len, list_all, list_any, All}
+use Rattle.std.specs.List.{prefix_len, list_all, list_any}
 use Rattle.std.specs.Str.{IsUtf8, IsAscii}
-use Rattle.std.proofs.lemmas.List.Elements.{All-append, All-drop, All-take, All-cons, All-nil, All-weaker}
+use Rattle.std.proofs.lemmas.List.Elements.{All-append, All-drop, All-take, All-cons, All-nil}
 use Rattle.std.proofs.lemmas.List.{reverse-append}
-use Rattle.std.proofs.lemmas.List.Folds.{list_all-append, list_all-map, flat_map-map}
-use Rattle.std.proofs.lemmas.List.Sums.{AllPass-from_list_all}
+use Rattle.std.proofs.lemmas.List.Folds.{list_all-append, flat_map-map}
 use Rattle.std.proofs.lemmas.Str.{IsUtf8-append, IsUtf8-nil, IsUtf8-from_ascii, IsUtf8-take, IsUtf8-drop}
 use Rattle.cabal_lexer.proofs.Texts.{boundary_front, is_name_byte-ascii, is_blank-ascii, begins_with-boundary, ends_with_brace-boundary, trim_end-take}
 use Rattle.std.proofs.lemmas.Bool.Decides.{nat_tests}
-use Rattle.std.proofs.lemmas.Grind.{flat_map-append, common_steps}
-use Rattle.plan_types.specs.declared.element.Element.{Element, fold-Element, fold-roll-Element}
-use Rattle.plan_types.specs.declared.element.Element.TheOpen as open'
-use Rattle.plan_types.specs.declared.element.Element.TheVariants.{Field, Section, rolls-Field, rolls-Section}
+use Rattle.std.proofs.lemmas.Grind.{flat_map-append}
+use Rattle.plan_types.specs.declared.element.Element.{Element, fold-Element}
+use Rattle.plan_types.specs.declared.element.Element.TheVariants.{Field, Section}
 use Rattle.plan_types.specs.Name.{is_letter}
-use Rattle.cabal_lexer.specs.Lines.{Line, is_blank, indent, trim_start, trim_end, trim, is_comment, is_kept, kept_line, kept_from}
-use Rattle.cabal_lexer.specs.Opening.{Opening, field, braced_field, section, braced_section, is_name_byte, name_len, lower_case, is_lone, begins_with, ends_with_brace, before_brace, opening, within}
-use Rattle.cabal_lexer.specs.Layout.{closes, ends, Ends, Inside, Begins, texts, first_value, Stands, nothing, element, Block, run, braced_run, indented, enclosed}
+use Rattle.cabal_lexer.specs.Lines.{Line, is_blank, indent, trim_start, trim_end, trim, is_comment, kept_line, kept_from}
+use Rattle.cabal_lexer.specs.Opening.{Opening, field, braced_field, section, braced_section, is_name_byte, name_len, lower_case, is_lone, begins_with, ends_with_brace, before_brace, opening}
+use Rattle.cabal_lexer.specs.Layout.{ends, Ends, Inside, Begins, texts, first_value, Stands, nothing, element, Block, run, braced_run, indented, enclosed}
 use Rattle.cabal_lexer.specs.Canonical.{value_lines, field_text, section_line, items_text, element_text}
+use Rattle.cabal_lexer.specs.Folds.{text-field, text-section, zero-field, zero-section, return-field, return-section}
 use Rattle.cabal_lexer.specs.RoundTrip.{zero_layer, unnumbered, ends_with_return, return_layer, without_returns}
-use Rattle.cabal_lexer.proofs.Pieces.{OneLine, Piece, Piece-join, and-left, and-right, trim-behind, Piece-trim, Piece-trim_end, front-take, front-drop, start-same}
+use Rattle.cabal_lexer.proofs.Pieces.{OneLine, Piece, Piece-join, and-left, and-right, Piece-trim, Piece-trim_end, front-take, front-drop, start-same}
 use Rattle.cabal_lexer.proofs.Beginnings.{IsName, IsName-lower, Named, opening-parts, within-ok, within-from, opening-bare_field, opening-field, opening-bare_section, opening-section, and-both}
 use Rattle.cabal_lexer.proofs.Printing.{joined, Clean, AllClean, clean-append, BeginsAscii, ascii-append, return-append, return-cons, kept_from-append, line_of, kept_line-printed}
-use Rattle.cabal_lexer.proofs.Printed.{text-field, text-section}
-
--- ---- folds of an element, by its kind
-
-zero-field : (line : ℕ) (name : List ℕ) (values : List (List ℕ)) → fold-Element Element zero_layer (Field line name values) ≡ Field 0 name values
-zero-field line name values =
-    ap (fold-Element Element zero_layer) (sym (rolls-Field line name values)) ∙ fold-roll-Element Element zero_layer (open'.Field line name values)
-
-zero-section : (line : ℕ) (name args : List ℕ) (items : List Element) → fold-Element Element zero_layer (Section line name args items) ≡ Section 0 name args (unnumbered items)
-zero-section line name args items =
-    ap (fold-Element Element zero_layer) (sym (rolls-Section line name args items)) ∙ fold-roll-Element Element zero_layer (open'.Section line name args items)
-
-return-field : (line : ℕ) (name : List ℕ) (values : List (List ℕ)) → fold-Element Bool return_layer (Field line name values) ≡ list_all (λ value. not (ends_with_return value)) values
-return-field line name values =
-    ap (fold-Element Bool return_layer) (sym (rolls-Field line name values)) ∙ fold-roll-Element Bool return_layer (open'.Field line name values)
-
-return-section : (line : ℕ) (name args : List ℕ) (items : List Element) →
-    fold-Element Bool return_layer (Section line name args items) ≡ (not (ends_with_return args) && without_returns items)
-return-section line name args items =
-    ap (fold-Element Bool return_layer) (sym (rolls-Section line name args items)) ∙ fold-roll-Element Bool return_layer (open'.Section line name args items)
-    ∙ ap (λ b. not (ends_with_return args) && b) (list_all-map (λ b. b) (fold-Element Bool return_layer) items)
 
 -- ---- what is known of the lines that were read
 
@@ -129,7 +107,11 @@ pub record PrintedItems (s : List ℕ) (depth k : ℕ) (text : List ℕ) (items 
 
 no-items : (s : List ℕ) (depth k : ℕ) → PrintedItems s depth k [] []
 no-items s depth k = record {
-  raws = []; whole = refl; clean = tt; ascii = tt; again = [];
+  raws = [];
+  whole = refl;
+  clean = tt;
+  ascii = tt;
+  again = [];
   stands = λ bound h. nothing;
   same = refl;
   top = λ bound h. tt;
@@ -145,7 +127,7 @@ more-items : (s : List ℕ) (depth k : ℕ) (a b : List ℕ) (item : Element) (i
     PrintedItems s depth (k + 1 + length p.others) b items → PrintedItems s depth k (a ++ b) (item ∷ items)
 more-items s depth k a b item items p q =
     let cut : kept_from k (p.first ∷ p.others ++ q.raws) ≡ p.line ∷ kept_from (k + 1) p.others ++ kept_from (k + 1 + length p.others) q.raws =
-        ap (λ v. v ++ kept_from (k + 1) (p.others ++ q.raws)) p.kept ∙ ap (λ v. p.line ∷ v) (kept_from-append (k + 1) p.others q.raws) in
+    ap (λ v. v ++ kept_from (k + 1) (p.others ++ q.raws)) p.kept ∙ ap (λ v. p.line ∷ v) (kept_from-append (k + 1) p.others q.raws) in
     record {
       raws = p.first ∷ p.others ++ q.raws;
       whole = ap (λ v. v ++ b) p.whole ∙ ap (λ v. joined (p.first ∷ p.others) ++ v) q.whole ∙ sym (flat_map-append (λ raw. raw ++ 10 ∷ []) (p.first ∷ p.others) q.raws);
@@ -298,9 +280,10 @@ module _ (s : List ℕ) (i : IsIndent s) where
 
   values-clean : (values : List (List ℕ)) → Further values → list_all (λ value. not (ends_with_return value)) values ≡ true → AllClean (value_raws s values)
   values-clean [] h r = tt
-  values-clean (value ∷ values) h r =
-      (clean-line (s ++ 32 ∷ 32 ∷ 32 ∷ 32 ∷ []) value (indent-more s (32 ∷ 32 ∷ 32 ∷ 32 ∷ []) i four) h.0.piece h.0.some (not-true _ (and-left _ _ r)),
-       values-clean values h.1 (and-right (not (ends_with_return value)) _ r))
+  values-clean (value ∷ values) h r = (
+    clean-line (s ++ 32 ∷ 32 ∷ 32 ∷ 32 ∷ []) value (indent-more s (32 ∷ 32 ∷ 32 ∷ 32 ∷ []) i four) h.0.piece h.0.some (not-true _ (and-left _ _ r)),
+    values-clean values h.1 (and-right (not (ends_with_return value)) _ r),
+  )
 
   values-whole : (values : List (List ℕ)) → value_lines s values ≡ joined (value_raws s values)
   unfolding value_lines

@@ -1,16 +1,16 @@
 -- What a line of the canonical text begins, and what the parts of an opening are.
-use Rattle.std.proofs.Common.{◌≡◌, ℕ, zero, suc, ◌+◌, ◌-◌, ◌<◌, ◌≤◌, Bool, true, false, cond, List, [], ◌∷◌, ◌++◌, length, take, drop, get_or, refl, sym, ◌∙◌, ap, subst, arith, append_assoc, append-nil}
-use Rattle.std.specs.Prelude.{reverse, map, not, ◌&&◌, ◌||◌, ◌==◌, nat_le, nat_lt, if◌then◌else◌}
+use Rattle.std.proofs.Common.{◌≡◌, ℕ, zero, suc, Bool, true, false, List, [], ◌∷◌, ◌++◌, take, drop, refl, sym, ◌∙◌, ap, subst, arith, append-nil}
+use Rattle.std.specs.Prelude.{map, ◌&&◌, ◌||◌, ◌==◌, nat_le, if◌then◌else◌}
 use Rattle.std.specs.declared.result.Result.{Result}
 use Rattle.std.specs.declared.result.Result.TheVariants.{Ok, Err}
-use Rattle.std.specs.List.{prefix_len, list_all, list_any, All}
+use Rattle.std.specs.List.{prefix_len, list_all, list_any}
 use Rattle.std.specs.Char.{to_ascii_lowercase}
 use Rattle.std.proofs.Math.Seq.{take-append_seam, drop-append_seam}
 use Rattle.std.proofs.lemmas.Bool.Decides.{nat_tests}
 use Rattle.plan_types.specs.declared.refusal.Cause.{Cause}
 use Rattle.plan_types.specs.declared.refusal.Cause.TheVariants.{StrayBrace, BadName, TooDeep}
-use Rattle.plan_types.specs.Name.{is_letter, is_letter_or_digit}
-use Rattle.cabal_lexer.specs.Lines.{is_blank, indent, trim_start, trim_end, trim, is_comment}
+use Rattle.plan_types.specs.Name.{is_letter}
+use Rattle.cabal_lexer.specs.Lines.{indent, trim_start, trim_end, trim, is_comment}
 use Rattle.cabal_lexer.specs.Opening.{Opening, field, braced_field, section, braced_section, is_name_byte, name_len, lower_case, is_lone, begins_with, ends_with_brace, field_opening, before_brace, section_opening, named_opening, opening, within}
 use Rattle.cabal_lexer.proofs.Runs.{front_passes}
 use Rattle.cabal_lexer.proofs.Pieces.{Piece, prefix-past, and-left, and-right, trim-behind, trim_start-behind, trim-same}
@@ -123,7 +123,7 @@ pub opening-parts : (text : List ℕ) (o : Opening) → opening text ≡ Ok o �
 unfolding opening
 opening-parts text o h =
     let parts = invert (begins_with 125 text) (list_any is_letter (take (name_len text) text))
-        (named_opening (lower_case (take (name_len text) text)) (trim_start (drop (name_len text) text))) o h in
+    (named_opening (lower_case (take (name_len text) text)) (trim_start (drop (name_len text) text))) o h in
     (parts.0, named _ _ o parts.1)
 
 within-at : (o p : Opening) (b : Bool) → ◌≡◌ {A = Result Opening Cause} (if b then Ok o else Err TooDeep) (Ok p) → (◌≡◌ {A = Result Opening Cause} (Ok o) (Ok p)) × (b ≡ true)

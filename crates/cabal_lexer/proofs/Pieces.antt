@@ -1,14 +1,13 @@
 -- Pieces of a text: without blanks at both ends, and of one line.
-use Rattle.std.proofs.Common.{◌≡◌, ℕ, zero, suc, ◌+◌, ◌-◌, ◌<◌, ◌≤◌, Bool, true, false, cond, List, [], ◌∷◌, ◌++◌, length, take, drop, get_or, refl, sym, ◌∙◌, ap, subst, arith, append_assoc, append-nil, one-add, length-append}
-use Rattle.std.specs.Prelude.{reverse, map, not, ◌&&◌, ◌||◌, ◌==◌, nat_le, nat_lt}
-use Rattle.std.specs.List.{prefix_len, list_all, list_any, All}
+use Rattle.std.proofs.Common.{◌≡◌, ℕ, zero, suc, ◌+◌, ◌-◌, ◌<◌, Bool, true, false, cond, List, [], ◌∷◌, ◌++◌, length, take, drop, refl, ◌∙◌, ap, subst, arith, append_assoc, one-add}
+use Rattle.std.specs.Prelude.{reverse, ◌&&◌, ◌==◌}
+use Rattle.std.specs.List.{prefix_len, list_all, All}
 use Rattle.std.specs.Str.{IsUtf8}
-use Rattle.std.proofs.Math.Seq.{take-append_seam, drop-append_seam}
+use Rattle.std.proofs.Math.Seq.{drop-append_seam}
 use Rattle.std.proofs.lemmas.List.{reverse-append, reverse-reverse, length-reverse}
 use Rattle.std.proofs.lemmas.List.Elements.{All-take, All-drop, All-append}
 use Rattle.std.proofs.lemmas.Str.{IsUtf8-take, IsUtf8-drop, IsUtf8-append}
-use Rattle.std.proofs.lemmas.Bool.Decides.{nat_tests}
-use Rattle.cabal_lexer.specs.Lines.{is_blank, indent, trim_start, trim_end, trim, is_comment}
+use Rattle.cabal_lexer.specs.Lines.{is_blank, indent, trim_start, trim_end, trim}
 use Rattle.cabal_lexer.proofs.Texts.{boundary_front, boundary_end, is_blank-ascii, trim_end-take}
 
 abbrev pub OneLine : List ℕ → Type 0

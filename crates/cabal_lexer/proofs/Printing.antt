@@ -1,17 +1,13 @@
 -- The lines of a canonical text.
-use Rattle.std.proofs.Common.{◌≡◌, ℕ, zero, suc, ◌+◌, ◌-◌, ◌<◌, ◌≤◌, Bool, true, false, cond, List, [], ◌∷◌, ◌++◌, length, take, drop, get_or, refl, sym, ◌∙◌, ap, subst, arith, append_assoc, append-nil, length-append}
-use Rattle.std.specs.Prelude.{reverse, map, not, ◌&&◌, ◌||◌, ◌==◌, nat_le, nat_lt, nat_eq, flat_map, if◌then◌else◌}
-use Rattle.std.specs.List.{prefix_len, list_all, list_any, All, slice_split, starts_with}
+use Rattle.std.proofs.Common.{◌≡◌, ℕ, suc, ◌+◌, ◌-◌, ◌<◌, true, false, List, [], ◌∷◌, ◌++◌, length, take, drop, get_or, refl, sym, ◌∙◌, ap, arith, append_assoc}
+use Rattle.std.specs.Prelude.{not, ◌&&◌, ◌==◌, nat_eq, flat_map, if◌then◌else◌}
+use Rattle.std.specs.List.{list_all, slice_split, starts_with}
 use Rattle.std.specs.Str.{IsUtf8}
 use Rattle.std.specs.Str.Lines.{lines, lines_of_parts, strip_carriage_return}
-use Rattle.std.proofs.Math.Seq.{drop-append_seam}
-use Rattle.std.proofs.lemmas.List.Elements.{All-append}
-use Rattle.std.proofs.lemmas.List.Folds.{list_all-append}
 use Rattle.std.proofs.lemmas.List.Splits.{slice_split_at, length-slice_split}
-use Rattle.std.proofs.lemmas.Str.{IsUtf8-append, IsUtf8-nil, IsUtf8-from_ascii}
+use Rattle.std.proofs.lemmas.Str.{IsUtf8-append, IsUtf8-nil}
 use Rattle.std.proofs.lemmas.Bool.Decides.{nat_tests}
-use Rattle.std.proofs.lemmas.Grind.{flat_map-append, common_steps}
-use Rattle.cabal_lexer.specs.Lines.{Line, is_blank, indent, trim_start, trim_end, trim, is_comment, is_kept, kept_line, kept_from, mark, without_mark}
+use Rattle.cabal_lexer.specs.Lines.{Line, is_blank, indent, is_comment, is_kept, kept_line, kept_from, mark, without_mark}
 use Rattle.cabal_lexer.specs.RoundTrip.{ends_with_return}
 use Rattle.cabal_lexer.proofs.Pieces.{OneLine, Piece, trim-behind, indent-behind}
 

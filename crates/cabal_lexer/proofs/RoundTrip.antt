@@ -1,12 +1,12 @@
 -- A tree's canonical text is the tree's again.
-use Rattle.std.proofs.Common.{◌≡◌, ℕ, zero, suc, ◌+◌, ◌-◌, ◌<◌, ◌≤◌, ◌⊎◌, inl, inr, Bool, true, false, cond, List, [], ◌∷◌, ◌++◌, length, take, drop, get_or, refl, sym, ◌∙◌, ap, subst, arith, append_assoc, append-nil, length-append, length-drop}
-use Rattle.std.specs.Prelude.{not, ◌&&◌, ◌==◌, nat_eq, if◌then◌else◌}
-use Rattle.std.specs.List.{prefix_len, list_all, All, slice_split, starts_with, position_or_len, before_first, after_first}
-use Rattle.std.specs.Str.{IsUtf8, IsCharBoundary}
-use Rattle.std.specs.Str.Lines.{lines, lines_of_parts, strip_carriage_return}
-use Rattle.std.proofs.lemmas.List.{take_all, take-append-drop}
+use Rattle.std.proofs.Common.{◌≡◌, ℕ, zero, suc, ◌+◌, ◌-◌, ◌<◌, inl, inr, Bool, true, false, List, [], ◌∷◌, ◌++◌, length, take, drop, get_or, refl, sym, ◌∙◌, ap, subst, arith, length-drop}
+use Rattle.std.specs.Prelude.{not, ◌==◌, nat_eq, if◌then◌else◌}
+use Rattle.std.specs.List.{list_all, slice_split, starts_with, position_or_len, before_first, after_first}
+use Rattle.std.specs.Str.{IsUtf8}
+use Rattle.std.specs.Str.Lines.{lines, lines_of_parts}
+use Rattle.std.proofs.lemmas.List.{take_all}
 use Rattle.std.proofs.lemmas.List.Elements.{All-take, All-cons, All-nil}
-use Rattle.std.proofs.lemmas.List.Sums.{prefix_len-le-length, prefix_len_stops}
+use Rattle.std.proofs.lemmas.List.Sums.{prefix_len_stops}
 use Rattle.std.proofs.lemmas.List.Splits.{slice_split_none, slice_split_first}
 use Rattle.std.proofs.lemmas.Str.{IsUtf8-take, IsUtf8-drop, IsUtf8-past_char, IsCharBoundary-before_ascii, IsCharBoundary-after_ascii}
 use Rattle.std.proofs.lemmas.Bool.{cases_lt}
@@ -17,9 +17,9 @@ use Rattle.cabal_lexer.specs.Fault.{StandsFor, IsTree}
 use Rattle.cabal_lexer.specs.Canonical.{canonical}
 use Rattle.cabal_lexer.specs.RoundTrip.{unnumbered, without_returns}
 use Rattle.cabal_lexer.proofs.Runs.{front_passes}
-use Rattle.cabal_lexer.proofs.Pieces.{OneLine, Piece, Piece-trim, and-left, and-right}
-use Rattle.cabal_lexer.proofs.Printing.{joined, lines-joined, utf8-joined, without_mark-ascii}
-use Rattle.cabal_lexer.proofs.Again.{IsKeptText, KeptTexts, IsIndent, none, PrintedItems, again-items}
+use Rattle.cabal_lexer.proofs.Pieces.{OneLine, Piece-trim, and-left, and-right}
+use Rattle.cabal_lexer.proofs.Printing.{lines-joined, utf8-joined, without_mark-ascii}
+use Rattle.cabal_lexer.proofs.Again.{KeptTexts, none, again-items}
 
 -- ---- the lines of a text in UTF-8
 
@@ -50,10 +50,11 @@ raw-parts (suc n) x l u = elim (cases_lt (position_or_len newline x) (length x))
   | inl h ↦
       let at = newline-at x h in
       let low : get_or x (position_or_len newline x) 0 < 128 = omega arith in
-      subst RawLines (sym (slice_split_first newline x 0 h))
-      ((before-line x, IsUtf8-take x (position_or_len newline x) u (IsCharBoundary-before_ascii x (position_or_len newline x) h low)),
-       raw-parts n (after_first newline x) (omega (arith, length-drop (position_or_len newline x + 1) x))
-       (IsUtf8-drop x (position_or_len newline x + 1) u (IsCharBoundary-after_ascii x (position_or_len newline x) u h low)))
+      subst RawLines (sym (slice_split_first newline x 0 h)) (
+        (before-line x, IsUtf8-take x (position_or_len newline x) u (IsCharBoundary-before_ascii x (position_or_len newline x) h low)),
+        raw-parts n (after_first newline x) (omega (arith, length-drop (position_or_len newline x + 1) x))
+            (IsUtf8-drop x (position_or_len newline x + 1) u (IsCharBoundary-after_ascii x (position_or_len newline x) u h low)),
+      )
   | inr h ↦
       let all : OneLine x = subst OneLine (take_all (position_or_len newline x) x h) (before-line x) in
       subst RawLines (sym (slice_split_none newline x all)) ((all, u), tt)
@@ -64,9 +65,10 @@ strip-at : (x : List ℕ) (b : Bool) → (get_or x (length x - 1) 0 == 13) ≡ b
 strip-at x false e o u = (o, u)
 strip-at [] true e o u = (All-take (λ b. (b == 10) ≡ false) (length {A = ℕ} [] - 1) [] o, cc)
 strip-at (c ∷ x) true e o u =
-    let last : get_or (c ∷ x) (length (c ∷ x) - 1) 0 ≡ 13 = grind (arith, nat_tests) in
-    (All-take (λ b. (b == 10) ≡ false) (length (c ∷ x) - 1) (c ∷ x) o,
-     IsUtf8-take (c ∷ x) (length (c ∷ x) - 1) u (IsCharBoundary-before_ascii (c ∷ x) (length (c ∷ x) - 1) (omega arith) (omega arith)))
+    let last : get_or (c ∷ x) (length (c ∷ x) - 1) 0 ≡ 13 = grind (arith, nat_tests) in (
+      All-take (λ b. (b == 10) ≡ false) (length (c ∷ x) - 1) (c ∷ x) o,
+      IsUtf8-take (c ∷ x) (length (c ∷ x) - 1) u (IsCharBoundary-before_ascii (c ∷ x) (length (c ∷ x) - 1) (omega arith) (omega arith)),
+    )
 
 last-line : (b : Bool) (x : List ℕ) → OneLine x × IsUtf8 x → RawLines (if b then [] else x ∷ [])
 last-line true x h = tt
@@ -127,7 +129,8 @@ pub round_trip : (bytes : List ℕ) (items : List Element) → IsTree bytes item
 round_trip bytes items t r =
     let p = again-items t.1 (kept-texts 1 (lines (without_mark bytes)) (raw-lines (without_mark bytes) (without_mark-utf8 bytes t.0))) r [] none 1 in
     let kept : kept_from 1 p.raws ≡ kept_lines (canonical items) =
-        ap (kept_from 1) (sym (lines-joined p.raws p.clean)) ∙ ap (λ v. kept_from 1 (lines v)) (sym (without_mark-ascii (canonical items) p.ascii ∙ p.whole)) in
-    (p.again,
-     (subst IsUtf8 (sym p.whole) (utf8-joined p.raws p.clean), subst (λ v. StandsFor v p.again) kept (p.stands 0 (omega arith))),
-     p.same)
+    ap (kept_from 1) (sym (lines-joined p.raws p.clean)) ∙ ap (λ v. kept_from 1 (lines v)) (sym (without_mark-ascii (canonical items) p.ascii ∙ p.whole)) in (
+      p.again,
+      (subst IsUtf8 (sym p.whole) (utf8-joined p.raws p.clean), subst (λ v. StandsFor v p.again) kept (p.stands 0 (omega arith))),
+      p.same,
+    )

@@ -4,4 +4,5 @@ pub mod Layout
 pub mod Fault
 pub mod Canonical
 pub mod RoundTrip
+pub mod Folds
 pub mod Examples
