@@ -7,3 +7,8 @@ pub mod Exact
 pub mod Texts
 pub mod Made
 pub mod Printed
+pub mod Pieces
+pub mod Beginnings
+pub mod Printing
+pub mod Again
+pub mod RoundTrip

@@ -29,7 +29,7 @@ front-at : {X : Type 0} (p : X → Bool) (x : X) (xs : List X) → list_all p (t
 front-at p x xs h true e = rw one-add (rw e h)
 front-at p x xs h false e = refl
 
-front_passes : {X : Type 0} (p : X → Bool) (xs : List X) → list_all p (take (prefix_len p xs) xs) ≡ true
+pub front_passes : {X : Type 0} (p : X → Bool) (xs : List X) → list_all p (take (prefix_len p xs) xs) ≡ true
 front_passes p [] = refl
 front_passes p (x ∷ xs) = front-at p x xs (front_passes p xs) (p x) refl
 

@@ -1,5 +1,5 @@
 -- Small texts, by the definitions.
-use Rattle.std.specs.Prelude.{ℕ, ◌≡◌, false, List, [], ◌∷◌, refl}
+use Rattle.std.specs.Prelude.{ℕ, ◌≡◌, true, false, List, [], ◌∷◌, refl}
 use Rattle.std.specs.declared.result.Result.TheVariants.{Err}
 use Rattle.plan_types.specs.declared.element.Element.TheVariants.{Field, Section}
 use Rattle.plan_types.specs.declared.refusal.Cause.TheVariants.{StrayBrace, BadName, UnclosedBrace}
@@ -7,6 +7,9 @@ use Rattle.cabal_lexer.specs.Lines.{Line, kept_lines, kept_line, is_kept, is_com
 use Rattle.cabal_lexer.specs.Opening.{field, braced_section, opening, named_opening, field_opening, section_opening, ends_with_brace, before_brace, lower_case, name_len, is_lone}
 use Rattle.cabal_lexer.specs.Layout.{Begins, nothing, element, run, enclosed, Fails, open_items}
 use Rattle.cabal_lexer.specs.Fault.{StandsFor}
+use Rattle.cabal_lexer.specs.Canonical.{value_lines, field_text, section_line, items_text}
+use Rattle.cabal_lexer.specs.Folds.{text-field, text-section, zero-field, zero-section, return-field}
+use Rattle.cabal_lexer.specs.RoundTrip.{unnumbered, ends_with_return, without_returns}
 
 -- `Name : x`, a tab and `y`, a comment, `flag F {`, `Default: True` and `}`
 abbrev text : List ℕ
@@ -75,3 +78,22 @@ stands =
 left_open : Fails 0 1 false (flag_line ∷ default_line ∷ []) flag_line UnclosedBrace
 unfolding is_lone
 left_open = open_items flag_line (default_line ∷ []) refl flag_begins (element default_line [] [] refl (run default_begins refl tt) nothing)
+
+-- the canonical text of the section: `flag F` and `  default: True`
+printed : items_text (Section 4 (102 ∷ 108 ∷ 97 ∷ 103 ∷ []) (70 ∷ []) (Field 5 (100 ∷ []) ((84 ∷ []) ∷ []) ∷ []) ∷ []) []
+    ≡ 102 ∷ 108 ∷ 97 ∷ 103 ∷ 32 ∷ 70 ∷ 10 ∷ 32 ∷ 32 ∷ 100 ∷ 58 ∷ 32 ∷ 84 ∷ 10 ∷ []
+unfolding value_lines field_text section_line is_lone
+printed = rw text-section (rw text-field refl)
+
+-- without the numbers of its lines
+numbers : unnumbered (Section 4 (102 ∷ []) (70 ∷ []) (Field 5 (100 ∷ []) ((84 ∷ []) ∷ []) ∷ []) ∷ []) ≡ Section 0 (102 ∷ []) (70 ∷ []) (Field 0 (100 ∷ []) ((84 ∷ []) ∷ []) ∷ []) ∷ []
+numbers = rw zero-section (rw zero-field refl)
+
+-- a value that ends with a carriage return, and one that doesn't
+return_at_end : without_returns (Field 1 (110 ∷ []) ((120 ∷ 13 ∷ []) ∷ []) ∷ []) ≡ false
+unfolding ends_with_return
+return_at_end = rw return-field refl
+
+return_inside : without_returns (Field 1 (110 ∷ []) ((13 ∷ 120 ∷ []) ∷ []) ∷ []) ≡ true
+unfolding ends_with_return
+return_inside = rw return-field refl

@@ -1,7 +1,9 @@
-ghost use Rattle.std.specs.Prelude.{◌≡◌, ℕ, List};
+ghost use Rattle.std.specs.Prelude.{◌≡◌, ℕ, List, true};
 ghost use Rattle.plan_types.specs.declared.element.Element.{Element};
 ghost use Rattle.plan_types.specs.declared.refusal.Cause.{Cause};
 ghost use Rattle.cabal_lexer.specs.Fault.{IsTree, IsFault};
+ghost use Rattle.cabal_lexer.specs.Canonical.{canonical};
+ghost use Rattle.cabal_lexer.specs.RoundTrip.{unnumbered, without_returns};
 
 /// A text has one tree at most.
 pub fn one_tree()
@@ -16,4 +18,11 @@ pub fn one_fault()
 /// A text never has both a tree and a fault.
 pub fn tree_or_fault()
     ensures { (bytes : List ℕ) (items : List Element) (line : ℕ) (cause : Cause) → IsTree bytes items → IsFault bytes line cause → ⊥ }
+{}
+
+/// The canonical text of a tree that a text has is a text of the same tree, but for the numbers of
+/// the lines, unless a value or the args of a section end with a carriage return.
+pub fn round_trip()
+    ensures { (bytes : List ℕ) (items : List Element) → IsTree bytes items → without_returns items ≡ true →
+        (again : List Element) × IsTree (canonical items) again × (unnumbered again ≡ unnumbered items) }
 {}

@@ -10,7 +10,7 @@ mod opening;
 mod print;
 mod read;
 
-pub use laws::{one_fault, one_tree, tree_or_fault};
+pub use laws::{one_fault, one_tree, round_trip, tree_or_fault};
 pub use print::print_elements;
 pub use read::read_elements;
 
