@@ -7,5 +7,4 @@ pub mod Kept
 pub mod Outcomes
 pub mod Pieces
 pub mod Progress
-pub mod Resolved
 pub mod TooMany

@@ -27,12 +27,12 @@ split name (other ∷ names) (inr h) =
 -- one of the names, but not this one
 other_of : (name other : Bytes) (xs ys : List Bytes) → is_text name other ≡ false → IsOneOf other (xs ++ name ∷ ys) → IsOneOf other (xs ++ ys)
 other_of name other xs ys apart h = elim (one_of_cases other xs (name ∷ ys) h) [
-    inl k ↦ one_of_left other xs ys k
+  | inl k ↦ one_of_left other xs ys k
   | inr k ↦ elim k [
-        inl e ↦ absurd (true≢false (sym ((bytes_decides name other).1 (sym e)) ∙ apart))
-      | inr m ↦ one_of_right other xs ys m
-      ]
+    | inl e ↦ absurd (true≢false (sym ((bytes_decides name other).1 (sym e)) ∙ apart))
+    | inr m ↦ one_of_right other xs ys m
   ]
+]
 
 module _ {R : Type 0} (h : List R → ℕ) (add : (a b : List R) → h (a ++ b) ≡ h a + h b) (f : Bytes → List R) where
   with_one : (xs ys : List Bytes) (name : Bytes) → h (flat_map f (xs ++ name ∷ ys)) ≡ h (flat_map f (xs ++ ys)) + h (f name)
@@ -51,8 +51,8 @@ module _ {R : Type 0} (h : List R → ℕ) (add : (a b : List R) → h (a ++ b) 
       let s = split x ys (within x (inl refl)) in
       let e : h (flat_map f ys) ≡ h (flat_map f (s.before ++ s.behind)) + h (f x) = ap (λ names. h (flat_map f names)) s.is ∙ with_one s.before s.behind x in
       let k : h (flat_map f xs) ≤ h (flat_map f (s.before ++ s.behind)) =
-          fewer xs (s.before ++ s.behind) d.1 (λ name one. other_of x name s.before s.behind (at_one_of (λ other. is_text x other ≡ false) xs name d.0 one)
-              (subst (λ names. IsOneOf name names) s.is (within name (inr one)))) in
+      fewer xs (s.before ++ s.behind) d.1 (λ name one. other_of x name s.before s.behind (at_one_of (λ other. is_text x other ≡ false) xs name d.0 one)
+      (subst (λ names. IsOneOf name names) s.is (within name (inr one)))) in
       let a = add (f x) (flat_map f xs) in
       omega (arith, e, k, a)
 

@@ -1,5 +1,5 @@
 // The index is read name by name: from the names that the local file asks for to all that are reached.
-ghost use Rattle.std.specs.Prelude.{◌≡◌, ◌≢◌, ◌⊎◌, ◌+◌, ◌≤◌, [], ◌∷◌, ◌++◌, true, false, length, fold, map, flat_map, IfOk, IfSome, OnOk, IsErrOf};
+ghost use Rattle.std.specs.Prelude.{◌≡◌, ◌≢◌, ◌⊎◌, ◌+◌, ◌≤◌, List, [], ◌∷◌, ◌++◌, true, false, length, fold, map, flat_map, IfOk, IfSome, OnOk, IsErrOf};
 ghost use Rattle.std.specs.List.{AllByRecursion};
 ghost use Rattle.std.specs.List.Sorted.{IsStrictlySortedBy};
 ghost use Rattle.std.specs.Map.{keys_of, values_of};
@@ -7,7 +7,9 @@ ghost use Rattle.std.specs.Ordering.{nat_cmp, is_lt, is_eq};
 ghost use Rattle.std.specs.Cmp.Lexicographic.{slice_cmp};
 ghost use Rattle.std.specs.BTreeMap.{insert_entry};
 ghost use Rattle.outside_folder.specs.Faults.{Rose};
-ghost use Rattle.plan_command.specs.Index.{IsOneOf, IsReading, earlier, first_fault, reading_of};
+ghost use Rattle.outside_folder.specs.Files.{Bytes, Files};
+ghost use Rattle.plan_command.specs.declared.plain_file.PlainFile.{PlainFile};
+ghost use Rattle.plan_command.specs.Index.{IsClosure, IsOneOf, IsReading, IsTooMany, earlier, first_fault, reading_of, reads_too_many};
 ghost use Rattle.plan_command.specs.Visits.{Keeps, Visits, package_kept, reading_kept};
 
 use crate::plain_file::PlainFile;
@@ -223,3 +225,9 @@ fn earlier(first: Option<IndexFault>, fault: IndexFault) -> Option<IndexFault>
         }
     }
 }
+
+/// A part of the closure that is too many makes the whole too many, so that the refusal of the index
+/// doesn't depend on the order in which its names are read.
+pub fn a_part_too_many()
+    ensures { (files : Files) (local : PlainFile) (names : List Bytes) → IsTooMany files local → IsClosure files local names → reads_too_many files names ≡ true }
+{}

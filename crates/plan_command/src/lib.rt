@@ -19,6 +19,7 @@ mod trouble;
 mod version;
 
 pub use command::{Status, run};
+pub use index::a_part_too_many;
 
 #[cfg(test)]
 mod tests;
