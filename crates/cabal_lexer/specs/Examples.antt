@@ -79,7 +79,7 @@ left_open : Fails 0 1 false (flag_line ∷ default_line ∷ []) flag_line Unclos
 unfolding is_lone
 left_open = open_items flag_line (default_line ∷ []) refl flag_begins (element default_line [] [] refl (run default_begins refl tt) nothing)
 
--- the canonical text of the section: `flag F` and `  default: True`
+-- the canonical text of a section with a field: `flag F` and `  d: T`
 printed : items_text (Section 4 (102 ∷ 108 ∷ 97 ∷ 103 ∷ []) (70 ∷ []) (Field 5 (100 ∷ []) ((84 ∷ []) ∷ []) ∷ []) ∷ []) []
     ≡ 102 ∷ 108 ∷ 97 ∷ 103 ∷ 32 ∷ 70 ∷ 10 ∷ 32 ∷ 32 ∷ 100 ∷ 58 ∷ 32 ∷ 84 ∷ 10 ∷ []
 unfolding value_lines field_text section_line is_lone
