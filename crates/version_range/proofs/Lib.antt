@@ -4,3 +4,4 @@ pub mod Joined
 pub mod Numbers
 pub mod Operators
 pub mod Relaxing
+pub mod Printed

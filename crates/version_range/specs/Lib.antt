@@ -1,3 +1,4 @@
 pub mod Examples
 pub mod Cuts
 pub mod Version
+pub mod Print

@@ -6,9 +6,11 @@ mod cuts;
 mod interval;
 mod merge;
 mod number;
+mod print;
 mod version;
 
 pub use cuts::Cuts;
+pub use print::print_range;
 pub use version::{print_version, read_version};
 
 #[cfg(test)]

@@ -1,7 +1,7 @@
 ghost use Rattle.std.specs.Prelude.{◌≡◌, true, IsTrue, IfOk};
 ghost use Rattle.version_range.specs.Version.{is_version, has_versions};
 
-use crate::{Cuts, print_version, read_version};
+use crate::{Cuts, print_range, print_version, read_version};
 use plan_types::{Boxed, Cause, NoMemory, Range, TextFault, Version};
 use std::alloc::Global;
 use std::test::Fail;
@@ -191,5 +191,69 @@ fn a_chain_of_ten_thousand(rt: HostRuntime) -> Result<(), Fail> {
     let v = version(alloc, "0.5")?;
     assert!(rt; range.has(&v));
     assert!(rt; Cuts::of(alloc, &range)?.has(&v));
+    assert_eq!(rt; print_range(alloc, &range)?.as_bytes().len(), 5 + 10000 * 11);
+    Ok(())
+}
+
+// Two operands, joined by `&&` or by `||`.
+fn pair(alloc: Global, low: &str, high: &str, is_both: bool) -> Result<Range, TextFault>
+    ensures { IfOk result (λ r. has_versions r ≡ true) }
+{
+    let low = Range::Above(version(alloc, low)?);
+    let high = Range::Prefix(version(alloc, high)?);
+    if is_both {
+        Ok(both(alloc, low, high)?)
+    } else {
+        Ok(either(alloc, low, high)?)
+    }
+}
+
+fn pairs(
+    alloc: Global,
+    is_left_both: bool,
+    is_both: bool,
+    is_right_both: bool,
+) -> Result<Range, TextFault> {
+    let left = pair(alloc, "1", "2", is_left_both)?;
+    let right = pair(alloc, "3", "4", is_right_both)?;
+    if is_both {
+        Ok(both(alloc, left, right)?)
+    } else {
+        Ok(either(alloc, left, right)?)
+    }
+}
+
+#[test]
+fn parentheses_stand_where_grouping_needs_them(rt: HostRuntime) -> Result<(), Fail> {
+    let cases = [
+        (true, true, true, ">1 && ==2.* && (>3 && ==4.*)"),
+        (true, true, false, ">1 && ==2.* && (>3 || ==4.*)"),
+        (true, false, true, ">1 && ==2.* || >3 && ==4.*"),
+        (true, false, false, ">1 && ==2.* || (>3 || ==4.*)"),
+        (false, true, true, "(>1 || ==2.*) && (>3 && ==4.*)"),
+        (false, true, false, "(>1 || ==2.*) && (>3 || ==4.*)"),
+        (false, false, true, ">1 || ==2.* || >3 && ==4.*"),
+        (false, false, false, ">1 || ==2.* || (>3 || ==4.*)"),
+    ];
+    for (is_left_both, is_both, is_right_both, text) in cases {
+        let range = pairs(rt.alloc(), is_left_both, is_both, is_right_both)?;
+        assert_eq!(rt; print_range(rt.alloc(), &range)?.as_str(), text);
+    }
+    Ok(())
+}
+
+#[test]
+fn each_operator_is_printed(rt: HostRuntime) -> Result<(), Fail> {
+    let alloc = rt.alloc();
+    let texts = ["==1", "==1.*", ">=1", ">1", "<=1", "<1", "^>=1"];
+    let mut which = 0;
+    for text in texts {
+        let range = operator(which, version(alloc, "1")?);
+        assert_eq!(rt; print_range(alloc, &range)?.as_str(), text);
+        which += 1;
+    }
+    assert_eq!(rt; print_range(alloc, &Range::Any)?.as_str(), "-any");
+    assert_eq!(rt; print_range(alloc, &Range::Nothing)?.as_str(), "-none");
+    assert_eq!(rt; print_range(alloc, &worked(alloc)?)?.as_str(), ">=2 && <2.1 || ^>=1.2");
     Ok(())
 }
