@@ -5,3 +5,4 @@ pub mod Numbers
 pub mod Operators
 pub mod Relaxing
 pub mod Printed
+pub mod Chains

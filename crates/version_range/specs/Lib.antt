@@ -2,3 +2,4 @@ pub mod Examples
 pub mod Cuts
 pub mod Version
 pub mod Print
+pub mod Read

@@ -132,7 +132,12 @@ fn open(text: &mut Text, rests: &mut Vec<Rest>) -> Result<(), NoMemory>
     Ok(())
 }
 
-fn push_compared(alloc: Global, text: &mut Text, operator: &str, x: &Version) -> Result<(), NoMemory>
+fn push_compared(
+    alloc: Global,
+    text: &mut Text,
+    operator: &str,
+    x: &Version,
+) -> Result<(), NoMemory>
     ensures { OnOk result (text.new ≡ text.old ++ operator.now ++ version_text x.now.parts) }
 {
     text.push_str(operator)?;
