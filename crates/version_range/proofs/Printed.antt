@@ -1,9 +1,8 @@
 -- What is put aside while a range is printed.
-use Rattle.std.proofs.Common.{◌≡◌, ℕ, ◌<◌, codes, List, [], ◌∷◌, ◌++◌, Option, Some, None, sym, ap, ◌∙◌, append_assoc, subst, arith}
+use Rattle.std.proofs.Common.{◌≡◌, ℕ, ◌<◌, codes, List, [], ◌∷◌, ◌++◌, sym, ap, ◌∙◌, append_assoc, subst, arith}
 use Rattle.std.specs.List.{All}
-use Rattle.std.specs.Option.{option_to_list}
 use Rattle.std.proofs.lemmas.List.{append-nil}
-use Rattle.std.proofs.lemmas.List.Elements.{All-pop, All-push}
+use Rattle.std.proofs.lemmas.List.Elements.{All-push}
 use Rattle.plan_types.specs.declared.range.Range.{Range, size-Range}
 use Rattle.plan_types.specs.declared.range.Range.TheOpen as layer
 use Rattle.plan_types.specs.declared.range.Range.TheFolds.{fold-roll-Range}
@@ -12,7 +11,7 @@ use Rattle.plan_types.specs.declared.range.Range.TheViews.{sized-Both, sized-Eit
 use Rattle.version_range.specs.declared.print.Place.{Place}
 use Rattle.version_range.specs.declared.print.Place.TheVariants.{Whole, Term, Factor}
 use Rattle.version_range.specs.declared.print.Rest.{Rest}
-use Rattle.version_range.specs.declared.print.Rest.TheVariants.{Close, And, Or}
+use Rattle.version_range.specs.declared.print.Rest.TheVariants.{Close}
 use Rattle.version_range.specs.Print.{text_in, text_step, as_term, as_whole, rest_text, rests_text, IsSmaller, Opens, enclosed}
 
 rests_push : (rests : List Rest) (rest : Rest) → rests_text (rests ++ rest ∷ []) ≡ rest_text rest ++ rests_text rests

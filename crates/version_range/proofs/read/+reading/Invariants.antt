@@ -1,4 +1,4 @@
-use Rattle.std.proofs.Common.{◌≡◌, ◌≤◌, ◌+◌, ◌*◌, length}
+use Rattle.std.proofs.Common.{◌≤◌, ◌+◌, ◌*◌, length}
 use Rattle.plan_types.specs.declared.range.Range.TheVariants.{Both, Either}
 use Rattle.version_range.specs.Read.{factor_at, term_at, inside, next_at, skip_blanks, chain}
 use Rattle.version_range.proofs.Chains.{Goes}

@@ -1,4 +1,4 @@
-use Rattle.std.proofs.Common.{◌≡◌, ◌≤◌, ◌+◌, length}
+use Rattle.std.proofs.Common.{◌≤◌, ◌+◌, length}
 use Rattle.plan_types.specs.declared.range.Range.TheVariants.{Either}
 use Rattle.version_range.specs.Read.{next_member, chain}
 use Rattle.version_range.proofs.Chains.{Goes}

@@ -1,4 +1,4 @@
-use Rattle.std.proofs.Common.{◌≡◌, ◌≤◌, ◌+◌, length}
+use Rattle.std.proofs.Common.{◌≤◌, ◌+◌, length}
 use Rattle.version_range.specs.Read.{followed, next_number, chain}
 use Rattle.version_range.proofs.Chains.{Goes}
 use Rattle.version_range.proofs.read.numbers_after.Given as goal
