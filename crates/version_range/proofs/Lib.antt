@@ -4,3 +4,5 @@ pub mod Joined
 pub mod Numbers
 pub mod Operators
 pub mod Relaxing
+pub mod Printed
+pub mod Chains

@@ -12,6 +12,7 @@ use Rattle.std.proofs.lemmas.Bool.{false≢true, and_parts, and_from, ltb-true, 
 use Rattle.std.specs.Prelude.{nat_lt}
 use Rattle.std.proofs.lemmas.Str.Parse.{IsNumeralModel, numerals_by_fold, digits_value_short, tells_all_ascii_digits}
 use Rattle.std.proofs.lemmas.Fmt.{digits_decimal, decimal-digits_value, decimal_injective, decimal_nonempty, length-decimal-le, first_decimal, decimal_digit}
+use Rattle.version_range.specs.Read.{digits_in}
 use Rattle.version_range.specs.Version.{IsNumber, IsVersion, is_version, version_text, led_by_points, begins_with_digit, number_after}
 
 own : IsNumeralModel (λ ds. all_ascii_digits ds ≡ true) (number_after 0)
@@ -214,3 +215,11 @@ pub version_to : (ps : List ℕ) → IsVersion ps → is_version ps ≡ true
 version_to [] h = absurd h
 version_to (n ∷ []) h = lt-ltb n (10 ^ 9) h
 version_to (n ∷ m ∷ ns) h = and_from (nat_lt n (10 ^ 9)) (is_version (m ∷ ns)) (lt-ltb n (10 ^ 9) h.0) (version_to (m ∷ ns) h.1)
+
+pub count_is : (bs : List ℕ) (n : ℕ) → n ≤ length bs → all_ascii_digits (take n bs) ≡ true → begins_with_digit (drop n bs) ≡ false → n ≡ digits_in bs
+count_is [] n le all end = omega (arith, le)
+count_is (b ∷ bs) zero le all end = rw end refl
+count_is (b ∷ bs) (suc n) le all end =
+    let d = digit_front b (take n bs) all in
+    let k = count_is bs n (omega (arith, le)) d.1 end in
+    rw (digit_test b d.0) (omega (arith, k))

@@ -1,3 +1,5 @@
 pub mod Examples
 pub mod Cuts
 pub mod Version
+pub mod Print
+pub mod Read

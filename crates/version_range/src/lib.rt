@@ -2,13 +2,19 @@
 //! which a planner asks.
 #![tactic(auto)]
 
+mod bytes;
 mod cuts;
 mod interval;
 mod merge;
 mod number;
+mod operator;
+mod print;
+mod read;
 mod version;
 
 pub use cuts::Cuts;
+pub use print::print_range;
+pub use read::read_range;
 pub use version::{print_version, read_version};
 
 #[cfg(test)]

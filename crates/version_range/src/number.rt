@@ -1,6 +1,7 @@
 ghost use Rattle.std.specs.Prelude.{◌≡◌, ◌≢◌, ◌∷◌, ◌<◌, ◌≤◌, ◌++◌, ◌↔◌, ℕ, List, IsTrue, IfSome, IfNone, true, false, length, take, drop, slice_index};
 ghost use Rattle.std.specs.Fmt.{decimal};
 ghost use Rattle.std.specs.Str.{all_ascii_digits};
+ghost use Rattle.version_range.specs.Read.{digits_in, is_number};
 ghost use Rattle.version_range.specs.Version.{IsNumber, begins_with_digit, number_after};
 
 /// The number at the front, and what follows it. A number has one to nine digits and no leading zero
@@ -31,6 +32,15 @@ pub fn strip_byte(text: &[u8], byte: u8) -> Option<&[u8]>
     }
 }
 
+/// How many digits are at the front.
+pub fn front_digits(text: &[u8]) -> usize
+    ensures count { result ≡ digits_in text.now }
+    ensures within { result ≤ length text.now }
+    ensures digits { all_ascii_digits (take result text.now) ≡ true }
+{
+    digit_count(text)
+}
+
 fn digit_count(text: &[u8]) -> usize
     ensures within { result ≤ length text.now }
     ensures digits { all_ascii_digits (take result text.now) ≡ true }
@@ -44,8 +54,9 @@ fn digit_count(text: &[u8]) -> usize
     text.len()
 }
 
-fn is_number(digits: &[u8]) -> bool
-    ensures { IsTrue result ↔ ((0 < length digits.now) × (length digits.now ≤ 9)
+pub fn is_number(digits: &[u8]) -> bool
+    ensures test { result ≡ is_number digits.now }
+    ensures form { IsTrue result ↔ ((0 < length digits.now) × (length digits.now ≤ 9)
         × (slice_index digits.now 0 ≡ 48 → length digits.now ≡ 1)) }
 {
     match digits {
@@ -55,7 +66,7 @@ fn is_number(digits: &[u8]) -> bool
     }
 }
 
-fn number_of(digits: &[u8]) -> u32
+pub fn number_of(digits: &[u8]) -> u32
     requires digits { all_ascii_digits digits.now ≡ true }
     requires short { length digits.now ≤ 9 }
     ensures { result ≡ number_after 0 digits.now }

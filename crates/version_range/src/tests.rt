@@ -1,8 +1,8 @@
 ghost use Rattle.std.specs.Prelude.{◌≡◌, true, IsTrue, IfOk};
 ghost use Rattle.version_range.specs.Version.{is_version, has_versions};
 
-use crate::{Cuts, print_version, read_version};
-use plan_types::{Boxed, Cause, NoMemory, Range, TextFault, Version};
+use crate::{Cuts, print_range, print_version, read_range, read_version};
+use plan_types::{Boxed, Cause, NoMemory, Range, Spec, Text, TextFault, Version};
 use std::alloc::Global;
 use std::test::Fail;
 
@@ -191,5 +191,200 @@ fn a_chain_of_ten_thousand(rt: HostRuntime) -> Result<(), Fail> {
     let v = version(alloc, "0.5")?;
     assert!(rt; range.has(&v));
     assert!(rt; Cuts::of(alloc, &range)?.has(&v));
+    assert_eq!(rt;
+        print_range(alloc, &range)?.as_bytes().len(),
+        5 + 10000 * 11
+    );
+    Ok(())
+}
+
+// Two operands, joined by `&&` or by `||`.
+fn pair(alloc: Global, low: &str, high: &str, is_both: bool) -> Result<Range, TextFault>
+    ensures { IfOk result (λ r. has_versions r ≡ true) }
+{
+    let low = Range::Above(version(alloc, low)?);
+    let high = Range::Prefix(version(alloc, high)?);
+    if is_both {
+        Ok(both(alloc, low, high)?)
+    } else {
+        Ok(either(alloc, low, high)?)
+    }
+}
+
+fn pairs(
+    alloc: Global,
+    is_left_both: bool,
+    is_both: bool,
+    is_right_both: bool,
+) -> Result<Range, TextFault> {
+    let left = pair(alloc, "1", "2", is_left_both)?;
+    let right = pair(alloc, "3", "4", is_right_both)?;
+    if is_both {
+        Ok(both(alloc, left, right)?)
+    } else {
+        Ok(either(alloc, left, right)?)
+    }
+}
+
+#[test]
+fn parentheses_stand_where_grouping_needs_them(rt: HostRuntime) -> Result<(), Fail> {
+    let cases = [
+        (true, true, true, ">1 && ==2.* && (>3 && ==4.*)"),
+        (true, true, false, ">1 && ==2.* && (>3 || ==4.*)"),
+        (true, false, true, ">1 && ==2.* || >3 && ==4.*"),
+        (true, false, false, ">1 && ==2.* || (>3 || ==4.*)"),
+        (false, true, true, "(>1 || ==2.*) && (>3 && ==4.*)"),
+        (false, true, false, "(>1 || ==2.*) && (>3 || ==4.*)"),
+        (false, false, true, ">1 || ==2.* || >3 && ==4.*"),
+        (false, false, false, ">1 || ==2.* || (>3 || ==4.*)"),
+    ];
+    for (is_left_both, is_both, is_right_both, text) in cases {
+        let range = pairs(rt.alloc(), is_left_both, is_both, is_right_both)?;
+        assert_eq!(rt; print_range(rt.alloc(), &range)?.as_str(), text);
+    }
+    Ok(())
+}
+
+#[test]
+fn each_operator_is_printed(rt: HostRuntime) -> Result<(), Fail> {
+    let alloc = rt.alloc();
+    let cases = [
+        (0, "==1"),
+        (1, "==1.*"),
+        (2, ">=1"),
+        (3, ">1"),
+        (4, "<=1"),
+        (5, "<1"),
+        (6, "^>=1"),
+    ];
+    for (which, text) in cases {
+        let range = operator(which, version(alloc, "1")?);
+        assert_eq!(rt; print_range(alloc, &range)?.as_str(), text);
+    }
+    assert_eq!(rt; print_range(alloc, &Range::Any)?.as_str(), "-any");
+    assert_eq!(rt; print_range(alloc, &Range::Nothing)?.as_str(), "-none");
+    assert_eq!(rt;
+        print_range(alloc, &worked(alloc)?)?.as_str(),
+        ">=2 && <2.1 || ^>=1.2"
+    );
+    Ok(())
+}
+
+fn reprinted(alloc: Global, text: &str, spec: Spec) -> Result<Text, TextFault> {
+    let range = read_range(alloc, text.as_bytes(), spec)?;
+    Ok(print_range(alloc, &range)?)
+}
+
+#[test]
+fn ranges_are_read(rt: HostRuntime) -> Result<(), Fail> {
+    let cases = [
+        ("", "-any"),
+        (" \t", "-any"),
+        ("-any", "-any"),
+        ("-none", "-none"),
+        ("==1.2", "==1.2"),
+        ("==1.2.*", "==1.2.*"),
+        (">=1.2", ">=1.2"),
+        ("> 1.2", ">1.2"),
+        ("<=\t1.2", "<=1.2"),
+        ("<1.2", "<1.2"),
+        ("^>=999999999", "^>=999999999"),
+        (">=2&&<2.1 || ^>=1.2", ">=2 && <2.1 || ^>=1.2"),
+        (">1&&>2&&>3", ">1 && >2 && >3"),
+        (">1&&(>2&&>3)", ">1 && (>2 && >3)"),
+        ("(>1||>2)&&>3", "(>1 || >2) && >3"),
+        ("((>1))", ">1"),
+        ("=={1,2}", "==1 || ==2"),
+        ("=={ 1 , 2.0 , 3}", "==1 || ==2.0 || ==3"),
+        ("^>= {1}", "^>=1"),
+    ];
+    for (text, printed) in cases {
+        assert_eq!(rt;
+            reprinted(rt.alloc(), text, Spec::V3_0)?.as_str(),
+            printed,
+            "{text}"
+        );
+    }
+    Ok(())
+}
+
+fn fault_of(alloc: Global, text: &str, spec: Spec) -> Option<TextFault> {
+    read_range(alloc, text.as_bytes(), spec).err()
+}
+
+#[test]
+fn the_first_fault_is_named(rt: HostRuntime) -> Result<(), Fail> {
+    let cases = [
+        ("=={1,2}", Spec::V2_4, Cause::NeedsVersion),
+        (">=1 {", Spec::V2_4, Cause::NeedsVersion),
+        (">=1 {", Spec::V3_0, Cause::BadRange),
+        (">={1}", Spec::V3_0, Cause::BadVersion),
+        ("=={}", Spec::V3_0, Cause::BadVersion),
+        ("=={1.*}", Spec::V3_0, Cause::BadVersion),
+        ("=={1", Spec::V3_0, Cause::BadRange),
+        (">=", Spec::V3_0, Cause::BadVersion),
+        (">=1.", Spec::V3_0, Cause::BadVersion),
+        (">=1.01", Spec::V3_0, Cause::BadVersion),
+        (">=1000000000", Spec::V3_0, Cause::BadVersion),
+        (">=1.*", Spec::V3_0, Cause::BadVersion),
+        (">(", Spec::V3_0, Cause::BadVersion),
+        (">=1 >=2", Spec::V3_0, Cause::BadRange),
+        (">=1 & >2", Spec::V3_0, Cause::BadRange),
+        (">=1 &&", Spec::V3_0, Cause::BadRange),
+        ("=1", Spec::V3_0, Cause::BadRange),
+        ("^1", Spec::V3_0, Cause::BadRange),
+        ("1", Spec::V3_0, Cause::BadRange),
+        ("-and", Spec::V3_0, Cause::BadRange),
+        ("==1.*.*", Spec::V3_0, Cause::BadRange),
+        ("(>1", Spec::V3_0, Cause::BadRange),
+        (">1)", Spec::V3_0, Cause::BadRange),
+    ];
+    for (text, spec, cause) in cases {
+        let fault = fault_of(rt.alloc(), text, spec);
+        assert_eq!(rt; fault, Some(TextFault::Bad(cause)), "{text}");
+    }
+    Ok(())
+}
+
+fn nested(alloc: Global, depth: u32) -> Result<Text, NoMemory> {
+    let mut text = Text::new(alloc);
+    for _ in 0..depth {
+        text.push_str("(")?;
+    }
+    text.push_str(">=1")?;
+    for _ in 0..depth {
+        text.push_str(")")?;
+    }
+    Ok(text)
+}
+
+#[test]
+fn sixty_four_parentheses(rt: HostRuntime) -> Result<(), Fail> {
+    let alloc = rt.alloc();
+    assert_eq!(rt;
+        reprinted(alloc, nested(alloc, 64)?.as_str(), Spec::V2_4)?.as_str(),
+        ">=1"
+    );
+    let fault = fault_of(alloc, nested(alloc, 65)?.as_str(), Spec::V2_4);
+    assert_eq!(rt; fault, Some(TextFault::Bad(Cause::TooDeep)));
+    Ok(())
+}
+
+fn long_text(alloc: Global, count: u32) -> Result<Text, NoMemory> {
+    let mut text = Text::from_str(alloc, "==0.5")?;
+    for _ in 0..count {
+        text.push_str(" || ==7.3.*")?;
+    }
+    Ok(text)
+}
+
+#[test]
+fn a_chain_of_ten_thousand_is_read(rt: HostRuntime) -> Result<(), Fail> {
+    let alloc = rt.alloc();
+    let text = long_text(alloc, 10000)?;
+    assert_eq!(rt;
+        reprinted(alloc, text.as_str(), Spec::V2_4)?.as_str(),
+        text.as_str()
+    );
     Ok(())
 }

@@ -1,0 +1,14 @@
+use Rattle.std.proofs.Common.{◌≤◌, ◌+◌, length}
+use Rattle.version_range.specs.Read.{followed, next_number, chain}
+use Rattle.version_range.proofs.Chains.{Goes}
+use Rattle.version_range.proofs.read.numbers_after.Given as goal
+
+-- the numbers so far go on to the whole
+abbrev pub invariant-loop-number : goal.invariant-loop-number
+invariant-loop-number l = record {
+  goes : Goes followed (next_number l.fn.star l.fn.spec) l.parts l.rest (chain followed (next_number l.fn.star l.fn.spec) (length l.text + 1) l.fn.parts l.text);
+  within : length l.rest ≤ length l.text;
+}
+
+abbrev pub decreases-loop-number : goal.decreases-loop-number
+decreases-loop-number l = length l.rest

@@ -1,0 +1,65 @@
+-- The text of a range.
+use Rattle.std.specs.Prelude.{◌≡◌, ℕ, ◌<◌, List, [], ◌∷◌, ◌++◌, codes}
+use Rattle.plan_types.specs.declared.range.Range.{Range, size-Range}
+use Rattle.plan_types.specs.declared.range.Range.TheOpen.{Range-F, Any, Nothing, Equal, Prefix, AtLeast, Above, AtMost, Below, Major, Both, Either}
+use Rattle.plan_types.specs.declared.range.Range.TheFolds.{fold-Range}
+use Rattle.version_range.specs.declared.print.Place.{Place}
+use Rattle.version_range.specs.declared.print.Place.TheVariants.{Whole, Term, Factor}
+use Rattle.version_range.specs.declared.print.Rest.{Rest}
+use Rattle.version_range.specs.declared.print.Rest.TheVariants.{Close, And, Or}
+use Rattle.version_range.specs.Version.{version_text}
+
+abbrev pub enclosed : List ℕ → List ℕ
+enclosed text = 40 ∷ (text ++ 41 ∷ [])
+
+-- What `&&` joins is a term, and what `||` joins is a whole range. Each is a factor in parentheses.
+abbrev pub as_term : Place → List ℕ → List ℕ
+as_term Whole text = text
+as_term Term text = text
+as_term Factor text = enclosed text
+
+abbrev pub as_whole : Place → List ℕ → List ℕ
+as_whole Whole text = text
+as_whole Term text = enclosed text
+as_whole Factor text = enclosed text
+
+-- one layer of a range, with the texts that its parts have in each place
+abbrev pub text_step : Range-F (Place → List ℕ) → Place → List ℕ
+text_step Any place = codes "-any"
+text_step Nothing place = codes "-none"
+text_step (Equal x) place = codes "==" ++ version_text x.parts
+text_step (Prefix x) place = codes "==" ++ version_text x.parts ++ codes ".*"
+text_step (AtLeast x) place = codes ">=" ++ version_text x.parts
+text_step (Above x) place = codes ">" ++ version_text x.parts
+text_step (AtMost x) place = codes "<=" ++ version_text x.parts
+text_step (Below x) place = codes "<" ++ version_text x.parts
+text_step (Major x) place = codes "^>=" ++ version_text x.parts
+text_step (Both left right) place = as_term place (left Term ++ codes " && " ++ right Factor)
+text_step (Either left right) place = as_whole place (left Whole ++ codes " || " ++ right Term)
+
+abbrev pub text_in : Range → Place → List ℕ
+text_in = fold-Range (Place → List ℕ) text_step
+
+-- Chains group from the left, so a right side of its parent's kind stands in parentheses.
+abbrev pub range_text : Range → List ℕ
+range_text range = text_in range Whole
+
+-- what follows the left side of a text
+abbrev pub rest_text : Rest → List ℕ
+rest_text Close = codes ")"
+rest_text (And right) = codes " && " ++ text_in right.now Factor
+rest_text (Or right) = codes " || " ++ text_in right.now Term
+
+-- the last comes first
+abbrev pub rests_text : List Rest → List ℕ
+rests_text [] = []
+rests_text (rest ∷ rests) = rests_text rests ++ rest_text rest
+
+abbrev pub IsSmaller : Range → Rest → Type 0
+IsSmaller range Close = Unit {0}
+IsSmaller range (And right) = size-Range right.now < size-Range range
+IsSmaller range (Or right) = size-Range right.now < size-Range range
+
+-- what is written next is put into place
+abbrev pub Opens : (List ℕ → List ℕ) → List ℕ → List Rest → List ℕ → List Rest → Type 0
+Opens placed text rests new-text new-rests = (body : List ℕ) → (new-text ++ body) ++ rests_text new-rests ≡ (text ++ placed body) ++ rests_text rests

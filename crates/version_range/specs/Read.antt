@@ -1,0 +1,207 @@
+-- Reading a range from left to right, with the fault of the first byte at which no reading goes on.
+use Rattle.std.specs.Prelude.{◌≡◌, ◌+◌, ℕ, zero, suc, Bool, true, false, not, ◌&&◌, ◌||◌, ◌==◌, nat_le, if◌then◌else◌, List, [], ◌∷◌, ◌++◌, length, take, drop, Option, Some, None, Result, Ok, Err}
+use Rattle.std.specs.Char.{is_ascii_digit}
+use Rattle.plan_types.specs.declared.range.Range.{Range}
+use Rattle.plan_types.specs.declared.range.Range.TheVariants as ranges
+use Rattle.plan_types.specs.declared.range.Spec.{Spec}
+use Rattle.plan_types.specs.declared.range.Spec.TheVariants.{V2_4, V3_0}
+use Rattle.plan_types.specs.declared.version.Version.{Version}
+use Rattle.plan_types.specs.declared.refusal.Cause.{Cause}
+use Rattle.plan_types.specs.declared.refusal.Cause.TheVariants.{BadVersion, BadRange, NeedsVersion, TooDeep}
+use Rattle.plan_types.specs.declared.refusal.TextFault.{TextFault}
+use Rattle.plan_types.specs.declared.refusal.TextFault.TheVariants.{NoMemory, Bad}
+use Rattle.version_range.specs.declared.operator.Operator.{Operator}
+use Rattle.version_range.specs.declared.operator.Operator.TheVariants.{Equal, AtLeast, Above, AtMost, Below, Major}
+use Rattle.version_range.specs.Version.{number_after}
+
+infixl 10 ◌>>=◌
+abbrev pub ◌>>=◌ : {A B : Type 0} → Result A Cause → (A → Result B Cause) → Result B Cause
+(Ok x) >>= f = f x
+(Err cause) >>= f = Err cause
+
+-- what a call answered is what reading gives, unless memory was wanting
+abbrev pub Fails : {B : Type 0} → TextFault → Result B Cause → Type 0
+Fails NoMemory read = Unit {0}
+Fails (Bad cause) read = read ≡ Err cause
+
+abbrev pub Gives : {A B : Type 0} → (A → B) → Result A TextFault → Result B Cause → Type 0
+Gives view (Ok x) read = read ≡ Ok (view x)
+Gives view (Err fault) read = Fails fault read
+
+-- without the spaces and tabs at the front
+abbrev pub skip_blanks : List ℕ → List ℕ
+skip_blanks [] = []
+skip_blanks (b ∷ bs) = if b == 32 || b == 9 then skip_blanks bs else b ∷ bs
+
+-- what follows the byte, where it is the first
+abbrev pub byte_after : ℕ → List ℕ → Option (List ℕ)
+byte_after byte [] = None
+byte_after byte (b ∷ bs) = if b == byte then Some bs else None
+
+abbrev pub begins_with : ℕ → List ℕ → Bool
+begins_with byte [] = false
+begins_with byte (b ∷ bs) = b == byte
+
+abbrev pub is_old : Spec → Bool
+is_old V2_4 = true
+is_old V3_0 = false
+
+-- the cause at the byte that comes first in what is left
+abbrev pub cause_at : Spec → Cause → List ℕ → Cause
+cause_at spec cause rest = if is_old spec && begins_with 123 rest then NeedsVersion else cause
+
+-- how many digits are at the front
+abbrev pub digits_in : List ℕ → ℕ
+digits_in [] = 0
+digits_in (b ∷ bs) = if is_ascii_digit b then digits_in bs + 1 else 0
+
+-- one to nine digits, and no leading zero unless it is `0`
+abbrev pub is_number : List ℕ → Bool
+is_number [] = false
+is_number (b ∷ []) = true
+is_number (b ∷ c ∷ bs) = not (b == 48) && nat_le (length (b ∷ c ∷ bs)) 9
+
+unfoldable pub number_at : Spec → List ℕ → Result (ℕ × List ℕ) Cause
+number_at spec text =
+    if is_number (take (digits_in text) text) then Ok (number_after 0 (take (digits_in text) text), drop (digits_in text) text)
+    else Err (cause_at spec BadVersion text)
+
+-- Parts, each joined to those before it, up to where none follows. Each takes bytes, so there are at most n.
+unfoldable pub chain : {A B : Type 0} → (A → B → A) → (List ℕ → Result (Option (B × List ℕ)) Cause) → ℕ → A → List ℕ → Result (A × List ℕ) Cause
+chain join next zero left rest = Ok (left, rest)
+chain join next (suc n) left rest = next rest >>= λ found. elim found [ None ↦ Ok (left, rest) | Some p ↦ chain join next n (join left p.0) p.1 ]
+
+abbrev pub chained : {A B : Type 0} → (A → B → A) → (List ℕ → Result (Option (B × List ℕ)) Cause) → A × List ℕ → Result (A × List ℕ) Cause
+chained join next first = chain join next (length first.1 + 1) first.0 first.1
+
+abbrev pub followed : List ℕ → ℕ → List ℕ
+followed numbers number = numbers ++ number ∷ []
+
+-- the number behind a point; where a star may end the version, none is behind `.*`
+unfoldable pub next_number : Bool → Spec → List ℕ → Result (Option (ℕ × List ℕ)) Cause
+next_number star spec text =
+    elim (byte_after 46 text) [
+      | None ↦ Ok None
+      | Some more ↦ if star && begins_with 42 more then Ok None else number_at spec more >>= λ p. Ok (Some p)
+    ]
+
+unfoldable pub version_at : Bool → Spec → List ℕ → Result (Version × List ℕ) Cause
+version_at star spec text = do
+  first ← number_at spec text
+  all ← chained followed (next_number star spec) (first.0 ∷ [], first.1)
+  Ok (record { parts = all.0 }, all.1)
+
+-- the range of an operator and its version
+abbrev pub of_version : Operator → Version → Range
+of_version Equal v = ranges.Equal v
+of_version AtLeast v = ranges.AtLeast v
+of_version Above v = ranges.Above v
+of_version AtMost v = ranges.AtMost v
+of_version Below v = ranges.Below v
+of_version Major v = ranges.Major v
+
+abbrev pub byte_due : Spec → ℕ → List ℕ → Result (List ℕ) Cause
+byte_due spec byte text = elim (byte_after byte text) [ None ↦ Err (cause_at spec BadRange text) | Some rest ↦ Ok rest ]
+
+-- where a second byte makes another operator
+abbrev pub either_at : Operator → Operator → List ℕ → Operator × List ℕ
+either_at long short text = elim (byte_after 61 text) [ None ↦ (short, text) | Some rest ↦ (long, rest) ]
+
+unfoldable pub operator_at : Spec → List ℕ → Result (Operator × List ℕ) Cause
+operator_at spec text =
+    elim (byte_after 62 text) [
+      | Some rest ↦ Ok (either_at AtLeast Above rest)
+      | None ↦ elim (byte_after 60 text) [
+        | Some rest ↦ Ok (either_at AtMost Below rest)
+        | None ↦ elim (byte_after 94 text) [
+          | Some rest ↦ byte_due spec 62 rest >>= λ more. byte_due spec 61 more >>= λ behind. Ok (Major, behind)
+          | None ↦ byte_due spec 61 text >>= λ more. byte_due spec 61 more >>= λ behind. Ok (Equal, behind)
+        ]
+      ]
+    ]
+
+-- a version that a set has behind a comma
+unfoldable pub next_member : Operator → Spec → List ℕ → Result (Option (Range × List ℕ)) Cause
+next_member op spec text =
+    elim (byte_after 44 (skip_blanks text)) [
+      | None ↦ Ok None
+      | Some more ↦ version_at false spec (skip_blanks more) >>= λ p. Ok (Some (of_version op p.0, p.1))
+    ]
+
+-- a set, behind its opening brace
+unfoldable pub set_at : Operator → Spec → List ℕ → Result (Range × List ℕ) Cause
+set_at op spec text = do
+  first ← version_at false spec (skip_blanks text)
+  all ← chained ranges.Either (next_member op spec) (of_version op first.0, first.1)
+  rest ← byte_due spec 125 (skip_blanks all.1)
+  Ok (all.0, rest)
+
+-- a version, or its front and `.*`
+unfoldable pub equal_at : Spec → List ℕ → Result (Range × List ℕ) Cause
+equal_at spec text = do
+  v ← version_at true spec text
+  elim (byte_after 46 v.1) [ None ↦ Ok (ranges.Equal v.0, v.1) | Some more ↦ byte_due spec 42 more >>= λ rest. Ok (ranges.Prefix v.0, rest) ]
+
+unfoldable pub compared_at : Operator → Spec → List ℕ → Result (Range × List ℕ) Cause
+compared_at op spec text = version_at false spec text >>= λ v. Ok (of_version op v.0, v.1)
+
+abbrev pub has_sets : Operator → Spec → Bool
+has_sets Equal V3_0 = true
+has_sets Major V3_0 = true
+has_sets op spec = false
+
+-- what stands behind an operator
+unfoldable pub operand_at : Operator → Spec → List ℕ → Result (Range × List ℕ) Cause
+operand_at op spec text =
+    if has_sets op spec && begins_with 123 text then byte_due spec 123 text >>= set_at op spec
+    else elim op [
+      | Equal ↦ equal_at spec text
+      | AtLeast ↦ compared_at AtLeast spec text
+      | Above ↦ compared_at Above spec text
+      | AtMost ↦ compared_at AtMost spec text
+      | Below ↦ compared_at Below spec text
+      | Major ↦ compared_at Major spec text
+    ]
+
+-- `any` or `none`
+unfoldable pub word_at : Spec → List ℕ → Result (Range × List ℕ) Cause
+word_at spec text =
+    elim (byte_after 97 text) [
+      | Some any ↦ byte_due spec 110 any >>= λ a. byte_due spec 121 a >>= λ rest. Ok (ranges.Any, rest)
+      | None ↦ byte_due spec 110 text >>= λ a. byte_due spec 111 a >>= λ b. byte_due spec 110 b >>= λ c. byte_due spec 101 c >>= λ rest. Ok (ranges.Nothing, rest)
+    ]
+
+-- What stands in a parenthesis is read by inside.
+unfoldable pub factor_at : (List ℕ → Result (Range × List ℕ) Cause) → Spec → List ℕ → Result (Range × List ℕ) Cause
+factor_at inside spec text =
+    elim (byte_after 40 text) [
+      | Some rest ↦ inside rest >>= λ r. byte_due spec 41 (skip_blanks r.1) >>= λ behind. Ok (r.0, behind)
+      | None ↦ elim (byte_after 45 text) [
+        | Some rest ↦ word_at spec rest
+        | None ↦ operator_at spec text >>= λ op. operand_at op.0 spec (skip_blanks op.1)
+      ]
+    ]
+
+-- what stands behind `&&` or `||`, where its first byte is there
+abbrev pub behind : Spec → ℕ → List ℕ → Result (Option (List ℕ)) Cause
+behind spec byte text = elim (byte_after byte (skip_blanks text)) [ None ↦ Ok None | Some more ↦ byte_due spec byte more >>= λ rest. Ok (Some rest) ]
+
+abbrev pub next_at : (List ℕ → Result (Range × List ℕ) Cause) → Spec → ℕ → List ℕ → Result (Option (Range × List ℕ)) Cause
+next_at operand spec byte text = behind spec byte text >>= λ found. elim found [ None ↦ Ok None | Some rest ↦ operand rest >>= λ p. Ok (Some p) ]
+
+unfoldable pub term_at : (List ℕ → Result (Range × List ℕ) Cause) → Spec → List ℕ → Result (Range × List ℕ) Cause
+term_at inside spec text = factor_at inside spec (skip_blanks text) >>= chained ranges.Both (next_at (λ t. factor_at inside spec (skip_blanks t)) spec 38)
+
+unfoldable pub range_in : (List ℕ → Result (Range × List ℕ) Cause) → Spec → List ℕ → Result (Range × List ℕ) Cause
+range_in inside spec text = term_at inside spec text >>= chained ranges.Either (next_at (term_at inside spec) spec 124)
+
+-- a range in a parenthesis, where so many may still be opened
+unfoldable pub inside : ℕ → Spec → List ℕ → Result (Range × List ℕ) Cause
+inside zero spec text = Err TooDeep
+inside (suc n) spec text = range_in (inside n spec) spec text
+
+-- The whole text. At most 64 parentheses are open at any place.
+unfoldable pub range_of : Spec → List ℕ → Result Range Cause
+range_of spec text =
+    if length (skip_blanks text) == 0 then Ok ranges.Any
+    else range_in (inside 64 spec) spec text >>= λ r. (let rest = skip_blanks r.1 in if length rest == 0 then Ok r.0 else Err (cause_at spec BadRange rest))

@@ -1,0 +1,41 @@
+ghost use Rattle.std.specs.Prelude.{◌≡◌};
+ghost use Rattle.version_range.specs.Read.{of_version, has_sets};
+
+use plan_types::{Range, Spec, Version};
+
+/// How a version is compared.
+#[derive(Clone, Copy)]
+pub enum Operator {
+    Equal,
+    AtLeast,
+    Above,
+    AtMost,
+    Below,
+    Major,
+}
+
+impl Operator {
+    pub fn of_version(self, v: Version) -> Range
+        ensures { result ≡ of_version self v }
+    {
+        match self {
+            Operator::Equal => Range::Equal(v),
+            Operator::AtLeast => Range::AtLeast(v),
+            Operator::Above => Range::Above(v),
+            Operator::AtMost => Range::AtMost(v),
+            Operator::Below => Range::Below(v),
+            Operator::Major => Range::Major(v),
+        }
+    }
+
+    /// Whether a set may stand behind it.
+    pub fn has_sets(self, spec: Spec) -> bool
+        ensures { result ≡ has_sets self spec }
+    {
+        match (self, spec) {
+            (Operator::Equal, Spec::V3_0) => true,
+            (Operator::Major, Spec::V3_0) => true,
+            _ => false,
+        }
+    }
+}
