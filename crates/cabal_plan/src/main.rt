@@ -64,7 +64,9 @@ fn failed(rt: &impl Eprint, why: &str, code: u8) -> ExitCode {
     ExitCode::from(code)
 }
 
-fn not_text(rt: &impl Print) -> ExitCode {
-    let _ = println!(rt; "usage: cabal-plan plan or generate, with options");
-    ExitCode::from(64)
+fn not_text<R: Print + Eprint>(rt: &R) -> ExitCode {
+    match println!(rt; "usage: cabal-plan plan or generate, with options") {
+        Ok(()) => ended(rt, Status::Usage),
+        Err(_) => ended(rt, Status::WriteFault),
+    }
 }
