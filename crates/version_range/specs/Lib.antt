@@ -3,3 +3,4 @@ pub mod Cuts
 pub mod Version
 pub mod Print
 pub mod Read
+pub mod Grammar

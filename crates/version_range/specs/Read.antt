@@ -1,10 +1,9 @@
--- Reading a range from left to right, with the fault of the first byte at which no reading goes on.
+-- How a range is read from left to right. What a text stands for and which fault is the first is in Grammar.
 use Rattle.std.specs.Prelude.{◌≡◌, ◌+◌, ℕ, zero, suc, Bool, true, false, not, ◌&&◌, ◌||◌, ◌==◌, nat_le, if◌then◌else◌, List, [], ◌∷◌, ◌++◌, length, take, drop, Option, Some, None, Result, Ok, Err}
 use Rattle.std.specs.Char.{is_ascii_digit}
 use Rattle.plan_types.specs.declared.range.Range.{Range}
 use Rattle.plan_types.specs.declared.range.Range.TheVariants as ranges
 use Rattle.plan_types.specs.declared.range.Spec.{Spec}
-use Rattle.plan_types.specs.declared.range.Spec.TheVariants.{V2_4, V3_0}
 use Rattle.plan_types.specs.declared.version.Version.{Version}
 use Rattle.plan_types.specs.declared.refusal.Cause.{Cause}
 use Rattle.plan_types.specs.declared.refusal.Cause.TheVariants.{BadVersion, BadRange, NeedsVersion, TooDeep}
@@ -13,6 +12,7 @@ use Rattle.plan_types.specs.declared.refusal.TextFault.TheVariants.{NoMemory, Ba
 use Rattle.version_range.specs.declared.operator.Operator.{Operator}
 use Rattle.version_range.specs.declared.operator.Operator.TheVariants.{Equal, AtLeast, Above, AtMost, Below, Major}
 use Rattle.version_range.specs.Version.{number_after}
+use Rattle.version_range.specs.Grammar.{is_old, begins_with, of_version, has_sets}
 
 infixl 10 ◌>>=◌
 abbrev pub ◌>>=◌ : {A B : Type 0} → Result A Cause → (A → Result B Cause) → Result B Cause
@@ -37,14 +37,6 @@ skip_blanks (b ∷ bs) = if b == 32 || b == 9 then skip_blanks bs else b ∷ bs
 abbrev pub byte_after : ℕ → List ℕ → Option (List ℕ)
 byte_after byte [] = None
 byte_after byte (b ∷ bs) = if b == byte then Some bs else None
-
-abbrev pub begins_with : ℕ → List ℕ → Bool
-begins_with byte [] = false
-begins_with byte (b ∷ bs) = b == byte
-
-abbrev pub is_old : Spec → Bool
-is_old V2_4 = true
-is_old V3_0 = false
 
 -- the cause at the byte that comes first in what is left
 abbrev pub cause_at : Spec → Cause → List ℕ → Cause
@@ -91,15 +83,6 @@ version_at star spec text = do
   all ← chained followed (next_number star spec) (first.0 ∷ [], first.1)
   Ok (record { parts = all.0 }, all.1)
 
--- the range of an operator and its version
-abbrev pub of_version : Operator → Version → Range
-of_version Equal v = ranges.Equal v
-of_version AtLeast v = ranges.AtLeast v
-of_version Above v = ranges.Above v
-of_version AtMost v = ranges.AtMost v
-of_version Below v = ranges.Below v
-of_version Major v = ranges.Major v
-
 abbrev pub byte_due : Spec → ℕ → List ℕ → Result (List ℕ) Cause
 byte_due spec byte text = elim (byte_after byte text) [ None ↦ Err (cause_at spec BadRange text) | Some rest ↦ Ok rest ]
 
@@ -144,11 +127,6 @@ equal_at spec text = do
 
 unfoldable pub compared_at : Operator → Spec → List ℕ → Result (Range × List ℕ) Cause
 compared_at op spec text = version_at false spec text >>= λ v. Ok (of_version op v.0, v.1)
-
-abbrev pub has_sets : Operator → Spec → Bool
-has_sets Equal V3_0 = true
-has_sets Major V3_0 = true
-has_sets op spec = false
 
 -- what stands behind an operator
 unfoldable pub operand_at : Operator → Spec → List ℕ → Result (Range × List ℕ) Cause

@@ -1,7 +1,8 @@
 ghost use Rattle.std.specs.Prelude.{◌≡◌, ◌<◌, ◌≤◌, length, drop, take, IfOk, IfSome};
 ghost use Rattle.std.specs.Option.{option_copied};
 ghost use Rattle.plan_types.specs.declared.refusal.TextFault.TheVariants.{Bad};
-ghost use Rattle.version_range.specs.Read.{Gives, skip_blanks, byte_after, byte_due, begins_with, cause_at};
+ghost use Rattle.version_range.specs.Grammar.{begins_with};
+ghost use Rattle.version_range.specs.Read.{Gives, skip_blanks, byte_after, byte_due, cause_at};
 
 use plan_types::{Cause, Spec, TextFault};
 

@@ -1,5 +1,5 @@
 ghost use Rattle.std.specs.Prelude.{◌≡◌};
-ghost use Rattle.version_range.specs.Read.{of_version, has_sets};
+ghost use Rattle.version_range.specs.Grammar.{of_version, has_sets};
 
 use plan_types::{Range, Spec, Version};
 

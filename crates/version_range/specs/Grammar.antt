@@ -1,0 +1,147 @@
+-- Which range a text stands for, and the first byte at which no reading goes on.
+use Rattle.std.specs.Prelude.{◌≡◌, ◌⊎◌, ◌+◌, ℕ, zero, suc, Bool, true, false, ◌&&◌, ◌||◌, ◌==◌, List, [], ◌∷◌, ◌++◌, codes}
+use Rattle.std.specs.Char.{is_ascii_digit}
+use Rattle.std.specs.List.{list_all}
+use Rattle.plan_types.specs.declared.range.Range.{Range}
+use Rattle.plan_types.specs.declared.range.Range.TheVariants.{Any, Nothing, Prefix, Both, Either}
+use Rattle.plan_types.specs.declared.range.Range.TheVariants as ranges
+use Rattle.plan_types.specs.declared.range.Spec.{Spec}
+use Rattle.plan_types.specs.declared.range.Spec.TheVariants.{V2_4, V3_0}
+use Rattle.plan_types.specs.declared.version.Version.{Version}
+use Rattle.plan_types.specs.declared.refusal.Cause.{Cause}
+use Rattle.plan_types.specs.declared.refusal.Cause.TheVariants.{BadVersion, BadRange, NeedsVersion, TooDeep}
+use Rattle.version_range.specs.declared.operator.Operator.{Operator}
+use Rattle.version_range.specs.declared.operator.Operator.TheVariants.{Equal, AtLeast, Above, AtMost, Below, Major}
+use Rattle.version_range.specs.Version.{is_version, version_text, begins_with_digit}
+
+abbrev pub is_old : Spec → Bool
+is_old V2_4 = true
+is_old V3_0 = false
+
+abbrev pub begins_with : ℕ → List ℕ → Bool
+begins_with byte [] = false
+begins_with byte (b ∷ bs) = b == byte
+
+-- spaces and tabs
+abbrev pub is_blank : ℕ → Bool
+is_blank b = b == 32 || b == 9
+
+abbrev pub Blanks : List ℕ → Type 0
+Blanks text = list_all is_blank text ≡ true
+
+abbrev pub operator_text : Operator → List ℕ
+operator_text Equal = codes "=="
+operator_text AtLeast = codes ">="
+operator_text Above = codes ">"
+operator_text AtMost = codes "<="
+operator_text Below = codes "<"
+operator_text Major = codes "^>="
+
+-- the range of an operator and its version
+abbrev pub of_version : Operator → Version → Range
+of_version Equal v = ranges.Equal v
+of_version AtLeast v = ranges.AtLeast v
+of_version Above v = ranges.Above v
+of_version AtMost v = ranges.AtMost v
+of_version Below v = ranges.Below v
+of_version Major v = ranges.Major v
+
+-- a set may stand behind it
+abbrev pub has_sets : Operator → Spec → Bool
+has_sets Equal V3_0 = true
+has_sets Major V3_0 = true
+has_sets op spec = false
+
+-- blanks, and then what has this
+pub data Led {A : Type 0} (Part : List ℕ → A → Type 0) : List ℕ → A → Type 0 where
+  led : (blanks : List ℕ) {text : List ℕ} {x : A} → Blanks blanks → Part text x → Led Part (blanks ++ text) x
+
+-- blanks and a mark, and then what has this
+pub data Behind {A : Type 0} (mark : List ℕ) (Part : List ℕ → A → Type 0) : List ℕ → A → Type 0 where
+  behind : (blanks : List ℕ) {text : List ℕ} {x : A} → Blanks blanks → Part text x → Behind mark Part (blanks ++ mark ++ text) x
+
+-- parts, each joined to all before it, so that they group from the left
+pub data Chain {A B : Type 0} (join : A → B → A) (First : List ℕ → A → Type 0) (Next : List ℕ → B → Type 0) : List ℕ → A → Type 0 where
+  one : {text : List ℕ} {x : A} → First text x → Chain join First Next text x
+  more : {text next : List ℕ} {left : A} {right : B} → Chain join First Next text left → Next next right → Chain join First Next (text ++ next) (join left right)
+
+-- a version, compared so
+pub data Compared (op : Operator) : List ℕ → Range → Type 0 where
+  compared : (v : Version) → is_version v.parts ≡ true → Compared op (version_text v.parts) (of_version op v)
+
+-- plain versions between commas, of which one has to hold
+abbrev pub Members : Operator → List ℕ → Range → Type 0
+Members op = Chain Either (Led (Compared op)) (Behind (codes ",") (Led (Compared op)))
+
+-- a factor without a parenthesis
+pub data Atom (spec : Spec) : List ℕ → Range → Type 0 where
+  any : Atom spec (codes "-any") Any
+  none : Atom spec (codes "-none") Nothing
+  version : (op : Operator) {text : List ℕ} {r : Range} → Led (Compared op) text r → Atom spec (operator_text op ++ text) r
+  prefix : (blanks : List ℕ) (v : Version) → Blanks blanks → is_version v.parts ≡ true → Atom spec (codes "==" ++ blanks ++ version_text v.parts ++ codes ".*") (Prefix v)
+  set : (op : Operator) (blanks text after : List ℕ) {r : Range} → has_sets op spec ≡ true → Blanks blanks → Members op text r → Blanks after → Atom spec (operator_text op ++ blanks ++ codes "{" ++ text ++ after ++ codes "}") r
+
+-- an atom, or a range in parentheses
+pub data Factor (spec : Spec) (Inside : List ℕ → Range → Type 0) : List ℕ → Range → Type 0 where
+  atom : {text : List ℕ} {r : Range} → Atom spec text r → Factor spec Inside text r
+  enclosed : (text after : List ℕ) {r : Range} → Inside text r → Blanks after → Factor spec Inside (codes "(" ++ text ++ after ++ codes ")") r
+
+abbrev pub Term : Spec → (List ℕ → Range → Type 0) → List ℕ → Range → Type 0
+Term spec Inside = Chain Both (Led (Factor spec Inside)) (Behind (codes "&&") (Led (Factor spec Inside)))
+
+abbrev pub Terms : Spec → (List ℕ → Range → Type 0) → List ℕ → Range → Type 0
+Terms spec Inside = Chain Either (Term spec Inside) (Behind (codes "||") (Term spec Inside))
+
+-- what may stand in a parenthesis, where so many may be open in all
+unfoldable pub Inside : Spec → ℕ → List ℕ → Range → Type 0
+Inside spec zero text r = ⊥
+Inside spec (suc n) text r = Terms spec (Inside spec n) text r
+
+-- The text stands for this range, with at most so many parentheses open at once. A text of blanks is any version.
+pub data Stands (spec : Spec) (deepest : ℕ) : List ℕ → Range → Type 0 where
+  empty : {text : List ℕ} → Blanks text → Stands spec deepest text Any
+  range : (text after : List ℕ) {r : Range} → Terms spec (Inside spec deepest) text r → Blanks after → Stands spec deepest (text ++ after) r
+
+-- some bytes complete the text
+abbrev pub Viable : Spec → ℕ → List ℕ → Type 0
+Viable spec deepest front = (more : List ℕ) × (r : Range) × Stands spec deepest (front ++ more) r
+
+-- no reading goes on at the first byte of the rest, or at the end of the text
+abbrev pub Stuck : Spec → ℕ → List ℕ → List ℕ → Type 0
+Stuck spec deepest front [] = (r : Range) → Stands spec deepest front r → ⊥
+Stuck spec deepest front (b ∷ rest) = Viable spec deepest (front ++ b ∷ []) → ⊥
+
+abbrev pub ends_with_digit : List ℕ → Bool
+ends_with_digit [] = false
+ends_with_digit (b ∷ []) = is_ascii_digit b
+ends_with_digit (b ∷ c ∷ bs) = ends_with_digit (c ∷ bs)
+
+-- a set in a text without sets
+abbrev pub IsNewForm : Spec → List ℕ → Type 0
+IsNewForm spec rest = (is_old spec && begins_with 123 rest) ≡ true
+
+-- a number may begin here, or a digit follows one that it can't belong to
+abbrev pub IsNumberDue : Spec → ℕ → List ℕ → List ℕ → Type 0
+IsNumberDue spec deepest front rest =
+    ((ends_with_digit front ≡ false) × ((digit : ℕ) × (is_ascii_digit digit ≡ true) × Viable spec deepest (front ++ digit ∷ [])))
+    ⊎ ((ends_with_digit front ≡ true) × (begins_with_digit rest ≡ true))
+
+-- a parenthesis that could be read if one more might be open
+abbrev pub OpensTooMany : Spec → ℕ → List ℕ → List ℕ → Type 0
+OpensTooMany spec deepest front rest = (begins_with 40 rest ≡ true) × Viable spec (suc deepest) (front ++ codes "(")
+
+-- the first that holds
+pub data CauseAt (spec : Spec) (deepest : ℕ) (front rest : List ℕ) : Cause → Type 0 where
+  needs_version : IsNewForm spec rest → CauseAt spec deepest front rest NeedsVersion
+  bad_version : (IsNewForm spec rest → ⊥) → IsNumberDue spec deepest front rest → CauseAt spec deepest front rest BadVersion
+  too_deep : (IsNewForm spec rest → ⊥) → (IsNumberDue spec deepest front rest → ⊥) → OpensTooMany spec deepest front rest → CauseAt spec deepest front rest TooDeep
+  bad_range : (IsNewForm spec rest → ⊥) → (IsNumberDue spec deepest front rest → ⊥) → (OpensTooMany spec deepest front rest → ⊥) → CauseAt spec deepest front rest BadRange
+
+-- the text is read up to here, no reading goes on, and this is the cause
+pub record FirstFault (spec : Spec) (deepest : ℕ) (text : List ℕ) (cause : Cause) : Type 0 where
+  pub front : List ℕ
+  pub rest : List ℕ
+  pub whole : text ≡ front ++ rest
+  pub goes_on : Viable spec deepest front
+  pub stops : Stuck spec deepest front rest
+  pub is : CauseAt spec deepest front rest cause
