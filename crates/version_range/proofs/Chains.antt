@@ -15,15 +15,15 @@ module _ {A B : Type 0} (join : A → B → A) (next : List ℕ → Result (Opti
   pub begun : (left : A) (rest : List ℕ) → Goes left rest (chain join next (length rest + 1) left rest)
   begun left rest = record { fuel = length rest + 1; enough = omega arith; same = refl }
 
-  step : (n : ℕ) (left : A) (rest : List ℕ) (found : B) (more : List ℕ) → next rest ≡ Ok (Some (found, more)) → chain join next (suc n) left rest ≡ chain join next n (join left found) more
+  pub step : (n : ℕ) (left : A) (rest : List ℕ) (found : B) (more : List ℕ) → next rest ≡ Ok (Some (found, more)) → chain join next (suc n) left rest ≡ chain join next n (join left found) more
   unfolding chain
   step n left rest found more h = ap (λ r. r >>= λ o. elim o [ None ↦ Ok (left, rest) | Some p ↦ chain join next n (join left p.0) p.1 ]) h
 
-  stop : (n : ℕ) (left : A) (rest : List ℕ) → next rest ≡ Ok None → chain join next (suc n) left rest ≡ Ok (left, rest)
+  pub stop : (n : ℕ) (left : A) (rest : List ℕ) → next rest ≡ Ok None → chain join next (suc n) left rest ≡ Ok (left, rest)
   unfolding chain
   stop n left rest h = ap (λ r. r >>= λ o. elim o [ None ↦ Ok (left, rest) | Some p ↦ chain join next n (join left p.0) p.1 ]) h
 
-  broken : (n : ℕ) (left : A) (rest : List ℕ) (cause : Cause) → next rest ≡ Err cause → chain join next (suc n) left rest ≡ Err cause
+  pub broken : (n : ℕ) (left : A) (rest : List ℕ) (cause : Cause) → next rest ≡ Err cause → chain join next (suc n) left rest ≡ Err cause
   unfolding chain
   broken n left rest cause h = ap (λ r. r >>= λ o. elim o [ None ↦ Ok (left, rest) | Some p ↦ chain join next n (join left p.0) p.1 ]) h
 

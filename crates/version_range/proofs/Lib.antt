@@ -6,3 +6,5 @@ pub mod Operators
 pub mod Relaxing
 pub mod Printed
 pub mod Chains
+pub mod Fronts
+pub mod Parts
