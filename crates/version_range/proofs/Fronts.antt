@@ -87,21 +87,31 @@ pub record Fault {A B : Type 0} (spec : Spec) (L L' : List ℕ → A → Type 0)
 abbrev pub Completes : {A B : Type 0} → (List ℕ → A → Type 0) → List ℕ → (List ℕ → B → Type 0) → Type 0
 Completes L pre K = (text : List ℕ) (x : _) → L text x → (after : List ℕ) × (y : _) × K (pre ++ (text ++ after)) y
 
--- A fault is handed up by a reader that reads pre first, fails where this one fails, and whose language this one's completes.
+-- ---- faults handed up
+
+-- it goes on by the byte at which the reader is stuck, or by a digit
+abbrev pub Like : List ℕ → List ℕ → Type 0
+Like again rest = (head_of again ≡ head_of rest) ⊎ (begins_with_digit again ≡ true)
+
+-- where R fails, S fails, which reads pre first
+abbrev pub PassesLike : {B D : Type 0} → (List ℕ → Result B Cause) → (List ℕ → Result D Cause) → List ℕ → List ℕ → List ℕ → Type 0
+PassesLike R S pre front rest = (again : List ℕ) → Like again rest → errs (R (front ++ again)) ≡ true → errs (S (pre ++ (front ++ again))) ≡ true
+
 abbrev pub Passes : {B D : Type 0} → (List ℕ → Result B Cause) → (List ℕ → Result D Cause) → List ℕ → List ℕ → Type 0
 Passes R S pre front = (again : List ℕ) → errs (R (front ++ again)) ≡ true → errs (S (pre ++ (front ++ again))) ≡ true
 
 regroup : (pre front more after : List ℕ) → pre ++ ((front ++ more) ++ after) ≡ (pre ++ front) ++ (more ++ after)
 regroup pre front more after = ap (λ t. pre ++ t) (append_assoc front more after) ∙ sym (append_assoc pre front (more ++ after))
 
-dead_up : {B D : Type 0} (R : List ℕ → Result B Cause) (S : List ℕ → Result D Cause) (pre front rest : List ℕ) → Passes R S pre front → Dead R front rest → Dead S (pre ++ front) rest
-dead_up R S pre front rest pass dead again same = ap (λ t. errs (S t)) (append_assoc pre front again) ∙ pass again (dead again same)
+dead_up : {B D : Type 0} (R : List ℕ → Result B Cause) (S : List ℕ → Result D Cause) (pre front rest : List ℕ) → PassesLike R S pre front rest → Dead R front rest → Dead S (pre ++ front) rest
+dead_up R S pre front rest pass dead again same = ap (λ t. errs (S t)) (append_assoc pre front again) ∙ pass again (inl same) (dead again same)
 
-digit_up : {B D : Type 0} (R : List ℕ → Result B Cause) (S : List ℕ → Result D Cause) (pre front : List ℕ) → Passes R S pre front → NoDigit R front → NoDigit S (pre ++ front)
-digit_up R S pre front pass none digit again is = ap (λ t. errs (S t)) (append_assoc pre front (digit ∷ again)) ∙ pass (digit ∷ again) (none digit again is)
+digit_up : {B D : Type 0} (R : List ℕ → Result B Cause) (S : List ℕ → Result D Cause) (pre front rest : List ℕ) → PassesLike R S pre front rest → NoDigit R front → NoDigit S (pre ++ front)
+digit_up R S pre front rest pass none digit again is = ap (λ t. errs (S t)) (append_assoc pre front (digit ∷ again)) ∙ pass (digit ∷ again) (inr is) (none digit again is)
 
+-- A fault is handed up by a reader that reads pre first, fails where this one fails, and whose language this one's completes.
 module _ {A B C D : Type 0} (spec : Spec) (L L' : List ℕ → A → Type 0) (P P' : List ℕ → Result B Cause) (K K' : List ℕ → C → Type 0) (Q Q' : List ℕ → Result D Cause) (pre : List ℕ) (completes : Completes L pre K) (completes' : Completes L' pre K') where
-  why_up : (front rest : List ℕ) {cause : Cause} → ends_with_digit (pre ++ front) ≡ ends_with_digit front → Passes P Q pre front → Passes P' Q' pre front
+  why_up : (front rest : List ℕ) {cause : Cause} → ends_with_digit (pre ++ front) ≡ ends_with_digit front → PassesLike P Q pre front rest → PassesLike P' Q' pre front rest
       → Why spec L L' P P' front rest cause → Why spec K K' Q Q' (pre ++ front) rest cause
   why_up front rest ends pass pass' (new_form form dead) = new_form form (dead_up P' Q' pre front rest pass' dead)
   why_up front rest ends pass pass' (number_due form last more x goes dead) =
@@ -110,13 +120,13 @@ module _ {A B C D : Type 0} (spec : Spec) (L L' : List ℕ → A → Type 0) (P 
   why_up front rest ends pass pass' (digit_more form last digit dead) = digit_more form (ends ∙ last) digit (dead_up P' Q' pre front rest pass' dead)
   why_up front rest ends pass pass' (too_deep first none more x goes dead) =
       let done = completes' (front ++ 40 ∷ more) x goes in
-      too_deep first (digit_up P' Q' pre front pass' none) (more ++ done.0) done.1 (subst (λ t. K' t done.1) (regroup pre front (40 ∷ more) done.0) done.2) (dead_up P Q pre front rest pass dead)
+      too_deep first (digit_up P' Q' pre front rest pass' none) (more ++ done.0) done.1 (subst (λ t. K' t done.1) (regroup pre front (40 ∷ more) done.0) done.2) (dead_up P Q pre front rest pass dead)
   why_up front rest ends pass pass' (behind_digit form last other dead) = behind_digit form (ends ∙ last) other (dead_up P' Q' pre front rest pass' dead)
-  why_up front rest ends pass pass' (no_digit form last none dead) = no_digit form (ends ∙ last) (digit_up P' Q' pre front pass' none) (dead_up P' Q' pre front rest pass' dead)
+  why_up front rest ends pass pass' (no_digit form last none dead) = no_digit form (ends ∙ last) (digit_up P' Q' pre front rest pass' none) (dead_up P' Q' pre front rest pass' dead)
 
-  pub fault_up : (text : List ℕ) (cause : Cause) (f : Fault spec L L' P P' text cause) → ends_with_digit (pre ++ f.front) ≡ ends_with_digit f.front
-      → Passes P Q pre f.front → Passes P' Q' pre f.front → Fault spec K K' Q Q' (pre ++ text) cause
-  fault_up text cause f ends pass pass' =
+  pub fault_up_like : (text : List ℕ) (cause : Cause) (f : Fault spec L L' P P' text cause) → ends_with_digit (pre ++ f.front) ≡ ends_with_digit f.front
+      → PassesLike P Q pre f.front f.rest → PassesLike P' Q' pre f.front f.rest → Fault spec K K' Q Q' (pre ++ text) cause
+  fault_up_like text cause f ends pass pass' =
       let done = completes (f.front ++ f.more) f.value f.goes_on in
       record {
         front = pre ++ f.front;
@@ -127,3 +137,7 @@ module _ {A B C D : Type 0} (spec : Spec) (L L' : List ℕ → A → Type 0) (P 
         goes_on = subst (λ t. K t done.1) (regroup pre f.front f.more done.0) done.2;
         why = why_up f.front f.rest ends pass pass' f.why;
       }
+
+  pub fault_up : (text : List ℕ) (cause : Cause) (f : Fault spec L L' P P' text cause) → ends_with_digit (pre ++ f.front) ≡ ends_with_digit f.front
+      → Passes P Q pre f.front → Passes P' Q' pre f.front → Fault spec K K' Q Q' (pre ++ text) cause
+  fault_up text cause f ends pass pass' = fault_up_like text cause f ends (λ again like h. pass again h) (λ again like h. pass' again h)

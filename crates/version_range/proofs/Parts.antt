@@ -6,7 +6,7 @@ use Rattle.plan_types.specs.declared.refusal.TextFault.TheVariants.{Bad}
 use Rattle.version_range.specs.Read.{◌>>=◌, chain, chained}
 use Rattle.version_range.specs.Grammar.{Chain, one, more, ends_with_digit}
 use Rattle.version_range.proofs.Chains.{Goes, begun, goes_on, is_done, ends, step, stop, broken}
-use Rattle.version_range.proofs.Fronts.{Reader, head_of, errs, ends_behind, Read, Fault, Completes, Passes, fault_up}
+use Rattle.version_range.proofs.Fronts.{Reader, errs, ends_behind, Read, Fault, Completes, Passes, fault_up}
 
 -- a reader of what comes next, if anything does
 abbrev pub Option-Reader : Type 0 → Type 0
@@ -22,7 +22,6 @@ pub record Parts {A B : Type 0} (First : List ℕ → A → Type 0) (Next : List
   pub next_reads : (text : List ℕ) (y : B) (rest : List ℕ) → Next text y → E text rest → next (text ++ rest) ≡ Ok (Some (y, rest))
   pub next_read : (text : List ℕ) (y : B) (rest : List ℕ) → next text ≡ Ok (Some (y, rest)) → Read Next E text y rest
   pub next_some : (y : B) → Next [] y → ⊥
-  pub same_head : (text rest again : List ℕ) → head_of rest ≡ head_of again → E text rest → E text again
   pub opens : (text next rest : List ℕ) (y : B) → Next next y → E text (next ++ rest)
   pub behind : (text next rest : List ℕ) (y : B) → Next next y → E next rest → E (text ++ next) rest
   pub within : (text next rest : List ℕ) (y : B) → Next next y → E (text ++ next) rest → E next rest
@@ -114,6 +113,7 @@ module _ {A B : Type 0} (spec : Spec) (join : A → B → A) (First First' : Lis
   pub record NextFault (text : List ℕ) (cause : Cause) : Type 0 where
     pub fault : Fault spec Next Next' next next' text cause
     pub begun : fault.front ≢ []
+    pub opens : (text again : List ℕ) → E text (fault.front ++ again)
 
   ends_with : {A B : Type 0} (join : A → B → A) (next : Option-Reader B) (left : A) (rest : List ℕ) (whole : Result (A × List ℕ) Cause) → Goes join next left rest whole → errs (next rest) ≡ true → errs whole ≡ true
   ends_with join next left rest whole g h = let e = err_of (next rest) h in ap errs (ends join next (Bad e.0) left rest whole g e.1)
@@ -122,21 +122,16 @@ module _ {A B : Type 0} (spec : Spec) (join : A → B → A) (First First' : Lis
   ends_some text [] some = absurd (some refl)
   ends_some text (b ∷ bs) some = ends_behind text b bs
 
-  heads : (front rest again : List ℕ) → front ≢ [] → head_of (front ++ rest) ≡ head_of (front ++ again)
-  heads [] rest again some = absurd (some refl)
-  heads (b ∷ bs) rest again some = refl
-
-  fault_next : (text : List ℕ) (left : A) → Chain join First Next text left → (behind : List ℕ) → E text behind → (cause : Cause) → NextFault behind cause
+  fault_next : (text : List ℕ) (left : A) → Chain join First Next text left → (behind : List ℕ) (cause : Cause) → NextFault behind cause
       → Fault spec (Chain join First Next) (Chain join First' Next') (all_of join first next) (all_of join first' next') (text ++ behind) cause
-  fault_next text left c behind e cause n =
+  fault_next text left c behind cause n =
       let f = n.fault in
-      let at : (again : List ℕ) → E text (f.front ++ again) = λ again. rules.same_head text (f.front ++ f.rest) (f.front ++ again) (heads f.front f.rest again n.begun) (subst (E text) f.whole e) in
       fault_up spec Next Next' next next' (Chain join First Next) (Chain join First' Next') (all_of join first next) (all_of join first' next') text
       (λ t y k. ([], join left y, subst (λ t'. Chain join First Next (text ++ t') (join left y)) (sym (append-nil t)) (more c k)))
       (λ t y k. ([], join left y, subst (λ t'. Chain join First' Next' (text ++ t') (join left y)) (sym (append-nil t)) (more (wide c) k)))
       behind cause f (ends_some text f.front n.begun)
-      (λ again h. ends_with join next left (f.front ++ again) (all_of join first next (text ++ (f.front ++ again))) (reach join First Next E first next rules c (f.front ++ again) (at again)) h)
-      (λ again h. ends_with join next' left (f.front ++ again) (all_of join first' next' (text ++ (f.front ++ again))) (reach join First' Next' E first' next' rules' (wide c) (f.front ++ again) (at again)) h)
+      (λ again h. ends_with join next left (f.front ++ again) (all_of join first next (text ++ (f.front ++ again))) (reach join First Next E first next rules c (f.front ++ again) (n.opens text again)) h)
+      (λ again h. ends_with join next' left (f.front ++ again) (all_of join first' next' (text ++ (f.front ++ again))) (reach join First' Next' E first' next' rules' (wide c) (f.front ++ again) (n.opens text again)) h)
 
   abbrev FailsOn : ℕ → Type 0
   FailsOn n = (text : List ℕ) (left : A) (c : Chain join First Next text left) (behind : List ℕ) (cause : Cause) → E text behind → length behind < n → chain join next n left behind ≡ Err cause
@@ -151,7 +146,7 @@ module _ {A B : Type 0} (spec : Spec) (join : A → B → A) (First First' : Lis
             → Fault spec (Chain join First Next) (Chain join First' Next') (all_of join first next) (all_of join first' next') (text ++ behind) cause
         by on (Err why) q =
             let same : why ≡ cause = cc (h, broken join next n left behind why q) in
-            fault_next text left c behind e cause (subst (NextFault behind) same (next_fault behind why q))
+            fault_next text left c behind cause (subst (NextFault behind) same (next_fault behind why q))
         by on (Ok None) q = absurd (cc (h, stop join next n left behind q))
         by on (Ok (Some p)) q =
             let r = rules.next_read behind p.0 p.1 q in
