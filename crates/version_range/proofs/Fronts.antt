@@ -100,7 +100,7 @@ PassesLike R S pre front rest = (again : List ℕ) → Like again rest → errs 
 abbrev pub Passes : {B D : Type 0} → (List ℕ → Result B Cause) → (List ℕ → Result D Cause) → List ℕ → List ℕ → Type 0
 Passes R S pre front = (again : List ℕ) → errs (R (front ++ again)) ≡ true → errs (S (pre ++ (front ++ again))) ≡ true
 
-regroup : (pre front more after : List ℕ) → pre ++ ((front ++ more) ++ after) ≡ (pre ++ front) ++ (more ++ after)
+pub regroup : (pre front more after : List ℕ) → pre ++ ((front ++ more) ++ after) ≡ (pre ++ front) ++ (more ++ after)
 regroup pre front more after = ap (λ t. pre ++ t) (append_assoc front more after) ∙ sym (append_assoc pre front (more ++ after))
 
 dead_up : {B D : Type 0} (R : List ℕ → Result B Cause) (S : List ℕ → Result D Cause) (pre front rest : List ℕ) → PassesLike R S pre front rest → Dead R front rest → Dead S (pre ++ front) rest
@@ -111,7 +111,7 @@ digit_up R S pre front rest pass none digit again is = ap (λ t. errs (S t)) (ap
 
 -- A fault is handed up by a reader that reads pre first, fails where this one fails, and whose language this one's completes.
 module _ {A B C D : Type 0} (spec : Spec) (L L' : List ℕ → A → Type 0) (P P' : List ℕ → Result B Cause) (K K' : List ℕ → C → Type 0) (Q Q' : List ℕ → Result D Cause) (pre : List ℕ) (completes : Completes L pre K) (completes' : Completes L' pre K') where
-  why_up : (front rest : List ℕ) {cause : Cause} → ends_with_digit (pre ++ front) ≡ ends_with_digit front → PassesLike P Q pre front rest → PassesLike P' Q' pre front rest
+  pub why_up : (front rest : List ℕ) {cause : Cause} → ends_with_digit (pre ++ front) ≡ ends_with_digit front → PassesLike P Q pre front rest → PassesLike P' Q' pre front rest
       → Why spec L L' P P' front rest cause → Why spec K K' Q Q' (pre ++ front) rest cause
   why_up front rest ends pass pass' (new_form form dead) = new_form form (dead_up P' Q' pre front rest pass' dead)
   why_up front rest ends pass pass' (number_due form last more x goes dead) =
@@ -124,7 +124,7 @@ module _ {A B C D : Type 0} (spec : Spec) (L L' : List ℕ → A → Type 0) (P 
   why_up front rest ends pass pass' (behind_digit form last other dead) = behind_digit form (ends ∙ last) other (dead_up P' Q' pre front rest pass' dead)
   why_up front rest ends pass pass' (no_digit form last none dead) = no_digit form (ends ∙ last) (digit_up P' Q' pre front rest pass' none) (dead_up P' Q' pre front rest pass' dead)
 
-  pub fault_up_like : (text : List ℕ) (cause : Cause) (f : Fault spec L L' P P' text cause) → ends_with_digit (pre ++ f.front) ≡ ends_with_digit f.front
+  unfoldable pub fault_up_like : (text : List ℕ) (cause : Cause) (f : Fault spec L L' P P' text cause) → ends_with_digit (pre ++ f.front) ≡ ends_with_digit f.front
       → PassesLike P Q pre f.front f.rest → PassesLike P' Q' pre f.front f.rest → Fault spec K K' Q Q' (pre ++ text) cause
   fault_up_like text cause f ends pass pass' =
       let done = completes (f.front ++ f.more) f.value f.goes_on in
@@ -138,6 +138,6 @@ module _ {A B C D : Type 0} (spec : Spec) (L L' : List ℕ → A → Type 0) (P 
         why = why_up f.front f.rest ends pass pass' f.why;
       }
 
-  pub fault_up : (text : List ℕ) (cause : Cause) (f : Fault spec L L' P P' text cause) → ends_with_digit (pre ++ f.front) ≡ ends_with_digit f.front
+  unfoldable pub fault_up : (text : List ℕ) (cause : Cause) (f : Fault spec L L' P P' text cause) → ends_with_digit (pre ++ f.front) ≡ ends_with_digit f.front
       → Passes P Q pre f.front → Passes P' Q' pre f.front → Fault spec K K' Q Q' (pre ++ text) cause
   fault_up text cause f ends pass pass' = fault_up_like text cause f ends (λ again like h. pass again h) (λ again like h. pass' again h)

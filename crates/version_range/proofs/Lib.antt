@@ -9,3 +9,5 @@ pub mod Chains
 pub mod Fronts
 pub mod Parts
 pub mod Spaces
+pub mod Led
+pub mod Operands
