@@ -11,3 +11,4 @@ pub mod Parts
 pub mod Spaces
 pub mod Led
 pub mod Operands
+pub mod Factors
