@@ -3,7 +3,7 @@ use Rattle.std.proofs.Common.{◌≡◌, ◌≢◌, ◌⊎◌, inl, inr, ℕ, ze
 use Rattle.std.specs.Prelude.{◌==◌}
 use Rattle.std.specs.Char.{is_ascii_digit}
 use Rattle.std.specs.List.{list_all}
-use Rattle.std.proofs.lemmas.Bool.{false≢true, eqb-true}
+use Rattle.std.proofs.lemmas.Bool.{false≢true, eqb-true, and_parts}
 use Rattle.plan_types.specs.declared.range.Spec.{Spec}
 use Rattle.plan_types.specs.declared.range.Range.{Range}
 use Rattle.plan_types.specs.declared.range.Range.TheVariants.{Any, Both, Either}
@@ -11,10 +11,10 @@ use Rattle.plan_types.specs.declared.refusal.Cause.{Cause}
 use Rattle.plan_types.specs.declared.refusal.Cause.TheVariants.{BadRange, TooDeep}
 use Rattle.version_range.specs.Read.{◌>>=◌, skip_blanks, byte_after, byte_due, cause_at, word_at, operator_at, operand_at, factor_at, term_at, range_in, inside, next_at}
 use Rattle.version_range.specs.Version.{begins_with_digit}
-use Rattle.version_range.specs.Grammar.{begins_with, is_blank, Blanks, ends_with_digit, Atom, any, Factor, atom, enclosed, Term, Terms, Inside, Led, led, Behind, Chain, one}
+use Rattle.version_range.specs.Grammar.{begins_with, is_blank, Blanks, ends_with_digit, Atom, any, Factor, atom, enclosed, Term, Terms, Inside, Led, led, Behind, behind, Chain, one}
 use Rattle.version_range.proofs.Fronts.{Reader, head_of, errs, goes_on_number, Apart, apart_same_head, ends_behind, ends_kept, Read, Dead, NoDigit, Like, Why, too_deep, Fault, Passes, fault_up, fault_up_like}
 use Rattle.version_range.proofs.Spaces.{unblank, Blanked, blanked, skip_to, unblank_head, begins_same, after_here, after_other, after_some, after_none, due_here, due_other, due_errs, due_read, due_fails, due_why}
-use Rattle.version_range.proofs.Parts.{all_of, errs_then, ok_parts}
+use Rattle.version_range.proofs.Parts.{all_of, errs_then, ok_parts, map_chain}
 use Rattle.version_range.proofs.Led.{Unblank, led_at, led_reads, led_read, led_fault, blanks_no_number, blanks_end, blank_no_number, blank_no_digit, digit_unblank, digit_begins_other}
 use Rattle.version_range.proofs.Operands.{Rules, Follow, ends_some, joined_rules, joined_fault, joined_wider}
 
@@ -64,11 +64,11 @@ close_follows text blanks again are =
 
 module _ (spec : Spec) (atoms : AtomRules spec) (L : List ℕ → Range → Type 0) (I : Reader Range) (rules : Rules L AfterRange I) where
   abbrev with_range : Range → List ℕ → Result (Range × List ℕ) Cause
-  with_range r behind = Ok (r, behind)
+  with_range r rest = Ok (r, rest)
 
   -- blanks and a closing parenthesis behind a range
   abbrev pub closing : Range × List ℕ → Result (Range × List ℕ) Cause
-  closing r = byte_due spec 41 (skip_blanks r.1) >>= λ behind. Ok (r.0, behind)
+  closing r = byte_due spec 41 (skip_blanks r.1) >>= λ rest. Ok (r.0, rest)
 
   abbrev from_first : List ℕ → Option (List ℕ) → Result (Range × List ℕ) Cause
   from_first text found = elim found [ Some rest ↦ I rest >>= closing | None ↦ atom_at spec text ]
@@ -92,7 +92,7 @@ module _ (spec : Spec) (atoms : AtomRules spec) (L : List ℕ → Range → Type
       ap (λ t. factor_at I spec (40 ∷ t)) (close front blanks rest)
       ∙ at_open (front ++ (blanks ++ (41 ∷ rest)))
       ∙ ap (λ o. o >>= closing) (rules.reads front r (blanks ++ (41 ∷ rest)) is (close_follows front blanks rest are))
-      ∙ ap (λ t. byte_due spec 41 t >>= λ behind. Ok (r, behind)) (skip_to blanks (41 ∷ rest) are refl)
+      ∙ ap (λ t. byte_due spec 41 t >>= λ rest'. Ok (r, rest')) (skip_to blanks (41 ∷ rest) are refl)
 
   enclosed_end : (front blanks : List ℕ) → ends_with_digit (codes "(" ++ front ++ blanks ++ codes ")") ≡ false
   enclosed_end front blanks = ends_behind (40 ∷ (front ++ blanks)) 41 []
@@ -110,11 +110,11 @@ module _ (spec : Spec) (atoms : AtomRules spec) (L : List ℕ → Range → Type
     where
       closes : (p : Range × List ℕ) → I text ≡ Ok p → (o : Result (List ℕ) Cause) → byte_due spec 41 (skip_blanks p.1) ≡ o → (o >>= with_range p.0) ≡ Ok (r, rest) → Opened text r rest
       closes p q (Err cause) k e = absurd (cc e)
-      closes p q (Ok behind) k e =
-          let parts = ok_parts p.0 r behind rest e in
+      closes p q (Ok more) k e =
+          let parts = ok_parts p.0 r more rest e in
           let got = rules.read text p.0 p.1 q in
           let b = blanked p.1 in
-          let due : b.rest ≡ 41 ∷ rest = sym b.skipped ∙ due_read spec 41 (skip_blanks p.1) behind k ∙ ap (λ t. 41 ∷ t) parts.1 in
+          let due : b.rest ≡ 41 ∷ rest = sym b.skipped ∙ due_read spec 41 (skip_blanks p.1) more k ∙ ap (λ t. 41 ∷ t) parts.1 in
           record {
             front = got.front;
             blanks = b.blanks;
@@ -178,3 +178,152 @@ inside_rules spec atoms zero = record {
   some = λ text r none e. none;
 }
 inside_rules spec atoms (suc n) = terms_rules spec atoms (Inside spec n) (inside n spec) (inside_rules spec atoms n)
+
+-- ---- one more parenthesis
+
+module _ (spec : Spec) (L L' : List ℕ → Range → Type 0) (wider : (text : List ℕ) (r : Range) → L text r → L' text r) where
+  pub wider_factor : (text : List ℕ) (r : Range) → Factor spec L text r → Factor spec L' text r
+  wider_factor text r (atom a) = atom a
+  wider_factor text r (enclosed front blanks is are) = enclosed front blanks (wider front r is) are
+
+  pub wider_led : (text : List ℕ) (r : Range) → Led (Factor spec L) text r → Led (Factor spec L') text r
+  wider_led text r (led blanks {text = part} are is) = led blanks are (wider_factor part r is)
+
+  wider_behind : (A A' : List ℕ → Range → Type 0) (mark : List ℕ) → ((text : List ℕ) (r : Range) → A text r → A' text r) → (text : List ℕ) (r : Range) → Behind mark A text r → Behind mark A' text r
+  wider_behind A A' mark f text r (behind blanks {text = part} are is) = behind blanks are (f part r is)
+
+  pub wider_term : (text : List ℕ) (r : Range) → Term spec L text r → Term spec L' text r
+  wider_term text r c = map_chain Both (Led (Factor spec L)) (Led (Factor spec L')) (Behind (codes "&&") (Led (Factor spec L))) (Behind (codes "&&") (Led (Factor spec L'))) wider_led
+      (wider_behind (Led (Factor spec L)) (Led (Factor spec L')) (codes "&&") wider_led) c
+
+  pub wider_terms : (text : List ℕ) (r : Range) → Terms spec L text r → Terms spec L' text r
+  wider_terms text r c = map_chain Either (Term spec L) (Term spec L') (Behind (codes "||") (Term spec L)) (Behind (codes "||") (Term spec L')) wider_term
+      (wider_behind (Term spec L) (Term spec L') (codes "||") wider_term) c
+
+pub wider_inside : (spec : Spec) (n : ℕ) (text : List ℕ) (r : Range) → Inside spec n text r → Inside spec (suc n) text r
+unfolding Inside
+wider_inside spec zero text r none = absurd none
+wider_inside spec (suc n) text r c = wider_terms spec (Inside spec n) (Inside spec (suc n)) (wider_inside spec n) text r c
+
+-- ---- where a factor is stuck
+
+no_number_no_digit : (rest : List ℕ) → goes_on_number rest ≡ false → begins_with_digit rest ≡ false
+no_number_no_digit [] h = refl
+no_number_no_digit (b ∷ bs) h = by (is_ascii_digit b) refl
+  where
+    by : (t : Bool) → is_ascii_digit b ≡ t → is_ascii_digit b ≡ false
+    by true q = absurd (false≢true (sym (rw q at h)))
+    by false q = q
+
+heads : (blanks rest again : List ℕ) → head_of again ≡ head_of rest → head_of (blanks ++ rest) ≡ head_of (blanks ++ again)
+heads [] rest again same = sym same
+heads (b ∷ bs) rest again same = refl
+
+module _ (spec : Spec) (atoms : AtomRules spec) (L L' : List ℕ → Range → Type 0) (I I' : Reader Range) (rules : Rules L AfterRange I) (rules' : Rules L' AfterRange I') (wider : (text : List ℕ) (r : Range) → L text r → L' text r) where
+  abbrev FactorFault : List ℕ → Cause → Type 0
+  FactorFault = Fault spec (Factor spec L) (Factor spec L') (factor_at I spec) (factor_at I' spec)
+
+  atom_fails : (text : List ℕ) (cause : Cause) → begins_with 40 text ≡ false → atom_at spec text ≡ Err cause → FactorFault text cause
+  atom_fails text cause other h =
+      let f = atoms.fault text cause h in
+      fault_up_like spec (Atom spec) (Atom spec) (atom_at spec) (atom_at spec) (Factor spec L) (Factor spec L') (factor_at I spec) (factor_at I' spec) []
+      (λ t r k. ([], r, subst (λ t'. Factor spec L t' r) (sym (append-nil t)) (atom k)))
+      (λ t r k. ([], r, subst (λ t'. Factor spec L' t' r) (sym (append-nil t)) (atom k)))
+      text cause f refl
+      (λ again like e. ap errs (at_atom spec atoms L I rules (f.front ++ again) (still f.front f.rest again (subst (λ t. begins_with 40 t ≡ false) f.whole other) like)) ∙ e)
+      (λ again like e. ap errs (at_atom spec atoms L' I' rules' (f.front ++ again) (still f.front f.rest again (subst (λ t. begins_with 40 t ≡ false) f.whole other) like)) ∙ e)
+    where
+      still : (front rest again : List ℕ) → begins_with 40 (front ++ rest) ≡ false → Like again rest → begins_with 40 (front ++ again) ≡ false
+      still [] rest again n (inl same) = begins_same 40 rest again same ∙ n
+      still [] rest again n (inr digit) = digit_begins_other 40 again refl digit
+      still (b ∷ front) rest again n like = n
+
+  -- a closing parenthesis is due behind a range
+  module _ (front blanks rest : List ℕ) (r : Range) (is : L front r) (are : Blanks blanks) (end : unblank rest ≡ true) (after : AfterRange front (blanks ++ rest)) (other : begins_with 41 rest ≡ false) where
+    abbrev stuck : List ℕ
+    stuck = 40 ∷ (front ++ blanks)
+
+    unclosed : (again : List ℕ) → AfterRange front (blanks ++ again) → unblank again ≡ true → begins_with 41 again ≡ false → errs (factor_at I' spec (stuck ++ again)) ≡ true
+    unclosed again follows u not =
+        ap (λ t. errs (factor_at I' spec (40 ∷ t))) (append_assoc front blanks again)
+        ∙ ap errs (at_open spec atoms L' I' rules' (front ++ (blanks ++ again)))
+        ∙ ap (λ o. errs (o >>= closing spec atoms L' I' rules')) (rules'.reads front r (blanks ++ again) (wider front r is) follows)
+        ∙ errs_then (byte_due spec 41 (skip_blanks (blanks ++ again))) (λ rest'. Ok (r, rest')) (ap (λ t. errs (byte_due spec 41 t)) (skip_to blanks again are u) ∙ due_errs spec 41 again not)
+
+    -- what is known of the rest holds of each text that goes on so
+    begins_like : (byte : ℕ) (again : List ℕ) → unblank again ≡ true → begins_with byte again ≡ false → begins_with byte (skip_blanks (blanks ++ again)) ≡ false
+    begins_like byte again u h = ap (begins_with byte) (skip_to blanks again are u) ∙ h
+
+    begins_rest : (byte : ℕ) → begins_with byte (skip_blanks (blanks ++ rest)) ≡ false → begins_with byte rest ≡ false
+    begins_rest byte h = ap (begins_with byte) (sym (skip_to blanks rest are end)) ∙ h
+
+    dead : (again : List ℕ) → head_of again ≡ head_of rest → errs (factor_at I' spec (stuck ++ again)) ≡ true
+    dead again same =
+        let u = unblank_head rest again same end in
+        unclosed again
+        ((apart_same_head front (blanks ++ rest) (blanks ++ again) (heads blanks rest again same) after.0.0, begins_like 38 again u (begins_same 38 rest again same ∙ begins_rest 38 after.0.1)), begins_like 124 again u (begins_same 124 rest again same ∙ begins_rest 124 after.1))
+        u (begins_same 41 rest again same ∙ other)
+
+    -- without blanks the range itself is the end of the front
+    ends_as : blanks ≡ [] → ends_with_digit stuck ≡ ends_with_digit front
+    ends_as none = ap (λ t. ends_with_digit (40 ∷ (front ++ t))) none ∙ ap (λ t. ends_with_digit (40 ∷ t)) (append-nil front) ∙ ends_some (40 ∷ []) front (rules.some front r is)
+
+    ends_blank : (b : ℕ) (bs : List ℕ) → blanks ≡ b ∷ bs → ends_with_digit stuck ≡ false
+    ends_blank b bs e = ap (λ t. ends_with_digit (40 ∷ (front ++ t))) e ∙ ends_behind (40 ∷ front) b bs ∙ ap ends_with_digit (sym e) ∙ blanks_end blanks are
+
+    no_digit_closes : ends_with_digit stuck ≡ false → (digit : ℕ) (again : List ℕ) → is_ascii_digit digit ≡ true → errs (factor_at I' spec (stuck ++ digit ∷ again)) ≡ true
+    no_digit_closes last digit again d =
+        let u = digit_unblank (digit ∷ again) d in
+        unclosed (digit ∷ again)
+        ((by blanks refl, begins_like 38 (digit ∷ again) u (digit_begins_other 38 (digit ∷ again) refl d)), begins_like 124 (digit ∷ again) u (digit_begins_other 124 (digit ∷ again) refl d))
+        u (digit_begins_other 41 (digit ∷ again) refl d)
+      where
+        by : (bl : List ℕ) → blanks ≡ bl → Apart front (blanks ++ digit ∷ again)
+        by [] e k = absurd (false≢true (sym last ∙ ends_as e ∙ k))
+        by (b ∷ bs) e k = ap (λ t. goes_on_number (t ++ digit ∷ again)) e ∙ blank_no_number b (bs ++ digit ∷ again) (and_parts (is_blank b) (list_all is_blank bs) (subst Blanks e are)).0
+
+    digit_closes : ends_with_digit stuck ≡ true → begins_with_digit rest ≡ false
+    digit_closes last = by blanks refl
+      where
+        by : (bl : List ℕ) → blanks ≡ bl → begins_with_digit rest ≡ false
+        by [] e = no_number_no_digit rest (ap (λ t. goes_on_number (t ++ rest)) (sym e) ∙ after.0.0 (sym (ends_as e) ∙ last))
+        by (b ∷ bs) e = absurd (false≢true (sym (ends_blank b bs e) ∙ last))
+
+    close_fails : FactorFault (40 ∷ (front ++ (blanks ++ rest))) (cause_at spec BadRange rest)
+    close_fails = record {
+      front = stuck;
+      rest = rest;
+      whole = ap (λ t. 40 ∷ t) (sym (append_assoc front blanks rest));
+      more = 41 ∷ [];
+      value = r;
+      goes_on = enclosed front blanks is are;
+      why = due_why spec (Factor spec L) (Factor spec L') (factor_at I spec) (factor_at I' spec) stuck rest dead digit_closes no_digit_closes;
+    }
+
+  module _ (opened_fault : (text : List ℕ) (cause : Cause) → I text ≡ Err cause → FactorFault (40 ∷ text) cause) where
+    behind_open : (text : List ℕ) (cause : Cause) → (I text >>= closing spec atoms L I rules) ≡ Err cause → FactorFault (40 ∷ text) cause
+    behind_open text cause h = by (I text) refl
+      where
+        closes : (p : Range × List ℕ) → I text ≡ Ok p → (o : Result (List ℕ) Cause) → byte_due spec 41 (skip_blanks p.1) ≡ o → (o >>= with_range spec atoms L I rules p.0) ≡ Err cause → FactorFault (40 ∷ text) cause
+        closes p q (Ok more) k e = absurd (cc e)
+        closes p q (Err why) k e =
+            let got = rules.read text p.0 p.1 q in
+            let b = blanked p.1 in
+            let due = due_fails spec 41 (skip_blanks p.1) why k in
+            let same : cause_at spec BadRange b.rest ≡ cause = ap (cause_at spec BadRange) (sym b.skipped) ∙ sym due.1 ∙ cc e in
+            let not = ap (begins_with 41) (sym b.skipped) ∙ due.0 in
+            let f = close_fails got.front b.blanks b.rest p.0 got.is b.are b.end (subst (AfterRange got.front) b.whole got.apart) not in
+            subst (FactorFault (40 ∷ text)) same (subst (λ t. FactorFault (40 ∷ t) (cause_at spec BadRange b.rest)) (ap (λ t. got.front ++ t) (sym b.whole) ∙ sym got.whole) f)
+
+        by : (o : Result (Range × List ℕ) Cause) → I text ≡ o → FactorFault (40 ∷ text) cause
+        by (Err why) q = let same : why ≡ cause = cc (h, ap (λ o. o >>= closing spec atoms L I rules) q) in opened_fault text cause (q ∙ ap Err same)
+        by (Ok p) q = closes p q (byte_due spec 41 (skip_blanks p.1)) refl (sym (ap (λ o. o >>= closing spec atoms L I rules) q) ∙ h)
+
+    pub factor_fault : (text : List ℕ) (cause : Cause) → factor_at I spec text ≡ Err cause → FactorFault text cause
+    factor_fault text cause h = by (byte_after 40 text) refl
+      where
+        by : (o : Option (List ℕ)) → byte_after 40 text ≡ o → FactorFault text cause
+        by None q = let other = after_none 40 text q in atom_fails text cause other (sym (at_atom spec atoms L I rules text other) ∙ h)
+        by (Some more) q =
+            let at = after_some 40 text more q in
+            subst (λ t. FactorFault t cause) (sym at) (behind_open more cause (sym (at_open spec atoms L I rules more) ∙ ap (factor_at I spec) (sym at) ∙ h))

@@ -101,13 +101,18 @@ module _ {A B : Type 0} (join : A → B → A) (First : List ℕ → A → Type 
           let r = rules.first_read text p.0 p.1 q in
           subst (λ t. AllRead t x rest) (sym r.whole) (read_on (length p.1 + 1) r.front p.0 (one r.is) p.1 x rest r.apart (omega arith) (sym (ap (λ r. r >>= chained join next) q) ∙ h))
 
+pub map_chain : {A B : Type 0} (join : A → B → A) (First First' : List ℕ → A → Type 0) (Next Next' : List ℕ → B → Type 0)
+    → ((text : List ℕ) (x : A) → First text x → First' text x) → ((text : List ℕ) (y : B) → Next text y → Next' text y)
+    → {text : List ℕ} {x : A} → Chain join First Next text x → Chain join First' Next' text x
+map_chain join First First' Next Next' f g {text} {x} (one h) = one (f text x h)
+map_chain join First First' Next Next' f g (more {next = front} {right = right} c n) = more (map_chain join First First' Next Next' f g c) (g front right n)
+
 -- The same with one more parenthesis: the faults of the whole are those of its parts.
 module _ {A B : Type 0} (spec : Spec) (join : A → B → A) (First First' : List ℕ → A → Type 0) (Next Next' : List ℕ → B → Type 0) (E : List ℕ → List ℕ → Type 0)
     (first first' : Reader A) (next next' : Option-Reader B) (rules : Parts First Next E first next) (rules' : Parts First' Next' E first' next')
     (wider : (text : List ℕ) (x : A) → First text x → First' text x) (wider-next : (text : List ℕ) (y : B) → Next text y → Next' text y) where
   pub wide : {text : List ℕ} {x : A} → Chain join First Next text x → Chain join First' Next' text x
-  wide {text} {x} (one f) = one (wider text x f)
-  wide (more {next = front} {right = right} c n) = more (wide c) (wider-next front right n)
+  wide c = map_chain join First First' Next Next' wider wider-next c
 
   -- the next part fails behind its first byte
   pub record NextFault (text : List ℕ) (cause : Cause) : Type 0 where
