@@ -1,12 +1,13 @@
 -- How numbers, versions and what stands behind `==` are read, against their languages.
-use Rattle.std.proofs.Common.{◌≡◌, ◌≢◌, ℕ, zero, suc, ◌+◌, ◌<◌, ◌≤◌, Bool, true, false, not, ◌&&◌, ◌||◌, List, [], ◌∷◌, ◌++◌, length, take, drop, get_or, Option, Some, None, Result, Ok, Err, refl, sym, ap, ◌∙◌, subst, append_assoc, append-nil, length-append, length-take, length-drop, arith}
+use Rattle.std.proofs.Common.{◌≡◌, ◌≢◌, ℕ, zero, suc, ◌+◌, ◌<◌, ◌≤◌, Bool, true, false, not, ◌&&◌, ◌||◌, List, [], ◌∷◌, ◌++◌, length, take, drop, get_or, Option, Some, None, ◌⊎◌, inl, inr, Result, Ok, Err, refl, sym, ap, ◌∙◌, subst, append_assoc, append-nil, length-append, length-take, length-drop, arith}
 use Rattle.std.specs.Prelude.{◌==◌, nat_le, if◌then◌else◌, codes}
 use Rattle.std.specs.Fmt.{decimal}
 use Rattle.std.specs.Str.{all_ascii_digits}
 use Rattle.std.specs.Char.{is_ascii_digit}
 use Rattle.std.specs.Int.{IsInRange}
+use Rattle.std.specs.List.{AllByRecursion}
 use Rattle.std.proofs.lemmas.List.{take-append-drop}
-use Rattle.std.proofs.lemmas.Bool.{false≢true, and_parts, and_from, and_right, and_left, leb-true, leb-false, le-leb, lt-leb, eqb-true, eqb-false, eq-eqb, ne_eqb}
+use Rattle.std.proofs.lemmas.Bool.{false≢true, and_parts, and_from, and_right, and_left, leb-true, leb-false, le-leb, lt-leb, eqb-true, eqb-false, eq-eqb, ne_eqb, or_parts, or_from}
 use Rattle.std.proofs.lemmas.Fmt.{decimal_injective, decimal_digit}
 use Rattle.std.proofs.Math.Seq.{take-append_seam, drop-append_seam}
 use Rattle.plan_types.specs.declared.range.Range.{Range}
@@ -20,7 +21,7 @@ use Rattle.version_range.specs.Version.{IsNumber, IsVersion, is_version, version
 use Rattle.version_range.specs.Read.{◌>>=◌, byte_after, cause_at, digits_in, is_number, number_at, chain, chained, followed, next_number, version_at, byte_due, equal_at}
 use Rattle.version_range.specs.Grammar.{is_old, begins_with, Chain, one, more, ends_with_digit, IsNewForm}
 use Rattle.version_range.proofs.Numbers.{numeral_text, decimal_digits, decimal_some, decimal_few, decimal_plain, digit_front, text_led, led_more, version_from, version_to, count_is}
-use Rattle.version_range.proofs.Fronts.{Reader, head_of, errs, goes_on_number, Apart, ends_behind, Read, Dead, NoDigit, Why, new_form, number_due, digit_more, Fault, Completes, Passes, fault_up}
+use Rattle.version_range.proofs.Fronts.{Reader, head_of, errs, goes_on_number, Apart, ends_behind, Read, Dead, NoDigit, Why, new_form, number_due, digit_more, too_deep, behind_digit, no_digit, Fault, Completes, Passes, fault_up}
 use Rattle.version_range.proofs.Parts.{Option-Reader, all_of, Parts, errs_then, ok_parts, errs_err, err_of, reads, read_all, AllRead, NextFault, fault_all}
 
 -- ---- numbers
@@ -178,8 +179,8 @@ star_errs star spec text free h = ap (λ t. errs (if t then Ok None else number_
 star_digit : (star : Bool) (spec : Spec) (text : List ℕ) → begins_with_digit text ≡ true → errs (number_at spec text) ≡ true → errs (star_at star spec text) ≡ true
 star_digit star spec text digit h = star_errs star spec text (and_right star (begins_with 42 text) (begins_other 42 text (λ k. omega (arith, k.0)) digit)) h
 
-no_digits : (spec : Spec) (text : List ℕ) → begins_with_digit text ≡ false → errs (number_at spec text) ≡ true
-no_digits spec text none = errs_err (number_at spec text) (cause_at spec BadVersion text) (number_no spec [] text refl none refl)
+digits_absent : (spec : Spec) (text : List ℕ) → begins_with_digit text ≡ false → errs (number_at spec text) ≡ true
+digits_absent spec text none = errs_err (number_at spec text) (cause_at spec BadVersion text) (number_no spec [] text refl none refl)
 
 some_front : (text : List ℕ) (d : Digits text) → begins_with_digit text ≡ true → 0 < length d.front
 some_front text d digit = by d.front refl
@@ -237,7 +238,7 @@ fault_none : (star : Bool) (spec : Spec) (rest : List ℕ) → begins_with_digit
 fault_none star spec rest none free = by (is_old spec && begins_with 123 rest) refl
   where
     dead : Dead (star_at star spec) [] rest
-    dead again same = star_errs star spec again (ap (λ t. star && t) (begins_same 42 rest again same) ∙ free) (no_digits spec again (digit_same rest again same ∙ none))
+    dead again same = star_errs star spec again (ap (λ t. star && t) (begins_same 42 rest again same) ∙ free) (digits_absent spec again (digit_same rest again same ∙ none))
     by : (o : Bool) → (is_old spec && begins_with 123 rest) ≡ o → StarFault star spec rest (cause_at spec BadVersion rest)
     by true q = subst (StarFault star spec rest) (sym (cause_form spec BadVersion rest q)) (record { front = []; rest = rest; whole = refl; more = 48 ∷ []; value = 0; goes_on = zero_text; why = new_form q dead })
     by false q = subst (StarFault star spec rest) (sym (cause_other spec BadVersion rest q))
@@ -308,3 +309,340 @@ number_fault spec text cause h =
     let same : Completes NumberText [] NumberText = λ t n k. ([], n, (append-nil t ∙ k.0, k.1)) in
     fault_up spec NumberText NumberText (star_at false spec) (star_at false spec) NumberText NumberText (number_at spec) (number_at spec) [] same same
     text cause (star_fault false spec text cause given) refl (λ again e. back (number_at spec _) e) (λ again e. back (number_at spec _) e)
+
+-- ---- the numbers of a version, one after the other
+
+-- the first number, alone
+abbrev FirstText : List ℕ → List ℕ → Type 0
+FirstText text ns = (n : ℕ) × NumberText text n × (ns ≡ n ∷ [])
+
+-- a number and the point before it
+abbrev NextText : List ℕ → ℕ → Type 0
+NextText text n = (digits : List ℕ) × (text ≡ 46 ∷ digits) × NumberText digits n
+
+abbrev alone : ℕ × List ℕ → Result (List ℕ × List ℕ) Cause
+alone p = Ok (p.0 ∷ [], p.1)
+
+abbrev first_at : Spec → Reader (List ℕ)
+first_at spec text = number_at spec text >>= alone
+
+next_point : (star : Bool) (spec : Spec) (rest : List ℕ) → next_number star spec (46 ∷ rest) ≡ star_at star spec rest
+unfolding next_number
+next_point star spec rest = refl
+
+next_other : (star : Bool) (spec : Spec) (text : List ℕ) → begins_with 46 text ≡ false → next_number star spec text ≡ Ok None
+unfolding next_number
+next_other star spec [] h = refl
+next_other star spec (b ∷ bs) h =
+    ap (λ t. let o : Option (List ℕ) = if t then Some bs else None in elim o [
+      | None ↦ Ok None
+      | Some rest ↦ if star && begins_with 42 rest then Ok None else number_at spec rest >>= λ p. Ok (Some p)
+    ]) h
+
+point_or : (text : List ℕ) → (begins_with 46 text ≡ false) ⊎ ((rest : List ℕ) × (text ≡ 46 ∷ rest))
+point_or [] = inl refl
+point_or (b ∷ bs) = by (b == 46) refl
+  where
+    by : (o : Bool) → (b == 46) ≡ o → ((b == 46) ≡ false) ⊎ ((rest : List ℕ) × (b ∷ bs ≡ 46 ∷ rest))
+    by true q = inr (bs, ap (λ x. x ∷ bs) (eqb-true b 46 q))
+    by false q = inl q
+
+-- what each answer says
+star_parts : (t : Bool) (r : Result (ℕ × List ℕ) Cause) (p : ℕ × List ℕ) → (let o : Result (Option (ℕ × List ℕ)) Cause = if t then Ok None else r >>= λ p. Ok (Some p) in o ≡ Ok (Some p)) → r ≡ Ok p
+star_parts true r p h = absurd (cc h)
+star_parts false (Ok q) p h = let same : q ≡ p = cc h in ap Ok same
+star_parts false (Err why) p h = absurd (cc h)
+
+star_free : (t : Bool) (r : Result (ℕ × List ℕ) Cause) → (let o : Result (Option (ℕ × List ℕ)) Cause = if t then Ok None else r >>= λ p. Ok (Some p) in o ≡ Ok None) → t ≡ true
+star_free true r h = refl
+star_free false (Ok q) h = absurd (cc h)
+star_free false (Err why) h = absurd (cc h)
+
+star_some : (star : Bool) (spec : Spec) (text : List ℕ) (n : ℕ) (rest : List ℕ) → star_at star spec text ≡ Ok (Some (n, rest)) → number_at spec text ≡ Ok (n, rest)
+star_some star spec text n rest h = star_parts (star && begins_with 42 text) (number_at spec text) (n, rest) h
+
+star_none : (star : Bool) (spec : Spec) (text : List ℕ) → star_at star spec text ≡ Ok None → (star ≡ true) × (begins_with 42 text ≡ true)
+star_none star spec text h = and_parts star (begins_with 42 text) (star_free (star && begins_with 42 text) (number_at spec text) h)
+
+star_reads : (star : Bool) (spec : Spec) (text : List ℕ) (n : ℕ) (rest : List ℕ) → begins_with_digit text ≡ true → number_at spec text ≡ Ok (n, rest) → star_at star spec text ≡ Ok (Some (n, rest))
+star_reads star spec text n rest digit h =
+    ap (λ t. if t then Ok None else number_at spec text >>= λ p. Ok (Some p)) (and_right star (begins_with 42 text) (begins_other 42 text (λ k. omega (arith, k.0)) digit))
+    ∙ ap (λ r. r >>= λ p. Ok (Some p)) h
+
+number_begins : (text : List ℕ) (n : ℕ) (rest : List ℕ) → NumberText text n → begins_with_digit (text ++ rest) ≡ true
+number_begins text n rest is = ap (λ t. begins_with_digit (t ++ rest)) is.0 ∙ digits_begin (decimal n) rest (decimal_digits n is.1) (decimal_some n is.1)
+
+-- behind a number stands no digit, and neither does one at the end of the text
+number_ends : (text : List ℕ) (n : ℕ) → NumberText text n → ends_with_digit text ≡ true
+number_ends text n is = ap ends_with_digit is.0 ∙ digits_last (decimal n) (decimal_digits n is.1) (decimal_some n is.1)
+
+first_reads : (spec : Spec) (text ns rest : List ℕ) → FirstText text ns → NotDigit text rest → first_at spec (text ++ rest) ≡ Ok (ns, rest)
+first_reads spec text ns rest f e = ap (λ r. r >>= alone) (number_reads spec text f.0 rest f.1 e) ∙ ap (λ v. Ok (v, rest)) (sym f.2)
+
+first_read : (spec : Spec) (text ns rest : List ℕ) → first_at spec text ≡ Ok (ns, rest) → Read FirstText NotDigit text ns rest
+first_read spec text ns rest h = by (number_at spec text) refl
+  where
+    by : (o : Result (ℕ × List ℕ) Cause) → number_at spec text ≡ o → Read FirstText NotDigit text ns rest
+    by (Err why) q = absurd (cc (h, ap (λ r. r >>= alone) q))
+    by (Ok p) q =
+        let same = ok_parts (p.0 ∷ []) ns p.1 rest (sym (ap (λ r. r >>= alone) q) ∙ h) in
+        let r = number_read spec text p.0 p.1 q in
+        record { front = r.front; whole = r.whole ∙ ap (λ t. r.front ++ t) same.1; is = (p.0, r.is, sym same.0); apart = ap begins_with_digit (sym same.1) ∙ r.apart }
+
+next_reads : (star : Bool) (spec : Spec) (text : List ℕ) (n : ℕ) (rest : List ℕ) → NextText text n → NotDigit text rest → next_number star spec (text ++ rest) ≡ Ok (Some (n, rest))
+next_reads star spec text n rest k e =
+    ap (λ t. next_number star spec (t ++ rest)) k.1
+    ∙ next_point star spec (k.0 ++ rest)
+    ∙ star_reads star spec (k.0 ++ rest) n rest (number_begins k.0 n rest k.2) (number_reads spec k.0 n rest k.2 e)
+
+next_read : (star : Bool) (spec : Spec) (text : List ℕ) (n : ℕ) (rest : List ℕ) → next_number star spec text ≡ Ok (Some (n, rest)) → Read NextText NotDigit text n rest
+next_read star spec text n rest h = by (point_or text)
+  where
+    by : (begins_with 46 text ≡ false) ⊎ ((rest : List ℕ) × (text ≡ 46 ∷ rest)) → Read NextText NotDigit text n rest
+    by (inl other) = absurd (cc (h, next_other star spec text other))
+    by (inr p) =
+        let r = number_read spec p.0 n rest (star_some star spec p.0 n rest (sym (next_point star spec p.0) ∙ ap (next_number star spec) (sym p.1) ∙ h)) in
+        record { front = 46 ∷ r.front; whole = p.1 ∙ ap (λ t. 46 ∷ t) r.whole; is = (r.front, refl, r.is); apart = r.apart }
+
+rules : (star : Bool) (spec : Spec) → Parts FirstText NextText NotDigit (first_at spec) (next_number star spec)
+rules star spec = record {
+  first_reads = first_reads spec;
+  first_read = first_read spec;
+  next_reads = next_reads star spec;
+  next_read = next_read star spec;
+  next_some = λ n k. cc (k.1);
+  same_head = λ text rest again same e. digit_same rest again (sym same) ∙ e;
+  opens = λ text next rest n k. ap (λ t. begins_with_digit (t ++ rest)) k.1;
+  behind = λ text next rest n k e. e;
+  within = λ text next rest n k e. e;
+}
+
+abbrev all_numbers : Bool → Spec → Reader (List ℕ)
+all_numbers star spec = all_of followed (first_at spec) (next_number star spec)
+
+abbrev NumbersText : List ℕ → List ℕ → Type 0
+NumbersText = Chain followed FirstText NextText
+
+first_fault : (spec : Spec) (text : List ℕ) (cause : Cause) → first_at spec text ≡ Err cause → Fault spec FirstText FirstText (first_at spec) (first_at spec) text cause
+first_fault spec text cause h =
+    let single : Completes NumberText [] FirstText = λ t n k. ([], n ∷ [], (n, (append-nil t ∙ k.0, k.1), refl)) in
+    fault_up spec NumberText NumberText (number_at spec) (number_at spec) FirstText FirstText (first_at spec) (first_at spec) [] single single
+    text cause (number_fault spec text cause (failed (number_at spec text) h)) refl (λ again e. errs_then (number_at spec _) alone e) (λ again e. errs_then (number_at spec _) alone e)
+  where
+    failed : (r : Result (ℕ × List ℕ) Cause) → (let o : Result (List ℕ × List ℕ) Cause = r >>= alone in o ≡ Err cause) → r ≡ Err cause
+    failed (Ok p) e = absurd (cc e)
+    failed (Err why) e = let same : why ≡ cause = cc e in ap Err same
+
+-- each fault is one with every text that goes on by the same byte
+why_dead : {A B : Type 0} (spec : Spec) (L L' : List ℕ → A → Type 0) (P P' : List ℕ → Result B Cause) (front rest again : List ℕ) (cause : Cause) → Why spec L L' P P' front rest cause
+    → head_of again ≡ head_of rest → errs (P (front ++ again)) ≡ false → errs (P' (front ++ again)) ≡ false → ⊥
+why_dead spec L L' P P' front rest again cause (new_form form dead) same h k = false≢true (sym k ∙ dead again same)
+why_dead spec L L' P P' front rest again cause (number_due form last es x goes dead) same h k = false≢true (sym k ∙ dead again same)
+why_dead spec L L' P P' front rest again cause (digit_more form last digit dead) same h k = false≢true (sym k ∙ dead again same)
+why_dead spec L L' P P' front rest again cause (too_deep first none es x goes dead) same h k = false≢true (sym h ∙ dead again same)
+why_dead spec L L' P P' front rest again cause (behind_digit form last other dead) same h k = false≢true (sym k ∙ dead again same)
+why_dead spec L L' P P' front rest again cause (no_digit form last none dead) same h k = false≢true (sym k ∙ dead again same)
+
+-- where some text that begins so is read, the fault is behind its first byte
+pub fault_begun : {A B : Type 0} (spec : Spec) (L L' : List ℕ → A → Type 0) (P P' : List ℕ → Result B Cause) (text : List ℕ) (cause : Cause) (f : Fault spec L L' P P' text cause)
+    → (again : List ℕ) → head_of again ≡ head_of text → errs (P again) ≡ false → errs (P' again) ≡ false → f.front ≢ []
+fault_begun spec L L' P P' text cause f again same h k e =
+    let rest : text ≡ f.rest = f.whole ∙ ap (λ t. t ++ f.rest) e in
+    why_dead spec L L' P P' f.front f.rest again cause f.why (same ∙ ap head_of rest) (ap (λ t. errs (P (t ++ again))) e ∙ h) (ap (λ t. errs (P' (t ++ again))) e ∙ k)
+
+ends_behind_point : (ds : List ℕ) → ends_with_digit (46 ∷ ds) ≡ ends_with_digit ds
+ends_behind_point [] = refl
+ends_behind_point (b ∷ bs) = refl
+
+module _ (star : Bool) (spec : Spec) where
+  abbrev NumbersNextFault : List ℕ → Cause → Type 0
+  NumbersNextFault = NextFault spec followed FirstText FirstText NextText NextText NotDigit (first_at spec) (first_at spec) (next_number star spec) (next_number star spec) (rules star spec) (rules star spec) (λ t x k. k) (λ t y k. k)
+
+  next_fault : (text : List ℕ) (cause : Cause) → next_number star spec text ≡ Err cause → NumbersNextFault text cause
+  next_fault text cause h = by (point_or text)
+    where
+      by : (begins_with 46 text ≡ false) ⊎ ((rest : List ℕ) × (text ≡ 46 ∷ rest)) → NumbersNextFault text cause
+      by (inl other) = absurd (cc (h, next_other star spec text other))
+      by (inr p) =
+          let f = star_fault star spec p.0 cause (sym (next_point star spec p.0) ∙ ap (next_number star spec) (sym p.1) ∙ h) in
+          let pointed : Completes NumberText (46 ∷ []) NextText = λ t n k. ([], n, (t ++ [], refl, (append-nil t ∙ k.0, k.1))) in
+          let pass : (again : List ℕ) → errs (star_at star spec again) ≡ true → errs (next_number star spec (46 ∷ again)) ≡ true = λ again e. ap errs (next_point star spec again) ∙ e in
+          let whole : Fault spec NextText NextText (next_number star spec) (next_number star spec) (46 ∷ p.0) cause =
+              fault_up spec NumberText NumberText (star_at star spec) (star_at star spec) NextText NextText (next_number star spec) (next_number star spec) (46 ∷ []) pointed pointed
+              p.0 cause f (ends_behind_point f.front) (λ again e. pass (f.front ++ again) e) (λ again e. pass (f.front ++ again) e) in
+          let read : errs (next_number star spec (46 ∷ 48 ∷ [])) ≡ false = ap errs (next_reads star spec (46 ∷ 48 ∷ []) 0 [] (48 ∷ [], refl, zero_text) refl) in
+          subst (λ t. NumbersNextFault t cause) (sym p.1) (record { fault = whole; begun = fault_begun spec NextText NextText (next_number star spec) (next_number star spec) (46 ∷ p.0) cause whole (46 ∷ 48 ∷ []) refl read read })
+
+  numbers_fault : (text : List ℕ) (cause : Cause) → all_numbers star spec text ≡ Err cause → Fault spec NumbersText NumbersText (all_numbers star spec) (all_numbers star spec) text cause
+  numbers_fault = fault_all spec followed FirstText FirstText NextText NextText NotDigit (first_at spec) (first_at spec) (next_number star spec) (next_number star spec) (rules star spec) (rules star spec) (λ t x k. k) (λ t y k. k) next_fault (first_fault spec)
+
+  -- what was read of the numbers
+  abbrev NumbersRead : List ℕ → List ℕ → List ℕ → Type 0
+  NumbersRead = AllRead followed FirstText NextText NotDigit (first_at spec) (next_number star spec) (rules star spec)
+
+  numbers_read : (text ns rest : List ℕ) → all_numbers star spec text ≡ Ok (ns, rest) → NumbersRead text ns rest
+  numbers_read = read_all followed FirstText NextText NotDigit (first_at spec) (next_number star spec) (rules star spec)
+
+  numbers_reads : (text ns : List ℕ) → NumbersText text ns → (rest : List ℕ) → NotDigit text rest → next_number star spec rest ≡ Ok None → all_numbers star spec (text ++ rest) ≡ Ok (ns, rest)
+  numbers_reads text ns c = reads followed FirstText NextText NotDigit (first_at spec) (next_number star spec) (rules star spec) c
+
+  abbrev as_version : List ℕ × List ℕ → Result (Version × List ℕ) Cause
+  as_version all = Ok (record { parts = all.0 }, all.1)
+
+  version_is : (text : List ℕ) → version_at star spec text ≡ (all_numbers star spec text >>= as_version)
+  unfolding version_at
+  version_is text = by (number_at spec text)
+    where
+      by : (r : Result (ℕ × List ℕ) Cause) → (let o : Result (Version × List ℕ) Cause = r >>= λ p. chained followed (next_number star spec) (p.0 ∷ [], p.1) >>= as_version in o ≡ ((r >>= alone) >>= chained followed (next_number star spec)) >>= as_version)
+      by (Ok p) = refl
+      by (Err why) = refl
+
+-- ---- the text of a version
+
+-- the numbers, with a point before each but the first, are its text
+version_more : (ns : List ℕ) (n : ℕ) → IsVersion ns → version_text (ns ++ n ∷ []) ≡ version_text ns ++ (46 ∷ decimal n)
+version_more [] n v = absurd v
+version_more (m ∷ ns) n v =
+    text_led m (ns ++ n ∷ [])
+    ∙ ap (λ t. decimal m ++ t) (led_more ns n)
+    ∙ sym (append_assoc (decimal m) (led_by_points ns) (46 ∷ decimal n))
+    ∙ ap (λ t. t ++ (46 ∷ decimal n)) (sym (text_led m ns))
+
+is_more : (ns : List ℕ) (n : ℕ) → IsVersion ns → IsNumber n → IsVersion (ns ++ n ∷ [])
+is_more [] n v h = absurd v
+is_more (m ∷ []) n v h = (v, h)
+is_more (m ∷ k ∷ ns) n v h = (v.0, is_more (k ∷ ns) n v.1 h)
+
+numbers_text : {text ns : List ℕ} → NumbersText text ns → (text ≡ version_text ns) × IsVersion ns
+numbers_text {text} {ns} (one f) = (f.1.0 ∙ ap version_text (sym f.2), subst IsVersion (sym f.2) f.1.1)
+numbers_text (more {text = text} {next = next} {left = left} {right = right} c k) =
+    let r = numbers_text c in
+    let joined : next ≡ 46 ∷ decimal right = k.1 ∙ ap (λ t. 46 ∷ t) k.2.0 in
+    (cc (r.0, joined, version_more left right r.1), is_more left right r.1 k.2.1)
+
+-- more numbers, each behind a point
+numbers_on : (text left ns : List ℕ) → NumbersText text left → AllByRecursion IsNumber ns → NumbersText (text ++ led_by_points ns) (left ++ ns)
+numbers_on text left [] c all = subst (λ t. NumbersText t (left ++ [])) (sym (append-nil text)) (subst (NumbersText text) (sym (append-nil left)) c)
+numbers_on text left (n ∷ ns) c all =
+    let on = numbers_on (text ++ (46 ∷ decimal n)) (left ++ n ∷ []) ns (more c (decimal n, refl, (refl, all.0))) all.1 in
+    subst (λ t. NumbersText t (left ++ n ∷ ns)) (append_assoc text (46 ∷ decimal n) (led_by_points ns))
+    (subst (NumbersText ((text ++ (46 ∷ decimal n)) ++ led_by_points ns)) (append_assoc left (n ∷ []) ns) on)
+
+version_numbers : (n : ℕ) (ns : List ℕ) → IsVersion (n ∷ ns) → IsNumber n × AllByRecursion IsNumber ns
+version_numbers n [] v = (v, tt)
+version_numbers n (m ∷ ns) v = (v.0, version_numbers m ns v.1)
+
+text_numbers : (ns : List ℕ) → IsVersion ns → NumbersText (version_text ns) ns
+text_numbers [] v = absurd v
+text_numbers (n ∷ ns) v =
+    let p = version_numbers n ns v in
+    subst (λ t. NumbersText t (n ∷ ns)) (sym (text_led n ns)) (numbers_on (decimal n) (n ∷ []) ns (one (n, (refl, p.0), refl)) p.1)
+
+-- ---- versions
+
+-- a version's text
+abbrev pub VersionText : List ℕ → Version → Type 0
+VersionText text v = (text ≡ version_text v.parts) × (is_version v.parts ≡ true)
+
+-- what ends with a digit has neither a digit nor a point behind it
+apart_parts : (rest : List ℕ) → goes_on_number rest ≡ false → (begins_with_digit rest ≡ false) × (begins_with 46 rest ≡ false)
+apart_parts [] h = (refl, refl)
+apart_parts (b ∷ bs) h = or_parts (is_ascii_digit b) (b == 46) h
+
+apart_from : (rest : List ℕ) → begins_with_digit rest ≡ false → begins_with 46 rest ≡ false → goes_on_number rest ≡ false
+apart_from [] h k = refl
+apart_from (b ∷ bs) h k = or_from (is_ascii_digit b) (b == 46) h k
+
+ends_after : (b : ℕ) (text : List ℕ) → ends_with_digit text ≡ true → ends_with_digit (b ∷ text) ≡ true
+ends_after b [] h = absurd (false≢true h)
+ends_after b (c ∷ cs) h = h
+
+version_ends : (ns : List ℕ) → IsVersion ns → ends_with_digit (version_text ns) ≡ true
+version_ends [] v = absurd v
+version_ends (n ∷ []) v = number_ends (decimal n) n (refl, v)
+version_ends (n ∷ m ∷ ns) v = ends_behind (decimal n) 46 (version_text (m ∷ ns)) ∙ ends_after 46 (version_text (m ∷ ns)) (version_ends (m ∷ ns) v.1)
+
+version_begins : (ns : List ℕ) → IsVersion ns → begins_with_digit (version_text ns) ≡ true
+version_begins [] v = absurd v
+version_begins (n ∷ ns) v =
+    let p = version_numbers n ns v in
+    ap begins_with_digit (text_led n ns) ∙ number_begins (decimal n) n (led_by_points ns) (refl, p.0)
+
+first_of_text : (text : List ℕ) → begins_with_digit text ≡ true → (b : ℕ) × (bs : List ℕ) × (text ≡ b ∷ bs) × (is_ascii_digit b ≡ true)
+first_of_text [] h = absurd (false≢true h)
+first_of_text (b ∷ bs) h = (b, bs, refl, h)
+
+pub version_first : (text : List ℕ) (v : Version) → VersionText text v → (b : ℕ) × (bs : List ℕ) × (text ≡ b ∷ bs) × (is_ascii_digit b ≡ true)
+version_first text v is = first_of_text text (ap begins_with_digit is.0 ∙ version_begins v.parts (version_from v.parts is.1))
+
+pub version_last : (text : List ℕ) (v : Version) → VersionText text v → ends_with_digit text ≡ true
+version_last text v is = ap ends_with_digit is.0 ∙ version_ends v.parts (version_from v.parts is.1)
+
+pub version_zero : VersionText (48 ∷ []) (record { parts = 0 ∷ [] })
+version_zero = (zero_text.0, refl)
+
+-- the numbers that were read are the version's
+version_found : (star : Bool) (spec : Spec) (text : List ℕ) (v : Version) (rest : List ℕ) → version_at star spec text ≡ Ok (v, rest) → NumbersRead star spec text v.parts rest
+version_found star spec text v rest h = by (all_numbers star spec text) refl
+  where
+    by : (o : Result (List ℕ × List ℕ) Cause) → all_numbers star spec text ≡ o → NumbersRead star spec text v.parts rest
+    by (Err why) q = absurd (cc (h, version_is star spec text, ap (λ r. r >>= as_version star spec) q))
+    by (Ok p) q =
+        let same = ok_parts (record { parts = p.0 }) v p.1 rest (sym (version_is star spec text ∙ ap (λ r. r >>= as_version star spec) q) ∙ h) in
+        numbers_read star spec text v.parts rest (q ∙ ap (λ ns. Ok (ns, p.1)) (ap (λ x. x.parts) same.0) ∙ ap (λ t. Ok (v.parts, t)) same.1)
+
+version_made : (star : Bool) (spec : Spec) (text : List ℕ) (v : Version) (rest : List ℕ) → VersionText text v → NotDigit text rest → next_number star spec rest ≡ Ok None → version_at star spec (text ++ rest) ≡ Ok (v, rest)
+version_made star spec text v rest is apart none =
+    version_is star spec (text ++ rest)
+    ∙ ap (λ r. r >>= as_version star spec) (numbers_reads star spec text v.parts (subst (λ t. NumbersText t v.parts) (sym is.0) (text_numbers v.parts (version_from v.parts is.1))) rest apart none)
+
+version_is_text : (text ns : List ℕ) → NumbersText text ns → (text ≡ version_text ns) × (is_version ns ≡ true)
+version_is_text text ns c = let p = numbers_text c in (p.0, version_to ns p.1)
+
+-- why no further number is read
+none_next : (star : Bool) (spec : Spec) (rest : List ℕ) → next_number star spec rest ≡ Ok None → (begins_with 46 rest ≡ false) ⊎ ((behind : List ℕ) × (star ≡ true) × (rest ≡ 46 ∷ 42 ∷ behind))
+none_next star spec rest h = by (point_or rest)
+  where
+    starred : (t : List ℕ) → begins_with 42 t ≡ true → (behind : List ℕ) × (t ≡ 42 ∷ behind)
+    starred [] k = absurd (false≢true k)
+    starred (b ∷ bs) k = (bs, ap (λ x. x ∷ bs) (eqb-true b 42 k))
+    by : (begins_with 46 rest ≡ false) ⊎ ((behind : List ℕ) × (rest ≡ 46 ∷ behind)) → (begins_with 46 rest ≡ false) ⊎ ((behind : List ℕ) × (star ≡ true) × (rest ≡ 46 ∷ 42 ∷ behind))
+    by (inl other) = inl other
+    by (inr p) =
+        let s = star_none star spec p.0 (sym (next_point star spec p.0) ∙ ap (next_number star spec) (sym p.1) ∙ h) in
+        let k = starred p.0 s.1 in
+        inr (k.0, s.0, p.1 ∙ ap (λ t. 46 ∷ t) k.1)
+
+pub version_read : (spec : Spec) (text : List ℕ) (v : Version) (rest : List ℕ) → version_at false spec text ≡ Ok (v, rest) → Read VersionText Apart text v rest
+version_read spec text v rest h =
+    let f = version_found false spec text v rest h in
+    record { front = f.read.front; whole = f.read.whole; is = version_is_text f.read.front v.parts f.read.is; apart = λ _. ends f.read.apart (none_next false spec rest f.none) }
+  where
+    ends : begins_with_digit rest ≡ false → (begins_with 46 rest ≡ false) ⊎ ((behind : List ℕ) × (false ≡ true) × (rest ≡ 46 ∷ 42 ∷ behind)) → goes_on_number rest ≡ false
+    ends digit (inl other) = apart_from rest digit other
+    ends digit (inr p) = absurd (false≢true p.1)
+
+version_whole : (star : Bool) (spec : Spec) (text : List ℕ) (v : Version) (rest : List ℕ) → VersionText text v → Apart text rest → version_at star spec (text ++ rest) ≡ Ok (v, rest)
+version_whole star spec text v rest is apart =
+    let p = apart_parts rest (apart (version_last text v is)) in
+    version_made star spec text v rest is p.0 (next_other star spec rest p.1)
+
+pub version_reads : (spec : Spec) (text : List ℕ) (v : Version) (rest : List ℕ) → VersionText text v → Apart text rest → version_at false spec (text ++ rest) ≡ Ok (v, rest)
+version_reads = version_whole false
+
+version_failed : (star : Bool) (spec : Spec) (text : List ℕ) (cause : Cause) → version_at star spec text ≡ Err cause → all_numbers star spec text ≡ Err cause
+version_failed star spec text cause h = by (all_numbers star spec text) (sym (version_is star spec text) ∙ h)
+  where
+    by : (r : Result (List ℕ × List ℕ) Cause) → (r >>= as_version star spec) ≡ Err cause → r ≡ Err cause
+    by (Ok p) e = absurd (cc e)
+    by (Err why) e = let same : why ≡ cause = cc e in ap Err same
+
+version_errs : (star : Bool) (spec : Spec) (text : List ℕ) → errs (all_numbers star spec text) ≡ true → errs (version_at star spec text) ≡ true
+version_errs star spec text h = ap errs (version_is star spec text) ∙ errs_then (all_numbers star spec text) (as_version star spec) h
+
+pub version_fault : (spec : Spec) (text : List ℕ) (cause : Cause) → version_at false spec text ≡ Err cause → Fault spec VersionText VersionText (version_at false spec) (version_at false spec) text cause
+version_fault spec text cause h =
+    let f = numbers_fault false spec text cause (version_failed false spec text cause h) in
+    let done : Completes NumbersText [] VersionText = λ t ns c. ([], record { parts = ns }, version_is_text (t ++ []) ns (subst (λ t'. NumbersText t' ns) (sym (append-nil t)) c)) in
+    fault_up spec NumbersText NumbersText (all_numbers false spec) (all_numbers false spec) VersionText VersionText (version_at false spec) (version_at false spec) [] done done
+    text cause f refl (λ again e. version_errs false spec (f.front ++ again) e) (λ again e. version_errs false spec (f.front ++ again) e)
