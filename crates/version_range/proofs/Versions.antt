@@ -1,5 +1,5 @@
 -- How numbers, versions and what stands behind `==` are read, against their languages.
-use Rattle.std.proofs.Common.{◌≡◌, ◌≢◌, ℕ, zero, suc, ◌+◌, ◌<◌, ◌≤◌, Bool, true, false, not, ◌&&◌, ◌||◌, List, [], ◌∷◌, ◌++◌, length, take, drop, get_or, Option, Some, None, ◌⊎◌, inl, inr, Result, Ok, Err, refl, sym, ap, ◌∙◌, subst, append_assoc, append-nil, length-append, length-take, length-drop, arith}
+use Rattle.std.proofs.Common.{◌≡◌, ◌≢◌, ℕ, ◌<◌, ◌≤◌, Bool, true, false, not, ◌&&◌, List, [], ◌∷◌, ◌++◌, length, take, drop, get_or, Option, Some, None, ◌⊎◌, inl, inr, Result, Ok, Err, refl, sym, ap, ◌∙◌, subst, append_assoc, append-nil, length-append, length-take, length-drop, arith}
 use Rattle.std.specs.Prelude.{◌==◌, nat_le, if◌then◌else◌, codes}
 use Rattle.std.specs.Fmt.{decimal}
 use Rattle.std.specs.Str.{all_ascii_digits}
@@ -7,22 +7,21 @@ use Rattle.std.specs.Char.{is_ascii_digit}
 use Rattle.std.specs.Int.{IsInRange}
 use Rattle.std.specs.List.{AllByRecursion}
 use Rattle.std.proofs.lemmas.List.{take-append-drop}
-use Rattle.std.proofs.lemmas.Bool.{false≢true, and_parts, and_from, and_right, and_left, leb-true, leb-false, le-leb, lt-leb, eqb-true, eqb-false, eq-eqb, ne_eqb, or_parts, or_from}
+use Rattle.std.proofs.lemmas.Bool.{false≢true, and_parts, and_from, and_right, leb-true, leb-false, le-leb, lt-leb, eqb-true, eqb-false, eq-eqb, ne_eqb, or_parts, or_from}
 use Rattle.std.proofs.lemmas.Fmt.{decimal_injective, decimal_digit}
 use Rattle.std.proofs.Math.Seq.{take-append_seam, drop-append_seam}
 use Rattle.plan_types.specs.declared.range.Range.{Range}
 use Rattle.plan_types.specs.declared.range.Range.TheVariants as ranges
 use Rattle.plan_types.specs.declared.range.Spec.{Spec}
-use Rattle.plan_types.specs.declared.range.Spec.TheVariants.{V2_4, V3_0}
 use Rattle.plan_types.specs.declared.version.Version.{Version}
 use Rattle.plan_types.specs.declared.refusal.Cause.{Cause}
-use Rattle.plan_types.specs.declared.refusal.Cause.TheVariants.{BadVersion, BadRange, NeedsVersion, TooDeep}
+use Rattle.plan_types.specs.declared.refusal.Cause.TheVariants.{BadVersion, NeedsVersion}
 use Rattle.version_range.specs.Version.{IsNumber, IsVersion, is_version, version_text, led_by_points, begins_with_digit, number_after}
-use Rattle.version_range.specs.Read.{◌>>=◌, byte_after, cause_at, digits_in, is_number, number_at, chain, chained, followed, next_number, version_at, byte_due, equal_at}
+use Rattle.version_range.specs.Read.{◌>>=◌, byte_after, cause_at, digits_in, is_number, number_at, chained, followed, next_number, version_at, byte_due, equal_at}
 use Rattle.version_range.specs.Grammar.{is_old, begins_with, Chain, one, more, ends_with_digit, IsNewForm}
 use Rattle.version_range.proofs.Numbers.{numeral_text, decimal_digits, decimal_some, decimal_few, decimal_plain, digit_front, text_led, led_more, version_from, version_to, count_is}
-use Rattle.version_range.proofs.Fronts.{Reader, head_of, errs, goes_on_number, Apart, ends_behind, Read, Dead, NoDigit, Why, new_form, number_due, digit_more, too_deep, behind_digit, no_digit, Fault, Completes, Passes, fault_up}
-use Rattle.version_range.proofs.Parts.{Option-Reader, all_of, Parts, errs_then, ok_parts, errs_err, err_of, reads, read_all, AllRead, NextFault, fault_all}
+use Rattle.version_range.proofs.Fronts.{Reader, head_of, errs, goes_on_number, Apart, ends_behind, Read, Dead, Why, new_form, number_due, digit_more, too_deep, behind_digit, no_digit, Fault, Completes, fault_up}
+use Rattle.version_range.proofs.Parts.{Option-Reader, all_of, Parts, errs_then, ok_parts, errs_err, reads, read_all, AllRead, NextFault, fault_all}
 
 -- ---- numbers
 
@@ -372,7 +371,6 @@ star_reads star spec text n rest digit h =
 number_begins : (text : List ℕ) (n : ℕ) (rest : List ℕ) → NumberText text n → begins_with_digit (text ++ rest) ≡ true
 number_begins text n rest is = ap (λ t. begins_with_digit (t ++ rest)) is.0 ∙ digits_begin (decimal n) rest (decimal_digits n is.1) (decimal_some n is.1)
 
--- behind a number stands no digit, and neither does one at the end of the text
 number_ends : (text : List ℕ) (n : ℕ) → NumberText text n → ends_with_digit text ≡ true
 number_ends text n is = ap ends_with_digit is.0 ∙ digits_last (decimal n) (decimal_digits n is.1) (decimal_some n is.1)
 
@@ -499,7 +497,7 @@ module _ (star : Bool) (spec : Spec) where
 
 -- ---- the text of a version
 
--- the numbers, with a point before each but the first, are its text
+-- one number more
 version_more : (ns : List ℕ) (n : ℕ) → IsVersion ns → version_text (ns ++ n ∷ []) ≡ version_text ns ++ (46 ∷ decimal n)
 version_more [] n v = absurd v
 version_more (m ∷ ns) n v =
@@ -646,3 +644,93 @@ version_fault spec text cause h =
     let done : Completes NumbersText [] VersionText = λ t ns c. ([], record { parts = ns }, version_is_text (t ++ []) ns (subst (λ t'. NumbersText t' ns) (sym (append-nil t)) c)) in
     fault_up spec NumbersText NumbersText (all_numbers false spec) (all_numbers false spec) VersionText VersionText (version_at false spec) (version_at false spec) [] done done
     text cause f refl (λ again e. version_errs false spec (f.front ++ again) e) (λ again e. version_errs false spec (f.front ++ again) e)
+
+-- ---- what stands behind `==`
+
+-- a version, or one and `.*`
+pub data EqualText : List ℕ → Range → Type 0 where
+  whole : (v : Version) → is_version v.parts ≡ true → EqualText (version_text v.parts) (ranges.Equal v)
+  front : (v : Version) → is_version v.parts ≡ true → EqualText (version_text v.parts ++ codes ".*") (ranges.Prefix v)
+
+-- what follows the version
+abbrev equal_end : Spec → Version × List ℕ → Result (Range × List ℕ) Cause
+equal_end spec v = elim (byte_after 46 v.1) [ None ↦ Ok (ranges.Equal v.0, v.1) | Some star ↦ byte_due spec 42 star >>= λ rest. Ok (ranges.Prefix v.0, rest) ]
+
+equal_is : (spec : Spec) (text : List ℕ) → equal_at spec text ≡ (version_at true spec text >>= equal_end spec)
+unfolding equal_at
+equal_is spec text = refl
+
+end_whole : (spec : Spec) (v : Version) (rest : List ℕ) → begins_with 46 rest ≡ false → equal_end spec (v, rest) ≡ Ok (ranges.Equal v, rest)
+end_whole spec v [] h = refl
+end_whole spec v (b ∷ bs) h =
+    ap (λ t. let o : Option (List ℕ) = if t then Some bs else None in elim o [ None ↦ Ok (ranges.Equal v, b ∷ bs) | Some star ↦ byte_due spec 42 star >>= λ rest. Ok (ranges.Prefix v, rest) ]) h
+
+end_front : (spec : Spec) (v : Version) (rest : List ℕ) → equal_end spec (v, 46 ∷ 42 ∷ rest) ≡ Ok (ranges.Prefix v, rest)
+end_front spec v rest = refl
+
+apart_star : (text rest : List ℕ) → Apart (text ++ codes ".*") rest
+apart_star text rest h = absurd (false≢true (sym (ends_behind text 46 (42 ∷ [])) ∙ h))
+
+whole_text : (text : List ℕ) (v : Version) → VersionText text v → EqualText text (ranges.Equal v)
+whole_text text v is = subst (λ t. EqualText t (ranges.Equal v)) (sym is.0) (whole v is.1)
+
+front_text : (text : List ℕ) (v : Version) → VersionText text v → EqualText (text ++ codes ".*") (ranges.Prefix v)
+front_text text v is = subst (λ t. EqualText (t ++ codes ".*") (ranges.Prefix v)) (sym is.0) (front v is.1)
+
+read_as : (text : List ℕ) (a r : Range) (b rest start : List ℕ) → (let p : Result (Range × List ℕ) Cause = Ok (a, b) in let q : Result (Range × List ℕ) Cause = Ok (r, rest) in p ≡ q)
+    → text ≡ start ++ b → EqualText start a → Apart start b → Read EqualText Apart text r rest
+read_as text a r b rest start e is_text is apart =
+    let same = ok_parts a r b rest e in
+    record { front = start; whole = is_text ∙ ap (λ t. start ++ t) same.1; is = subst (EqualText start) same.0 is; apart = subst (Apart start) same.1 apart }
+
+pub equal_read : (spec : Spec) (text : List ℕ) (r : Range) (rest : List ℕ) → equal_at spec text ≡ Ok (r, rest) → Read EqualText Apart text r rest
+equal_read spec text r rest h = by (version_at true spec text) refl
+  where
+    at : (v : Version) (left : List ℕ) (f : NumbersRead true spec text v.parts left) → (begins_with 46 left ≡ false) ⊎ ((behind : List ℕ) × (true ≡ true) × (left ≡ 46 ∷ 42 ∷ behind))
+        → equal_end spec (v, left) ≡ Ok (r, rest) → Read EqualText Apart text r rest
+    at v left f (inl other) e =
+        let is = version_is_text f.read.front v.parts f.read.is in
+        read_as text (ranges.Equal v) r left rest f.read.front (sym (end_whole spec v left other) ∙ e) f.read.whole (whole_text f.read.front v is) (λ _. apart_from left f.read.apart other)
+    at v left f (inr p) e =
+        let is = version_is_text f.read.front v.parts f.read.is in
+        read_as text (ranges.Prefix v) r p.0 rest (f.read.front ++ codes ".*") (sym (end_front spec v p.0) ∙ ap (λ t. equal_end spec (v, t)) (sym p.2) ∙ e)
+        (f.read.whole ∙ ap (λ t. f.read.front ++ t) p.2 ∙ sym (append_assoc f.read.front (codes ".*") p.0)) (front_text f.read.front v is) (apart_star f.read.front p.0)
+    by : (o : Result (Version × List ℕ) Cause) → version_at true spec text ≡ o → Read EqualText Apart text r rest
+    by (Err why) q = absurd (cc (h, equal_is spec text, ap (λ o. o >>= equal_end spec) q))
+    by (Ok p) q =
+        let f = version_found true spec text p.0 p.1 q in
+        at p.0 p.1 f (none_next true spec p.1 f.none) (sym (equal_is spec text ∙ ap (λ o. o >>= equal_end spec) q) ∙ h)
+
+pub equal_reads : (spec : Spec) (text : List ℕ) (r : Range) (rest : List ℕ) → EqualText text r → Apart text rest → equal_at spec (text ++ rest) ≡ Ok (r, rest)
+equal_reads spec text r rest (whole v is) apart =
+    let here : VersionText (version_text v.parts) v = (refl, is) in
+    equal_is spec (version_text v.parts ++ rest)
+    ∙ ap (λ o. o >>= equal_end spec) (version_whole true spec (version_text v.parts) v rest here apart)
+    ∙ end_whole spec v rest (apart_parts rest (apart (version_last (version_text v.parts) v here))).1
+equal_reads spec text r rest (front v is) apart =
+    let here : VersionText (version_text v.parts) v = (refl, is) in
+    ap (equal_at spec) (append_assoc (version_text v.parts) (codes ".*") rest)
+    ∙ equal_is spec (version_text v.parts ++ 46 ∷ 42 ∷ rest)
+    ∙ ap (λ o. o >>= equal_end spec) (version_made true spec (version_text v.parts) v (46 ∷ 42 ∷ rest) here refl (next_point true spec (42 ∷ rest)))
+    ∙ end_front spec v rest
+
+pub equal_fault : (spec : Spec) (text : List ℕ) (cause : Cause) → equal_at spec text ≡ Err cause → Fault spec EqualText EqualText (equal_at spec) (equal_at spec) text cause
+equal_fault spec text cause h = by (version_at true spec text) refl
+  where
+    -- behind the version nothing fails
+    ends : (v : Version) (left : List ℕ) → (begins_with 46 left ≡ false) ⊎ ((behind : List ℕ) × (true ≡ true) × (left ≡ 46 ∷ 42 ∷ behind)) → equal_end spec (v, left) ≡ Err cause → ⊥
+    ends v left (inl other) e = absurd (cc (e, end_whole spec v left other))
+    ends v left (inr p) e = absurd (cc (e, p.2, end_front spec v p.0))
+    up : (again : List ℕ) → errs (all_numbers true spec again) ≡ true → errs (equal_at spec again) ≡ true
+    up again e = ap errs (equal_is spec again) ∙ errs_then (version_at true spec again) (equal_end spec) (version_errs true spec again e)
+    done : Completes NumbersText [] EqualText
+    done t ns c = ([], ranges.Equal (record { parts = ns }), subst (λ t'. EqualText t' (ranges.Equal (record { parts = ns }))) (sym (append-nil t)) (whole_text t (record { parts = ns }) (version_is_text t ns c)))
+    by : (o : Result (Version × List ℕ) Cause) → version_at true spec text ≡ o → Fault spec EqualText EqualText (equal_at spec) (equal_at spec) text cause
+    by (Ok p) q =
+        let f = version_found true spec text p.0 p.1 q in
+        absurd (ends p.0 p.1 (none_next true spec p.1 f.none) (sym (equal_is spec text ∙ ap (λ o. o >>= equal_end spec) q) ∙ h))
+    by (Err why) q =
+        let same : why ≡ cause = cc (h, equal_is spec text, ap (λ o. o >>= equal_end spec) q) in
+        let f = numbers_fault true spec text cause (version_failed true spec text cause (q ∙ ap Err same)) in
+        fault_up spec NumbersText NumbersText (all_numbers true spec) (all_numbers true spec) EqualText EqualText (equal_at spec) (equal_at spec) [] done done
+        text cause f refl (λ again e. up (f.front ++ again) e) (λ again e. up (f.front ++ again) e)
