@@ -12,3 +12,4 @@ pub mod Spaces
 pub mod Led
 pub mod Operands
 pub mod Factors
+pub mod Versions
