@@ -205,7 +205,7 @@ unfolding Inside
 wider_inside spec zero text r none = absurd none
 wider_inside spec (suc n) text r c = wider_terms spec (Inside spec n) (Inside spec (suc n)) (wider_inside spec n) text r c
 
--- ---- where a factor is stuck
+-- ---- where a range isn't followed as it must be
 
 no_number_no_digit : (rest : List ℕ) → goes_on_number rest ≡ false → begins_with_digit rest ≡ false
 no_number_no_digit [] h = refl
@@ -218,6 +218,65 @@ no_number_no_digit (b ∷ bs) h = by (is_ascii_digit b) refl
 heads : (blanks rest again : List ℕ) → head_of again ≡ head_of rest → head_of (blanks ++ rest) ≡ head_of (blanks ++ again)
 heads [] rest again same = sym same
 heads (b ∷ bs) rest again same = refl
+
+-- Behind a range and blanks stands what may not stand there: it is wrong, as is each text that goes on by its first byte, or by a digit.
+pub record Misplaced (pre front blanks rest : List ℕ) (r : Range) (L : List ℕ → Range → Type 0) (wrong : List ℕ → Type 0) : Type 0 where
+  pub plain : ends_with_digit pre ≡ false
+  pub is : L front r
+  pub some : front ≢ []
+  pub are : Blanks blanks
+  pub end : unblank rest ≡ true
+  pub after : AfterRange front (blanks ++ rest)
+  pub wrong_like : (again : List ℕ) → Like again rest → wrong again
+
+module _ {B : Type 0} (pre front blanks rest : List ℕ) (r : Range) (L : List ℕ → Range → Type 0) (wrong : List ℕ → Type 0) (m : Misplaced pre front blanks rest r L wrong) (Q' : List ℕ → Result B Cause)
+    (fails : (again : List ℕ) → AfterRange front (blanks ++ again) → unblank again ≡ true → wrong again → errs (Q' ((pre ++ (front ++ blanks)) ++ again)) ≡ true) where
+  abbrev stuck : List ℕ
+  stuck = pre ++ (front ++ blanks)
+
+  -- what is known of the rest holds of each text that goes on so
+  begins_like : (byte : ℕ) (again : List ℕ) → unblank again ≡ true → begins_with byte again ≡ false → begins_with byte (skip_blanks (blanks ++ again)) ≡ false
+  begins_like byte again u h = ap (begins_with byte) (skip_to blanks again m.are u) ∙ h
+
+  begins_rest : (byte : ℕ) → begins_with byte (skip_blanks (blanks ++ rest)) ≡ false → begins_with byte rest ≡ false
+  begins_rest byte h = ap (begins_with byte) (sym (skip_to blanks rest m.are m.end)) ∙ h
+
+  dead : Dead Q' stuck rest
+  dead again same =
+      let u = unblank_head rest again same m.end in
+      fails again
+      ((apart_same_head front (blanks ++ rest) (blanks ++ again) (heads blanks rest again same) m.after.0.0, begins_like 38 again u (begins_same 38 rest again same ∙ begins_rest 38 m.after.0.1)), begins_like 124 again u (begins_same 124 rest again same ∙ begins_rest 124 m.after.1))
+      u (m.wrong_like again (inl same))
+
+  -- without blanks the range itself is the end of the front
+  ends_as : blanks ≡ [] → ends_with_digit stuck ≡ ends_with_digit front
+  ends_as none = ap (λ t. ends_with_digit (pre ++ (front ++ t))) none ∙ ap (λ t. ends_with_digit (pre ++ t)) (append-nil front) ∙ ends_some pre front m.some
+
+  ends_blank : (b : ℕ) (bs : List ℕ) → blanks ≡ b ∷ bs → ends_with_digit stuck ≡ false
+  ends_blank b bs e = ap (λ t. ends_with_digit (pre ++ (front ++ t))) e ∙ ap ends_with_digit (sym (append_assoc pre front (b ∷ bs))) ∙ ends_behind (pre ++ front) b bs ∙ ap ends_with_digit (sym e) ∙ blanks_end blanks m.are
+
+  no_digit_here : ends_with_digit stuck ≡ false → NoDigit Q' stuck
+  no_digit_here last digit again d =
+      let u = digit_unblank (digit ∷ again) d in
+      fails (digit ∷ again)
+      ((by blanks refl, begins_like 38 (digit ∷ again) u (digit_begins_other 38 (digit ∷ again) refl d)), begins_like 124 (digit ∷ again) u (digit_begins_other 124 (digit ∷ again) refl d))
+      u (m.wrong_like (digit ∷ again) (inr d))
+    where
+      by : (bl : List ℕ) → blanks ≡ bl → Apart front (blanks ++ digit ∷ again)
+      by [] e k = absurd (false≢true (sym last ∙ ends_as e ∙ k))
+      by (b ∷ bs) e k = ap (λ t. goes_on_number (t ++ digit ∷ again)) e ∙ blank_no_number b (bs ++ digit ∷ again) (and_parts (is_blank b) (list_all is_blank bs) (subst Blanks e m.are)).0
+
+  digit_here : ends_with_digit stuck ≡ true → begins_with_digit rest ≡ false
+  digit_here last = by blanks refl
+    where
+      by : (bl : List ℕ) → blanks ≡ bl → begins_with_digit rest ≡ false
+      by [] e = no_number_no_digit rest (ap (λ t. goes_on_number (t ++ rest)) (sym e) ∙ m.after.0.0 (sym (ends_as e) ∙ last))
+      by (b ∷ bs) e = absurd (false≢true (sym (ends_blank b bs e) ∙ last))
+
+  pub misplaced : {A : Type 0} (spec : Spec) (K K' : List ℕ → A → Type 0) (Q : List ℕ → Result B Cause) → Why spec K K' Q Q' stuck rest (cause_at spec BadRange rest)
+  misplaced spec K K' Q = due_why spec K K' Q Q' stuck rest dead digit_here no_digit_here
+
+-- ---- where a factor is stuck
 
 module _ (spec : Spec) (atoms : AtomRules spec) (L L' : List ℕ → Range → Type 0) (I I' : Reader Range) (rules : Rules L AfterRange I) (rules' : Rules L' AfterRange I') (wider : (text : List ℕ) (r : Range) → L text r → L' text r) where
   abbrev FactorFault : List ℕ → Cause → Type 0
@@ -240,64 +299,28 @@ module _ (spec : Spec) (atoms : AtomRules spec) (L L' : List ℕ → Range → T
 
   -- a closing parenthesis is due behind a range
   module _ (front blanks rest : List ℕ) (r : Range) (is : L front r) (are : Blanks blanks) (end : unblank rest ≡ true) (after : AfterRange front (blanks ++ rest)) (other : begins_with 41 rest ≡ false) where
-    abbrev stuck : List ℕ
-    stuck = 40 ∷ (front ++ blanks)
-
-    unclosed : (again : List ℕ) → AfterRange front (blanks ++ again) → unblank again ≡ true → begins_with 41 again ≡ false → errs (factor_at I' spec (stuck ++ again)) ≡ true
+    unclosed : (again : List ℕ) → AfterRange front (blanks ++ again) → unblank again ≡ true → begins_with 41 again ≡ false → errs (factor_at I' spec ((40 ∷ (front ++ blanks)) ++ again)) ≡ true
     unclosed again follows u not =
         ap (λ t. errs (factor_at I' spec (40 ∷ t))) (append_assoc front blanks again)
         ∙ ap errs (at_open spec atoms L' I' rules' (front ++ (blanks ++ again)))
         ∙ ap (λ o. errs (o >>= closing spec atoms L' I' rules')) (rules'.reads front r (blanks ++ again) (wider front r is) follows)
         ∙ errs_then (byte_due spec 41 (skip_blanks (blanks ++ again))) (λ rest'. Ok (r, rest')) (ap (λ t. errs (byte_due spec 41 t)) (skip_to blanks again are u) ∙ due_errs spec 41 again not)
 
-    -- what is known of the rest holds of each text that goes on so
-    begins_like : (byte : ℕ) (again : List ℕ) → unblank again ≡ true → begins_with byte again ≡ false → begins_with byte (skip_blanks (blanks ++ again)) ≡ false
-    begins_like byte again u h = ap (begins_with byte) (skip_to blanks again are u) ∙ h
-
-    begins_rest : (byte : ℕ) → begins_with byte (skip_blanks (blanks ++ rest)) ≡ false → begins_with byte rest ≡ false
-    begins_rest byte h = ap (begins_with byte) (sym (skip_to blanks rest are end)) ∙ h
-
-    dead : (again : List ℕ) → head_of again ≡ head_of rest → errs (factor_at I' spec (stuck ++ again)) ≡ true
-    dead again same =
-        let u = unblank_head rest again same end in
-        unclosed again
-        ((apart_same_head front (blanks ++ rest) (blanks ++ again) (heads blanks rest again same) after.0.0, begins_like 38 again u (begins_same 38 rest again same ∙ begins_rest 38 after.0.1)), begins_like 124 again u (begins_same 124 rest again same ∙ begins_rest 124 after.1))
-        u (begins_same 41 rest again same ∙ other)
-
-    -- without blanks the range itself is the end of the front
-    ends_as : blanks ≡ [] → ends_with_digit stuck ≡ ends_with_digit front
-    ends_as none = ap (λ t. ends_with_digit (40 ∷ (front ++ t))) none ∙ ap (λ t. ends_with_digit (40 ∷ t)) (append-nil front) ∙ ends_some (40 ∷ []) front (rules.some front r is)
-
-    ends_blank : (b : ℕ) (bs : List ℕ) → blanks ≡ b ∷ bs → ends_with_digit stuck ≡ false
-    ends_blank b bs e = ap (λ t. ends_with_digit (40 ∷ (front ++ t))) e ∙ ends_behind (40 ∷ front) b bs ∙ ap ends_with_digit (sym e) ∙ blanks_end blanks are
-
-    no_digit_closes : ends_with_digit stuck ≡ false → (digit : ℕ) (again : List ℕ) → is_ascii_digit digit ≡ true → errs (factor_at I' spec (stuck ++ digit ∷ again)) ≡ true
-    no_digit_closes last digit again d =
-        let u = digit_unblank (digit ∷ again) d in
-        unclosed (digit ∷ again)
-        ((by blanks refl, begins_like 38 (digit ∷ again) u (digit_begins_other 38 (digit ∷ again) refl d)), begins_like 124 (digit ∷ again) u (digit_begins_other 124 (digit ∷ again) refl d))
-        u (digit_begins_other 41 (digit ∷ again) refl d)
-      where
-        by : (bl : List ℕ) → blanks ≡ bl → Apart front (blanks ++ digit ∷ again)
-        by [] e k = absurd (false≢true (sym last ∙ ends_as e ∙ k))
-        by (b ∷ bs) e k = ap (λ t. goes_on_number (t ++ digit ∷ again)) e ∙ blank_no_number b (bs ++ digit ∷ again) (and_parts (is_blank b) (list_all is_blank bs) (subst Blanks e are)).0
-
-    digit_closes : ends_with_digit stuck ≡ true → begins_with_digit rest ≡ false
-    digit_closes last = by blanks refl
-      where
-        by : (bl : List ℕ) → blanks ≡ bl → begins_with_digit rest ≡ false
-        by [] e = no_number_no_digit rest (ap (λ t. goes_on_number (t ++ rest)) (sym e) ∙ after.0.0 (sym (ends_as e) ∙ last))
-        by (b ∷ bs) e = absurd (false≢true (sym (ends_blank b bs e) ∙ last))
+    no_close : (again : List ℕ) → Like again rest → begins_with 41 again ≡ false
+    no_close again (inl same) = begins_same 41 rest again same ∙ other
+    no_close again (inr digit) = digit_begins_other 41 again refl digit
 
     close_fails : FactorFault (40 ∷ (front ++ (blanks ++ rest))) (cause_at spec BadRange rest)
     close_fails = record {
-      front = stuck;
+      front = 40 ∷ (front ++ blanks);
       rest = rest;
       whole = ap (λ t. 40 ∷ t) (sym (append_assoc front blanks rest));
       more = 41 ∷ [];
       value = r;
       goes_on = enclosed front blanks is are;
-      why = due_why spec (Factor spec L) (Factor spec L') (factor_at I spec) (factor_at I' spec) stuck rest dead digit_closes no_digit_closes;
+      why = misplaced (40 ∷ []) front blanks rest r L (λ t. begins_with 41 t ≡ false)
+          (record { plain = refl; is = is; some = rules.some front r is; are = are; end = end; after = after; wrong_like = no_close })
+          (factor_at I' spec) unclosed spec (Factor spec L) (Factor spec L') (factor_at I spec);
     }
 
   module _ (opened_fault : (text : List ℕ) (cause : Cause) → I text ≡ Err cause → FactorFault (40 ∷ text) cause) where
