@@ -9,7 +9,9 @@ use Rattle.plan_types.specs.declared.range.Range.{Range}
 use Rattle.plan_types.specs.declared.range.Range.TheVariants.{Any, Both, Either}
 use Rattle.plan_types.specs.declared.refusal.Cause.{Cause}
 use Rattle.plan_types.specs.declared.refusal.Cause.TheVariants.{BadRange, TooDeep}
-use Rattle.version_range.specs.Read.{◌>>=◌, skip_blanks, byte_after, byte_due, cause_at, word_at, operator_at, operand_at, factor_at, term_at, range_in, inside, next_at}
+use Rattle.version_range.specs.Read.{◌>>=◌, skip_blanks, byte_after, byte_due, cause_at, word_at, operator_at, either_at, operand_at, factor_at, term_at, range_in, inside, next_at}
+use Rattle.version_range.specs.declared.operator.Operator.{Operator}
+use Rattle.version_range.specs.declared.operator.Operator.TheVariants.{Equal, AtLeast, Above, AtMost, Below, Major}
 use Rattle.version_range.specs.Version.{begins_with_digit}
 use Rattle.version_range.specs.Grammar.{begins_with, is_blank, Blanks, ends_with_digit, Atom, any, Factor, atom, enclosed, Term, Terms, Inside, Led, led, Behind, behind, Chain, one}
 use Rattle.version_range.proofs.Fronts.{Reader, head_of, errs, goes_on_number, Apart, apart_same_head, ends_behind, ends_kept, Read, Dead, NoDigit, Like, Why, too_deep, Fault, Passes, fault_up, fault_up_like}
@@ -350,3 +352,112 @@ module _ (spec : Spec) (atoms : AtomRules spec) (L L' : List ℕ → Range → T
         by (Some more) q =
             let at = after_some 40 text more q in
             subst (λ t. FactorFault t cause) (sym at) (behind_open more cause (sym (at_open spec atoms L I rules more) ∙ ap (factor_at I spec) (sym at) ∙ h))
+
+    led_fails : (text : List ℕ) (cause : Cause) → led_at (factor_at I spec) text ≡ Err cause → Fault spec (Led (Factor spec L)) (Led (Factor spec L')) (led_at (factor_at I spec)) (led_at (factor_at I' spec)) text cause
+    led_fails = led_fault spec (Factor spec L) (Factor spec L') (factor_at I spec) (factor_at I' spec) factor_fault
+
+    term_fault : (text : List ℕ) (cause : Cause) → term_at I spec text ≡ Err cause → Fault spec (Term spec L) (Term spec L') (term_at I spec) (term_at I' spec) text cause
+    unfolding term_at
+    term_fault = joined_fault spec 38 refl refl Both (Led (Factor spec L)) (Led (Factor spec L')) Apart (led_at (factor_at I spec)) (led_at (factor_at I' spec))
+        (led_rules spec atoms L I rules) (led_rules spec atoms L' I' rules') follow_apart and_follows (wider_led spec L L' wider) (codes "-any") Any (led [] refl (atom any)) led_fails
+
+    pub terms_fault : (text : List ℕ) (cause : Cause) → range_in I spec text ≡ Err cause → Fault spec (Terms spec L) (Terms spec L') (range_in I spec) (range_in I' spec) text cause
+    unfolding range_in
+    terms_fault = joined_fault spec 124 refl refl Either (Term spec L) (Term spec L') AfterTerm (term_at I spec) (term_at I' spec)
+        (term_rules spec atoms L I rules) (term_rules spec atoms L' I' rules') follow_term or_follows (wider_term spec L L' wider) (codes "-any") Any (one (led [] refl (atom any))) term_fault
+
+-- ---- at each depth
+
+abbrev major_or_equal : Spec → List ℕ → Option (List ℕ) → Result (Operator × List ℕ) Cause
+major_or_equal spec text found = elim found [
+  | Some rest ↦ byte_due spec 62 rest >>= λ more. byte_due spec 61 more >>= λ back. Ok (Major, back)
+  | None ↦ byte_due spec 61 text >>= λ more. byte_due spec 61 more >>= λ back. Ok (Equal, back)
+]
+
+operator_digit : (spec : Spec) (digit : ℕ) (again : List ℕ) → is_ascii_digit digit ≡ true → errs (operator_at spec (digit ∷ again)) ≡ true
+unfolding operator_at
+operator_digit spec digit again d =
+    let text = digit ∷ again in
+    ap (λ o. errs (elim o [ Some rest ↦ Ok (either_at AtLeast Above rest) | None ↦ elim (byte_after 60 text) [ Some rest ↦ Ok (either_at AtMost Below rest) | None ↦ major_or_equal spec text (byte_after 94 text) ] ])) (other 62 refl)
+    ∙ ap (λ o. errs (elim o [ Some rest ↦ Ok (either_at AtMost Below rest) | None ↦ major_or_equal spec text (byte_after 94 text) ])) (other 60 refl)
+    ∙ ap (λ o. errs (major_or_equal spec text o)) (other 94 refl)
+    ∙ errs_then (byte_due spec 61 text) _ (due_errs spec 61 text (digit_begins_other 61 text refl d))
+  where
+    other : (byte : ℕ) → is_ascii_digit byte ≡ false → byte_after byte (digit ∷ again) ≡ None
+    other byte n = after_other byte (digit ∷ again) (digit_begins_other byte (digit ∷ again) n d)
+
+-- no atom begins with a digit
+atom_digit : (spec : Spec) (digit : ℕ) (again : List ℕ) → is_ascii_digit digit ≡ true → errs (atom_at spec (digit ∷ again)) ≡ true
+atom_digit spec digit again d =
+    ap (λ o. errs (elim o [ Some rest ↦ word_at spec rest | None ↦ operator_at spec (digit ∷ again) >>= λ op. operand_at op.0 spec (skip_blanks op.1) ])) (other 45 refl)
+    ∙ errs_then (operator_at spec (digit ∷ again)) (λ op. operand_at op.0 spec (skip_blanks op.1)) operator
+  where
+    other : (byte : ℕ) → is_ascii_digit byte ≡ false → byte_after byte (digit ∷ again) ≡ None
+    other byte n = after_other byte (digit ∷ again) (digit_begins_other byte (digit ∷ again) n d)
+
+    operator : errs (operator_at spec (digit ∷ again)) ≡ true
+    operator = operator_digit spec digit again d
+
+any_stands : (spec : Spec) (L : List ℕ → Range → Type 0) → Terms spec L (codes "-any") Any
+any_stands spec L = one (one (led [] refl (atom any)))
+
+abbrev OpenedFault : Spec → ℕ → List ℕ → Cause → Type 0
+OpenedFault spec n = Fault spec (Factor spec (Inside spec n)) (Factor spec (Inside spec (suc n))) (factor_at (inside n spec) spec) (factor_at (inside (suc n) spec) spec)
+
+module _ (spec : Spec) (atoms : AtomRules spec) where
+  abbrev depth-rules : (n : ℕ) → Rules (Inside spec n) AfterRange (inside n spec)
+  depth-rules n = inside_rules spec atoms n
+
+  -- one parenthesis more than may be open
+  opened_zero : (text : List ℕ) (cause : Cause) → inside zero spec text ≡ Err cause → OpenedFault spec zero (40 ∷ text) cause
+  unfolding Inside inside
+  opened_zero text cause h = subst (OpenedFault spec zero (40 ∷ text)) (cc h) (record {
+    front = [];
+    rest = 40 ∷ text;
+    whole = refl;
+    more = codes "-any";
+    value = Any;
+    goes_on = atom any;
+    why = too_deep refl no_digit_opens (codes "-any)") Any (enclosed (codes "-any") [] (any_stands spec (Inside spec zero)) refl) still_deep;
+  })
+    where
+      no_digit_opens : NoDigit (factor_at (inside (suc zero) spec) spec) []
+      no_digit_opens digit again d = ap errs (at_atom spec atoms (Inside spec (suc zero)) (inside (suc zero) spec) (depth-rules (suc zero)) (digit ∷ again) (digit_begins_other 40 (digit ∷ again) refl d)) ∙ atom_digit spec digit again d
+
+      still_deep : Dead (factor_at (inside zero spec) spec) [] (40 ∷ text)
+      still_deep [] same = absurd (cc same)
+      still_deep (b ∷ again) same = let open' : b ≡ 40 = cc same in subst (λ x. errs (factor_at (inside zero spec) spec (x ∷ again)) ≡ true) (sym open') (ap errs (at_open spec atoms (Inside spec zero) (inside zero spec) (depth-rules zero) again))
+
+  -- the fault of a range behind its opening parenthesis
+  opened_more : (n : ℕ) → ((text : List ℕ) (cause : Cause) → inside n spec text ≡ Err cause → Fault spec (Inside spec n) (Inside spec (suc n)) (inside n spec) (inside (suc n) spec) text cause)
+      → (text : List ℕ) (cause : Cause) → inside n spec text ≡ Err cause → OpenedFault spec n (40 ∷ text) cause
+  opened_more n fault text cause h =
+      fault_up spec (Inside spec n) (Inside spec (suc n)) (inside n spec) (inside (suc n) spec)
+      (Factor spec (Inside spec n)) (Factor spec (Inside spec (suc n))) (factor_at (inside n spec) spec) (factor_at (inside (suc n) spec) spec) (40 ∷ [])
+      (λ t r k. (41 ∷ [], r, closed (Inside spec n) t r k)) (λ t r k. (41 ∷ [], r, closed (Inside spec (suc n)) t r k))
+      text cause f (ends_kept (40 ∷ []) f.front refl)
+      (λ again e. ap errs (at_open spec atoms (Inside spec n) (inside n spec) (depth-rules n) (f.front ++ again)) ∙ errs_then (inside n spec (f.front ++ again)) (closing spec atoms (Inside spec n) (inside n spec) (depth-rules n)) e)
+      (λ again e. ap errs (at_open spec atoms (Inside spec (suc n)) (inside (suc n) spec) (depth-rules (suc n)) (f.front ++ again)) ∙ errs_then (inside (suc n) spec (f.front ++ again)) (closing spec atoms (Inside spec (suc n)) (inside (suc n) spec) (depth-rules (suc n))) e)
+    where
+      f : Fault spec (Inside spec n) (Inside spec (suc n)) (inside n spec) (inside (suc n) spec) text cause
+      f = fault text cause h
+
+      closed : (L : List ℕ → Range → Type 0) (t : List ℕ) (r : Range) → L t r → Factor spec L (40 ∷ (t ++ 41 ∷ [])) r
+      closed L t r k = subst (λ t'. Factor spec L (40 ∷ (t' ++ 41 ∷ [])) r) (append-nil t) (enclosed t [] k refl)
+
+  deeper : (n : ℕ) → ((text : List ℕ) (cause : Cause) → inside n spec text ≡ Err cause → OpenedFault spec n (40 ∷ text) cause)
+      → (text : List ℕ) (cause : Cause) → inside (suc n) spec text ≡ Err cause → Fault spec (Inside spec (suc n)) (Inside spec (suc (suc n))) (inside (suc n) spec) (inside (suc (suc n)) spec) text cause
+  unfolding Inside inside
+  deeper n opened text cause h = terms_fault spec atoms (Inside spec n) (Inside spec (suc n)) (inside n spec) (inside (suc n) spec) (depth-rules n) (depth-rules (suc n)) (wider_inside spec n) opened text cause h
+
+  opened_fault : (n : ℕ) (text : List ℕ) (cause : Cause) → inside n spec text ≡ Err cause → OpenedFault spec n (40 ∷ text) cause
+  opened_fault zero text cause h = opened_zero text cause h
+  opened_fault (suc n) text cause h = opened_more (suc n) (deeper n (opened_fault n)) text cause h
+
+  -- a range with at most n parentheses open is stuck where its parts are
+  pub range_fault : (n : ℕ) (text : List ℕ) (cause : Cause) → range_in (inside n spec) spec text ≡ Err cause
+      → Fault spec (Terms spec (Inside spec n)) (Terms spec (Inside spec (suc n))) (range_in (inside n spec) spec) (range_in (inside (suc n) spec) spec) text cause
+  range_fault n = terms_fault spec atoms (Inside spec n) (Inside spec (suc n)) (inside n spec) (inside (suc n) spec) (depth-rules n) (depth-rules (suc n)) (wider_inside spec n) (opened_fault n)
+
+  pub range_rules : (n : ℕ) → Rules (Terms spec (Inside spec n)) AfterRange (range_in (inside n spec) spec)
+  range_rules n = terms_rules spec atoms (Inside spec n) (inside n spec) (depth-rules n)
