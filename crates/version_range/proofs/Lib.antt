@@ -13,3 +13,4 @@ pub mod Led
 pub mod Operands
 pub mod Factors
 pub mod Versions
+pub mod Whole

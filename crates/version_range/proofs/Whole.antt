@@ -1,0 +1,212 @@
+-- A whole text: what it stands for, its first fault, and that it has one of both.
+use Rattle.std.proofs.Common.{◌≡◌, ◌≢◌, ◌⊎◌, inl, inr, ℕ, zero, suc, ◌+◌, Bool, true, false, ◌&&◌, List, [], ◌∷◌, ◌++◌, codes, length, Option, Some, None, Result, Ok, Err, refl, sym, ap, ◌∙◌, subst, append_assoc, append-nil, arith}
+use Rattle.std.specs.Prelude.{◌==◌, if◌then◌else◌}
+use Rattle.std.specs.Char.{is_ascii_digit}
+use Rattle.std.specs.List.{list_all}
+use Rattle.std.proofs.lemmas.Bool.{false≢true, true≢false, and_parts, and_from, eqb-true, eq-eqb}
+use Rattle.plan_types.specs.declared.range.Spec.{Spec}
+use Rattle.plan_types.specs.declared.range.Range.{Range}
+use Rattle.plan_types.specs.declared.range.Range.TheVariants.{Any, Both, Either}
+use Rattle.plan_types.specs.declared.refusal.Cause.{Cause}
+use Rattle.plan_types.specs.declared.refusal.Cause.TheVariants.{BadVersion, BadRange, NeedsVersion, TooDeep}
+use Rattle.version_range.specs.Read.{◌>>=◌, skip_blanks, cause_at, range_in, inside, range_of}
+use Rattle.version_range.specs.Version.{begins_with_digit}
+use Rattle.version_range.specs.Grammar.{begins_with, is_blank, Blanks, ends_with_digit, atom, any, Factor, Term, Terms, Inside, Led, led, Behind, Chain, one, more, Stands, empty, range, Viable, Stuck, IsNewForm, IsNumberDue, OpensTooMany, CauseAt, needs_version, bad_version, too_deep, bad_range, FirstFault}
+use Rattle.version_range.proofs.Fronts.{head_of, errs, goes_on_number, Apart, ends_kept, Read, Dead, NoDigit, Like, Why, new_form, number_due, digit_more, behind_digit, no_digit, Fault, fault_up_like}
+use Rattle.version_range.proofs.Fronts as fronts
+use Rattle.version_range.proofs.Spaces.{unblank, Blanked, blanked, skip_to, unblank_head, begins_same}
+use Rattle.version_range.proofs.Parts.{errs_then, ok_parts}
+use Rattle.version_range.proofs.Led.{Unblank, blanks_no_number, blank_no_digit, digit_unblank, digit_begins_other}
+use Rattle.version_range.proofs.Operands.{Rules}
+use Rattle.version_range.proofs.Factors.{AtomRules, AfterRange, factor_unblank, inside_rules, range_rules, range_fault, wider_inside, wider_terms, Misplaced, misplaced}
+
+-- what is read of a range is the text where only blanks are left
+abbrev pub to_end : Spec → Range × List ℕ → Result Range Cause
+to_end spec r = let rest = skip_blanks r.1 in if length rest == 0 then Ok r.0 else Err (cause_at spec BadRange rest)
+
+-- a whole text, where so many parentheses may be open
+abbrev pub text_at : Spec → ℕ → List ℕ → Result Range Cause
+text_at spec n text = if length (skip_blanks text) == 0 then Ok Any else range_in (inside n spec) spec text >>= to_end spec
+
+pub range_of_is : (spec : Spec) (text : List ℕ) → range_of spec text ≡ text_at spec 64 text
+unfolding range_of
+range_of_is spec text = refl
+
+no_length : (text : List ℕ) → (length text == 0) ≡ true → text ≡ []
+no_length [] h = refl
+no_length (b ∷ bs) h = absurd (omega (arith, eqb-true (length (b ∷ bs)) 0 h))
+
+some_length : (text : List ℕ) → text ≢ [] → (length text == 0) ≡ false
+some_length [] some = absurd (some refl)
+some_length (b ∷ bs) some = by (length (b ∷ bs) == 0) refl
+  where
+    by : (t : Bool) → (length (b ∷ bs) == 0) ≡ t → (length (b ∷ bs) == 0) ≡ false
+    by true q = absurd (some (no_length (b ∷ bs) q))
+    by false q = q
+
+all_blanks : (text : List ℕ) → skip_blanks text ≡ [] → Blanks text
+all_blanks text h = let b = blanked text in subst Blanks (sym (b.whole ∙ ap (λ t. b.blanks ++ t) (sym b.skipped ∙ h) ∙ append-nil b.blanks)) b.are
+
+skip_all : (text : List ℕ) → Blanks text → skip_blanks text ≡ []
+skip_all text are = ap skip_blanks (sym (append-nil text)) ∙ skip_to text [] are refl
+
+blanks_parts : (xs ys : List ℕ) → Blanks (xs ++ ys) → Blanks xs × Blanks ys
+blanks_parts [] ys h = (refl, h)
+blanks_parts (x ∷ xs) ys h =
+    let p = and_parts (is_blank x) (list_all is_blank (xs ++ ys)) h in
+    let q = blanks_parts xs ys p.1 in
+    (and_from (is_blank x) (list_all is_blank xs) p.0 q.0, q.1)
+
+blanks_push : (xs : List ℕ) (b : ℕ) → Blanks xs → is_blank b ≡ true → Blanks (xs ++ b ∷ [])
+blanks_push [] b h q = and_from (is_blank b) true q refl
+blanks_push (x ∷ xs) b h q = let p = and_parts (is_blank x) (list_all is_blank xs) h in and_from (is_blank x) (list_all is_blank (xs ++ b ∷ [])) p.0 (blanks_push xs b p.1 q)
+
+-- a text that isn't blanks alone
+abbrev NotBlank : List ℕ → Type 0
+NotBlank text = skip_blanks text ≢ []
+
+-- a reader that is stuck is so with every text that goes on by the same byte
+why_dead : {A B : Type 0} (spec : Spec) (L L' : List ℕ → A → Type 0) (P P' : List ℕ → Result B Cause) (front rest : List ℕ) {cause : Cause} → Why spec L L' P P' front rest cause
+    → (again : List ℕ) → head_of again ≡ head_of rest → errs (P (front ++ again)) ≡ false → errs (P' (front ++ again)) ≡ false → ⊥
+why_dead spec L L' P P' front rest (new_form form dead) again same h k = false≢true (sym k ∙ dead again same)
+why_dead spec L L' P P' front rest (number_due form last others x goes dead) again same h k = false≢true (sym k ∙ dead again same)
+why_dead spec L L' P P' front rest (digit_more form last digit dead) again same h k = false≢true (sym k ∙ dead again same)
+why_dead spec L L' P P' front rest (fronts.too_deep first none others x goes dead) again same h k = false≢true (sym h ∙ dead again same)
+why_dead spec L L' P P' front rest (behind_digit form last other dead) again same h k = false≢true (sym k ∙ dead again same)
+why_dead spec L L' P P' front rest (no_digit form last none dead) again same h k = false≢true (sym k ∙ dead again same)
+
+reads_well : {A : Type 0} (read : Result A Cause) (x : A) → read ≡ Ok x → errs read ≡ false
+reads_well read x h = ap errs h
+
+head_some : (again : List ℕ) (b : ℕ) (bs : List ℕ) → head_of again ≡ head_of (b ∷ bs) → again ≢ []
+head_some [] b bs same e = cc same
+head_some (c ∷ again) b bs same e = cc e
+
+digit_some : (again : List ℕ) → begins_with_digit again ≡ true → again ≢ []
+digit_some [] h e = false≢true h
+digit_some (b ∷ bs) h e = cc e
+
+module _ (spec : Spec) (atoms : AtomRules spec) where
+  module _ (n : ℕ) where
+    abbrev ranges-rules : Rules (Terms spec (Inside spec n)) AfterRange (range_in (inside n spec) spec)
+    ranges-rules = range_rules spec atoms n
+
+    led_not_blank : (text : List ℕ) (r : Range) → Led (Factor spec (Inside spec n)) text r → Blanks text → ⊥
+    led_not_blank text r (led blanks {text = part} are is) h =
+        let u = factor_unblank spec atoms (Inside spec n) (inside n spec) (inside_rules spec atoms n) part r is in
+        let p = (blanks_parts blanks part h).1 in
+        true≢false (sym (and_parts (is_blank u.0) (list_all is_blank u.1) (subst Blanks u.2 p)).0 ∙ u.3)
+
+    term_not_blank : (text : List ℕ) (r : Range) → Term spec (Inside spec n) text r → Blanks text → ⊥
+    term_not_blank text r (one f) h = led_not_blank text r f h
+    term_not_blank text r (more {text = front} {next = next} {left = left} c k) h = term_not_blank front left c (blanks_parts front next h).0
+
+    terms_not_blank : (text : List ℕ) (r : Range) → Terms spec (Inside spec n) text r → Blanks text → ⊥
+    terms_not_blank text r (one f) h = term_not_blank text r f h
+    terms_not_blank text r (more {text = front} {next = next} {left = left} c k) h = terms_not_blank front left c (blanks_parts front next h).0
+
+    -- how a text that isn't blanks alone is read
+    at_range : (text : List ℕ) → NotBlank text → text_at spec n text ≡ (range_in (inside n spec) spec text >>= to_end spec)
+    at_range text some = rw (some_length (skip_blanks text) some) refl
+
+    pub finds : (text : List ℕ) (r : Range) → Stands spec n text r → text_at spec n text ≡ Ok r
+    finds text r (empty blanks) = rw (ap (λ t. length t == 0) (skip_all text blanks)) refl
+    finds text r (range front after c are) =
+        at_range (front ++ after) (λ e. terms_not_blank front r c (blanks_parts front after (all_blanks (front ++ after) e)).0)
+        ∙ ap (λ o. o >>= to_end spec) (ranges-rules.reads front r after c (((λ d. ap goes_on_number (sym (append-nil after)) ∙ blanks_no_number after [] are refl), begins 38), begins 124))
+        ∙ rw (ap (λ t. length t == 0) (skip_all after are)) refl
+      where
+        begins : (byte : ℕ) → begins_with byte (skip_blanks after) ≡ false
+        begins byte = ap (begins_with byte) (skip_all after are)
+
+    wider_stands : (text : List ℕ) (r : Range) → Stands spec n text r → Stands spec (suc n) text r
+    wider_stands text r (empty blanks) = empty blanks
+    wider_stands text r (range front after c are) = range front after (wider_terms spec (Inside spec n) (Inside spec (suc n)) (wider_inside spec n) front r c) are
+
+  abbrev TextFault : ℕ → List ℕ → Cause → Type 0
+  TextFault n = Fault spec (Stands spec n) (Stands spec (suc n)) (text_at spec n) (text_at spec (suc n))
+
+  -- ---- a fault of the range
+
+  -- behind blanks the fault is at no blank
+  stuck_behind_blanks : (n : ℕ) (text : List ℕ) (cause : Cause) (f : Fault spec (Terms spec (Inside spec n)) (Terms spec (Inside spec (suc n))) (range_in (inside n spec) spec) (range_in (inside (suc n) spec) spec) text cause)
+      → Blanks f.front → unblank f.rest ≡ true
+  stuck_behind_blanks n text cause f are = by f.rest refl
+    where
+      any_read : (m : ℕ) (b : ℕ) → is_blank b ≡ true → errs (range_in (inside m spec) spec (f.front ++ (b ∷ codes "-any"))) ≡ false
+      any_read m b blank =
+          let blanks : Blanks (f.front ++ b ∷ []) = blanks_push f.front b are blank in
+          ap (λ t. errs (range_in (inside m spec) spec t)) (sym (append_assoc f.front (b ∷ []) (codes "-any")) ∙ sym (append-nil ((f.front ++ b ∷ []) ++ codes "-any")))
+          ∙ ap errs ((range_rules spec atoms m).reads ((f.front ++ b ∷ []) ++ codes "-any") Any [] (one (one (led (f.front ++ b ∷ []) blanks (atom any)))) (((λ d. refl), refl), refl))
+
+      blank_no : (b : ℕ) (rest : List ℕ) → f.rest ≡ b ∷ rest → is_blank b ≡ true → ⊥
+      blank_no b rest e blank =
+          why_dead spec (Terms spec (Inside spec n)) (Terms spec (Inside spec (suc n))) (range_in (inside n spec) spec) (range_in (inside (suc n) spec) spec) f.front f.rest f.why
+          (b ∷ codes "-any") (ap head_of (sym e)) (any_read n b blank) (any_read (suc n) b blank)
+
+      by : (rest : List ℕ) → f.rest ≡ rest → unblank f.rest ≡ true
+      by [] e = ap unblank e
+      by (b ∷ rest) e = at (is_blank b) refl
+        where
+          at : (t : Bool) → is_blank b ≡ t → unblank f.rest ≡ true
+          at true q = absurd (blank_no b rest e q)
+          at false q = ap unblank e ∙ rw q refl
+
+  range_stuck : (n : ℕ) (text : List ℕ) (cause : Cause) → NotBlank text → range_in (inside n spec) spec text ≡ Err cause → TextFault n text cause
+  range_stuck n text cause some h =
+      fault_up_like spec (Terms spec (Inside spec n)) (Terms spec (Inside spec (suc n))) (range_in (inside n spec) spec) (range_in (inside (suc n) spec) spec)
+      (Stands spec n) (Stands spec (suc n)) (text_at spec n) (text_at spec (suc n)) []
+      (λ t r c. ([], r, range t [] c refl)) (λ t r c. ([], r, range t [] c refl)) text cause f refl
+      (λ again like e. ap errs (at_range n (f.front ++ again) (not_blank again like)) ∙ errs_then (range_in (inside n spec) spec (f.front ++ again)) (to_end spec) e)
+      (λ again like e. ap errs (at_range (suc n) (f.front ++ again) (not_blank again like)) ∙ errs_then (range_in (inside (suc n) spec) spec (f.front ++ again)) (to_end spec) e)
+    where
+      f : Fault spec (Terms spec (Inside spec n)) (Terms spec (Inside spec (suc n))) (range_in (inside n spec) spec) (range_in (inside (suc n) spec) spec) text cause
+      f = range_fault spec atoms n text cause h
+
+      behind_blanks : Blanks f.front → (again : List ℕ) → Like again f.rest → (rest : List ℕ) → f.rest ≡ rest → NotBlank (f.front ++ again)
+      behind_blanks are again like [] e empty' = some (ap skip_blanks (f.whole ∙ ap (λ t. f.front ++ t) e ∙ append-nil f.front) ∙ skip_all f.front are)
+      behind_blanks are again (inl same) (b ∷ rest) e empty' =
+          head_some again b rest (same ∙ ap head_of e) (sym (skip_to f.front again are (unblank_head f.rest again same (stuck_behind_blanks n text cause f are))) ∙ empty')
+      behind_blanks are again (inr digit) (b ∷ rest) e empty' =
+          digit_some again digit (sym (skip_to f.front again are (digit_unblank again digit)) ∙ empty')
+
+      not_blank : (again : List ℕ) → Like again f.rest → NotBlank (f.front ++ again)
+      not_blank again like = by (list_all is_blank f.front) refl
+        where
+          by : (t : Bool) → list_all is_blank f.front ≡ t → NotBlank (f.front ++ again)
+          by true q = behind_blanks q again like f.rest refl
+          by false q = λ e. false≢true (sym q ∙ (blanks_parts f.front again (all_blanks (f.front ++ again) e)).0)
+
+  -- ---- something stands behind the range
+
+  module _ (n : ℕ) (front blanks rest : List ℕ) (r : Range) (c : Terms spec (Inside spec n) front r) (are : Blanks blanks) (end : unblank rest ≡ true) (after : AfterRange front (blanks ++ rest)) (some : rest ≢ []) where
+    wide-c : Terms spec (Inside spec (suc n)) front r
+    wide-c = wider_terms spec (Inside spec n) (Inside spec (suc n)) (wider_inside spec n) front r c
+
+    left_over : (again : List ℕ) → AfterRange front (blanks ++ again) → unblank again ≡ true → again ≢ [] → errs (text_at spec (suc n) ((front ++ blanks) ++ again)) ≡ true
+    left_over again follows u more' =
+        ap errs (at_range (suc n) ((front ++ blanks) ++ again) (λ e. terms_not_blank (suc n) front r wide-c (blanks_parts front (blanks ++ again) (subst Blanks (append_assoc front blanks again) (all_blanks ((front ++ blanks) ++ again) e))).0))
+        ∙ ap (λ t. errs (range_in (inside (suc n) spec) spec t >>= to_end spec)) (append_assoc front blanks again)
+        ∙ ap (λ o. errs (o >>= to_end spec)) ((range_rules spec atoms (suc n)).reads front r (blanks ++ again) wide-c follows)
+        ∙ rw (ap (λ t. length t == 0) (skip_to blanks again are u) ∙ some_length again more') refl
+
+    still_some : (again : List ℕ) → Like again rest → again ≢ []
+    still_some again (inr digit) = digit_some again digit
+    still_some again (inl same) = by rest some same
+      where
+        by : (rest : List ℕ) → rest ≢ [] → head_of again ≡ head_of rest → again ≢ []
+        by [] some same = absurd (some refl)
+        by (b ∷ bs) some same = head_some again b bs same
+
+    left_fault : TextFault n (front ++ (blanks ++ rest)) (cause_at spec BadRange rest)
+    left_fault = record {
+      front = front ++ blanks;
+      rest = rest;
+      whole = sym (append_assoc front blanks rest);
+      more = [];
+      value = r;
+      goes_on = subst (λ t. Stands spec n t r) (sym (append-nil (front ++ blanks))) (range front blanks c are);
+      why = misplaced [] front blanks rest r (Terms spec (Inside spec n)) (λ t. t ≢ [])
+          (record { plain = refl; is = c; some = (range_rules spec atoms n).some front r c; are = are; end = end; after = after; wrong_like = still_some })
+          (text_at spec (suc n)) left_over spec (Stands spec n) (Stands spec (suc n)) (text_at spec n);
+    }
