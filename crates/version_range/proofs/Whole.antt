@@ -11,7 +11,7 @@ use Rattle.plan_types.specs.declared.refusal.Cause.{Cause}
 use Rattle.plan_types.specs.declared.refusal.Cause.TheVariants.{BadVersion, BadRange, NeedsVersion, TooDeep}
 use Rattle.version_range.specs.Read.{◌>>=◌, skip_blanks, cause_at, range_in, inside, range_of}
 use Rattle.version_range.specs.Version.{begins_with_digit}
-use Rattle.version_range.specs.Grammar.{begins_with, is_blank, Blanks, ends_with_digit, atom, any, Factor, Term, Terms, Inside, Led, led, Behind, Chain, one, more, Stands, empty, range, Viable, Stuck, IsNewForm, IsNumberDue, OpensTooMany, CauseAt, needs_version, bad_version, too_deep, bad_range, FirstFault}
+use Rattle.version_range.specs.Grammar.{begins_with, is_old, is_blank, Blanks, ends_with_digit, atom, any, Factor, Term, Terms, Inside, Led, led, Behind, Chain, one, more, Stands, empty, range, Viable, Stuck, IsNewForm, IsNumberDue, OpensTooMany, CauseAt, needs_version, bad_version, too_deep, bad_range, FirstFault}
 use Rattle.version_range.proofs.Fronts.{head_of, errs, goes_on_number, Apart, ends_kept, Read, Dead, NoDigit, Like, Why, new_form, number_due, digit_more, behind_digit, no_digit, Fault, fault_up_like}
 use Rattle.version_range.proofs.Fronts as fronts
 use Rattle.version_range.proofs.Spaces.{unblank, Blanked, blanked, skip_to, unblank_head, begins_same}
@@ -31,6 +31,15 @@ text_at spec n text = if length (skip_blanks text) == 0 then Ok Any else range_i
 pub range_of_is : (spec : Spec) (text : List ℕ) → range_of spec text ≡ text_at spec 64 text
 unfolding range_of
 range_of_is spec text = refl
+
+to_end_ok : (spec : Spec) (p : Range × List ℕ) → (length (skip_blanks p.1) == 0) ≡ true → to_end spec p ≡ Ok p.0
+to_end_ok spec p e = rw e refl
+
+to_end_err : (spec : Spec) (p : Range × List ℕ) → (length (skip_blanks p.1) == 0) ≡ false → to_end spec p ≡ Err (cause_at spec BadRange (skip_blanks p.1))
+to_end_err spec p e = rw e refl
+
+blank_is_any : (spec : Spec) (n : ℕ) (text : List ℕ) → (length (skip_blanks text) == 0) ≡ true → text_at spec n text ≡ Ok Any
+blank_is_any spec n text e = rw e refl
 
 no_length : (text : List ℕ) → (length text == 0) ≡ true → text ≡ []
 no_length [] h = refl
@@ -210,3 +219,106 @@ module _ (spec : Spec) (atoms : AtomRules spec) where
           (record { plain = refl; is = c; some = (range_rules spec atoms n).some front r c; are = are; end = end; after = after; wrong_like = still_some })
           (text_at spec (suc n)) left_over spec (Stands spec n) (Stands spec (suc n)) (text_at spec n);
     }
+
+  -- ---- a text and its answer
+
+  pub text_fault : (n : ℕ) (text : List ℕ) (cause : Cause) → text_at spec n text ≡ Err cause → TextFault n text cause
+  text_fault n text cause h = by (length (skip_blanks text) == 0) refl
+    where
+      left : (p : Range × List ℕ) → range_in (inside n spec) spec text ≡ Ok p → ((t : Bool) → (length (skip_blanks p.1) == 0) ≡ t → to_end spec p ≡ Err cause → TextFault n text cause)
+      left p q true e k = absurd (cc (k, to_end_ok spec p e))
+      left p q false e k =
+          let got = (range_rules spec atoms n).read text p.0 p.1 q in
+          let b = blanked p.1 in
+          let some : b.rest ≢ [] = λ none. true≢false (sym (ap (λ t. length t == 0) (b.skipped ∙ none)) ∙ e) in
+          let same : cause_at spec BadRange b.rest ≡ cause = ap (cause_at spec BadRange) (sym b.skipped) ∙ cc (k, to_end_err spec p e) in
+          let f = left_fault n got.front b.blanks b.rest p.0 got.is b.are b.end (subst (AfterRange got.front) b.whole got.apart) some in
+          subst (TextFault n text) same (subst (λ t. TextFault n t (cause_at spec BadRange b.rest)) (ap (λ t. got.front ++ t) (sym b.whole) ∙ sym got.whole) f)
+
+      ranged : NotBlank text → (o : Result (Range × List ℕ) Cause) → range_in (inside n spec) spec text ≡ o → TextFault n text cause
+      ranged some (Err why) q =
+          let same : why ≡ cause = cc (h, at_range n text some, ap (λ o. o >>= to_end spec) q) in
+          range_stuck n text cause some (q ∙ ap Err same)
+      ranged some (Ok p) q = left p q (length (skip_blanks p.1) == 0) refl (sym (at_range n text some ∙ ap (λ o. o >>= to_end spec) q) ∙ h)
+
+      by : (t : Bool) → (length (skip_blanks text) == 0) ≡ t → TextFault n text cause
+      by true e = absurd (cc (h, blank_is_any spec n text e))
+      by false e = ranged (λ none. true≢false (sym (ap (λ t. length t == 0) none) ∙ e)) (range_in (inside n spec) spec text) refl
+
+  pub found : (n : ℕ) (text : List ℕ) (r : Range) → text_at spec n text ≡ Ok r → Stands spec n text r
+  found n text r h = by (length (skip_blanks text) == 0) refl
+    where
+      ended : (p : Range × List ℕ) → range_in (inside n spec) spec text ≡ Ok p → ((t : Bool) → (length (skip_blanks p.1) == 0) ≡ t → to_end spec p ≡ Ok r → Stands spec n text r)
+      ended p q false e k = absurd (cc (k, to_end_err spec p e))
+      ended p q true e k =
+          let got = (range_rules spec atoms n).read text p.0 p.1 q in
+          let same : p.0 ≡ r = cc (k, to_end_ok spec p e) in
+          subst (Stands spec n text) same (subst (λ t. Stands spec n t p.0) (sym got.whole) (range got.front p.1 got.is (all_blanks p.1 (no_length (skip_blanks p.1) e))))
+
+      ranged : NotBlank text → (o : Result (Range × List ℕ) Cause) → range_in (inside n spec) spec text ≡ o → Stands spec n text r
+      ranged some (Err why) q = absurd (cc (h, at_range n text some, ap (λ o. o >>= to_end spec) q))
+      ranged some (Ok p) q = ended p q (length (skip_blanks p.1) == 0) refl (sym (at_range n text some ∙ ap (λ o. o >>= to_end spec) q) ∙ h)
+
+      by : (t : Bool) → (length (skip_blanks text) == 0) ≡ t → Stands spec n text r
+      by true e = let same : Any ≡ r = cc (h, blank_is_any spec n text e) in subst (Stands spec n text) same (empty (all_blanks text (no_length (skip_blanks text) e)))
+      by false e = ranged (λ none. true≢false (sym (ap (λ t. length t == 0) none) ∙ e)) (range_in (inside n spec) spec text) refl
+
+  -- ---- the first fault
+
+  module _ (n : ℕ) where
+    not_stands : (front rest : List ℕ) {cause : Cause} → Why spec (Stands spec n) (Stands spec (suc n)) (text_at spec n) (text_at spec (suc n)) front rest cause
+        → (again : List ℕ) → head_of again ≡ head_of rest → (r : Range) → Stands spec n (front ++ again) r → ⊥
+    not_stands front rest why again same r s =
+        why_dead spec (Stands spec n) (Stands spec (suc n)) (text_at spec n) (text_at spec (suc n)) front rest why again same
+        (ap errs (finds n (front ++ again) r s)) (ap errs (finds (suc n) (front ++ again) r (wider_stands n (front ++ again) r s)))
+
+    stuck_of : (front rest : List ℕ) {cause : Cause} → Why spec (Stands spec n) (Stands spec (suc n)) (text_at spec n) (text_at spec (suc n)) front rest cause → Stuck spec n front rest
+    stuck_of front [] why = λ r s. not_stands front [] why [] refl r (subst (λ t. Stands spec n t r) (sym (append-nil front)) s)
+    stuck_of front (b ∷ rest) why = λ v. not_stands front (b ∷ rest) why (b ∷ v.0) refl v.1 (subst (λ t. Stands spec n t v.1) (append_assoc front (b ∷ []) v.0) v.2)
+
+    -- one byte more of a text that can be completed
+    viable_by : (m : ℕ) (front : List ℕ) (b : ℕ) (others : List ℕ) (r : Range) → Stands spec m (front ++ b ∷ others) r → Viable spec m (front ++ b ∷ [])
+    viable_by m front b others r s = (others, r, subst (λ t. Stands spec m t r) (sym (append_assoc front (b ∷ []) others)) s)
+
+    -- where no digit is read, none can be
+    no_viable_digit : (front : List ℕ) → NoDigit (text_at spec (suc n)) front → (digit : ℕ) → is_ascii_digit digit ≡ true → Viable spec n (front ++ digit ∷ []) → ⊥
+    no_viable_digit front none digit d v =
+        let s = wider_stands n (front ++ digit ∷ v.0) v.1 (subst (λ t. Stands spec n t v.1) (append_assoc front (digit ∷ []) v.0) v.2) in
+        false≢true (sym (ap errs (finds (suc n) (front ++ digit ∷ v.0) v.1 s)) ∙ none digit v.0 d)
+
+    not_deeper : (front rest : List ℕ) → Dead (text_at spec (suc n)) front rest → OpensTooMany spec n front rest → ⊥
+    not_deeper front [] dead o = false≢true o.0
+    not_deeper front (b ∷ rest) dead o =
+        let v = o.1 in
+        let s = subst (λ t. Stands spec (suc n) t v.1) (append_assoc front (codes "(") v.0) v.2 in
+        let same : head_of (40 ∷ v.0) ≡ head_of (b ∷ rest) = ap Some (sym (eqb-true b 40 o.0)) in
+        false≢true (sym (ap errs (finds (suc n) (front ++ 40 ∷ v.0) v.1 s)) ∙ dead (40 ∷ v.0) same)
+
+    not_new : (rest : List ℕ) → begins_with 40 rest ≡ true → IsNewForm spec rest → ⊥
+    not_new [] h form = false≢true h
+    not_new (b ∷ rest) h form =
+        let p = and_parts (is_old spec) (b == 123) form in
+        let two : 40 ≡ 123 = sym (eqb-true b 40 h) ∙ eqb-true b 123 p.1 in
+        absurd (omega (arith, two))
+
+    not_digit_open : (rest : List ℕ) → begins_with 40 rest ≡ true → begins_with_digit rest ≡ true → ⊥
+    not_digit_open [] h d = false≢true h
+    not_digit_open (b ∷ rest) h d = false≢true (ap is_ascii_digit (sym (eqb-true b 40 h)) ∙ d)
+
+    cause_of : (front rest : List ℕ) {cause : Cause} → Why spec (Stands spec n) (Stands spec (suc n)) (text_at spec n) (text_at spec (suc n)) front rest cause → CauseAt spec n front rest cause
+    cause_of front rest (new_form form dead) = needs_version form
+    cause_of front rest (number_due form last others r s dead) = bad_version form (inl (last, (48, refl, viable_by n front 48 others r s)))
+    cause_of front rest (digit_more form last digit dead) = bad_version form (inr (last, digit))
+    cause_of front rest (fronts.too_deep first none others r s dead) =
+        too_deep (not_new rest first)
+        (λ due. elim due [ inl p ↦ no_viable_digit front none p.1.0 p.1.1 p.1.2 | inr p ↦ not_digit_open rest first p.1 ])
+        (first, viable_by (suc n) front 40 others r s)
+    cause_of front rest (behind_digit form last other dead) =
+        bad_range form (λ due. elim due [ inl p ↦ false≢true (sym p.0 ∙ last) | inr p ↦ false≢true (sym other ∙ p.1) ]) (not_deeper front rest dead)
+    cause_of front rest (no_digit form last none dead) =
+        bad_range form (λ due. elim due [ inl p ↦ no_viable_digit front none p.1.0 p.1.1 p.1.2 | inr p ↦ false≢true (sym last ∙ p.0) ]) (not_deeper front rest dead)
+
+  pub first_fault : (n : ℕ) (text : List ℕ) (cause : Cause) → text_at spec n text ≡ Err cause → FirstFault spec n text cause
+  first_fault n text cause h =
+      let f = text_fault n text cause h in
+      record { front = f.front; rest = f.rest; whole = f.whole; goes_on = (f.more, f.value, f.goes_on); stops = stuck_of n f.front f.rest f.why; is = cause_of n f.front f.rest f.why }
