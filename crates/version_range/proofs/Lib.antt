@@ -6,3 +6,4 @@ pub mod Operators
 pub mod Relaxing
 pub mod Printed
 pub mod Chains
+pub mod ReadBack
