@@ -14,3 +14,4 @@ pub mod Operands
 pub mod Factors
 pub mod Versions
 pub mod Whole
+pub mod ReadBack

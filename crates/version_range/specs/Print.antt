@@ -1,5 +1,5 @@
 -- The text of a range.
-use Rattle.std.specs.Prelude.{◌≡◌, ℕ, ◌<◌, List, [], ◌∷◌, ◌++◌, codes}
+use Rattle.std.specs.Prelude.{◌≡◌, ℕ, ◌+◌, ◌-◌, ◌<◌, max, ◌==◌, cond, List, [], ◌∷◌, ◌++◌, codes}
 use Rattle.plan_types.specs.declared.range.Range.{Range, size-Range}
 use Rattle.plan_types.specs.declared.range.Range.TheOpen.{Range-F, Any, Nothing, Equal, Prefix, AtLeast, Above, AtMost, Below, Major, Both, Either}
 use Rattle.plan_types.specs.declared.range.Range.TheFolds.{fold-Range}
@@ -63,3 +63,8 @@ IsSmaller range (Or right) = size-Range right.now < size-Range range
 -- what is written next is put into place
 abbrev pub Opens : (List ℕ → List ℕ) → List ℕ → List Rest → List ℕ → List Rest → Type 0
 Opens placed text rests new-text new-rests = (body : List ℕ) → (new-text ++ body) ++ rests_text new-rests ≡ (text ++ placed body) ++ rests_text rests
+
+-- the most parentheses that are open at any place of a text before which so many are
+abbrev pub most_open : ℕ → List ℕ → ℕ
+most_open n [] = n
+most_open n (b ∷ bs) = max n (most_open (cond (b == 40) (n + 1) (cond (b == 41) (n - 1) n)) bs)

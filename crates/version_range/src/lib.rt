@@ -5,6 +5,7 @@
 mod bytes;
 mod cuts;
 mod interval;
+mod laws;
 mod merge;
 mod number;
 mod operator;
@@ -13,6 +14,7 @@ mod read;
 mod version;
 
 pub use cuts::Cuts;
+pub use laws::reads_back;
 pub use print::print_range;
 pub use read::read_range;
 pub use version::{print_version, read_version};
