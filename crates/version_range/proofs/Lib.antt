@@ -8,3 +8,4 @@ pub mod Printed
 pub mod Chains
 pub mod Fronts
 pub mod Parts
+pub mod Marks
