@@ -9,3 +9,4 @@ pub mod Chains
 pub mod Fronts
 pub mod Parts
 pub mod Marks
+pub mod Steps

@@ -26,13 +26,13 @@ Alike rest again = (head_of again ≡ head_of rest) ⊎ (begins_with_digit again
 abbrev pub NotDigits : (ℕ → Bool) → Type 0
 NotDigits test = (b : ℕ) → is_ascii_digit b ≡ true → test b ≡ false
 
-starts_same : (test : ℕ → Bool) (rest again : List ℕ) → head_of again ≡ head_of rest → starts test rest ≡ false → starts test again ≡ false
+pub starts_same : (test : ℕ → Bool) (rest again : List ℕ) → head_of again ≡ head_of rest → starts test rest ≡ false → starts test again ≡ false
 starts_same test [] [] e h = refl
 starts_same test [] (b ∷ again) e h = absurd (cc e)
 starts_same test (b ∷ rest) [] e h = refl
 starts_same test (b ∷ rest) (c ∷ again) e h = let same : c ≡ b = cc e in ap test same ∙ h
 
-starts_digit : (test : ℕ → Bool) → NotDigits test → (again : List ℕ) → begins_with_digit again ≡ true → starts test again ≡ false
+pub starts_digit : (test : ℕ → Bool) → NotDigits test → (again : List ℕ) → begins_with_digit again ≡ true → starts test again ≡ false
 starts_digit test none [] d = refl
 starts_digit test none (b ∷ again) d = none b d
 
