@@ -10,3 +10,5 @@ pub mod Fronts
 pub mod Parts
 pub mod Marks
 pub mod Steps
+pub mod Versions
+pub mod Closings

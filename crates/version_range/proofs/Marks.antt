@@ -161,3 +161,8 @@ module _ {A B C D : Type 0} (spec : Spec) (L L' : List ℕ → A → Type 0) (P 
         goes_on = subst (λ t. K t done.1) (regroup f.front f.more done.0) done.2;
         why = why_by f.front f.rest ends pass pass' f.why;
       }
+
+  pub front_at : (text : List ℕ) (cause : Cause) (f : Fault spec L L' P P' text cause) (ends : ends_with_digit (pre ++ f.front) ≡ ends_with_digit f.front)
+      (pass : PassesAt P Q f.front f.rest) (pass' : PassesAt P' Q' f.front f.rest) → (fault_at text cause f ends pass pass').front ≡ pre ++ f.front
+  unfolding fault_at
+  front_at text cause f ends pass pass' = refl
