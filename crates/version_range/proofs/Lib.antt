@@ -12,3 +12,5 @@ pub mod Marks
 pub mod Steps
 pub mod Versions
 pub mod Closings
+pub mod Sets
+pub mod Atoms

@@ -87,7 +87,7 @@ pub skip_over : (blanks text : List ℕ) → Blanks blanks → starts is_blank t
 skip_over [] text all h = skip_none text h
 skip_over (b ∷ bs) text all h = let p = and_parts (is_blank b) (list_all is_blank bs) all in rw p.0 (skip_over bs text p.1 h)
 
-blank_other : (b : ℕ) → is_blank b ≡ true → is_ascii_digit b ≡ false
+pub blank_other : (b : ℕ) → is_blank b ≡ true → is_ascii_digit b ≡ false
 blank_other b h = by (is_ascii_digit b) refl
   where
     by : (t : Bool) → is_ascii_digit b ≡ t → t ≡ false
@@ -98,6 +98,17 @@ pub ends_blanks : (blanks : List ℕ) → Blanks blanks → ends_with_digit blan
 ends_blanks [] h = refl
 ends_blanks (b ∷ []) h = blank_other b (and_parts (is_blank b) true h).0
 ends_blanks (b ∷ c ∷ bs) h = ends_blanks (c ∷ bs) (and_parts (is_blank b) (list_all is_blank (c ∷ bs)) h).1
+
+-- what begins so goes on no number
+abbrev pub on_number : ℕ → Bool
+on_number b = is_ascii_digit b || b == 46
+
+pub blank_apart : (b : ℕ) → is_blank b ≡ true → on_number b ≡ false
+blank_apart b h = by (b == 46) refl
+  where
+    by : (t : Bool) → (b == 46) ≡ t → on_number b ≡ false
+    by false q = or_from (is_ascii_digit b) (b == 46) (blank_other b h) q
+    by true q = absurd (false≢true (ap is_blank (sym (eqb-true b 46 q)) ∙ h))
 
 -- ---- a byte
 
