@@ -1,9 +1,9 @@
 -- How an atom is read: a word, or an operator and what it compares with.
-use Rattle.std.proofs.Common.{◌≡◌, ◌⊎◌, inl, inr, ℕ, Bool, true, false, ◌&&◌, List, [], ◌∷◌, ◌++◌, Option, Some, None, Result, Ok, Err, refl, sym, ap, ◌∙◌, subst, if◌then◌else◌}
+use Rattle.std.proofs.Common.{◌≡◌, ◌⊎◌, inl, inr, ℕ, Bool, true, false, ◌&&◌, ◌||◌, List, [], ◌∷◌, ◌++◌, Option, Some, None, Result, Ok, Err, refl, sym, ap, ◌∙◌, subst, append_assoc, if◌then◌else◌}
 use Rattle.std.specs.Prelude.{◌==◌, codes}
 use Rattle.std.specs.Char.{is_ascii_digit}
 use Rattle.std.specs.List.{list_all}
-use Rattle.std.proofs.lemmas.Bool.{false≢true, and_parts}
+use Rattle.std.proofs.lemmas.Bool.{false≢true, and_parts, or_parts}
 use Rattle.plan_types.specs.declared.range.Range.{Range}
 use Rattle.plan_types.specs.declared.range.Range.TheVariants as ranges
 use Rattle.plan_types.specs.declared.range.Spec.{Spec}
@@ -14,10 +14,10 @@ use Rattle.version_range.specs.declared.operator.Operator.{Operator}
 use Rattle.version_range.specs.declared.operator.Operator.TheVariants.{Equal, AtLeast, Above, AtMost, Below, Major}
 use Rattle.version_range.specs.Version.{is_version, version_text}
 use Rattle.version_range.specs.Grammar.{begins_with, is_blank, Blanks, Led, led, operator_text, of_version, has_sets, Compared, compared, Members, Atom}
-use Rattle.version_range.specs.Grammar.Atom as atoms
+use Rattle.version_range.specs.Grammar.{any as atom_any, none as atom_none, version as atom_version, prefix as atom_prefix, set as atom_set}
 use Rattle.version_range.specs.Read.{◌>>=◌, skip_blanks, byte_after, byte_due, cause_at, either_at, operator_at, word_at, operand_at, equal_at, compared_at, set_at}
 use Rattle.version_range.proofs.Fronts.{Reader, errs, Apart, Read, Fault}
-use Rattle.version_range.proofs.Marks.{starts, NotDigits, no_digits, blanks_none, byte_here, byte_gone, Begun, begun}
+use Rattle.version_range.proofs.Marks.{starts, NotDigits, other_byte, no_digits, blanks_none, byte_here, byte_gone, Begun, begun}
 use Rattle.version_range.proofs.Steps.{Good, Never, After, after, Choice, here, there, Done, done, good_led, choose, due, good_due, good_choose, good_done, good_as}
 use Rattle.version_range.proofs.Closings.{Closed, closed}
 use Rattle.version_range.proofs.Versions.{VersionText, version_first, version_zero, EqualText, whole, front, equal_read, equal_reads, equal_fault}
@@ -97,10 +97,21 @@ data Operand (spec : Spec) (op : Operator) : List ℕ → Range → Type 0 where
   set : {text : List ℕ} {r : Range} → has_sets op spec ≡ true → Closed 125 (Members op) text r → Operand spec op (123 ∷ text) r
 
 operand_set : (op : Operator) (spec : Spec) → has_sets op spec ≡ true → (text : List ℕ) → operand_at op spec text ≡ choose 123 (set_at op spec) (plain_at op spec) text
-operand_set op spec h text = ?
+unfolding operand_at
+operand_set op spec h text = ap (λ t. if t && begins_with 123 text then byte_due spec 123 text >>= set_at op spec else plain_at op spec text) h ∙ at text
+  where
+    by : (b : ℕ) (bs : List ℕ) (t : Bool)
+        → ◌≡◌ {A = Result (Range × List ℕ) Cause} (if t then (◌>>=◌ {A = List ℕ} (elim (if t then Some bs else None) [ None ↦ Err (cause_at spec BadRange (b ∷ bs)) | Some rest ↦ Ok rest ]) (set_at op spec)) else plain_at op spec (b ∷ bs))
+        (elim (if t then Some bs else None) [ Some rest ↦ set_at op spec rest | None ↦ plain_at op spec (b ∷ bs) ])
+    by b bs true = refl
+    by b bs false = refl
+    at : (text : List ℕ) → (if true && begins_with 123 text then byte_due spec 123 text >>= set_at op spec else plain_at op spec text) ≡ choose 123 (set_at op spec) (plain_at op spec) text
+    at [] = refl
+    at (b ∷ bs) = by b bs (b == 123)
 
 operand_plain : (op : Operator) (spec : Spec) → has_sets op spec ≡ false → (text : List ℕ) → operand_at op spec text ≡ plain_at op spec text
-operand_plain op spec h text = ?
+unfolding operand_at
+operand_plain op spec h text = ap (λ t. if t && begins_with 123 text then byte_due spec 123 text >>= set_at op spec else plain_at op spec text) h
 
 operand_good : (spec : Spec) (op : Operator) → Good spec (Operand spec op) (operand_at op spec)
 operand_good spec op = by (has_sets op spec) refl
@@ -139,10 +150,7 @@ opened_good spec op = good_led spec (Operand spec op) (operand_at op spec) (oper
 
 -- no second byte of an operator begins it
 never_opened : (spec : Spec) (op : Operator) → Never (λ c. c == 61) (Opened spec op)
-never_opened spec op = never_led (λ c. c == 61) (Operand spec op) no_blank (never_operand spec op (λ c. c == 61) (no_digits 61 refl) refl)
-  where
-    no_blank : (b : ℕ) → is_blank b ≡ true → (b == 61) ≡ false
-    no_blank b h = ?
+never_opened spec op = never_led (λ c. c == 61) (Operand spec op) (other_byte is_blank 61 refl) (never_operand spec op (λ c. c == 61) (no_digits 61 refl) refl)
 
 opened_zero : (spec : Spec) (op : Operator) → Opened spec op (48 ∷ []) (of_version op (record { parts = 0 ∷ [] }))
 opened_zero spec op = led [] refl (plain (zero_plain op))
@@ -160,6 +168,9 @@ longer_at spec long short = choose 61 (opened_at spec long) (opened_at spec shor
 
 abbrev compares_at : Spec → Reader Range
 compares_at spec = choose 62 (longer_at spec AtLeast Above) (choose 60 (longer_at spec AtMost Below) (choose 94 (due spec 62 (due spec 61 (opened_at spec Major))) (due spec 61 (due spec 61 (opened_at spec Equal)))))
+
+never_compares : (spec : Spec) (test : ℕ → Bool) → test 62 ≡ false → test 60 ≡ false → test 94 ≡ false → test 61 ≡ false → Never test (Compares spec)
+never_compares spec test a b c d = never_choice test 62 _ _ a (never_choice test 60 _ _ b (never_choice test 94 _ _ c (never_after test 61 _ d)))
 
 longer_good : (spec : Spec) (long short : Operator) → Good spec (Longer spec long short) (longer_at spec long short)
 longer_good spec long short = good_choose spec 61 refl (Opened spec long) (opened_at spec long) (opened_good spec long) (Opened spec short) (opened_at spec short) (opened_good spec short) (never_opened spec short)
@@ -230,23 +241,91 @@ module _ (spec : Spec) where
 abbrev Tree : Spec → List ℕ → Range → Type 0
 Tree spec = Choice 45 (Choice 97 AnyText NoneText) (Compares spec)
 
-operators_same : (spec : Spec) (text : List ℕ) → ◌>>=◌ {B = Range × List ℕ} (operator_at spec text) (λ op. operand_at op.0 spec (skip_blanks op.1)) ≡ compares_at spec text
-unfolding operator_at
-operators_same spec text = ?
+module _ (spec : Spec) where
+  abbrev operand : Operator × List ℕ → Result (Range × List ℕ) Cause
+  operand op = operand_at op.0 spec (skip_blanks op.1)
+
+  longer_same : (long short : Operator) (text : List ℕ) → operand (either_at long short text) ≡ longer_at spec long short text
+  longer_same long short text = by (byte_after 61 text)
+    where
+      by : (o : Option (List ℕ)) → operand (elim o [ None ↦ (short, text) | Some rest ↦ (long, rest) ]) ≡ elim o [ Some rest ↦ opened_at spec long rest | None ↦ opened_at spec short text ]
+      by (Some rest) = refl
+      by None = refl
+
+  signs_same : (op : Operator) (a b : ℕ) (text : List ℕ) → (◌>>=◌ {B = Operator × List ℕ} (byte_due spec a text) (λ more. ◌>>=◌ {B = Operator × List ℕ} (byte_due spec b more) (λ behind. Ok (op, behind)))) >>= operand ≡ due spec a (due spec b (opened_at spec op)) text
+  signs_same op a b text = first (byte_due spec a text)
+    where
+      second : (r : Result (List ℕ) Cause) → (◌>>=◌ {B = Operator × List ℕ} r (λ behind. Ok (op, behind))) >>= operand ≡ r >>= opened_at spec op
+      second (Ok rest) = refl
+      second (Err cause) = refl
+      first : (r : Result (List ℕ) Cause) → (◌>>=◌ {B = Operator × List ℕ} r (λ more. ◌>>=◌ {B = Operator × List ℕ} (byte_due spec b more) (λ behind. Ok (op, behind)))) >>= operand ≡ r >>= due spec b (opened_at spec op)
+      first (Ok more) = second (byte_due spec b more)
+      first (Err cause) = refl
+
+  -- the operator, by the bytes that may begin it
+  abbrev operator_by : List ℕ → Option (List ℕ) → Option (List ℕ) → Option (List ℕ) → Result (Operator × List ℕ) Cause
+  operator_by text o p q = elim o [
+    | Some rest ↦ Ok (either_at AtLeast Above rest)
+    | None ↦ elim p [
+      | Some rest ↦ Ok (either_at AtMost Below rest)
+      | None ↦ elim q [
+        | Some rest ↦ byte_due spec 62 rest >>= λ more. byte_due spec 61 more >>= λ behind. Ok (Major, behind)
+        | None ↦ byte_due spec 61 text >>= λ more. byte_due spec 61 more >>= λ behind. Ok (Equal, behind)
+      ]
+    ]
+  ]
+
+  abbrev compares_by : List ℕ → Option (List ℕ) → Option (List ℕ) → Option (List ℕ) → Result (Range × List ℕ) Cause
+  compares_by text o p q = elim o [
+    | Some rest ↦ longer_at spec AtLeast Above rest
+    | None ↦ elim p [
+      | Some rest ↦ longer_at spec AtMost Below rest
+      | None ↦ elim q [
+        | Some rest ↦ due spec 62 (due spec 61 (opened_at spec Major)) rest
+        | None ↦ due spec 61 (due spec 61 (opened_at spec Equal)) text
+      ]
+    ]
+  ]
+
+  by_operator : (text : List ℕ) (o p q : Option (List ℕ)) → operator_by text o p q >>= operand ≡ compares_by text o p q
+  by_operator text (Some rest) p q = longer_same AtLeast Above rest
+  by_operator text None (Some rest) q = longer_same AtMost Below rest
+  by_operator text None None (Some rest) = signs_same Major 62 61 rest
+  by_operator text None None None = signs_same Equal 61 61 text
+
+  operators_same : (text : List ℕ) → operator_at spec text >>= operand ≡ compares_at spec text
+  unfolding operator_at
+  operators_same text = by_operator text (byte_after 62 text) (byte_after 60 text) (byte_after 94 text)
 
 atom_same : (spec : Spec) (text : List ℕ) → atom_at spec text ≡ choose 45 (word_at spec) (compares_at spec) text
 atom_same spec text = by (byte_after 45 text)
   where
-    by : (o : Option (List ℕ)) → elim o [ Some rest ↦ word_at spec rest | None ↦ operator_at spec text >>= λ op. operand_at op.0 spec (skip_blanks op.1) ] ≡ elim o [ Some rest ↦ word_at spec rest | None ↦ compares_at spec text ]
+    by : (o : Option (List ℕ)) → ◌≡◌ {A = Result (Range × List ℕ) Cause} (elim o [ Some rest ↦ word_at spec rest | None ↦ operator_at spec text >>= operand spec ]) (elim o [ Some rest ↦ word_at spec rest | None ↦ compares_at spec text ])
     by (Some rest) = refl
     by None = operators_same spec text
 
+set_text : (pre blanks text end : List ℕ) → ((((pre ++ blanks) ++ 123 ∷ []) ++ text) ++ end) ++ 125 ∷ [] ≡ pre ++ (blanks ++ 123 ∷ (text ++ (end ++ 125 ∷ [])))
+set_text pre blanks text end = simp append_assoc
+
+prefix_text : (pre blanks text : List ℕ) → ((pre ++ blanks) ++ text) ++ codes ".*" ≡ pre ++ (blanks ++ (text ++ codes ".*"))
+prefix_text pre blanks text = simp append_assoc
+
+plain_atom : (spec : Spec) (op : Operator) (blanks text : List ℕ) (r : Range) → Blanks blanks → Plain op text r → Atom spec (operator_text op ++ (blanks ++ text)) r
+plain_atom spec Equal blanks text r all (whole v h) = atom_version Equal (led blanks all (compared v h))
+plain_atom spec Equal blanks text r all (front v h) = subst (λ t. Atom spec t (ranges.Prefix v)) (prefix_text (operator_text Equal) blanks (version_text v.parts)) (atom_prefix blanks v all h)
+plain_atom spec AtLeast blanks text r all l = atom_version AtLeast (led blanks all l)
+plain_atom spec Above blanks text r all l = atom_version Above (led blanks all l)
+plain_atom spec AtMost blanks text r all l = atom_version AtMost (led blanks all l)
+plain_atom spec Below blanks text r all l = atom_version Below (led blanks all l)
+plain_atom spec Major blanks text r all l = atom_version Major (led blanks all l)
+
 opened_atom : (spec : Spec) (op : Operator) (text : List ℕ) (r : Range) → Opened spec op text r → Atom spec (operator_text op ++ text) r
-opened_atom spec op text r l = ?
+opened_atom spec op text r (led blanks {text = t} all (plain l)) = plain_atom spec op blanks t r all l
+opened_atom spec op text r (led blanks all (set has (closed t end l all'))) = subst (λ u. Atom spec u r) (set_text (operator_text op) blanks t end) (atom_set op blanks t end has all l all')
 
 atom_of : (spec : Spec) (text : List ℕ) (r : Range) → Tree spec text r → Atom spec text r
-atom_of spec text r (here (here (after (after done)))) = atoms.any
-atom_of spec text r (here (there (after (after (after (after done)))))) = atoms.none
+atom_of spec text r (here (here (after (after done)))) = atom_any
+atom_of spec text r (here (there (after (after (after (after done)))))) = atom_none
 atom_of spec text r (there (here (here {text = t} l))) = opened_atom spec AtLeast t r l
 atom_of spec text r (there (here (there {text = t} l))) = opened_atom spec Above t r l
 atom_of spec text r (there (there (here (here {text = t} l)))) = opened_atom spec AtMost t r l
@@ -262,11 +341,18 @@ tree_opened spec AtMost text r l = there (there (here (here l)))
 tree_opened spec Below text r l = there (there (here (there l)))
 tree_opened spec Major text r l = there (there (there (here (after (after l)))))
 
+opened_compared : (spec : Spec) (op : Operator) (text : List ℕ) (r : Range) → Led (Compared op) text r → Opened spec op text r
+opened_compared spec op text r (led blanks {text = t} all l) = led blanks all (plain (plain_compared op t r l))
+
 tree_of : (spec : Spec) (text : List ℕ) (r : Range) → Atom spec text r → Tree spec text r
-tree_of spec text r a = ?
+tree_of spec text r atom_any = here (here (after (after done)))
+tree_of spec text r atom_none = here (there (after (after (after (after done)))))
+tree_of spec text r (atom_version op {text = t} l) = tree_opened spec op t r (opened_compared spec op t r l)
+tree_of spec text r (atom_prefix blanks v all h) = subst (λ t. Tree spec t (ranges.Prefix v)) (sym (prefix_text (operator_text Equal) blanks (version_text v.parts))) (tree_opened spec Equal (blanks ++ (version_text v.parts ++ codes ".*")) (ranges.Prefix v) (led blanks all (plain (front v h))))
+tree_of spec text r (atom_set op blanks t end has all l all') = subst (λ u. Tree spec u r) (sym (set_text (operator_text op) blanks t end)) (tree_opened spec op (blanks ++ 123 ∷ (t ++ (end ++ 125 ∷ []))) r (led blanks all (set has (closed t end l all'))))
 
 atom_good : (spec : Spec) → Good spec (Atom spec) (atom_at spec)
-atom_good spec = good_as spec (Tree spec) (choose 45 (word_at spec) (compares_at spec)) (good_choose spec 45 refl _ _ (word_good spec) (Compares spec) (compares_at spec) (compares_good spec) ?) (Atom spec) (atom_of spec) (tree_of spec) (atom_at spec) (atom_same spec)
+atom_good spec = good_as spec (Tree spec) (choose 45 (word_at spec) (compares_at spec)) (good_choose spec 45 refl _ _ (word_good spec) (Compares spec) (compares_at spec) (compares_good spec) (never_compares spec (λ c. c == 45) refl refl refl refl)) (Atom spec) (atom_of spec) (tree_of spec) (atom_at spec) (atom_same spec)
 
 pub atom_read : (spec : Spec) (text : List ℕ) (r : Range) (rest : List ℕ) → atom_at spec text ≡ Ok (r, rest) → Read (Atom spec) Apart text r rest
 atom_read spec = (atom_good spec).read
@@ -278,4 +364,8 @@ pub atom_fault : (spec : Spec) (text : List ℕ) (cause : Cause) → atom_at spe
 atom_fault spec = (atom_good spec).fault
 
 pub atom_first : (spec : Spec) (text : List ℕ) (r : Range) → Atom spec text r → (b : ℕ) × (bs : List ℕ) × (text ≡ b ∷ bs) × (is_blank b ≡ false) × ((b == 40) ≡ false)
-atom_first spec text r a = ?
+atom_first spec text r a =
+    let test : ℕ → Bool = λ b. is_blank b || b == 40 in
+    let f = never_choice test 45 _ _ refl (never_compares spec test refl refl refl refl) text r (tree_of spec text r a) in
+    let p = or_parts (is_blank f.0) (f.0 == 40) f.3 in
+    (f.0, f.1, f.2, p.0, p.1)

@@ -42,13 +42,16 @@ starts_alike test none [] rest again (inl e) h = starts_same test rest again e h
 starts_alike test none [] rest again (inr d) h = starts_digit test none again d
 starts_alike test none (b ∷ front) rest again like h = h
 
--- no digit begins a byte that is none
-pub no_digits : (byte : ℕ) → is_ascii_digit byte ≡ false → NotDigits (λ c. c == byte)
-no_digits byte other b d = by (b == byte) refl
+-- what passes a test that the byte doesn't pass is another byte
+pub other_byte : (test : ℕ → Bool) (byte : ℕ) → test byte ≡ false → (b : ℕ) → test b ≡ true → (b == byte) ≡ false
+other_byte test byte none b h = by (b == byte) refl
   where
     by : (t : Bool) → (b == byte) ≡ t → t ≡ false
     by false q = refl
-    by true q = absurd (false≢true (sym other ∙ ap is_ascii_digit (sym (eqb-true b byte q)) ∙ d))
+    by true q = absurd (false≢true (sym none ∙ ap test (sym (eqb-true b byte q)) ∙ h))
+
+pub no_digits : (byte : ℕ) → is_ascii_digit byte ≡ false → NotDigits (λ c. c == byte)
+no_digits byte other = other_byte is_ascii_digit byte other
 
 pub blanks_none : NotDigits is_blank
 blanks_none b d = or_from (b == 32) (b == 9) (no_digits 32 refl b d) (no_digits 9 refl b d)
@@ -104,11 +107,7 @@ abbrev pub on_number : ℕ → Bool
 on_number b = is_ascii_digit b || b == 46
 
 pub blank_apart : (b : ℕ) → is_blank b ≡ true → on_number b ≡ false
-blank_apart b h = by (b == 46) refl
-  where
-    by : (t : Bool) → (b == 46) ≡ t → on_number b ≡ false
-    by false q = or_from (is_ascii_digit b) (b == 46) (blank_other b h) q
-    by true q = absurd (false≢true (ap is_blank (sym (eqb-true b 46 q)) ∙ h))
+blank_apart b h = or_from (is_ascii_digit b) (b == 46) (blank_other b h) (other_byte is_blank 46 refl b h)
 
 -- ---- a byte
 
