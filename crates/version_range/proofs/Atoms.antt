@@ -1,26 +1,24 @@
 -- How an atom is read: a word, or an operator and what it compares with.
-use Rattle.std.proofs.Common.{◌≡◌, ◌⊎◌, inl, inr, ℕ, Bool, true, false, ◌&&◌, ◌||◌, List, [], ◌∷◌, ◌++◌, Option, Some, None, Result, Ok, Err, refl, sym, ap, ◌∙◌, subst, append_assoc, if◌then◌else◌}
+use Rattle.std.proofs.Common.{◌≡◌, ℕ, Bool, true, false, ◌&&◌, ◌||◌, List, [], ◌∷◌, ◌++◌, Option, Some, None, Result, Ok, Err, refl, sym, ap, ◌∙◌, subst, append_assoc, if◌then◌else◌}
 use Rattle.std.specs.Prelude.{◌==◌, codes}
-use Rattle.std.specs.Char.{is_ascii_digit}
 use Rattle.std.specs.List.{list_all}
 use Rattle.std.proofs.lemmas.Bool.{false≢true, and_parts, or_parts}
 use Rattle.plan_types.specs.declared.range.Range.{Range}
 use Rattle.plan_types.specs.declared.range.Range.TheVariants as ranges
 use Rattle.plan_types.specs.declared.range.Spec.{Spec}
-use Rattle.plan_types.specs.declared.version.Version.{Version}
 use Rattle.plan_types.specs.declared.refusal.Cause.{Cause}
 use Rattle.plan_types.specs.declared.refusal.Cause.TheVariants.{BadRange}
 use Rattle.version_range.specs.declared.operator.Operator.{Operator}
 use Rattle.version_range.specs.declared.operator.Operator.TheVariants.{Equal, AtLeast, Above, AtMost, Below, Major}
-use Rattle.version_range.specs.Version.{is_version, version_text}
+use Rattle.version_range.specs.Version.{version_text}
 use Rattle.version_range.specs.Grammar.{begins_with, is_blank, Blanks, Led, led, operator_text, of_version, has_sets, Compared, compared, Members, Atom}
 use Rattle.version_range.specs.Grammar.{any as atom_any, none as atom_none, version as atom_version, prefix as atom_prefix, set as atom_set}
-use Rattle.version_range.specs.Read.{◌>>=◌, skip_blanks, byte_after, byte_due, cause_at, either_at, operator_at, word_at, operand_at, equal_at, compared_at, set_at}
-use Rattle.version_range.proofs.Fronts.{Reader, errs, Apart, Read, Fault}
-use Rattle.version_range.proofs.Marks.{starts, NotDigits, other_byte, no_digits, blanks_none, byte_here, byte_gone, Begun, begun}
+use Rattle.version_range.specs.Read.{◌>>=◌, skip_blanks, byte_after, byte_due, cause_at, either_at, operator_at, word_at, operand_at, equal_at, compared_at, set_at, factor_at}
+use Rattle.version_range.proofs.Fronts.{Reader, Apart, Read, Fault}
+use Rattle.version_range.proofs.Marks.{starts, NotDigits, other_byte, no_digits, blanks_none, byte_gone}
 use Rattle.version_range.proofs.Steps.{Good, Never, After, after, Choice, here, there, Done, done, good_led, choose, due, good_due, good_choose, good_done, good_as}
-use Rattle.version_range.proofs.Closings.{Closed, closed}
-use Rattle.version_range.proofs.Versions.{VersionText, version_first, version_zero, EqualText, whole, front, equal_read, equal_reads, equal_fault}
+use Rattle.version_range.proofs.Closings.{Closed, closed, closing}
+use Rattle.version_range.proofs.Versions.{version_zero, EqualText, whole, front, equal_read, equal_reads, equal_fault}
 use Rattle.version_range.proofs.Sets.{compared_good, never_version, never_compared, set_good}
 
 -- a factor that begins with no parenthesis, as it is read
@@ -369,3 +367,13 @@ atom_first spec text r a =
     let f = never_choice test 45 _ _ refl (never_compares spec test refl refl refl refl) text r (tree_of spec text r a) in
     let p = or_parts (is_blank f.0) (f.0 == 40) f.3 in
     (f.0, f.1, f.2, p.0, p.1)
+
+-- ---- factors, by their first byte
+
+pub factor_opens : (inside : Reader Range) (spec : Spec) (rest : List ℕ) → factor_at inside spec (40 ∷ rest) ≡ closing spec 41 inside rest
+unfolding factor_at
+factor_opens inside spec rest = refl
+
+pub factor_other : (inside : Reader Range) (spec : Spec) (text : List ℕ) → starts (λ c. c == 40) text ≡ false → factor_at inside spec text ≡ atom_at spec text
+unfolding factor_at
+factor_other inside spec text h = ap (λ (o : Option (List ℕ)). elim o [ Some rest ↦ closing spec 41 inside rest | None ↦ atom_at spec text ]) (byte_gone 40 text h)

@@ -1,5 +1,5 @@
 -- What is read up to a byte that closes it.
-use Rattle.std.proofs.Common.{◌≡◌, ◌⊎◌, inl, inr, ℕ, Bool, true, false, ◌||◌, List, [], ◌∷◌, ◌++◌, Option, Some, None, Result, Ok, Err, refl, sym, ap, ◌∙◌, subst, append_assoc, append-nil}
+use Rattle.std.proofs.Common.{◌≡◌, ◌⊎◌, inl, inr, ℕ, true, false, List, [], ◌∷◌, ◌++◌, Option, Some, None, Result, Ok, Err, refl, sym, ap, ◌∙◌, subst, append_assoc, append-nil}
 use Rattle.std.specs.Prelude.{◌==◌}
 use Rattle.std.specs.Char.{is_ascii_digit}
 use Rattle.std.proofs.lemmas.Bool.{false≢true, or_parts}
@@ -9,9 +9,9 @@ use Rattle.plan_types.specs.declared.refusal.Cause.TheVariants.{BadRange}
 use Rattle.version_range.specs.Version.{begins_with_digit}
 use Rattle.version_range.specs.Grammar.{is_blank, ends_with_digit, Blanks}
 use Rattle.version_range.specs.Read.{◌>>=◌, skip_blanks, byte_after, byte_due, cause_at}
-use Rattle.version_range.proofs.Fronts.{Reader, head_of, errs, goes_on_number, Apart, apart_same_head, ends_behind, Read, Fault}
+use Rattle.version_range.proofs.Fronts.{Reader, head_of, errs, Apart, apart_same_head, ends_behind, Read, Fault}
 use Rattle.version_range.proofs.Parts.{ok_parts, errs_then}
-use Rattle.version_range.proofs.Marks.{starts, Alike, starts_same, starts_alike, no_digits, blanks_none, cut, skip_over, ends_blanks, byte_here, byte_gone, Begun, begun, fault_at}
+use Rattle.version_range.proofs.Marks.{starts, Alike, starts_alike, no_digits, blanks_none, cut, skip_over, ends_blanks, byte_here, byte_gone, Begun, begun, fault_at}
 use Rattle.version_range.proofs.Steps.{fresh}
 
 -- what follows blanks may be another text that begins so, or with a digit where none is before it

@@ -1,17 +1,15 @@
 -- Readers of single bytes and of blanks, with what is read behind them.
-use Rattle.std.proofs.Common.{◌≡◌, ◌≢◌, ◌⊎◌, inl, inr, ℕ, Bool, true, false, ◌||◌, ◌&&◌, List, [], ◌∷◌, ◌++◌, Option, Some, None, Result, Ok, Err, refl, sym, ap, ◌∙◌, subst, append_assoc, append-nil, if◌then◌else◌}
+use Rattle.std.proofs.Common.{◌≡◌, ◌⊎◌, inl, inr, ℕ, Bool, true, false, ◌||◌, List, [], ◌∷◌, ◌++◌, Some, None, Result, refl, sym, ap, ◌∙◌, subst, append_assoc}
 use Rattle.std.specs.Prelude.{◌==◌}
 use Rattle.std.specs.Char.{is_ascii_digit}
 use Rattle.std.specs.List.{list_all}
-use Rattle.std.proofs.lemmas.Bool.{false≢true, and_parts, or_parts, or_from, eqb-true, eq-eqb}
+use Rattle.std.proofs.lemmas.Bool.{false≢true, and_parts, or_from, eqb-true, eq-eqb}
 use Rattle.plan_types.specs.declared.range.Spec.{Spec}
 use Rattle.plan_types.specs.declared.refusal.Cause.{Cause}
-use Rattle.plan_types.specs.declared.refusal.Cause.TheVariants.{BadVersion, BadRange, NeedsVersion, TooDeep}
 use Rattle.version_range.specs.Version.{begins_with_digit}
-use Rattle.version_range.specs.Grammar.{begins_with, is_blank, is_old, ends_with_digit, Blanks, IsNewForm, Led, led}
-use Rattle.version_range.specs.Read.{◌>>=◌, skip_blanks, byte_after, byte_due, cause_at}
-use Rattle.version_range.proofs.Fronts.{Reader, head_of, errs, goes_on_number, Apart, ends_behind, ends_kept, Read, Dead, NoDigit, Why, new_form, number_due, digit_more, too_deep, behind_digit, no_digit, Fault, Completes}
-use Rattle.version_range.proofs.Parts.{ok_parts, errs_then}
+use Rattle.version_range.specs.Grammar.{is_blank, ends_with_digit, Blanks}
+use Rattle.version_range.specs.Read.{skip_blanks, byte_after}
+use Rattle.version_range.proofs.Fronts.{head_of, errs, Dead, NoDigit, Why, new_form, number_due, digit_more, too_deep, behind_digit, no_digit, Fault, Completes}
 
 -- ---- the first byte
 

@@ -1,22 +1,20 @@
 -- How sets are read.
-use Rattle.std.proofs.Common.{◌≡◌, ◌≢◌, ◌⊎◌, inl, inr, ℕ, Bool, true, false, ◌||◌, List, [], ◌∷◌, ◌++◌, Option, Some, None, Result, Ok, Err, refl, sym, ap, ◌∙◌, subst, append_assoc, append-nil}
+use Rattle.std.proofs.Common.{◌≡◌, ◌≢◌, ◌⊎◌, inl, inr, ℕ, Bool, true, false, List, [], ◌∷◌, ◌++◌, Option, Some, None, Result, Ok, Err, refl, sym, ap, ◌∙◌, subst, append_assoc, append-nil}
 use Rattle.std.specs.Prelude.{◌==◌, codes}
-use Rattle.std.specs.Char.{is_ascii_digit}
 use Rattle.std.specs.List.{list_all}
-use Rattle.std.proofs.lemmas.Bool.{false≢true, and_parts}
+use Rattle.std.proofs.lemmas.Bool.{and_parts}
 use Rattle.plan_types.specs.declared.range.Range.{Range}
 use Rattle.plan_types.specs.declared.range.Range.TheVariants.{Either}
 use Rattle.plan_types.specs.declared.range.Spec.{Spec}
 use Rattle.plan_types.specs.declared.version.Version.{Version}
 use Rattle.plan_types.specs.declared.refusal.Cause.{Cause}
 use Rattle.version_range.specs.declared.operator.Operator.{Operator}
-use Rattle.version_range.specs.Version.{is_version, version_text, begins_with_digit}
-use Rattle.version_range.specs.Grammar.{is_blank, ends_with_digit, Blanks, Led, led, Behind, behind, of_version, Compared, compared, Members}
-use Rattle.version_range.specs.Read.{◌>>=◌, skip_blanks, byte_after, byte_due, version_at, compared_at, next_member, set_at, chained}
+use Rattle.version_range.specs.Grammar.{is_blank, ends_with_digit, Blanks, Led, Behind, behind, of_version, Compared, compared, Members}
+use Rattle.version_range.specs.Read.{◌>>=◌, skip_blanks, byte_after, version_at, compared_at, next_member, set_at, chained}
 use Rattle.version_range.proofs.Fronts.{Reader, head_of, errs, goes_on_number, Apart, apart_same_head, ends_behind, ends_kept, Read, Fault}
-use Rattle.version_range.proofs.Parts.{Parts, all_of, reads, AllRead, read_all, NextFault, fault_all, reach}
-use Rattle.version_range.proofs.Marks.{starts, Alike, NotDigits, starts_alike, no_digits, blanks_none, on_number, blank_apart, Cut, cut, skip_over, ends_blanks, byte_gone, Begun, begun, fault_at, front_at}
-use Rattle.version_range.proofs.Steps.{Good, Never, never_starts, apart_before, apart_within, good_led, valued, good_map, good_as}
+use Rattle.version_range.proofs.Parts.{Parts, all_of, reads, read_all, NextFault, fault_all}
+use Rattle.version_range.proofs.Marks.{starts, Alike, NotDigits, starts_alike, no_digits, blanks_none, on_number, blank_apart, Cut, cut, skip_over, byte_gone, Begun, begun, fault_at, front_at}
+use Rattle.version_range.proofs.Steps.{Good, Never, apart_before, apart_within, good_led, valued, good_map, good_as}
 use Rattle.version_range.proofs.Closings.{apart_next, Closed, closing, closed_at, closed_reads, closed_read, closed_fault}
 use Rattle.version_range.proofs.Versions.{VersionText, version_read, version_reads, version_fault, version_first}
 

@@ -1,17 +1,17 @@
 -- Readers made of a byte or blanks and a reader behind them, each against its language.
-use Rattle.std.proofs.Common.{◌≡◌, ◌⊎◌, inl, inr, ℕ, Bool, true, false, ◌&&◌, List, [], ◌∷◌, ◌++◌, Option, Some, None, Result, Ok, Err, refl, sym, ap, ◌∙◌, subst, append_assoc, append-nil, if◌then◌else◌}
+use Rattle.std.proofs.Common.{◌≡◌, inl, inr, ℕ, Bool, true, false, ◌&&◌, List, [], ◌∷◌, ◌++◌, Option, Some, None, Result, Ok, Err, refl, sym, ap, ◌∙◌, subst, append_assoc, append-nil, if◌then◌else◌}
 use Rattle.std.specs.Prelude.{◌==◌}
 use Rattle.std.specs.Char.{is_ascii_digit}
 use Rattle.std.proofs.lemmas.Bool.{false≢true}
 use Rattle.plan_types.specs.declared.range.Spec.{Spec}
 use Rattle.plan_types.specs.declared.refusal.Cause.{Cause}
-use Rattle.plan_types.specs.declared.refusal.Cause.TheVariants.{BadVersion, BadRange, NeedsVersion, TooDeep}
+use Rattle.plan_types.specs.declared.refusal.Cause.TheVariants.{BadRange, NeedsVersion}
 use Rattle.version_range.specs.Version.{begins_with_digit}
-use Rattle.version_range.specs.Grammar.{begins_with, is_blank, is_old, ends_with_digit, Blanks, IsNewForm, Led, led}
+use Rattle.version_range.specs.Grammar.{begins_with, is_blank, is_old, ends_with_digit, Led, led}
 use Rattle.version_range.specs.Read.{◌>>=◌, skip_blanks, byte_after, byte_due, cause_at}
-use Rattle.version_range.proofs.Fronts.{Reader, head_of, errs, Apart, ends_kept, Read, Dead, NoDigit, Why, new_form, behind_digit, no_digit, Fault}
-use Rattle.version_range.proofs.Parts.{ok_parts, errs_then}
-use Rattle.version_range.proofs.Marks.{starts, Alike, starts_same, starts_digit, starts_alike, no_digits, blanks_none, cut, skip_over, ends_blanks, byte_here, byte_gone, Begun, begun, fault_at}
+use Rattle.version_range.proofs.Fronts.{Reader, errs, Apart, ends_kept, Read, Dead, NoDigit, Why, new_form, behind_digit, no_digit, Fault}
+use Rattle.version_range.proofs.Parts.{ok_parts}
+use Rattle.version_range.proofs.Marks.{starts, Alike, starts_same, starts_alike, no_digits, blanks_none, cut, skip_over, ends_blanks, byte_here, byte_gone, Begun, begun, fault_at}
 
 -- the reader reads this language, and where it fails, it is stuck
 pub record Good {A : Type 0} (spec : Spec) (L : List ℕ → A → Type 0) (R : Reader A) : Type 0 where
@@ -32,7 +32,7 @@ Never test L = (text : List ℕ) (x : _) → L text x → (b : ℕ) × (bs : Lis
 pub never_starts : {A : Type 0} (test : ℕ → Bool) (L : List ℕ → A → Type 0) → Never test L → (text : List ℕ) (x : A) → L text x → (rest : List ℕ) → starts test (text ++ rest) ≡ false
 never_starts test L never text x l rest = let f = never text x l in ap (λ t. starts test (t ++ rest)) f.2 ∙ f.3
 
--- where a byte or an end was wanting that may follow the front
+-- the fault where another byte was wanting behind the front
 pub fresh : {A B : Type 0} (spec : Spec) (L L' : List ℕ → A → Type 0) (P P' : List ℕ → Result B Cause) (front rest more : List ℕ) (x : A) → L (front ++ more) x → Dead P' front rest
     → (ends_with_digit front ≡ true → begins_with_digit rest ≡ false) → (ends_with_digit front ≡ false → NoDigit P' front) → Fault spec L L' P P' (front ++ rest) (cause_at spec BadRange rest)
 fresh spec L L' P P' front rest more x goes dead digit none = record {
@@ -51,16 +51,6 @@ fresh spec L L' P P' front rest more x goes dead digit none = record {
     by false q false e = no_digit (λ n. false≢true (sym q ∙ n)) e (none e) dead
 
 -- ---- blanks
-
-pub data After {A : Type 0} (byte : ℕ) (K : List ℕ → A → Type 0) : List ℕ → A → Type 0 where
-  after : {text : List ℕ} {x : A} → K text x → After byte K (byte ∷ text) x
-
-pub data Choice {A : Type 0} (byte : ℕ) (K M : List ℕ → A → Type 0) : List ℕ → A → Type 0 where
-  here : {text : List ℕ} {x : A} → K text x → Choice byte K M (byte ∷ text) x
-  there : {text : List ℕ} {x : A} → M text x → Choice byte K M text x
-
-pub data Done {A : Type 0} (x : A) : List ℕ → A → Type 0 where
-  done : Done x [] x
 
 module _ {A : Type 0} (spec : Spec) (K : List ℕ → A → Type 0) (R : Reader A) (k : Good spec K R) (never : Never is_blank K) where
   led_reads : {text : List ℕ} {x : A} → Led K text x → (rest : List ℕ) → Apart text rest → R (skip_blanks (text ++ rest)) ≡ Ok (x, rest)
@@ -91,6 +81,13 @@ module _ {A : Type 0} (spec : Spec) (K : List ℕ → A → Type 0) (R : Reader 
   }
 
 -- ---- a byte
+
+pub data After {A : Type 0} (byte : ℕ) (K : List ℕ → A → Type 0) : List ℕ → A → Type 0 where
+  after : {text : List ℕ} {x : A} → K text x → After byte K (byte ∷ text) x
+
+pub data Choice {A : Type 0} (byte : ℕ) (K M : List ℕ → A → Type 0) : List ℕ → A → Type 0 where
+  here : {text : List ℕ} {x : A} → K text x → Choice byte K M (byte ∷ text) x
+  there : {text : List ℕ} {x : A} → M text x → Choice byte K M text x
 
 abbrev pub choose : {A : Type 0} → ℕ → Reader A → Reader A → Reader A
 choose byte R T text = elim (byte_after byte text) [ Some rest ↦ R rest | None ↦ T text ]
@@ -188,6 +185,9 @@ module _ {A : Type 0} (spec : Spec) (byte : ℕ) (other : is_ascii_digit byte �
     good_choose = record { read = choose_read; reads = λ text x rest l a. choose_reads l rest a; fault = choose_fault }
 
 -- ---- nothing more
+
+pub data Done {A : Type 0} (x : A) : List ℕ → A → Type 0 where
+  done : Done x [] x
 
 pub good_done : {A : Type 0} (spec : Spec) (x : A) → Good spec (Done x) (λ text. Ok (x, text))
 good_done {A} spec x = record {
