@@ -18,17 +18,8 @@ use Rattle.version_range.proofs.Fronts.{Reader, head_of, errs, goes_on_number, A
 use Rattle.version_range.proofs.Spaces.{unblank, Blanked, blanked, skip_to, unblank_head, begins_same, after_here, after_other, after_some, after_none, due_here, due_other, due_errs, due_read, due_fails, due_why}
 use Rattle.version_range.proofs.Parts.{all_of, errs_then, ok_parts, map_chain}
 use Rattle.version_range.proofs.Led.{Unblank, led_at, led_reads, led_read, led_fault, blanks_no_number, blanks_end, blank_no_number, blank_no_digit, digit_unblank, digit_begins_other}
+use Rattle.version_range.proofs.Atoms.{atom_at, atom_read, atom_reads, atom_fault, atom_first}
 use Rattle.version_range.proofs.Operands.{Rules, Follow, ends_some, joined_rules, joined_fault, joined_wider}
-
--- a factor without a parenthesis
-abbrev pub atom_at : Spec → Reader Range
-atom_at spec text = elim (byte_after 45 text) [ Some rest ↦ word_at spec rest | None ↦ operator_at spec text >>= λ op. operand_at op.0 spec (skip_blanks op.1) ]
-
-pub record AtomRules (spec : Spec) : Type 0 where
-  pub read : (text : List ℕ) (r : Range) (rest : List ℕ) → atom_at spec text ≡ Ok (r, rest) → Read (Atom spec) Apart text r rest
-  pub reads : (text : List ℕ) (r : Range) (rest : List ℕ) → Atom spec text r → Apart text rest → atom_at spec (text ++ rest) ≡ Ok (r, rest)
-  pub fault : (text : List ℕ) (cause : Cause) → atom_at spec text ≡ Err cause → Fault spec (Atom spec) (Atom spec) (atom_at spec) (atom_at spec) text cause
-  pub first : (text : List ℕ) (r : Range) → Atom spec text r → (b : ℕ) × (bs : List ℕ) × (text ≡ b ∷ bs) × (is_blank b ≡ false) × ((b == 40) ≡ false)
 
 -- ---- what may follow
 
@@ -64,7 +55,7 @@ close_follows text blanks again are =
 
 -- ---- a factor, over what stands in a parenthesis
 
-module _ (spec : Spec) (atoms : AtomRules spec) (L : List ℕ → Range → Type 0) (I : Reader Range) (rules : Rules L AfterRange I) where
+module _ (spec : Spec) (L : List ℕ → Range → Type 0) (I : Reader Range) (rules : Rules L AfterRange I) where
   abbrev with_range : Range → List ℕ → Result (Range × List ℕ) Cause
   with_range r rest = Ok (r, rest)
 
@@ -88,8 +79,8 @@ module _ (spec : Spec) (atoms : AtomRules spec) (L : List ℕ → Range → Type
 
   factor_reads : (text : List ℕ) (r : Range) (rest : List ℕ) → Factor spec L text r → Apart text rest → factor_at I spec (text ++ rest) ≡ Ok (r, rest)
   factor_reads text r rest (atom a) e =
-      let f = atoms.first text r a in
-      at_atom (text ++ rest) (subst (λ t. begins_with 40 (t ++ rest) ≡ false) (sym f.2) f.4) ∙ atoms.reads text r rest a e
+      let f = atom_first spec text r a in
+      at_atom (text ++ rest) (subst (λ t. begins_with 40 (t ++ rest) ≡ false) (sym f.2) f.4) ∙ atom_reads spec text r rest a e
   factor_reads text r rest (enclosed front blanks is are) e =
       ap (λ t. factor_at I spec (40 ∷ t)) (close front blanks rest)
       ∙ at_open (front ++ (blanks ++ (41 ∷ rest)))
@@ -134,7 +125,7 @@ module _ (spec : Spec) (atoms : AtomRules spec) (L : List ℕ → Range → Type
     where
       by : (o : Option (List ℕ)) → byte_after 40 text ≡ o → Read (Factor spec L) Apart text r rest
       by None q =
-          let a = atoms.read text r rest (sym (at_atom text (after_none 40 text q)) ∙ h) in
+          let a = atom_read spec text r rest (sym (at_atom text (after_none 40 text q)) ∙ h) in
           record { front = a.front; whole = a.whole; is = atom a.is; apart = a.apart }
       by (Some more) q =
           let at = after_some 40 text more q in
@@ -147,7 +138,7 @@ module _ (spec : Spec) (atoms : AtomRules spec) (L : List ℕ → Range → Type
           }
 
   pub factor_unblank : Unblank (Factor spec L)
-  factor_unblank text r (atom a) = let f = atoms.first text r a in (f.0, f.1, f.2, f.3)
+  factor_unblank text r (atom a) = let f = atom_first spec text r a in (f.0, f.1, f.2, f.3)
   factor_unblank text r (enclosed front blanks is are) = (40, (front ++ blanks) ++ codes ")", refl, refl)
 
   pub led_rules : Rules (Led (Factor spec L)) Apart (led_at (factor_at I spec))
@@ -172,14 +163,14 @@ module _ (spec : Spec) (atoms : AtomRules spec) (L : List ℕ → Range → Type
   unfolding range_in
   terms_rules = joined_rules spec 124 refl refl (Term spec L) AfterTerm (term_at I spec) term_rules follow_term or_follows Either
 
-pub inside_rules : (spec : Spec) → AtomRules spec → (n : ℕ) → Rules (Inside spec n) AfterRange (inside n spec)
+pub inside_rules : (spec : Spec) (n : ℕ) → Rules (Inside spec n) AfterRange (inside n spec)
 unfolding Inside inside
-inside_rules spec atoms zero = record {
+inside_rules spec zero = record {
   reads = λ text r rest none e. absurd none;
   read = λ text r rest h. absurd (cc h);
   some = λ text r none e. none;
 }
-inside_rules spec atoms (suc n) = terms_rules spec atoms (Inside spec n) (inside n spec) (inside_rules spec atoms n)
+inside_rules spec (suc n) = terms_rules spec (Inside spec n) (inside n spec) (inside_rules spec n)
 
 -- ---- one more parenthesis
 
@@ -280,19 +271,19 @@ module _ {B : Type 0} (pre front blanks rest : List ℕ) (r : Range) (L : List �
 
 -- ---- where a factor is stuck
 
-module _ (spec : Spec) (atoms : AtomRules spec) (L L' : List ℕ → Range → Type 0) (I I' : Reader Range) (rules : Rules L AfterRange I) (rules' : Rules L' AfterRange I') (wider : (text : List ℕ) (r : Range) → L text r → L' text r) where
+module _ (spec : Spec) (L L' : List ℕ → Range → Type 0) (I I' : Reader Range) (rules : Rules L AfterRange I) (rules' : Rules L' AfterRange I') (wider : (text : List ℕ) (r : Range) → L text r → L' text r) where
   abbrev FactorFault : List ℕ → Cause → Type 0
   FactorFault = Fault spec (Factor spec L) (Factor spec L') (factor_at I spec) (factor_at I' spec)
 
   atom_fails : (text : List ℕ) (cause : Cause) → begins_with 40 text ≡ false → atom_at spec text ≡ Err cause → FactorFault text cause
   atom_fails text cause other h =
-      let f = atoms.fault text cause h in
+      let f = atom_fault spec text cause h in
       fault_up_like spec (Atom spec) (Atom spec) (atom_at spec) (atom_at spec) (Factor spec L) (Factor spec L') (factor_at I spec) (factor_at I' spec) []
       (λ t r k. ([], r, subst (λ t'. Factor spec L t' r) (sym (append-nil t)) (atom k)))
       (λ t r k. ([], r, subst (λ t'. Factor spec L' t' r) (sym (append-nil t)) (atom k)))
       text cause f refl
-      (λ again like e. ap errs (at_atom spec atoms L I rules (f.front ++ again) (still f.front f.rest again (subst (λ t. begins_with 40 t ≡ false) f.whole other) like)) ∙ e)
-      (λ again like e. ap errs (at_atom spec atoms L' I' rules' (f.front ++ again) (still f.front f.rest again (subst (λ t. begins_with 40 t ≡ false) f.whole other) like)) ∙ e)
+      (λ again like e. ap errs (at_atom spec L I rules (f.front ++ again) (still f.front f.rest again (subst (λ t. begins_with 40 t ≡ false) f.whole other) like)) ∙ e)
+      (λ again like e. ap errs (at_atom spec L' I' rules' (f.front ++ again) (still f.front f.rest again (subst (λ t. begins_with 40 t ≡ false) f.whole other) like)) ∙ e)
     where
       still : (front rest again : List ℕ) → begins_with 40 (front ++ rest) ≡ false → Like again rest → begins_with 40 (front ++ again) ≡ false
       still [] rest again n (inl same) = begins_same 40 rest again same ∙ n
@@ -304,8 +295,8 @@ module _ (spec : Spec) (atoms : AtomRules spec) (L L' : List ℕ → Range → T
     unclosed : (again : List ℕ) → AfterRange front (blanks ++ again) → unblank again ≡ true → begins_with 41 again ≡ false → errs (factor_at I' spec ((40 ∷ (front ++ blanks)) ++ again)) ≡ true
     unclosed again follows u not =
         ap (λ t. errs (factor_at I' spec (40 ∷ t))) (append_assoc front blanks again)
-        ∙ ap errs (at_open spec atoms L' I' rules' (front ++ (blanks ++ again)))
-        ∙ ap (λ o. errs (o >>= closing spec atoms L' I' rules')) (rules'.reads front r (blanks ++ again) (wider front r is) follows)
+        ∙ ap errs (at_open spec L' I' rules' (front ++ (blanks ++ again)))
+        ∙ ap (λ o. errs (o >>= closing spec L' I' rules')) (rules'.reads front r (blanks ++ again) (wider front r is) follows)
         ∙ errs_then (byte_due spec 41 (skip_blanks (blanks ++ again))) (λ rest'. Ok (r, rest')) (ap (λ t. errs (byte_due spec 41 t)) (skip_to blanks again are u) ∙ due_errs spec 41 again not)
 
     no_close : (again : List ℕ) → Like again rest → begins_with 41 again ≡ false
@@ -326,10 +317,10 @@ module _ (spec : Spec) (atoms : AtomRules spec) (L L' : List ℕ → Range → T
     }
 
   module _ (opened_fault : (text : List ℕ) (cause : Cause) → I text ≡ Err cause → FactorFault (40 ∷ text) cause) where
-    behind_open : (text : List ℕ) (cause : Cause) → (I text >>= closing spec atoms L I rules) ≡ Err cause → FactorFault (40 ∷ text) cause
+    behind_open : (text : List ℕ) (cause : Cause) → (I text >>= closing spec L I rules) ≡ Err cause → FactorFault (40 ∷ text) cause
     behind_open text cause h = by (I text) refl
       where
-        closes : (p : Range × List ℕ) → I text ≡ Ok p → (o : Result (List ℕ) Cause) → byte_due spec 41 (skip_blanks p.1) ≡ o → (o >>= with_range spec atoms L I rules p.0) ≡ Err cause → FactorFault (40 ∷ text) cause
+        closes : (p : Range × List ℕ) → I text ≡ Ok p → (o : Result (List ℕ) Cause) → byte_due spec 41 (skip_blanks p.1) ≡ o → (o >>= with_range spec L I rules p.0) ≡ Err cause → FactorFault (40 ∷ text) cause
         closes p q (Ok more) k e = absurd (cc e)
         closes p q (Err why) k e =
             let got = rules.read text p.0 p.1 q in
@@ -341,17 +332,17 @@ module _ (spec : Spec) (atoms : AtomRules spec) (L L' : List ℕ → Range → T
             subst (FactorFault (40 ∷ text)) same (subst (λ t. FactorFault (40 ∷ t) (cause_at spec BadRange b.rest)) (ap (λ t. got.front ++ t) (sym b.whole) ∙ sym got.whole) f)
 
         by : (o : Result (Range × List ℕ) Cause) → I text ≡ o → FactorFault (40 ∷ text) cause
-        by (Err why) q = let same : why ≡ cause = cc (h, ap (λ o. o >>= closing spec atoms L I rules) q) in opened_fault text cause (q ∙ ap Err same)
-        by (Ok p) q = closes p q (byte_due spec 41 (skip_blanks p.1)) refl (sym (ap (λ o. o >>= closing spec atoms L I rules) q) ∙ h)
+        by (Err why) q = let same : why ≡ cause = cc (h, ap (λ o. o >>= closing spec L I rules) q) in opened_fault text cause (q ∙ ap Err same)
+        by (Ok p) q = closes p q (byte_due spec 41 (skip_blanks p.1)) refl (sym (ap (λ o. o >>= closing spec L I rules) q) ∙ h)
 
     pub factor_fault : (text : List ℕ) (cause : Cause) → factor_at I spec text ≡ Err cause → FactorFault text cause
     factor_fault text cause h = by (byte_after 40 text) refl
       where
         by : (o : Option (List ℕ)) → byte_after 40 text ≡ o → FactorFault text cause
-        by None q = let other = after_none 40 text q in atom_fails text cause other (sym (at_atom spec atoms L I rules text other) ∙ h)
+        by None q = let other = after_none 40 text q in atom_fails text cause other (sym (at_atom spec L I rules text other) ∙ h)
         by (Some more) q =
             let at = after_some 40 text more q in
-            subst (λ t. FactorFault t cause) (sym at) (behind_open more cause (sym (at_open spec atoms L I rules more) ∙ ap (factor_at I spec) (sym at) ∙ h))
+            subst (λ t. FactorFault t cause) (sym at) (behind_open more cause (sym (at_open spec L I rules more) ∙ ap (factor_at I spec) (sym at) ∙ h))
 
     led_fails : (text : List ℕ) (cause : Cause) → led_at (factor_at I spec) text ≡ Err cause → Fault spec (Led (Factor spec L)) (Led (Factor spec L')) (led_at (factor_at I spec)) (led_at (factor_at I' spec)) text cause
     led_fails = led_fault spec (Factor spec L) (Factor spec L') (factor_at I spec) (factor_at I' spec) factor_fault
@@ -359,12 +350,12 @@ module _ (spec : Spec) (atoms : AtomRules spec) (L L' : List ℕ → Range → T
     term_fault : (text : List ℕ) (cause : Cause) → term_at I spec text ≡ Err cause → Fault spec (Term spec L) (Term spec L') (term_at I spec) (term_at I' spec) text cause
     unfolding term_at
     term_fault = joined_fault spec 38 refl refl Both (Led (Factor spec L)) (Led (Factor spec L')) Apart (led_at (factor_at I spec)) (led_at (factor_at I' spec))
-        (led_rules spec atoms L I rules) (led_rules spec atoms L' I' rules') follow_apart and_follows (wider_led spec L L' wider) (codes "-any") Any (led [] refl (atom any)) led_fails
+        (led_rules spec L I rules) (led_rules spec L' I' rules') follow_apart and_follows (wider_led spec L L' wider) (codes "-any") Any (led [] refl (atom any)) led_fails
 
     pub terms_fault : (text : List ℕ) (cause : Cause) → range_in I spec text ≡ Err cause → Fault spec (Terms spec L) (Terms spec L') (range_in I spec) (range_in I' spec) text cause
     unfolding range_in
     terms_fault = joined_fault spec 124 refl refl Either (Term spec L) (Term spec L') AfterTerm (term_at I spec) (term_at I' spec)
-        (term_rules spec atoms L I rules) (term_rules spec atoms L' I' rules') follow_term or_follows (wider_term spec L L' wider) (codes "-any") Any (one (led [] refl (atom any))) term_fault
+        (term_rules spec L I rules) (term_rules spec L' I' rules') follow_term or_follows (wider_term spec L L' wider) (codes "-any") Any (one (led [] refl (atom any))) term_fault
 
 -- ---- at each depth
 
@@ -404,9 +395,9 @@ any_stands spec L = one (one (led [] refl (atom any)))
 abbrev OpenedFault : Spec → ℕ → List ℕ → Cause → Type 0
 OpenedFault spec n = Fault spec (Factor spec (Inside spec n)) (Factor spec (Inside spec (suc n))) (factor_at (inside n spec) spec) (factor_at (inside (suc n) spec) spec)
 
-module _ (spec : Spec) (atoms : AtomRules spec) where
+module _ (spec : Spec) where
   abbrev depth-rules : (n : ℕ) → Rules (Inside spec n) AfterRange (inside n spec)
-  depth-rules n = inside_rules spec atoms n
+  depth-rules n = inside_rules spec n
 
   -- one parenthesis more than may be open
   opened_zero : (text : List ℕ) (cause : Cause) → inside zero spec text ≡ Err cause → OpenedFault spec zero (40 ∷ text) cause
@@ -422,11 +413,11 @@ module _ (spec : Spec) (atoms : AtomRules spec) where
   })
     where
       no_digit_opens : NoDigit (factor_at (inside (suc zero) spec) spec) []
-      no_digit_opens digit again d = ap errs (at_atom spec atoms (Inside spec (suc zero)) (inside (suc zero) spec) (depth-rules (suc zero)) (digit ∷ again) (digit_begins_other 40 (digit ∷ again) refl d)) ∙ atom_digit spec digit again d
+      no_digit_opens digit again d = ap errs (at_atom spec (Inside spec (suc zero)) (inside (suc zero) spec) (depth-rules (suc zero)) (digit ∷ again) (digit_begins_other 40 (digit ∷ again) refl d)) ∙ atom_digit spec digit again d
 
       still_deep : Dead (factor_at (inside zero spec) spec) [] (40 ∷ text)
       still_deep [] same = absurd (cc same)
-      still_deep (b ∷ again) same = let open' : b ≡ 40 = cc same in subst (λ x. errs (factor_at (inside zero spec) spec (x ∷ again)) ≡ true) (sym open') (ap errs (at_open spec atoms (Inside spec zero) (inside zero spec) (depth-rules zero) again))
+      still_deep (b ∷ again) same = let open' : b ≡ 40 = cc same in subst (λ x. errs (factor_at (inside zero spec) spec (x ∷ again)) ≡ true) (sym open') (ap errs (at_open spec (Inside spec zero) (inside zero spec) (depth-rules zero) again))
 
   -- the fault of a range behind its opening parenthesis
   opened_more : (n : ℕ) → ((text : List ℕ) (cause : Cause) → inside n spec text ≡ Err cause → Fault spec (Inside spec n) (Inside spec (suc n)) (inside n spec) (inside (suc n) spec) text cause)
@@ -436,8 +427,8 @@ module _ (spec : Spec) (atoms : AtomRules spec) where
       (Factor spec (Inside spec n)) (Factor spec (Inside spec (suc n))) (factor_at (inside n spec) spec) (factor_at (inside (suc n) spec) spec) (40 ∷ [])
       (λ t r k. (41 ∷ [], r, closed (Inside spec n) t r k)) (λ t r k. (41 ∷ [], r, closed (Inside spec (suc n)) t r k))
       text cause f (ends_kept (40 ∷ []) f.front refl)
-      (λ again e. ap errs (at_open spec atoms (Inside spec n) (inside n spec) (depth-rules n) (f.front ++ again)) ∙ errs_then (inside n spec (f.front ++ again)) (closing spec atoms (Inside spec n) (inside n spec) (depth-rules n)) e)
-      (λ again e. ap errs (at_open spec atoms (Inside spec (suc n)) (inside (suc n) spec) (depth-rules (suc n)) (f.front ++ again)) ∙ errs_then (inside (suc n) spec (f.front ++ again)) (closing spec atoms (Inside spec (suc n)) (inside (suc n) spec) (depth-rules (suc n))) e)
+      (λ again e. ap errs (at_open spec (Inside spec n) (inside n spec) (depth-rules n) (f.front ++ again)) ∙ errs_then (inside n spec (f.front ++ again)) (closing spec (Inside spec n) (inside n spec) (depth-rules n)) e)
+      (λ again e. ap errs (at_open spec (Inside spec (suc n)) (inside (suc n) spec) (depth-rules (suc n)) (f.front ++ again)) ∙ errs_then (inside (suc n) spec (f.front ++ again)) (closing spec (Inside spec (suc n)) (inside (suc n) spec) (depth-rules (suc n))) e)
     where
       f : Fault spec (Inside spec n) (Inside spec (suc n)) (inside n spec) (inside (suc n) spec) text cause
       f = fault text cause h
@@ -448,7 +439,7 @@ module _ (spec : Spec) (atoms : AtomRules spec) where
   deeper : (n : ℕ) → ((text : List ℕ) (cause : Cause) → inside n spec text ≡ Err cause → OpenedFault spec n (40 ∷ text) cause)
       → (text : List ℕ) (cause : Cause) → inside (suc n) spec text ≡ Err cause → Fault spec (Inside spec (suc n)) (Inside spec (suc (suc n))) (inside (suc n) spec) (inside (suc (suc n)) spec) text cause
   unfolding Inside inside
-  deeper n opened text cause h = terms_fault spec atoms (Inside spec n) (Inside spec (suc n)) (inside n spec) (inside (suc n) spec) (depth-rules n) (depth-rules (suc n)) (wider_inside spec n) opened text cause h
+  deeper n opened text cause h = terms_fault spec (Inside spec n) (Inside spec (suc n)) (inside n spec) (inside (suc n) spec) (depth-rules n) (depth-rules (suc n)) (wider_inside spec n) opened text cause h
 
   opened_fault : (n : ℕ) (text : List ℕ) (cause : Cause) → inside n spec text ≡ Err cause → OpenedFault spec n (40 ∷ text) cause
   opened_fault zero text cause h = opened_zero text cause h
@@ -457,7 +448,7 @@ module _ (spec : Spec) (atoms : AtomRules spec) where
   -- a range with at most n parentheses open is stuck where its parts are
   pub range_fault : (n : ℕ) (text : List ℕ) (cause : Cause) → range_in (inside n spec) spec text ≡ Err cause
       → Fault spec (Terms spec (Inside spec n)) (Terms spec (Inside spec (suc n))) (range_in (inside n spec) spec) (range_in (inside (suc n) spec) spec) text cause
-  range_fault n = terms_fault spec atoms (Inside spec n) (Inside spec (suc n)) (inside n spec) (inside (suc n) spec) (depth-rules n) (depth-rules (suc n)) (wider_inside spec n) (opened_fault n)
+  range_fault n = terms_fault spec (Inside spec n) (Inside spec (suc n)) (inside n spec) (inside (suc n) spec) (depth-rules n) (depth-rules (suc n)) (wider_inside spec n) (opened_fault n)
 
   pub range_rules : (n : ℕ) → Rules (Terms spec (Inside spec n)) AfterRange (range_in (inside n spec) spec)
-  range_rules n = terms_rules spec atoms (Inside spec n) (inside n spec) (depth-rules n)
+  range_rules n = terms_rules spec (Inside spec n) (inside n spec) (depth-rules n)

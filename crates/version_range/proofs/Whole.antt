@@ -18,7 +18,7 @@ use Rattle.version_range.proofs.Spaces.{unblank, Blanked, blanked, skip_to, unbl
 use Rattle.version_range.proofs.Parts.{errs_then, ok_parts}
 use Rattle.version_range.proofs.Led.{Unblank, blanks_no_number, blank_no_digit, digit_unblank, digit_begins_other}
 use Rattle.version_range.proofs.Operands.{Rules}
-use Rattle.version_range.proofs.Factors.{AtomRules, AfterRange, factor_unblank, inside_rules, range_rules, range_fault, wider_inside, wider_terms, Misplaced, misplaced}
+use Rattle.version_range.proofs.Factors.{AfterRange, factor_unblank, inside_rules, range_rules, range_fault, wider_inside, wider_terms, Misplaced, misplaced}
 
 -- what is read of a range is the text where only blanks are left
 abbrev pub to_end : Spec → Range × List ℕ → Result Range Cause
@@ -95,14 +95,14 @@ digit_some : (again : List ℕ) → begins_with_digit again ≡ true → again �
 digit_some [] h e = false≢true h
 digit_some (b ∷ bs) h e = cc e
 
-module _ (spec : Spec) (atoms : AtomRules spec) where
+module _ (spec : Spec) where
   module _ (n : ℕ) where
     abbrev ranges-rules : Rules (Terms spec (Inside spec n)) AfterRange (range_in (inside n spec) spec)
-    ranges-rules = range_rules spec atoms n
+    ranges-rules = range_rules spec n
 
     led_not_blank : (text : List ℕ) (r : Range) → Led (Factor spec (Inside spec n)) text r → Blanks text → ⊥
     led_not_blank text r (led blanks {text = part} are is) h =
-        let u = factor_unblank spec atoms (Inside spec n) (inside n spec) (inside_rules spec atoms n) part r is in
+        let u = factor_unblank spec (Inside spec n) (inside n spec) (inside_rules spec n) part r is in
         let p = (blanks_parts blanks part h).1 in
         true≢false (sym (and_parts (is_blank u.0) (list_all is_blank u.1) (subst Blanks u.2 p)).0 ∙ u.3)
 
@@ -146,7 +146,7 @@ module _ (spec : Spec) (atoms : AtomRules spec) where
       any_read m b blank =
           let blanks : Blanks (f.front ++ b ∷ []) = blanks_push f.front b are blank in
           ap (λ t. errs (range_in (inside m spec) spec t)) (sym (append_assoc f.front (b ∷ []) (codes "-any")) ∙ sym (append-nil ((f.front ++ b ∷ []) ++ codes "-any")))
-          ∙ ap errs ((range_rules spec atoms m).reads ((f.front ++ b ∷ []) ++ codes "-any") Any [] (one (one (led (f.front ++ b ∷ []) blanks (atom any)))) (((λ d. refl), refl), refl))
+          ∙ ap errs ((range_rules spec m).reads ((f.front ++ b ∷ []) ++ codes "-any") Any [] (one (one (led (f.front ++ b ∷ []) blanks (atom any)))) (((λ d. refl), refl), refl))
 
       blank_no : (b : ℕ) (rest : List ℕ) → f.rest ≡ b ∷ rest → is_blank b ≡ true → ⊥
       blank_no b rest e blank =
@@ -170,7 +170,7 @@ module _ (spec : Spec) (atoms : AtomRules spec) where
       (λ again like e. ap errs (at_range (suc n) (f.front ++ again) (not_blank again like)) ∙ errs_then (range_in (inside (suc n) spec) spec (f.front ++ again)) (to_end spec) e)
     where
       f : Fault spec (Terms spec (Inside spec n)) (Terms spec (Inside spec (suc n))) (range_in (inside n spec) spec) (range_in (inside (suc n) spec) spec) text cause
-      f = range_fault spec atoms n text cause h
+      f = range_fault spec n text cause h
 
       behind_blanks : Blanks f.front → (again : List ℕ) → Like again f.rest → (rest : List ℕ) → f.rest ≡ rest → NotBlank (f.front ++ again)
       behind_blanks are again like [] e empty' = some (ap skip_blanks (f.whole ∙ ap (λ t. f.front ++ t) e ∙ append-nil f.front) ∙ skip_all f.front are)
@@ -196,7 +196,7 @@ module _ (spec : Spec) (atoms : AtomRules spec) where
     left_over again follows u more' =
         ap errs (at_range (suc n) ((front ++ blanks) ++ again) (λ e. terms_not_blank (suc n) front r wide-c (blanks_parts front (blanks ++ again) (subst Blanks (append_assoc front blanks again) (all_blanks ((front ++ blanks) ++ again) e))).0))
         ∙ ap (λ t. errs (range_in (inside (suc n) spec) spec t >>= to_end spec)) (append_assoc front blanks again)
-        ∙ ap (λ o. errs (o >>= to_end spec)) ((range_rules spec atoms (suc n)).reads front r (blanks ++ again) wide-c follows)
+        ∙ ap (λ o. errs (o >>= to_end spec)) ((range_rules spec (suc n)).reads front r (blanks ++ again) wide-c follows)
         ∙ rw (ap (λ t. length t == 0) (skip_to blanks again are u) ∙ some_length again more') refl
 
     still_some : (again : List ℕ) → Like again rest → again ≢ []
@@ -216,7 +216,7 @@ module _ (spec : Spec) (atoms : AtomRules spec) where
       value = r;
       goes_on = subst (λ t. Stands spec n t r) (sym (append-nil (front ++ blanks))) (range front blanks c are);
       why = misplaced [] front blanks rest r (Terms spec (Inside spec n)) (λ t. t ≢ [])
-          (record { plain = refl; is = c; some = (range_rules spec atoms n).some front r c; are = are; end = end; after = after; wrong_like = still_some })
+          (record { plain = refl; is = c; some = (range_rules spec n).some front r c; are = are; end = end; after = after; wrong_like = still_some })
           (text_at spec (suc n)) left_over spec (Stands spec n) (Stands spec (suc n)) (text_at spec n);
     }
 
@@ -228,7 +228,7 @@ module _ (spec : Spec) (atoms : AtomRules spec) where
       left : (p : Range × List ℕ) → range_in (inside n spec) spec text ≡ Ok p → ((t : Bool) → (length (skip_blanks p.1) == 0) ≡ t → to_end spec p ≡ Err cause → TextFault n text cause)
       left p q true e k = absurd (cc (k, to_end_ok spec p e))
       left p q false e k =
-          let got = (range_rules spec atoms n).read text p.0 p.1 q in
+          let got = (range_rules spec n).read text p.0 p.1 q in
           let b = blanked p.1 in
           let some : b.rest ≢ [] = λ none. true≢false (sym (ap (λ t. length t == 0) (b.skipped ∙ none)) ∙ e) in
           let same : cause_at spec BadRange b.rest ≡ cause = ap (cause_at spec BadRange) (sym b.skipped) ∙ cc (k, to_end_err spec p e) in
@@ -251,7 +251,7 @@ module _ (spec : Spec) (atoms : AtomRules spec) where
       ended : (p : Range × List ℕ) → range_in (inside n spec) spec text ≡ Ok p → ((t : Bool) → (length (skip_blanks p.1) == 0) ≡ t → to_end spec p ≡ Ok r → Stands spec n text r)
       ended p q false e k = absurd (cc (k, to_end_err spec p e))
       ended p q true e k =
-          let got = (range_rules spec atoms n).read text p.0 p.1 q in
+          let got = (range_rules spec n).read text p.0 p.1 q in
           let same : p.0 ≡ r = cc (k, to_end_ok spec p e) in
           subst (Stands spec n text) same (subst (λ t. Stands spec n t p.0) (sym got.whole) (range got.front p.1 got.is (all_blanks p.1 (no_length (skip_blanks p.1) e))))
 
