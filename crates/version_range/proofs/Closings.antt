@@ -9,9 +9,9 @@ use Rattle.plan_types.specs.declared.refusal.Cause.TheVariants.{BadRange}
 use Rattle.version_range.specs.Version.{begins_with_digit}
 use Rattle.version_range.specs.Grammar.{is_blank, ends_with_digit, Blanks}
 use Rattle.version_range.specs.Read.{◌>>=◌, skip_blanks, byte_after, byte_due, cause_at}
-use Rattle.version_range.proofs.Fronts.{Reader, head_of, errs, Apart, apart_same_head, ends_behind, Read, Fault}
+use Rattle.version_range.proofs.Fronts.{Reader, head_of, errs, Apart, apart_same_head, ends_behind, Read, Like, Fault, fault_up_like}
 use Rattle.version_range.proofs.Parts.{ok_parts, errs_then}
-use Rattle.version_range.proofs.Marks.{starts, Alike, starts_alike, no_digits, blanks_none, cut, skip_over, ends_blanks, byte_here, byte_gone, Begun, begun, fault_at}
+use Rattle.version_range.proofs.Marks.{starts, starts_like, no_digits, blanks_none, cut, skip_over, ends_blanks, byte_here, byte_gone, Begun, begun}
 use Rattle.version_range.proofs.Steps.{fresh}
 
 -- what follows blanks may be another text that begins so, or with a digit where none is before it
@@ -78,16 +78,16 @@ module _ {A : Type 0} (spec : Spec) (close : ℕ) (other : is_ascii_digit close 
     module _ (L' : List ℕ → A → Type 0) (E' : List ℕ → List ℕ → Type 0) (P' : Reader A)
         (wider : (text : List ℕ) (x : A) → L text x → L' text x)
         (apart : (text rest : List ℕ) → E text rest → Apart text rest)
-        (next : (text blanks rest again : List ℕ) → Blanks blanks → starts is_blank rest ≡ false → E text (blanks ++ rest) → Alike rest again → (head_of again ≡ head_of rest) ⊎ (ends_with_digit (text ++ blanks) ≡ false) → E' text (blanks ++ again))
+        (next : (text blanks rest again : List ℕ) → Blanks blanks → starts is_blank rest ≡ false → E text (blanks ++ rest) → Like again rest → (head_of again ≡ head_of rest) ⊎ (ends_with_digit (text ++ blanks) ≡ false) → E' text (blanks ++ again))
         (reads' : (text : List ℕ) (x : A) (rest : List ℕ) → L' text x → E' text rest → P' (text ++ rest) ≡ Ok (x, rest))
         (fault : (text : List ℕ) (cause : Cause) → P text ≡ Err cause → Fault spec L L' P P' text cause) where
       not_closed : (text : List ℕ) (x : A) (blanks rest : List ℕ) → L text x → E text (blanks ++ rest) → Blanks blanks → starts is_blank rest ≡ false → starts (λ c. c == close) rest ≡ false
-          → (again : List ℕ) → Alike rest again → (head_of again ≡ head_of rest) ⊎ (ends_with_digit (text ++ blanks) ≡ false) → errs (closing spec close P' ((text ++ blanks) ++ again)) ≡ true
+          → (again : List ℕ) → Like again rest → (head_of again ≡ head_of rest) ⊎ (ends_with_digit (text ++ blanks) ≡ false) → errs (closing spec close P' ((text ++ blanks) ++ again)) ≡ true
       not_closed text x blanks rest l e all solid gone again like o =
-          let over = skip_over blanks again all (starts_alike is_blank blanks_none [] rest again like solid) in
+          let over = skip_over blanks again all (starts_like is_blank blanks_none [] rest again like solid) in
           ap (λ t. errs (closing spec close P' t)) (append_assoc text blanks again)
           ∙ ap (λ r. errs (r >>= closed_at spec close)) (reads' text x (blanks ++ again) (wider text x l) (next text blanks rest again all solid e like o))
-          ∙ ap errs (closed_gone spec close x (blanks ++ again) (ap (starts (λ c. c == close)) over ∙ starts_alike (λ c. c == close) (no_digits close other) [] rest again like gone))
+          ∙ ap errs (closed_gone spec close x (blanks ++ again) (ap (starts (λ c. c == close)) over ∙ starts_like (λ c. c == close) (no_digits close other) [] rest again like gone))
 
       pub closed_fault : (text : List ℕ) (cause : Cause) → closing spec close P text ≡ Err cause → Fault spec (Closed close L) (Closed close L') (closing spec close P) (closing spec close P') text cause
       closed_fault text cause h = by (P text) refl
@@ -115,6 +115,6 @@ module _ {A : Type 0} (spec : Spec) (close : ℕ) (other : is_ascii_digit close 
           by (Err why) q =
               let is : why ≡ cause = cc (h, ap (λ r. r >>= closed_at spec close) q) in
               let f = fault text cause (q ∙ ap Err is) in
-              fault_at spec L L' P P' (Closed close L) (Closed close L') (closing spec close P) (closing spec close P') [] (completes L) (completes L') text cause f refl
+              fault_up_like spec L L' P P' (Closed close L) (Closed close L') (closing spec close P) (closing spec close P') [] (completes L) (completes L') text cause f refl
               (λ again like e. errs_then (P (f.front ++ again)) (closed_at spec close) e)
               (λ again like e. errs_then (P' (f.front ++ again)) (closed_at spec close) e)

@@ -9,17 +9,13 @@ use Rattle.plan_types.specs.declared.refusal.Cause.{Cause}
 use Rattle.version_range.specs.Version.{begins_with_digit}
 use Rattle.version_range.specs.Grammar.{is_blank, ends_with_digit, Blanks}
 use Rattle.version_range.specs.Read.{skip_blanks, byte_after}
-use Rattle.version_range.proofs.Fronts.{head_of, errs, Dead, NoDigit, Why, new_form, number_due, digit_more, too_deep, behind_digit, no_digit, Fault, Completes}
+use Rattle.version_range.proofs.Fronts.{head_of, Like}
 
 -- ---- the first byte
 
 abbrev pub starts : (ℕ → Bool) → List ℕ → Bool
 starts test [] = false
 starts test (b ∷ bs) = test b
-
--- it begins as the rest does, or with a digit
-abbrev pub Alike : List ℕ → List ℕ → Type 0
-Alike rest again = (head_of again ≡ head_of rest) ⊎ (begins_with_digit again ≡ true)
 
 abbrev pub NotDigits : (ℕ → Bool) → Type 0
 NotDigits test = (b : ℕ) → is_ascii_digit b ≡ true → test b ≡ false
@@ -35,10 +31,10 @@ starts_digit test none [] d = refl
 starts_digit test none (b ∷ again) d = none b d
 
 -- what is tested of the first byte stays so
-pub starts_alike : (test : ℕ → Bool) → NotDigits test → (front rest again : List ℕ) → Alike rest again → starts test (front ++ rest) ≡ false → starts test (front ++ again) ≡ false
-starts_alike test none [] rest again (inl e) h = starts_same test rest again e h
-starts_alike test none [] rest again (inr d) h = starts_digit test none again d
-starts_alike test none (b ∷ front) rest again like h = h
+pub starts_like : (test : ℕ → Bool) → NotDigits test → (front rest again : List ℕ) → Like again rest → starts test (front ++ rest) ≡ false → starts test (front ++ again) ≡ false
+starts_like test none [] rest again (inl e) h = starts_same test rest again e h
+starts_like test none [] rest again (inr d) h = starts_digit test none again d
+starts_like test none (b ∷ front) rest again like h = h
 
 -- what passes a test that the byte doesn't pass is another byte
 pub other_byte : (test : ℕ → Bool) (byte : ℕ) → test byte ≡ false → (b : ℕ) → test b ≡ true → (b == byte) ≡ false
@@ -126,51 +122,3 @@ begun byte (b ∷ bs) = by (b == byte) refl
     by : (t : Bool) → (b == byte) ≡ t → Begun byte (b ∷ bs)
     by true q = inl (bs, ap (λ c. c ∷ bs) (eqb-true b byte q))
     by false q = inr q
-
--- ---- a fault handed up by what was read before
-
--- As fault_up of Fronts, but what reads before has to pass on only what begins as the rest or with a digit.
-module _ {A B C D : Type 0} (spec : Spec) (L L' : List ℕ → A → Type 0) (P P' : List ℕ → Result B Cause) (K K' : List ℕ → C → Type 0) (Q Q' : List ℕ → Result D Cause) (pre : List ℕ) (completes : Completes L pre K) (completes' : Completes L' pre K') where
-  abbrev pub PassesAt : (List ℕ → Result B Cause) → (List ℕ → Result D Cause) → List ℕ → List ℕ → Type 0
-  PassesAt R S front rest = (again : List ℕ) → Alike rest again → errs (R (front ++ again)) ≡ true → errs (S (pre ++ (front ++ again))) ≡ true
-
-  regroup : (front more after : List ℕ) → pre ++ ((front ++ more) ++ after) ≡ (pre ++ front) ++ (more ++ after)
-  regroup front more after = ap (λ t. pre ++ t) (append_assoc front more after) ∙ sym (append_assoc pre front (more ++ after))
-
-  dead_by : (R : List ℕ → Result B Cause) (S : List ℕ → Result D Cause) (front rest : List ℕ) → PassesAt R S front rest → Dead R front rest → Dead S (pre ++ front) rest
-  dead_by R S front rest pass dead again same = ap (λ t. errs (S t)) (append_assoc pre front again) ∙ pass again (inl same) (dead again same)
-
-  digit_by : (R : List ℕ → Result B Cause) (S : List ℕ → Result D Cause) (front rest : List ℕ) → PassesAt R S front rest → NoDigit R front → NoDigit S (pre ++ front)
-  digit_by R S front rest pass none digit again is = ap (λ t. errs (S t)) (append_assoc pre front (digit ∷ again)) ∙ pass (digit ∷ again) (inr is) (none digit again is)
-
-  why_by : (front rest : List ℕ) {cause : Cause} → ends_with_digit (pre ++ front) ≡ ends_with_digit front → PassesAt P Q front rest → PassesAt P' Q' front rest
-      → Why spec L L' P P' front rest cause → Why spec K K' Q Q' (pre ++ front) rest cause
-  why_by front rest ends pass pass' (new_form form dead) = new_form form (dead_by P' Q' front rest pass' dead)
-  why_by front rest ends pass pass' (number_due form last more x goes dead) =
-      let done = completes (front ++ 48 ∷ more) x goes in
-      number_due form (ends ∙ last) (more ++ done.0) done.1 (subst (λ t. K t done.1) (regroup front (48 ∷ more) done.0) done.2) (dead_by P' Q' front rest pass' dead)
-  why_by front rest ends pass pass' (digit_more form last digit dead) = digit_more form (ends ∙ last) digit (dead_by P' Q' front rest pass' dead)
-  why_by front rest ends pass pass' (too_deep first none more x goes dead) =
-      let done = completes' (front ++ 40 ∷ more) x goes in
-      too_deep first (digit_by P' Q' front rest pass' none) (more ++ done.0) done.1 (subst (λ t. K' t done.1) (regroup front (40 ∷ more) done.0) done.2) (dead_by P Q front rest pass dead)
-  why_by front rest ends pass pass' (behind_digit form last other dead) = behind_digit form (ends ∙ last) other (dead_by P' Q' front rest pass' dead)
-  why_by front rest ends pass pass' (no_digit form last none dead) = no_digit form (ends ∙ last) (digit_by P' Q' front rest pass' none) (dead_by P' Q' front rest pass' dead)
-
-  pub fault_at : (text : List ℕ) (cause : Cause) (f : Fault spec L L' P P' text cause) → ends_with_digit (pre ++ f.front) ≡ ends_with_digit f.front
-      → PassesAt P Q f.front f.rest → PassesAt P' Q' f.front f.rest → Fault spec K K' Q Q' (pre ++ text) cause
-  fault_at text cause f ends pass pass' =
-      let done = completes (f.front ++ f.more) f.value f.goes_on in
-      record {
-        front = pre ++ f.front;
-        rest = f.rest;
-        whole = ap (λ t. pre ++ t) f.whole ∙ sym (append_assoc pre f.front f.rest);
-        more = f.more ++ done.0;
-        value = done.1;
-        goes_on = subst (λ t. K t done.1) (regroup f.front f.more done.0) done.2;
-        why = why_by f.front f.rest ends pass pass' f.why;
-      }
-
-  pub front_at : (text : List ℕ) (cause : Cause) (f : Fault spec L L' P P' text cause) (ends : ends_with_digit (pre ++ f.front) ≡ ends_with_digit f.front)
-      (pass : PassesAt P Q f.front f.rest) (pass' : PassesAt P' Q' f.front f.rest) → (fault_at text cause f ends pass pass').front ≡ pre ++ f.front
-  unfolding fault_at
-  front_at text cause f ends pass pass' = refl

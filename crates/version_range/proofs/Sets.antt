@@ -11,10 +11,10 @@ use Rattle.plan_types.specs.declared.refusal.Cause.{Cause}
 use Rattle.version_range.specs.declared.operator.Operator.{Operator}
 use Rattle.version_range.specs.Grammar.{is_blank, ends_with_digit, Blanks, Led, Behind, behind, of_version, Compared, compared, Members}
 use Rattle.version_range.specs.Read.{◌>>=◌, skip_blanks, byte_after, version_at, compared_at, next_member, set_at, chained}
-use Rattle.version_range.proofs.Fronts.{Reader, head_of, errs, goes_on_number, Apart, apart_same_head, ends_behind, ends_kept, Read, Fault}
+use Rattle.version_range.proofs.Fronts.{Reader, head_of, errs, goes_on_number, Apart, apart_same_head, ends_behind, ends_kept, Read, Like, Fault, fault_up_like}
 use Rattle.version_range.proofs.Parts.{Parts, all_of, reads, read_all, NextFault, fault_all}
 use Rattle.version_range.proofs.Led.{blanks_no_number}
-use Rattle.version_range.proofs.Marks.{starts, Alike, NotDigits, starts_alike, no_digits, blanks_none, on_number, blank_apart, Cut, cut, skip_over, byte_gone, Begun, begun, fault_at, front_at}
+use Rattle.version_range.proofs.Marks.{starts, NotDigits, starts_like, no_digits, blanks_none, on_number, blank_apart, Cut, cut, skip_over, byte_gone, Begun, begun}
 use Rattle.version_range.proofs.Steps.{Good, Never, apart_before, apart_within, good_led, valued, good_map, good_as}
 use Rattle.version_range.proofs.Closings.{apart_next, Closed, closing, closed_at, closed_reads, closed_read, closed_fault}
 use Rattle.version_range.proofs.Versions.{VersionText, version_read, version_reads, version_fault, version_first}
@@ -160,17 +160,17 @@ module _ (spec : Spec) (op : Operator) where
   some_mark (b ∷ bs) front e = absurd (cc e)
 
   fault_behind : (blanks text : List ℕ) → Blanks blanks → (cause : Cause) → Fault spec (Led (Compared op)) (Led (Compared op)) (member_at spec op) (member_at spec op) text cause → NextFails ((blanks ++ 44 ∷ []) ++ text) cause
+  unfolding fault_up_like
   fault_behind blanks text all cause f =
       let pre = blanks ++ 44 ∷ [] in
       let completes : (t : List ℕ) (x : Range) → Led (Compared op) t x → (end : List ℕ) × (y : Range) × Next (pre ++ (t ++ end)) y = λ t x l. ([], x, subst (λ u. Next (pre ++ u) x) (sym (append-nil t)) (behind blanks all l)) in
-      let passes : (again : List ℕ) → Alike f.rest again → errs (member_at spec op (f.front ++ again)) ≡ true → errs (next_member op spec (pre ++ (f.front ++ again))) ≡ true =
+      let passes : (again : List ℕ) → Like again f.rest → errs (member_at spec op (f.front ++ again)) ≡ true → errs (next_member op spec (pre ++ (f.front ++ again))) ≡ true =
           λ again like e. ap errs (next_here (pre ++ (f.front ++ again)) (f.front ++ again) (over_mark blanks all (f.front ++ again))) ∙ errs_found (member_at spec op (f.front ++ again)) e in
       let ends : ends_with_digit (pre ++ f.front) ≡ ends_with_digit f.front = ends_kept pre f.front (ends_behind blanks 44 []) in
-      let front = front_at spec (Led (Compared op)) (Led (Compared op)) (member_at spec op) (member_at spec op) Next Next (next_member op spec) (next_member op spec) pre completes completes text cause f ends passes passes in
       record {
-        fault = fault_at spec (Led (Compared op)) (Led (Compared op)) (member_at spec op) (member_at spec op) Next Next (next_member op spec) (next_member op spec) pre completes completes text cause f ends passes passes;
-        begun = λ e. some_mark blanks f.front (sym front ∙ e);
-        opens = λ before again. subst (λ t. Apart before (t ++ again)) (sym front) (λ d. ap goes_on_number (append_assoc (blanks ++ 44 ∷ []) f.front again ∙ append_assoc blanks (44 ∷ []) (f.front ++ again)) ∙ blanks_no_number blanks (44 ∷ (f.front ++ again)) all refl);
+        fault = fault_up_like spec (Led (Compared op)) (Led (Compared op)) (member_at spec op) (member_at spec op) Next Next (next_member op spec) (next_member op spec) pre completes completes text cause f ends passes passes;
+        begun = some_mark blanks f.front;
+        opens = λ before again d. ap goes_on_number (append_assoc (blanks ++ 44 ∷ []) f.front again ∙ append_assoc blanks (44 ∷ []) (f.front ++ again)) ∙ blanks_no_number blanks (44 ∷ (f.front ++ again)) all refl;
       }
 
   next_fault : (text : List ℕ) (cause : Cause) → next_member op spec text ≡ Err cause → NextFails text cause
@@ -206,11 +206,11 @@ module _ (spec : Spec) (op : Operator) where
   members_fault : (text : List ℕ) (cause : Cause) → members_at text ≡ Err cause → Fault spec (Members op) (Members op) members_at members_at text cause
   members_fault text cause h = fault_all spec Either (Led (Compared op)) (Led (Compared op)) Next Next Apart (member_at spec op) (member_at spec op) (next_member op spec) (next_member op spec) rules rules (λ t x l. l) (λ t x l. l) next_fault member_good.fault text cause h
 
-  ends_next : (text blanks rest again : List ℕ) → Blanks blanks → starts is_blank rest ≡ false → Ends text (blanks ++ rest) → Alike rest again → (head_of again ≡ head_of rest) ⊎ (ends_with_digit (text ++ blanks) ≡ false) → Ends text (blanks ++ again)
+  ends_next : (text blanks rest again : List ℕ) → Blanks blanks → starts is_blank rest ≡ false → Ends text (blanks ++ rest) → Like again rest → (head_of again ≡ head_of rest) ⊎ (ends_with_digit (text ++ blanks) ≡ false) → Ends text (blanks ++ again)
   ends_next text blanks rest again all solid e like o =
       let none : starts (λ c. c == 44) rest ≡ false = ap (starts (λ c. c == 44)) (sym (skip_over blanks rest all solid)) ∙ no_next (blanks ++ rest) e.1 in
-      let over = skip_over blanks again all (starts_alike is_blank blanks_none [] rest again like solid) in
-      (apart_next text blanks rest again e.0 o, next_gone (blanks ++ again) (ap (starts (λ c. c == 44)) over ∙ starts_alike (λ c. c == 44) (no_digits 44 refl) [] rest again like none))
+      let over = skip_over blanks again all (starts_like is_blank blanks_none [] rest again like solid) in
+      (apart_next text blanks rest again e.0 o, next_gone (blanks ++ again) (ap (starts (λ c. c == 44)) over ∙ starts_like (λ c. c == 44) (no_digits 44 refl) [] rest again like none))
 
   closes : (text : List ℕ) (x : Range) (after rest : List ℕ) → Members op text x → Blanks after → Ends text (after ++ 125 ∷ rest)
   closes text x after rest l all = (apart_close after all, next_gone (after ++ 125 ∷ rest) (ap (starts (λ c. c == 44)) (skip_over after (125 ∷ rest) all refl)))

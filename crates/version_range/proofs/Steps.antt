@@ -9,9 +9,9 @@ use Rattle.plan_types.specs.declared.refusal.Cause.TheVariants.{BadRange, NeedsV
 use Rattle.version_range.specs.Version.{begins_with_digit}
 use Rattle.version_range.specs.Grammar.{begins_with, is_blank, is_old, ends_with_digit, Led, led}
 use Rattle.version_range.specs.Read.{◌>>=◌, skip_blanks, byte_after, byte_due, cause_at}
-use Rattle.version_range.proofs.Fronts.{Reader, errs, Apart, ends_kept, Read, Dead, NoDigit, Why, new_form, behind_digit, no_digit, Fault}
+use Rattle.version_range.proofs.Fronts.{Reader, errs, Apart, ends_kept, Read, Dead, NoDigit, Why, new_form, behind_digit, no_digit, Like, Fault, fault_up_like}
 use Rattle.version_range.proofs.Parts.{ok_parts}
-use Rattle.version_range.proofs.Marks.{starts, Alike, starts_same, starts_alike, no_digits, blanks_none, cut, skip_over, ends_blanks, byte_here, byte_gone, Begun, begun, fault_at}
+use Rattle.version_range.proofs.Marks.{starts, starts_same, starts_like, no_digits, blanks_none, cut, skip_over, ends_blanks, byte_here, byte_gone, Begun, begun}
 
 -- the reader reads this language, and where it fails, it is stuck
 pub record Good {A : Type 0} (spec : Spec) (L : List ℕ → A → Type 0) (R : Reader A) : Type 0 where
@@ -63,10 +63,10 @@ module _ {A : Type 0} (spec : Spec) (K : List ℕ → A → Type 0) (R : Reader 
       let c = cut text in
       let f = k.fault (skip_blanks text) cause h in
       let completes : (t : List ℕ) (x : A) → K t x → (end : List ℕ) × (y : A) × Led K (c.blanks ++ (t ++ end)) y = λ t x l. ([], x, subst (λ u. Led K (c.blanks ++ u) x) (sym (append-nil t)) (led c.blanks c.all l)) in
-      let passes : (again : List ℕ) → Alike f.rest again → errs (R (f.front ++ again)) ≡ true → errs (R (skip_blanks (c.blanks ++ (f.front ++ again)))) ≡ true =
-          λ again like e. ap (λ t. errs (R t)) (skip_over c.blanks (f.front ++ again) c.all (starts_alike is_blank blanks_none f.front f.rest again like (subst (λ u. starts is_blank u ≡ false) f.whole c.none))) ∙ e in
+      let passes : (again : List ℕ) → Like again f.rest → errs (R (f.front ++ again)) ≡ true → errs (R (skip_blanks (c.blanks ++ (f.front ++ again)))) ≡ true =
+          λ again like e. ap (λ t. errs (R t)) (skip_over c.blanks (f.front ++ again) c.all (starts_like is_blank blanks_none f.front f.rest again like (subst (λ u. starts is_blank u ≡ false) f.whole c.none))) ∙ e in
       subst (λ t. Fault spec (Led K) (Led K) (λ u. R (skip_blanks u)) (λ u. R (skip_blanks u)) t cause) (sym c.whole)
-      (fault_at spec K K R R (Led K) (Led K) (λ u. R (skip_blanks u)) (λ u. R (skip_blanks u)) c.blanks completes completes (skip_blanks text) cause f (ends_kept c.blanks f.front (ends_blanks c.blanks c.all)) passes passes)
+      (fault_up_like spec K K R R (Led K) (Led K) (λ u. R (skip_blanks u)) (λ u. R (skip_blanks u)) c.blanks completes completes (skip_blanks text) cause f (ends_kept c.blanks f.front (ends_blanks c.blanks c.all)) passes passes)
 
   pub good_led : Good spec (Led K) (λ text. R (skip_blanks text))
   good_led = record {
@@ -111,8 +111,8 @@ module _ {A : Type 0} (spec : Spec) (byte : ℕ) (other : is_ascii_digit byte �
   byte_fault text cause h L S to same =
       let f = k.fault text cause h in
       let completes : (t : List ℕ) (x : A) → K t x → (end : List ℕ) × (y : A) × L (byte ∷ (t ++ end)) y = λ t x l. ([], x, subst (λ u. L (byte ∷ u) x) (sym (append-nil t)) (to t x l)) in
-      let passes : (again : List ℕ) → Alike f.rest again → errs (R (f.front ++ again)) ≡ true → errs (S (byte ∷ (f.front ++ again))) ≡ true = λ again like e. ap errs (same (f.front ++ again)) ∙ e in
-      fault_at spec K K R R L L S S (byte ∷ []) completes completes text cause f (ends_kept (byte ∷ []) f.front other) passes passes
+      let passes : (again : List ℕ) → Like again f.rest → errs (R (f.front ++ again)) ≡ true → errs (S (byte ∷ (f.front ++ again))) ≡ true = λ again like e. ap errs (same (f.front ++ again)) ∙ e in
+      fault_up_like spec K K R R L L S S (byte ∷ []) completes completes text cause f (ends_kept (byte ∷ []) f.front other) passes passes
 
   -- a byte that must stand here
   module _ (sample : List ℕ) (value : A) (is : K sample value) where
@@ -177,9 +177,9 @@ module _ {A : Type 0} (spec : Spec) (byte : ℕ) (other : is_ascii_digit byte �
         by (inr g) =
             let f = m.fault text cause (sym (choose_gone text g) ∙ h) in
             let completes : (t : List ℕ) (x : A) → M t x → (end : List ℕ) × (y : A) × Choice byte K M (t ++ end) y = λ t x l. ([], x, subst (λ u. Choice byte K M u x) (sym (append-nil t)) (there l)) in
-            let passes : (again : List ℕ) → Alike f.rest again → errs (T (f.front ++ again)) ≡ true → errs (choose byte R T (f.front ++ again)) ≡ true =
-                λ again like e. ap errs (choose_gone (f.front ++ again) (starts_alike is_byte (no_digits byte other) f.front f.rest again like (subst (λ u. starts is_byte u ≡ false) f.whole g))) ∙ e in
-            fault_at spec M M T T (Choice byte K M) (Choice byte K M) (choose byte R T) (choose byte R T) [] completes completes text cause f refl passes passes
+            let passes : (again : List ℕ) → Like again f.rest → errs (T (f.front ++ again)) ≡ true → errs (choose byte R T (f.front ++ again)) ≡ true =
+                λ again like e. ap errs (choose_gone (f.front ++ again) (starts_like is_byte (no_digits byte other) f.front f.rest again like (subst (λ u. starts is_byte u ≡ false) f.whole g))) ∙ e in
+            fault_up_like spec M M T T (Choice byte K M) (Choice byte K M) (choose byte R T) (choose byte R T) [] completes completes text cause f refl passes passes
 
     pub good_choose : Good spec (Choice byte K M) (choose byte R T)
     good_choose = record { read = choose_read; reads = λ text x rest l a. choose_reads l rest a; fault = choose_fault }
@@ -230,8 +230,8 @@ module _ {A B : Type 0} (spec : Spec) (L : List ℕ → A → Type 0) (R : Reade
           let is : why ≡ cause = cc (h, same text, ap (valued f) q) in
           let completes : (t : List ℕ) (x : A) → L t x → (end : List ℕ) × (y : B) × K (t ++ end) y = λ t x l. ([], f x, subst (λ u. K u (f x)) (sym (append-nil t)) (to t x l)) in
           let f' = g.fault text cause (q ∙ ap Err is) in
-          let passes : (again : List ℕ) → Alike f'.rest again → errs (R (f'.front ++ again)) ≡ true → errs (Q (f'.front ++ again)) ≡ true = λ again like e. ap errs (same (f'.front ++ again)) ∙ errs_valued (R (f'.front ++ again)) e in
-          fault_at spec L L R R K K Q Q [] completes completes text cause f' refl passes passes
+          let passes : (again : List ℕ) → Like again f'.rest → errs (R (f'.front ++ again)) ≡ true → errs (Q (f'.front ++ again)) ≡ true = λ again like e. ap errs (same (f'.front ++ again)) ∙ errs_valued (R (f'.front ++ again)) e in
+          fault_up_like spec L L R R K K Q Q [] completes completes text cause f' refl passes passes
 
   pub good_map : Good spec K Q
   good_map = record {
