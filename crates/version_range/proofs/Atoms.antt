@@ -15,8 +15,8 @@ use Rattle.version_range.specs.Grammar.{begins_with, is_blank, Blanks, Led, led,
 use Rattle.version_range.specs.Grammar.{any as atom_any, none as atom_none, version as atom_version, prefix as atom_prefix, set as atom_set}
 use Rattle.version_range.specs.Read.{◌>>=◌, skip_blanks, byte_after, byte_due, cause_at, either_at, operator_at, word_at, operand_at, equal_at, compared_at, set_at, factor_at}
 use Rattle.version_range.proofs.Fronts.{Reader, Apart, Read, Fault}
-use Rattle.version_range.proofs.Marks.{starts, NotDigits, other_byte, no_digits, blanks_none, byte_gone}
-use Rattle.version_range.proofs.Steps.{Good, Never, After, after, Choice, here, there, Done, done, good_led, choose, due, good_due, good_choose, good_done, good_as}
+use Rattle.version_range.proofs.Spaces.{Never, NotDigits, other_byte, no_digits, blanks_none}
+use Rattle.version_range.proofs.Steps.{Good, After, after, Choice, here, there, Done, done, good_led, choose, due, good_due, good_choose, good_done, good_as}
 use Rattle.version_range.proofs.Closings.{Closed, closed, closing}
 use Rattle.version_range.proofs.Versions.{version_zero, EqualText, whole, front, equal_read, equal_reads, equal_fault}
 use Rattle.version_range.proofs.Sets.{compared_good, never_version, never_compared, set_good}
@@ -361,19 +361,5 @@ atom_reads spec = (atom_good spec).reads
 pub atom_fault : (spec : Spec) (text : List ℕ) (cause : Cause) → atom_at spec text ≡ Err cause → Fault spec (Atom spec) (Atom spec) (atom_at spec) (atom_at spec) text cause
 atom_fault spec = (atom_good spec).fault
 
-pub atom_first : (spec : Spec) (text : List ℕ) (r : Range) → Atom spec text r → (b : ℕ) × (bs : List ℕ) × (text ≡ b ∷ bs) × (is_blank b ≡ false) × ((b == 40) ≡ false)
-atom_first spec text r a =
-    let test : ℕ → Bool = λ b. is_blank b || b == 40 in
-    let f = never_choice test 45 _ _ refl (never_compares spec test refl refl refl refl) text r (tree_of spec text r a) in
-    let p = or_parts (is_blank f.0) (f.0 == 40) f.3 in
-    (f.0, f.1, f.2, p.0, p.1)
-
--- ---- factors, by their first byte
-
-pub factor_opens : (inside : Reader Range) (spec : Spec) (rest : List ℕ) → factor_at inside spec (40 ∷ rest) ≡ closing spec 41 inside rest
-unfolding factor_at
-factor_opens inside spec rest = refl
-
-pub factor_other : (inside : Reader Range) (spec : Spec) (text : List ℕ) → starts (λ c. c == 40) text ≡ false → factor_at inside spec text ≡ atom_at spec text
-unfolding factor_at
-factor_other inside spec text h = ap (λ (o : Option (List ℕ)). elim o [ Some rest ↦ closing spec 41 inside rest | None ↦ atom_at spec text ]) (byte_gone 40 text h)
+pub never_atom : (spec : Spec) (test : ℕ → Bool) → test 45 ≡ false → test 60 ≡ false → test 61 ≡ false → test 62 ≡ false → test 94 ≡ false → Never test (Atom spec)
+never_atom spec test minus below equal above major text r a = never_choice test 45 _ _ minus (never_compares spec test above below major equal) text r (tree_of spec text r a)

@@ -7,25 +7,60 @@ use Rattle.plan_types.specs.declared.range.Spec.{Spec}
 use Rattle.plan_types.specs.declared.refusal.Cause.{Cause}
 use Rattle.plan_types.specs.declared.refusal.Cause.TheVariants.{BadRange}
 use Rattle.version_range.specs.Version.{begins_with_digit}
-use Rattle.version_range.specs.Grammar.{is_blank, ends_with_digit, Blanks}
+use Rattle.version_range.specs.Grammar.{begins_with, is_blank, ends_with_digit, Blanks}
 use Rattle.version_range.specs.Read.{◌>>=◌, skip_blanks, byte_after, byte_due, cause_at}
-use Rattle.version_range.proofs.Fronts.{Reader, head_of, errs, Apart, apart_same_head, ends_behind, Read, Like, Fault, fault_up_like}
+use Rattle.version_range.proofs.Fronts.{Reader, head_of, errs, Apart, apart_same_head, ends_behind, Read, Like, Fault, due_fault, fault_up}
 use Rattle.version_range.proofs.Parts.{ok_parts, errs_then}
-use Rattle.version_range.proofs.Marks.{starts, starts_like, no_digits, blanks_none, cut, skip_over, ends_blanks, byte_here, byte_gone, Begun, begun}
-use Rattle.version_range.proofs.Steps.{fresh}
+use Rattle.version_range.proofs.Spaces.{starts, starts_like, begins_like, Begun, begun, due_here, due_gone, blanks_none, ends_blanks, cut, skip_over}
 
--- what follows blanks may be another text that begins so, or with a digit where none is before it
-pub apart_next : (text blanks rest again : List ℕ) → Apart text (blanks ++ rest) → (head_of again ≡ head_of rest) ⊎ (ends_with_digit (text ++ blanks) ≡ false) → Apart text (blanks ++ again)
-apart_next text [] rest again a (inl e) = apart_same_head text rest again (sym e) a
-apart_next text [] rest again a (inr d) = λ t. absurd (false≢true (sym d ∙ ap ends_with_digit (append-nil text) ∙ t))
-apart_next text (b ∷ bs) rest again a o = a
+-- ---- what stands behind a part and blanks
 
-apart_end : (text blanks rest : List ℕ) → Blanks blanks → Apart text (blanks ++ rest) → ends_with_digit (text ++ blanks) ≡ true → begins_with_digit rest ≡ false
-apart_end text [] [] all a d = refl
-apart_end text [] (b ∷ rest) all a d = (or_parts (is_ascii_digit b) (b == 46) (a (ap ends_with_digit (sym (append-nil text)) ∙ d))).0
-apart_end text (b ∷ bs) rest all a d = absurd (false≢true (sym (ends_behind text b bs ∙ ends_blanks (b ∷ bs) all) ∙ d))
+-- Behind the blanks there stands another text instead: it begins as what stood there, or with a digit where none is before it.
+pub record Instead (front behind again : List ℕ) : Type 0 where
+  pub begins : (head_of again ≡ head_of (skip_blanks behind)) ⊎ ((begins_with_digit again ≡ true) × (ends_with_digit (front ++ (cut behind).blanks) ≡ false))
 
--- the part, blanks and the byte
+abbrev pub instead : List ℕ → List ℕ → List ℕ
+instead behind again = (cut behind).blanks ++ again
+
+pub like_instead : {front behind again : List ℕ} → Instead front behind again → Like again (skip_blanks behind)
+like_instead i = elim i.begins [ inl same ↦ inl same | inr p ↦ inr p.0 ]
+
+pub skip_instead : {front behind again : List ℕ} → Instead front behind again → skip_blanks (instead behind again) ≡ again
+skip_instead {behind = behind} {again = again} i = let c = cut behind in skip_over c.blanks again c.all (starts_like is_blank blanks_none [] (skip_blanks behind) again (like_instead i) c.none)
+
+pub begins_instead : (byte : ℕ) → is_ascii_digit byte ≡ false → {front behind again : List ℕ} → Instead front behind again → begins_with byte (skip_blanks behind) ≡ false → begins_with byte (skip_blanks (instead behind again)) ≡ false
+begins_instead byte other {behind = behind} {again = again} i h = ap (begins_with byte) (skip_instead i) ∙ begins_like byte other [] (skip_blanks behind) again (like_instead i) h
+
+apart_next : (front blanks rest again : List ℕ) → Apart front (blanks ++ rest) → (head_of again ≡ head_of rest) ⊎ (ends_with_digit (front ++ blanks) ≡ false) → Apart front (blanks ++ again)
+apart_next front [] rest again a (inl same) = apart_same_head front rest again (sym same) a
+apart_next front [] rest again a (inr last) = λ d. absurd (false≢true (sym last ∙ ap ends_with_digit (append-nil front) ∙ d))
+apart_next front (b ∷ bs) rest again a o = a
+
+pub apart_instead : {front behind again : List ℕ} → Instead front behind again → Apart front behind → Apart front (instead behind again)
+apart_instead {front = front} {behind = behind} {again = again} i a =
+    apart_next front (cut behind).blanks (skip_blanks behind) again (subst (Apart front) (cut behind).whole a) (elim i.begins [ inl same ↦ inl same | inr p ↦ inr p.1 ])
+
+apart_end : (front blanks rest : List ℕ) → Blanks blanks → Apart front (blanks ++ rest) → ends_with_digit (front ++ blanks) ≡ true → begins_with_digit rest ≡ false
+apart_end front [] [] all a d = refl
+apart_end front [] (b ∷ rest) all a d = (or_parts (is_ascii_digit b) (b == 46) (a (ap ends_with_digit (sym (append-nil front)) ∙ d))).0
+apart_end front (b ∷ bs) rest all a d = absurd (false≢true (sym (ends_behind front b bs ∙ ends_blanks (b ∷ bs) all) ∙ d))
+
+-- Behind a part and blanks stands what may not stand there, nor may another text instead.
+pub misplaced : {A B : Type 0} (spec : Spec) (K K' : List ℕ → A → Type 0) (Q Q' : List ℕ → Result B Cause) (front behind : List ℕ) → Apart front behind
+    → (more : List ℕ) (x : A) → K (front ++ instead behind more) x → ((again : List ℕ) → Instead front behind again → errs (Q' (front ++ instead behind again)) ≡ true)
+    → Fault spec K K' Q Q' (front ++ behind) (cause_at spec BadRange (skip_blanks behind))
+misplaced spec K K' Q Q' front behind apart more x goes fails =
+    let c = cut behind in
+    let rest = skip_blanks behind in
+    let stuck : (again : List ℕ) → Instead front behind again → errs (Q' ((front ++ c.blanks) ++ again)) ≡ true = λ again i. ap (λ t. errs (Q' t)) (append_assoc front c.blanks again) ∙ fails again i in
+    subst (λ t. Fault spec K K' Q Q' t (cause_at spec BadRange rest)) (append_assoc front c.blanks rest ∙ ap (λ t. front ++ t) (sym c.whole))
+    (due_fault spec K K' Q Q' (front ++ c.blanks) rest more x (subst (λ t. K t x) (sym (append_assoc front c.blanks more)) goes)
+    (λ again same. stuck again (record { begins = inl same }))
+    (apart_end front c.blanks rest c.all (subst (Apart front) c.whole apart))
+    (λ last digit again is. stuck (digit ∷ again) (record { begins = inr (is, last) })))
+
+-- ---- the part, blanks and the byte
+
 pub data Closed {A : Type 0} (close : ℕ) (L : List ℕ → A → Type 0) : List ℕ → A → Type 0 where
   closed : (text after : List ℕ) {x : A} → L text x → Blanks after → Closed close L (text ++ (after ++ close ∷ [])) x
 
@@ -36,10 +71,10 @@ abbrev pub closing : {A : Type 0} → Spec → ℕ → Reader A → Reader A
 closing spec close P text = P text >>= closed_at spec close
 
 closed_here : {A : Type 0} (spec : Spec) (close : ℕ) (x : A) (text rest : List ℕ) → skip_blanks text ≡ close ∷ rest → closed_at spec close (x, text) ≡ Ok (x, rest)
-closed_here {A} spec close x text rest e = ap (λ (o : Option (List ℕ)). ◌>>=◌ {B = A × List ℕ} (elim o [ None ↦ Err (cause_at spec BadRange (skip_blanks text)) | Some more ↦ Ok more ]) (λ more. Ok (x, more))) (ap (byte_after close) e ∙ byte_here close rest)
+closed_here {A} spec close x text rest e = ap (λ r. ◌>>=◌ {B = A × List ℕ} r (λ more. Ok (x, more))) (ap (byte_due spec close) e ∙ due_here spec close rest)
 
-closed_gone : {A : Type 0} (spec : Spec) (close : ℕ) (x : A) (text : List ℕ) → starts (λ c. c == close) (skip_blanks text) ≡ false → closed_at spec close (x, text) ≡ Err (cause_at spec BadRange (skip_blanks text))
-closed_gone {A} spec close x text h = ap (λ (o : Option (List ℕ)). ◌>>=◌ {B = A × List ℕ} (elim o [ None ↦ Err (cause_at spec BadRange (skip_blanks text)) | Some more ↦ Ok more ]) (λ more. Ok (x, more))) (byte_gone close (skip_blanks text) h)
+closed_gone : {A : Type 0} (spec : Spec) (close : ℕ) (x : A) (text : List ℕ) → begins_with close (skip_blanks text) ≡ false → closed_at spec close (x, text) ≡ Err (cause_at spec BadRange (skip_blanks text))
+closed_gone {A} spec close x text h = ap (λ r. ◌>>=◌ {B = A × List ℕ} r (λ more. Ok (x, more))) (due_gone spec close (skip_blanks text) h)
 
 last_close : (text after : List ℕ) (close : ℕ) → is_ascii_digit close ≡ false → ends_with_digit (text ++ (after ++ close ∷ [])) ≡ false
 last_close text after close other = ap ends_with_digit (sym (append_assoc text after (close ∷ []))) ∙ ends_behind (text ++ after) close [] ∙ other
@@ -74,47 +109,38 @@ module _ {A : Type 0} (spec : Spec) (close : ℕ) (other : is_ascii_digit close 
         by (Err cause) q = absurd (cc (h, ap (λ r. r >>= closed_at spec close) q))
         by (Ok p) q = at p (read text p.0 p.1 q) (sym (ap (λ r. r >>= closed_at spec close) q) ∙ h) (begun close (skip_blanks p.1))
 
-    -- The faults, where one more parenthesis may be open for L', E' and P'. What may follow behind blanks is told from its first byte.
+    -- the faults, where one more parenthesis may be open for L', E' and P'
     module _ (L' : List ℕ → A → Type 0) (E' : List ℕ → List ℕ → Type 0) (P' : Reader A)
         (wider : (text : List ℕ) (x : A) → L text x → L' text x)
         (apart : (text rest : List ℕ) → E text rest → Apart text rest)
-        (next : (text blanks rest again : List ℕ) → Blanks blanks → starts is_blank rest ≡ false → E text (blanks ++ rest) → Like again rest → (head_of again ≡ head_of rest) ⊎ (ends_with_digit (text ++ blanks) ≡ false) → E' text (blanks ++ again))
+        (next : (text behind again : List ℕ) → E text behind → Instead text behind again → E' text (instead behind again))
         (reads' : (text : List ℕ) (x : A) (rest : List ℕ) → L' text x → E' text rest → P' (text ++ rest) ≡ Ok (x, rest))
         (fault : (text : List ℕ) (cause : Cause) → P text ≡ Err cause → Fault spec L L' P P' text cause) where
-      not_closed : (text : List ℕ) (x : A) (blanks rest : List ℕ) → L text x → E text (blanks ++ rest) → Blanks blanks → starts is_blank rest ≡ false → starts (λ c. c == close) rest ≡ false
-          → (again : List ℕ) → Like again rest → (head_of again ≡ head_of rest) ⊎ (ends_with_digit (text ++ blanks) ≡ false) → errs (closing spec close P' ((text ++ blanks) ++ again)) ≡ true
-      not_closed text x blanks rest l e all solid gone again like o =
-          let over = skip_over blanks again all (starts_like is_blank blanks_none [] rest again like solid) in
-          ap (λ t. errs (closing spec close P' t)) (append_assoc text blanks again)
-          ∙ ap (λ r. errs (r >>= closed_at spec close)) (reads' text x (blanks ++ again) (wider text x l) (next text blanks rest again all solid e like o))
-          ∙ ap errs (closed_gone spec close x (blanks ++ again) (ap (starts (λ c. c == close)) over ∙ starts_like (λ c. c == close) (no_digits close other) [] rest again like gone))
+      abbrev ClosedFault : List ℕ → Cause → Type 0
+      ClosedFault = Fault spec (Closed close L) (Closed close L') (closing spec close P) (closing spec close P')
 
-      pub closed_fault : (text : List ℕ) (cause : Cause) → closing spec close P text ≡ Err cause → Fault spec (Closed close L) (Closed close L') (closing spec close P) (closing spec close P') text cause
+      not_closed : (text behind : List ℕ) (x : A) → L text x → E text behind → begins_with close (skip_blanks behind) ≡ false → ClosedFault (text ++ behind) (cause_at spec BadRange (skip_blanks behind))
+      not_closed text behind x l e gone =
+          misplaced spec (Closed close L) (Closed close L') (closing spec close P) (closing spec close P') text behind (apart text behind e)
+          (close ∷ []) x (closed text (cut behind).blanks l (cut behind).all)
+          (λ again i. ap (λ r. errs (r >>= closed_at spec close)) (reads' text x (instead behind again) (wider text x l) (next text behind again e i))
+              ∙ ap errs (closed_gone spec close x (instead behind again) (begins_instead close other i gone)))
+
+      pub closed_fault : (text : List ℕ) (cause : Cause) → closing spec close P text ≡ Err cause → ClosedFault text cause
       closed_fault text cause h = by (P text) refl
         where
-          at : (p : A × List ℕ) → Read L E text p.0 p.1 → closed_at spec close p ≡ Err cause → Begun close (skip_blanks p.1) → Fault spec (Closed close L) (Closed close L') (closing spec close P) (closing spec close P') text cause
+          at : (p : A × List ℕ) → Read L E text p.0 p.1 → closed_at spec close p ≡ Err cause → Begun close (skip_blanks p.1) → ClosedFault text cause
           at p r e (inl b) = absurd (cc (e, closed_here spec close p.0 p.1 b.0 b.1))
           at p r e (inr g) =
-              let c = cut p.1 in
-              let rest = skip_blanks p.1 in
-              let same : cause_at spec BadRange rest ≡ cause = cc (e, closed_gone spec close p.0 p.1 g) in
-              let follows : E r.front (c.blanks ++ rest) = subst (E r.front) c.whole r.apart in
-              let split : text ≡ (r.front ++ c.blanks) ++ rest = r.whole ∙ ap (λ t. r.front ++ t) c.whole ∙ sym (append_assoc r.front c.blanks rest) in
-              let not = not_closed r.front p.0 c.blanks rest r.is follows c.all c.none g in
-              subst (λ t. Fault spec (Closed close L) (Closed close L') (closing spec close P) (closing spec close P') t cause) (sym split)
-              (subst (Fault spec (Closed close L) (Closed close L') (closing spec close P) (closing spec close P') ((r.front ++ c.blanks) ++ rest)) same
-              (fresh spec (Closed close L) (Closed close L') (closing spec close P) (closing spec close P') (r.front ++ c.blanks) rest (close ∷ []) p.0
-              (subst (λ t. Closed close L t p.0) (sym (append_assoc r.front c.blanks (close ∷ []))) (closed r.front c.blanks r.is c.all))
-              (λ again e. not again (inl e) (inl e))
-              (λ d. apart_end r.front c.blanks rest c.all (apart r.front (c.blanks ++ rest) follows) d)
-              (λ d digit again is. not (digit ∷ again) (inr is) (inr d))))
+              let same : cause_at spec BadRange (skip_blanks p.1) ≡ cause = cc (e, closed_gone spec close p.0 p.1 g) in
+              subst (λ t. ClosedFault t cause) (sym r.whole) (subst (ClosedFault (r.front ++ p.1)) same (not_closed r.front p.1 p.0 r.is r.apart g))
           completes : (K : List ℕ → A → Type 0) (t : List ℕ) (x : A) → K t x → (end : List ℕ) × (y : A) × Closed close K (t ++ end) y
           completes K t x l = (close ∷ [], x, closed t [] l refl)
-          by : (o : Result (A × List ℕ) Cause) → P text ≡ o → Fault spec (Closed close L) (Closed close L') (closing spec close P) (closing spec close P') text cause
+          by : (o : Result (A × List ℕ) Cause) → P text ≡ o → ClosedFault text cause
           by (Ok p) q = at p (read text p.0 p.1 q) (sym (ap (λ r. r >>= closed_at spec close) q) ∙ h) (begun close (skip_blanks p.1))
           by (Err why) q =
               let is : why ≡ cause = cc (h, ap (λ r. r >>= closed_at spec close) q) in
               let f = fault text cause (q ∙ ap Err is) in
-              fault_up_like spec L L' P P' (Closed close L) (Closed close L') (closing spec close P) (closing spec close P') [] (completes L) (completes L') text cause f refl
-              (λ again like e. errs_then (P (f.front ++ again)) (closed_at spec close) e)
-              (λ again like e. errs_then (P' (f.front ++ again)) (closed_at spec close) e)
+              fault_up spec L L' P P' (Closed close L) (Closed close L') (closing spec close P) (closing spec close P') [] (completes L) (completes L') text cause f refl
+              (λ again e. errs_then (P (f.front ++ again)) (closed_at spec close) e)
+              (λ again e. errs_then (P' (f.front ++ again)) (closed_at spec close) e)

@@ -14,12 +14,13 @@ use Rattle.version_range.specs.declared.operator.Operator.{Operator}
 use Rattle.version_range.specs.declared.operator.Operator.TheVariants.{Equal, AtLeast, Above, AtMost, Below, Major}
 use Rattle.version_range.specs.Version.{begins_with_digit}
 use Rattle.version_range.specs.Grammar.{begins_with, is_blank, Blanks, ends_with_digit, Atom, any, Factor, atom, enclosed, Term, Terms, Inside, Led, led, Behind, behind, Chain, one}
-use Rattle.version_range.proofs.Fronts.{Reader, head_of, errs, goes_on_number, Apart, apart_same_head, ends_behind, ends_kept, Read, Dead, NoDigit, Like, Why, too_deep, Fault, Passes, fault_up, fault_up_like}
-use Rattle.version_range.proofs.Spaces.{unblank, Blanked, blanked, skip_to, unblank_head, begins_same, after_here, after_other, after_some, after_none, due_here, due_other, due_errs, due_read, due_fails, due_why}
+use Rattle.version_range.proofs.Fronts.{Reader, errs, Apart, ends_some, ends_kept, apart_before, Read, Dead, NoDigit, Like, too_deep, Fault, fault_up, fault_up_like}
+use Rattle.version_range.proofs.Spaces.{Never, never_starts, no_digits, begins_like, byte_gone, Begun, begun, blanks_no_number, skip_over}
 use Rattle.version_range.proofs.Parts.{all_of, errs_then, ok_parts, map_chain}
-use Rattle.version_range.proofs.Led.{Unblank, led_at, led_reads, led_read, led_fault, blanks_no_number, blanks_end, blank_no_number, blank_no_digit, digit_unblank, digit_begins_other}
-use Rattle.version_range.proofs.Atoms.{atom_at, atom_read, atom_reads, atom_fault, atom_first}
-use Rattle.version_range.proofs.Operands.{Rules, Follow, ends_some, joined_rules, joined_fault, joined_wider}
+use Rattle.version_range.proofs.Led.{led_at, led_reads, led_read, led_fault}
+use Rattle.version_range.proofs.Closings.{Instead, instead, begins_instead, apart_instead, Closed, closed, closing, closed_reads, closed_read, closed_fault}
+use Rattle.version_range.proofs.Atoms.{atom_at, atom_read, atom_reads, atom_fault, never_atom}
+use Rattle.version_range.proofs.Operands.{Rules, Follow, joined_rules, joined_fault, joined_wider}
 
 -- ---- what may follow
 
@@ -42,109 +43,69 @@ follow_term = record {
 }
 
 and_follows : (text blanks again : List ℕ) → Blanks blanks → Apart text (blanks ++ (38 ∷ again))
-and_follows text blanks again are d = blanks_no_number blanks (38 ∷ again) are refl
+and_follows text blanks again all d = blanks_no_number blanks (38 ∷ again) all refl
 
 or_follows : (text blanks again : List ℕ) → Blanks blanks → AfterTerm text (blanks ++ (124 ∷ again))
-or_follows text blanks again are = ((λ d. blanks_no_number blanks (124 ∷ again) are refl), ap (begins_with 38) (skip_to blanks (124 ∷ again) are refl))
+or_follows text blanks again all = ((λ d. blanks_no_number blanks (124 ∷ again) all refl), ap (begins_with 38) (skip_over blanks (124 ∷ again) all refl))
 
 -- a closing parenthesis
 close_follows : (text blanks again : List ℕ) → Blanks blanks → AfterRange text (blanks ++ (41 ∷ again))
-close_follows text blanks again are =
-    let to = skip_to blanks (41 ∷ again) are refl in
-    (((λ d. blanks_no_number blanks (41 ∷ again) are refl), ap (begins_with 38) to), ap (begins_with 124) to)
+close_follows text blanks again all =
+    let over = skip_over blanks (41 ∷ again) all refl in
+    (((λ d. blanks_no_number blanks (41 ∷ again) all refl), ap (begins_with 38) over), ap (begins_with 124) over)
+
+pub after_instead : (front rest again : List ℕ) → AfterRange front rest → Instead front rest again → AfterRange front (instead rest again)
+after_instead front rest again e i = ((apart_instead i e.0.0, begins_instead 38 refl i e.0.1), begins_instead 124 refl i e.1)
 
 -- ---- a factor, over what stands in a parenthesis
 
+at_open : (I : Reader Range) (spec : Spec) (rest : List ℕ) → factor_at I spec (40 ∷ rest) ≡ closing spec 41 I rest
+unfolding factor_at
+at_open I spec rest = refl
+
+at_atom : (I : Reader Range) (spec : Spec) (text : List ℕ) → begins_with 40 text ≡ false → factor_at I spec text ≡ atom_at spec text
+unfolding factor_at
+at_atom I spec text other = ap (λ (o : Option (List ℕ)). elim o [ Some rest ↦ closing spec 41 I rest | None ↦ atom_at spec text ]) (byte_gone 40 text other)
+
+opened : {spec : Spec} {L : List ℕ → Range → Type 0} {text : List ℕ} {r : Range} → Closed 41 L text r → Factor spec L (40 ∷ text) r
+opened {spec = spec} {L = L} {r = r} (closed text after is all) = subst (λ t. Factor spec L (40 ∷ t) r) (append_assoc text after (41 ∷ [])) (enclosed text after is all)
+
+never_factor : (spec : Spec) (L : List ℕ → Range → Type 0) (test : ℕ → Bool) → test 40 ≡ false → Never test (Atom spec) → Never test (Factor spec L)
+never_factor spec L test open' never text r (atom a) = never text r a
+never_factor spec L test open' never text r (enclosed front blanks is all) = (40, (front ++ blanks) ++ codes ")", refl, open')
+
 module _ (spec : Spec) (L : List ℕ → Range → Type 0) (I : Reader Range) (rules : Rules L AfterRange I) where
-  abbrev with_range : Range → List ℕ → Result (Range × List ℕ) Cause
-  with_range r rest = Ok (r, rest)
-
-  -- blanks and a closing parenthesis behind a range
-  abbrev pub closing : Range × List ℕ → Result (Range × List ℕ) Cause
-  closing r = byte_due spec 41 (skip_blanks r.1) >>= λ rest. Ok (r.0, rest)
-
-  abbrev from_first : List ℕ → Option (List ℕ) → Result (Range × List ℕ) Cause
-  from_first text found = elim found [ Some rest ↦ I rest >>= closing | None ↦ atom_at spec text ]
-
-  pub at_open : (rest : List ℕ) → factor_at I spec (40 ∷ rest) ≡ (I rest >>= closing)
-  unfolding factor_at
-  at_open rest = refl
-
-  pub at_atom : (text : List ℕ) → begins_with 40 text ≡ false → factor_at I spec text ≡ atom_at spec text
-  unfolding factor_at
-  at_atom text other = ap (from_first text) (after_other 40 text other)
-
-  close : (front blanks rest : List ℕ) → ((front ++ blanks) ++ codes ")") ++ rest ≡ front ++ (blanks ++ (41 ∷ rest))
-  close front blanks rest = append_assoc (front ++ blanks) (codes ")") rest ∙ append_assoc front blanks (41 ∷ rest)
-
   factor_reads : (text : List ℕ) (r : Range) (rest : List ℕ) → Factor spec L text r → Apart text rest → factor_at I spec (text ++ rest) ≡ Ok (r, rest)
   factor_reads text r rest (atom a) e =
-      let f = atom_first spec text r a in
-      at_atom (text ++ rest) (subst (λ t. begins_with 40 (t ++ rest) ≡ false) (sym f.2) f.4) ∙ atom_reads spec text r rest a e
-  factor_reads text r rest (enclosed front blanks is are) e =
-      ap (λ t. factor_at I spec (40 ∷ t)) (close front blanks rest)
-      ∙ at_open (front ++ (blanks ++ (41 ∷ rest)))
-      ∙ ap (λ o. o >>= closing) (rules.reads front r (blanks ++ (41 ∷ rest)) is (close_follows front blanks rest are))
-      ∙ ap (λ t. byte_due spec 41 t >>= λ rest'. Ok (r, rest')) (skip_to blanks (41 ∷ rest) are refl)
-
-  enclosed_end : (front blanks : List ℕ) → ends_with_digit (codes "(" ++ front ++ blanks ++ codes ")") ≡ false
-  enclosed_end front blanks = ends_behind (40 ∷ (front ++ blanks)) 41 []
-
-  -- what was read behind an opening parenthesis
-  pub record Opened (text : List ℕ) (r : Range) (rest : List ℕ) : Type 0 where
-    pub front : List ℕ
-    pub blanks : List ℕ
-    pub whole : text ≡ front ++ (blanks ++ (41 ∷ rest))
-    pub is : L front r
-    pub are : Blanks blanks
-
-  opened : (text : List ℕ) (r : Range) (rest : List ℕ) → (I text >>= closing) ≡ Ok (r, rest) → Opened text r rest
-  opened text r rest h = by (I text) refl
-    where
-      closes : (p : Range × List ℕ) → I text ≡ Ok p → (o : Result (List ℕ) Cause) → byte_due spec 41 (skip_blanks p.1) ≡ o → (o >>= with_range p.0) ≡ Ok (r, rest) → Opened text r rest
-      closes p q (Err cause) k e = absurd (cc e)
-      closes p q (Ok more) k e =
-          let parts = ok_parts p.0 r more rest e in
-          let got = rules.read text p.0 p.1 q in
-          let b = blanked p.1 in
-          let due : b.rest ≡ 41 ∷ rest = sym b.skipped ∙ due_read spec 41 (skip_blanks p.1) more k ∙ ap (λ t. 41 ∷ t) parts.1 in
-          record {
-            front = got.front;
-            blanks = b.blanks;
-            whole = got.whole ∙ ap (λ t. got.front ++ t) (b.whole ∙ ap (λ t. b.blanks ++ t) due);
-            is = subst (λ v. L got.front v) parts.0 got.is;
-            are = b.are;
-          }
-
-      by : (o : Result (Range × List ℕ) Cause) → I text ≡ o → Opened text r rest
-      by (Err cause) q = absurd (cc (h, ap (λ o. o >>= closing) q))
-      by (Ok p) q = closes p q (byte_due spec 41 (skip_blanks p.1)) refl (sym (ap (λ o. o >>= closing) q) ∙ h)
+      at_atom I spec (text ++ rest) (never_starts (λ c. c == 40) (Atom spec) (never_atom spec (λ c. c == 40) refl refl refl refl refl) text r a rest) ∙ atom_reads spec text r rest a e
+  factor_reads text r rest (enclosed front blanks is all) e =
+      ap (λ t. factor_at I spec (40 ∷ (t ++ rest))) (append_assoc front blanks (41 ∷ []))
+      ∙ at_open I spec ((front ++ (blanks ++ 41 ∷ [])) ++ rest)
+      ∙ closed_reads spec 41 refl refl L AfterRange I rules.reads (λ text x after rest' l all'. close_follows text after rest' all') (closed front blanks is all) rest
 
   factor_read : (text : List ℕ) (r : Range) (rest : List ℕ) → factor_at I spec text ≡ Ok (r, rest) → Read (Factor spec L) Apart text r rest
-  factor_read text r rest h = by (byte_after 40 text) refl
+  factor_read text r rest h = by (begun 40 text)
     where
-      by : (o : Option (List ℕ)) → byte_after 40 text ≡ o → Read (Factor spec L) Apart text r rest
-      by None q =
-          let a = atom_read spec text r rest (sym (at_atom text (after_none 40 text q)) ∙ h) in
+      by : Begun 40 text → Read (Factor spec L) Apart text r rest
+      by (inr other) =
+          let a = atom_read spec text r rest (sym (at_atom I spec text other) ∙ h) in
           record { front = a.front; whole = a.whole; is = atom a.is; apart = a.apart }
-      by (Some more) q =
-          let at = after_some 40 text more q in
-          let o = opened more r rest (sym (at_open more) ∙ sym (ap (factor_at I spec) at) ∙ h) in
+      by (inl p) =
+          let c = closed_read spec 41 refl refl L AfterRange I rules.read p.0 r rest (sym (at_open I spec p.0) ∙ sym (ap (factor_at I spec) p.1) ∙ h) in
           record {
-            front = codes "(" ++ o.front ++ o.blanks ++ codes ")";
-            whole = at ∙ ap (λ t. 40 ∷ t) (o.whole ∙ sym (close o.front o.blanks rest));
-            is = enclosed o.front o.blanks o.is o.are;
-            apart = λ d. absurd (false≢true (sym (enclosed_end o.front o.blanks) ∙ d));
+            front = 40 ∷ c.front;
+            whole = p.1 ∙ ap (λ t. 40 ∷ t) c.whole;
+            is = opened c.is;
+            apart = apart_before (40 ∷ []) c.front rest refl c.apart;
           }
 
-  pub factor_unblank : Unblank (Factor spec L)
-  factor_unblank text r (atom a) = let f = atom_first spec text r a in (f.0, f.1, f.2, f.3)
-  factor_unblank text r (enclosed front blanks is are) = (40, (front ++ blanks) ++ codes ")", refl, refl)
+  pub factor_unblank : Never is_blank (Factor spec L)
+  factor_unblank = never_factor spec L is_blank refl (never_atom spec is_blank refl refl refl refl refl)
 
   pub led_rules : Rules (Led (Factor spec L)) Apart (led_at (factor_at I spec))
   led_rules = record {
     reads = λ text r rest. led_reads (Factor spec L) (factor_at I spec) factor_unblank factor_reads text r rest;
-    read = λ text r rest. led_read (Factor spec L) (factor_at I spec) factor_unblank factor_read text r rest;
+    read = λ text r rest. led_read (Factor spec L) (factor_at I spec) factor_read text r rest;
     some = some;
   }
     where
@@ -198,77 +159,6 @@ unfolding Inside
 wider_inside spec zero text r none = absurd none
 wider_inside spec (suc n) text r c = wider_terms spec (Inside spec n) (Inside spec (suc n)) (wider_inside spec n) text r c
 
--- ---- where a range isn't followed as it must be
-
-no_number_no_digit : (rest : List ℕ) → goes_on_number rest ≡ false → begins_with_digit rest ≡ false
-no_number_no_digit [] h = refl
-no_number_no_digit (b ∷ bs) h = by (is_ascii_digit b) refl
-  where
-    by : (t : Bool) → is_ascii_digit b ≡ t → is_ascii_digit b ≡ false
-    by true q = absurd (false≢true (sym (rw q at h)))
-    by false q = q
-
-heads : (blanks rest again : List ℕ) → head_of again ≡ head_of rest → head_of (blanks ++ rest) ≡ head_of (blanks ++ again)
-heads [] rest again same = sym same
-heads (b ∷ bs) rest again same = refl
-
--- Behind a range and blanks stands what may not stand there: it is wrong, as is each text that goes on by its first byte, or by a digit.
-pub record Misplaced (pre front blanks rest : List ℕ) (r : Range) (L : List ℕ → Range → Type 0) (wrong : List ℕ → Type 0) : Type 0 where
-  pub plain : ends_with_digit pre ≡ false
-  pub is : L front r
-  pub some : front ≢ []
-  pub are : Blanks blanks
-  pub end : unblank rest ≡ true
-  pub after : AfterRange front (blanks ++ rest)
-  pub wrong_like : (again : List ℕ) → Like again rest → wrong again
-
-module _ {B : Type 0} (pre front blanks rest : List ℕ) (r : Range) (L : List ℕ → Range → Type 0) (wrong : List ℕ → Type 0) (m : Misplaced pre front blanks rest r L wrong) (Q' : List ℕ → Result B Cause)
-    (fails : (again : List ℕ) → AfterRange front (blanks ++ again) → unblank again ≡ true → wrong again → errs (Q' ((pre ++ (front ++ blanks)) ++ again)) ≡ true) where
-  abbrev stuck : List ℕ
-  stuck = pre ++ (front ++ blanks)
-
-  -- what is known of the rest holds of each text that goes on so
-  begins_like : (byte : ℕ) (again : List ℕ) → unblank again ≡ true → begins_with byte again ≡ false → begins_with byte (skip_blanks (blanks ++ again)) ≡ false
-  begins_like byte again u h = ap (begins_with byte) (skip_to blanks again m.are u) ∙ h
-
-  begins_rest : (byte : ℕ) → begins_with byte (skip_blanks (blanks ++ rest)) ≡ false → begins_with byte rest ≡ false
-  begins_rest byte h = ap (begins_with byte) (sym (skip_to blanks rest m.are m.end)) ∙ h
-
-  dead : Dead Q' stuck rest
-  dead again same =
-      let u = unblank_head rest again same m.end in
-      fails again
-      ((apart_same_head front (blanks ++ rest) (blanks ++ again) (heads blanks rest again same) m.after.0.0, begins_like 38 again u (begins_same 38 rest again same ∙ begins_rest 38 m.after.0.1)), begins_like 124 again u (begins_same 124 rest again same ∙ begins_rest 124 m.after.1))
-      u (m.wrong_like again (inl same))
-
-  -- without blanks the range itself is the end of the front
-  ends_as : blanks ≡ [] → ends_with_digit stuck ≡ ends_with_digit front
-  ends_as none = ap (λ t. ends_with_digit (pre ++ (front ++ t))) none ∙ ap (λ t. ends_with_digit (pre ++ t)) (append-nil front) ∙ ends_some pre front m.some
-
-  ends_blank : (b : ℕ) (bs : List ℕ) → blanks ≡ b ∷ bs → ends_with_digit stuck ≡ false
-  ends_blank b bs e = ap (λ t. ends_with_digit (pre ++ (front ++ t))) e ∙ ap ends_with_digit (sym (append_assoc pre front (b ∷ bs))) ∙ ends_behind (pre ++ front) b bs ∙ ap ends_with_digit (sym e) ∙ blanks_end blanks m.are
-
-  no_digit_here : ends_with_digit stuck ≡ false → NoDigit Q' stuck
-  no_digit_here last digit again d =
-      let u = digit_unblank (digit ∷ again) d in
-      fails (digit ∷ again)
-      ((by blanks refl, begins_like 38 (digit ∷ again) u (digit_begins_other 38 (digit ∷ again) refl d)), begins_like 124 (digit ∷ again) u (digit_begins_other 124 (digit ∷ again) refl d))
-      u (m.wrong_like (digit ∷ again) (inr d))
-    where
-      by : (bl : List ℕ) → blanks ≡ bl → Apart front (blanks ++ digit ∷ again)
-      by [] e k = absurd (false≢true (sym last ∙ ends_as e ∙ k))
-      by (b ∷ bs) e k = ap (λ t. goes_on_number (t ++ digit ∷ again)) e ∙ blank_no_number b (bs ++ digit ∷ again) (and_parts (is_blank b) (list_all is_blank bs) (subst Blanks e m.are)).0
-
-  digit_here : ends_with_digit stuck ≡ true → begins_with_digit rest ≡ false
-  digit_here last = by blanks refl
-    where
-      by : (bl : List ℕ) → blanks ≡ bl → begins_with_digit rest ≡ false
-      by [] e = no_number_no_digit rest (ap (λ t. goes_on_number (t ++ rest)) (sym e) ∙ m.after.0.0 (sym (ends_as e) ∙ last))
-      by (b ∷ bs) e = absurd (false≢true (sym (ends_blank b bs e) ∙ last))
-
-  pub misplaced : {A : Type 0} (spec : Spec) (K K' : List ℕ → A → Type 0) (Q : List ℕ → Result B Cause) → Why spec K K' Q Q' stuck rest (cause_at spec BadRange rest)
-  misplaced spec K K' Q = due_why spec K K' Q Q' stuck rest dead digit_here no_digit_here
-
 -- ---- where a factor is stuck
 
 module _ (spec : Spec) (L L' : List ℕ → Range → Type 0) (I I' : Reader Range) (rules : Rules L AfterRange I) (rules' : Rules L' AfterRange I') (wider : (text : List ℕ) (r : Range) → L text r → L' text r) where
@@ -278,71 +168,21 @@ module _ (spec : Spec) (L L' : List ℕ → Range → Type 0) (I I' : Reader Ran
   atom_fails : (text : List ℕ) (cause : Cause) → begins_with 40 text ≡ false → atom_at spec text ≡ Err cause → FactorFault text cause
   atom_fails text cause other h =
       let f = atom_fault spec text cause h in
+      let still : (again : List ℕ) → Like again f.rest → begins_with 40 (f.front ++ again) ≡ false = λ again like. begins_like 40 refl f.front f.rest again like (sym (ap (begins_with 40) f.whole) ∙ other) in
       fault_up_like spec (Atom spec) (Atom spec) (atom_at spec) (atom_at spec) (Factor spec L) (Factor spec L') (factor_at I spec) (factor_at I' spec) []
       (λ t r k. ([], r, subst (λ t'. Factor spec L t' r) (sym (append-nil t)) (atom k)))
       (λ t r k. ([], r, subst (λ t'. Factor spec L' t' r) (sym (append-nil t)) (atom k)))
       text cause f refl
-      (λ again like e. ap errs (at_atom spec L I rules (f.front ++ again) (still f.front f.rest again (subst (λ t. begins_with 40 t ≡ false) f.whole other) like)) ∙ e)
-      (λ again like e. ap errs (at_atom spec L' I' rules' (f.front ++ again) (still f.front f.rest again (subst (λ t. begins_with 40 t ≡ false) f.whole other) like)) ∙ e)
-    where
-      still : (front rest again : List ℕ) → begins_with 40 (front ++ rest) ≡ false → Like again rest → begins_with 40 (front ++ again) ≡ false
-      still [] rest again n (inl same) = begins_same 40 rest again same ∙ n
-      still [] rest again n (inr digit) = digit_begins_other 40 again refl digit
-      still (b ∷ front) rest again n like = n
+      (λ again like e. ap errs (at_atom I spec (f.front ++ again) (still again like)) ∙ e)
+      (λ again like e. ap errs (at_atom I' spec (f.front ++ again) (still again like)) ∙ e)
 
-  -- a closing parenthesis is due behind a range
-  module _ (front blanks rest : List ℕ) (r : Range) (is : L front r) (are : Blanks blanks) (end : unblank rest ≡ true) (after : AfterRange front (blanks ++ rest)) (other : begins_with 41 rest ≡ false) where
-    unclosed : (again : List ℕ) → AfterRange front (blanks ++ again) → unblank again ≡ true → begins_with 41 again ≡ false → errs (factor_at I' spec ((40 ∷ (front ++ blanks)) ++ again)) ≡ true
-    unclosed again follows u not =
-        ap (λ t. errs (factor_at I' spec (40 ∷ t))) (append_assoc front blanks again)
-        ∙ ap errs (at_open spec L' I' rules' (front ++ (blanks ++ again)))
-        ∙ ap (λ o. errs (o >>= closing spec L' I' rules')) (rules'.reads front r (blanks ++ again) (wider front r is) follows)
-        ∙ errs_then (byte_due spec 41 (skip_blanks (blanks ++ again))) (λ rest'. Ok (r, rest')) (ap (λ t. errs (byte_due spec 41 t)) (skip_to blanks again are u) ∙ due_errs spec 41 again not)
-
-    no_close : (again : List ℕ) → Like again rest → begins_with 41 again ≡ false
-    no_close again (inl same) = begins_same 41 rest again same ∙ other
-    no_close again (inr digit) = digit_begins_other 41 again refl digit
-
-    close_fails : FactorFault (40 ∷ (front ++ (blanks ++ rest))) (cause_at spec BadRange rest)
-    close_fails = record {
-      front = 40 ∷ (front ++ blanks);
-      rest = rest;
-      whole = ap (λ t. 40 ∷ t) (sym (append_assoc front blanks rest));
-      more = 41 ∷ [];
-      value = r;
-      goes_on = enclosed front blanks is are;
-      why = misplaced (40 ∷ []) front blanks rest r L (λ t. begins_with 41 t ≡ false)
-          (record { plain = refl; is = is; some = rules.some front r is; are = are; end = end; after = after; wrong_like = no_close })
-          (factor_at I' spec) unclosed spec (Factor spec L) (Factor spec L') (factor_at I spec);
-    }
-
-  module _ (opened_fault : (text : List ℕ) (cause : Cause) → I text ≡ Err cause → FactorFault (40 ∷ text) cause) where
-    behind_open : (text : List ℕ) (cause : Cause) → (I text >>= closing spec L I rules) ≡ Err cause → FactorFault (40 ∷ text) cause
-    behind_open text cause h = by (I text) refl
+  module _ (opened_fault : (text : List ℕ) (cause : Cause) → closing spec 41 I text ≡ Err cause → FactorFault (40 ∷ text) cause) where
+    factor_fault : (text : List ℕ) (cause : Cause) → factor_at I spec text ≡ Err cause → FactorFault text cause
+    factor_fault text cause h = by (begun 40 text)
       where
-        closes : (p : Range × List ℕ) → I text ≡ Ok p → (o : Result (List ℕ) Cause) → byte_due spec 41 (skip_blanks p.1) ≡ o → (o >>= with_range spec L I rules p.0) ≡ Err cause → FactorFault (40 ∷ text) cause
-        closes p q (Ok more) k e = absurd (cc e)
-        closes p q (Err why) k e =
-            let got = rules.read text p.0 p.1 q in
-            let b = blanked p.1 in
-            let due = due_fails spec 41 (skip_blanks p.1) why k in
-            let same : cause_at spec BadRange b.rest ≡ cause = ap (cause_at spec BadRange) (sym b.skipped) ∙ sym due.1 ∙ cc e in
-            let not = ap (begins_with 41) (sym b.skipped) ∙ due.0 in
-            let f = close_fails got.front b.blanks b.rest p.0 got.is b.are b.end (subst (AfterRange got.front) b.whole got.apart) not in
-            subst (FactorFault (40 ∷ text)) same (subst (λ t. FactorFault (40 ∷ t) (cause_at spec BadRange b.rest)) (ap (λ t. got.front ++ t) (sym b.whole) ∙ sym got.whole) f)
-
-        by : (o : Result (Range × List ℕ) Cause) → I text ≡ o → FactorFault (40 ∷ text) cause
-        by (Err why) q = let same : why ≡ cause = cc (h, ap (λ o. o >>= closing spec L I rules) q) in opened_fault text cause (q ∙ ap Err same)
-        by (Ok p) q = closes p q (byte_due spec 41 (skip_blanks p.1)) refl (sym (ap (λ o. o >>= closing spec L I rules) q) ∙ h)
-
-    pub factor_fault : (text : List ℕ) (cause : Cause) → factor_at I spec text ≡ Err cause → FactorFault text cause
-    factor_fault text cause h = by (byte_after 40 text) refl
-      where
-        by : (o : Option (List ℕ)) → byte_after 40 text ≡ o → FactorFault text cause
-        by None q = let other = after_none 40 text q in atom_fails text cause other (sym (at_atom spec L I rules text other) ∙ h)
-        by (Some more) q =
-            let at = after_some 40 text more q in
-            subst (λ t. FactorFault t cause) (sym at) (behind_open more cause (sym (at_open spec L I rules more) ∙ ap (factor_at I spec) (sym at) ∙ h))
+        by : Begun 40 text → FactorFault text cause
+        by (inr other) = atom_fails text cause other (sym (at_atom I spec text other) ∙ h)
+        by (inl p) = subst (λ t. FactorFault t cause) (sym p.1) (opened_fault p.0 cause (sym (at_open I spec p.0) ∙ sym (ap (factor_at I spec) p.1) ∙ h))
 
     led_fails : (text : List ℕ) (cause : Cause) → led_at (factor_at I spec) text ≡ Err cause → Fault spec (Led (Factor spec L)) (Led (Factor spec L')) (led_at (factor_at I spec)) (led_at (factor_at I' spec)) text cause
     led_fails = led_fault spec (Factor spec L) (Factor spec L') (factor_at I spec) (factor_at I' spec) factor_fault
@@ -359,35 +199,16 @@ module _ (spec : Spec) (L L' : List ℕ → Range → Type 0) (I I' : Reader Ran
 
 -- ---- at each depth
 
-abbrev major_or_equal : Spec → List ℕ → Option (List ℕ) → Result (Operator × List ℕ) Cause
-major_or_equal spec text found = elim found [
-  | Some rest ↦ byte_due spec 62 rest >>= λ more. byte_due spec 61 more >>= λ back. Ok (Major, back)
-  | None ↦ byte_due spec 61 text >>= λ more. byte_due spec 61 more >>= λ back. Ok (Equal, back)
-]
-
-operator_digit : (spec : Spec) (digit : ℕ) (again : List ℕ) → is_ascii_digit digit ≡ true → errs (operator_at spec (digit ∷ again)) ≡ true
-unfolding operator_at
-operator_digit spec digit again d =
-    let text = digit ∷ again in
-    ap (λ o. errs (elim o [ Some rest ↦ Ok (either_at AtLeast Above rest) | None ↦ elim (byte_after 60 text) [ Some rest ↦ Ok (either_at AtMost Below rest) | None ↦ major_or_equal spec text (byte_after 94 text) ] ])) (other 62 refl)
-    ∙ ap (λ o. errs (elim o [ Some rest ↦ Ok (either_at AtMost Below rest) | None ↦ major_or_equal spec text (byte_after 94 text) ])) (other 60 refl)
-    ∙ ap (λ o. errs (major_or_equal spec text o)) (other 94 refl)
-    ∙ errs_then (byte_due spec 61 text) _ (due_errs spec 61 text (digit_begins_other 61 text refl d))
-  where
-    other : (byte : ℕ) → is_ascii_digit byte ≡ false → byte_after byte (digit ∷ again) ≡ None
-    other byte n = after_other byte (digit ∷ again) (digit_begins_other byte (digit ∷ again) n d)
-
 -- no atom begins with a digit
-atom_digit : (spec : Spec) (digit : ℕ) (again : List ℕ) → is_ascii_digit digit ≡ true → errs (atom_at spec (digit ∷ again)) ≡ true
-atom_digit spec digit again d =
-    ap (λ o. errs (elim o [ Some rest ↦ word_at spec rest | None ↦ operator_at spec (digit ∷ again) >>= λ op. operand_at op.0 spec (skip_blanks op.1) ])) (other 45 refl)
-    ∙ errs_then (operator_at spec (digit ∷ again)) (λ op. operand_at op.0 spec (skip_blanks op.1)) operator
+atom_digit : (spec : Spec) (text : List ℕ) → begins_with_digit text ≡ true → errs (atom_at spec text) ≡ true
+atom_digit spec text d = by (atom_at spec text) refl
   where
-    other : (byte : ℕ) → is_ascii_digit byte ≡ false → byte_after byte (digit ∷ again) ≡ None
-    other byte n = after_other byte (digit ∷ again) (digit_begins_other byte (digit ∷ again) n d)
-
-    operator : errs (operator_at spec (digit ∷ again)) ≡ true
-    operator = operator_digit spec digit again d
+    by : (o : Result (Range × List ℕ) Cause) → atom_at spec text ≡ o → errs o ≡ true
+    by (Err cause) q = refl
+    by (Ok p) q =
+        let a = atom_read spec text p.0 p.1 q in
+        let none = never_starts is_ascii_digit (Atom spec) (never_atom spec is_ascii_digit refl refl refl refl refl) a.front p.0 a.is p.1 in
+        absurd (false≢true (sym none ∙ sym (ap begins_with_digit a.whole) ∙ d))
 
 any_stands : (spec : Spec) (L : List ℕ → Range → Type 0) → Terms spec L (codes "-any") Any
 any_stands spec L = one (one (led [] refl (atom any)))
@@ -400,7 +221,7 @@ module _ (spec : Spec) where
   depth-rules n = inside_rules spec n
 
   -- one parenthesis more than may be open
-  opened_zero : (text : List ℕ) (cause : Cause) → inside zero spec text ≡ Err cause → OpenedFault spec zero (40 ∷ text) cause
+  opened_zero : (text : List ℕ) (cause : Cause) → closing spec 41 (inside zero spec) text ≡ Err cause → OpenedFault spec zero (40 ∷ text) cause
   unfolding Inside inside
   opened_zero text cause h = subst (OpenedFault spec zero (40 ∷ text)) (cc h) (record {
     front = [];
@@ -413,35 +234,35 @@ module _ (spec : Spec) where
   })
     where
       no_digit_opens : NoDigit (factor_at (inside (suc zero) spec) spec) []
-      no_digit_opens digit again d = ap errs (at_atom spec (Inside spec (suc zero)) (inside (suc zero) spec) (depth-rules (suc zero)) (digit ∷ again) (digit_begins_other 40 (digit ∷ again) refl d)) ∙ atom_digit spec digit again d
+      no_digit_opens digit again d = ap errs (at_atom (inside (suc zero) spec) spec (digit ∷ again) (no_digits 40 refl digit d)) ∙ atom_digit spec (digit ∷ again) d
 
       still_deep : Dead (factor_at (inside zero spec) spec) [] (40 ∷ text)
       still_deep [] same = absurd (cc same)
-      still_deep (b ∷ again) same = let open' : b ≡ 40 = cc same in subst (λ x. errs (factor_at (inside zero spec) spec (x ∷ again)) ≡ true) (sym open') (ap errs (at_open spec (Inside spec zero) (inside zero spec) (depth-rules zero) again))
+      still_deep (b ∷ again) same = let open' : b ≡ 40 = cc same in subst (λ x. errs (factor_at (inside zero spec) spec (x ∷ again)) ≡ true) (sym open') (ap errs (at_open (inside zero spec) spec again))
 
-  -- the fault of a range behind its opening parenthesis
+  -- the fault of a range, or of what closes it, behind its opening parenthesis
   opened_more : (n : ℕ) → ((text : List ℕ) (cause : Cause) → inside n spec text ≡ Err cause → Fault spec (Inside spec n) (Inside spec (suc n)) (inside n spec) (inside (suc n) spec) text cause)
-      → (text : List ℕ) (cause : Cause) → inside n spec text ≡ Err cause → OpenedFault spec n (40 ∷ text) cause
+      → (text : List ℕ) (cause : Cause) → closing spec 41 (inside n spec) text ≡ Err cause → OpenedFault spec n (40 ∷ text) cause
   opened_more n fault text cause h =
-      fault_up spec (Inside spec n) (Inside spec (suc n)) (inside n spec) (inside (suc n) spec)
+      fault_up spec (Closed 41 (Inside spec n)) (Closed 41 (Inside spec (suc n))) (closing spec 41 (inside n spec)) (closing spec 41 (inside (suc n) spec))
       (Factor spec (Inside spec n)) (Factor spec (Inside spec (suc n))) (factor_at (inside n spec) spec) (factor_at (inside (suc n) spec) spec) (40 ∷ [])
-      (λ t r k. (41 ∷ [], r, closed (Inside spec n) t r k)) (λ t r k. (41 ∷ [], r, closed (Inside spec (suc n)) t r k))
-      text cause f (ends_kept (40 ∷ []) f.front refl)
-      (λ again e. ap errs (at_open spec (Inside spec n) (inside n spec) (depth-rules n) (f.front ++ again)) ∙ errs_then (inside n spec (f.front ++ again)) (closing spec (Inside spec n) (inside n spec) (depth-rules n)) e)
-      (λ again e. ap errs (at_open spec (Inside spec (suc n)) (inside (suc n) spec) (depth-rules (suc n)) (f.front ++ again)) ∙ errs_then (inside (suc n) spec (f.front ++ again)) (closing spec (Inside spec (suc n)) (inside (suc n) spec) (depth-rules (suc n))) e)
+      (completes (Inside spec n)) (completes (Inside spec (suc n))) text cause f (ends_kept (40 ∷ []) f.front refl)
+      (λ again e. ap errs (at_open (inside n spec) spec (f.front ++ again)) ∙ e)
+      (λ again e. ap errs (at_open (inside (suc n) spec) spec (f.front ++ again)) ∙ e)
     where
-      f : Fault spec (Inside spec n) (Inside spec (suc n)) (inside n spec) (inside (suc n) spec) text cause
-      f = fault text cause h
+      f : Fault spec (Closed 41 (Inside spec n)) (Closed 41 (Inside spec (suc n))) (closing spec 41 (inside n spec)) (closing spec 41 (inside (suc n) spec)) text cause
+      f = closed_fault spec 41 refl refl (Inside spec n) AfterRange (inside n spec) (depth-rules n).read (Inside spec (suc n)) AfterRange (inside (suc n) spec)
+          (wider_inside spec n) (λ t rest e. e.0.0) after_instead (depth-rules (suc n)).reads fault text cause h
 
-      closed : (L : List ℕ → Range → Type 0) (t : List ℕ) (r : Range) → L t r → Factor spec L (40 ∷ (t ++ 41 ∷ [])) r
-      closed L t r k = subst (λ t'. Factor spec L (40 ∷ (t' ++ 41 ∷ [])) r) (append-nil t) (enclosed t [] k refl)
+      completes : (L : List ℕ → Range → Type 0) (t : List ℕ) (r : Range) → Closed 41 L t r → (after : List ℕ) × (y : Range) × Factor spec L (40 ∷ (t ++ after)) y
+      completes L t r k = ([], r, subst (λ t'. Factor spec L (40 ∷ t') r) (sym (append-nil t)) (opened k))
 
-  deeper : (n : ℕ) → ((text : List ℕ) (cause : Cause) → inside n spec text ≡ Err cause → OpenedFault spec n (40 ∷ text) cause)
+  deeper : (n : ℕ) → ((text : List ℕ) (cause : Cause) → closing spec 41 (inside n spec) text ≡ Err cause → OpenedFault spec n (40 ∷ text) cause)
       → (text : List ℕ) (cause : Cause) → inside (suc n) spec text ≡ Err cause → Fault spec (Inside spec (suc n)) (Inside spec (suc (suc n))) (inside (suc n) spec) (inside (suc (suc n)) spec) text cause
   unfolding Inside inside
-  deeper n opened text cause h = terms_fault spec (Inside spec n) (Inside spec (suc n)) (inside n spec) (inside (suc n) spec) (depth-rules n) (depth-rules (suc n)) (wider_inside spec n) opened text cause h
+  deeper n opened_fault text cause h = terms_fault spec (Inside spec n) (Inside spec (suc n)) (inside n spec) (inside (suc n) spec) (depth-rules n) (depth-rules (suc n)) (wider_inside spec n) opened_fault text cause h
 
-  opened_fault : (n : ℕ) (text : List ℕ) (cause : Cause) → inside n spec text ≡ Err cause → OpenedFault spec n (40 ∷ text) cause
+  opened_fault : (n : ℕ) (text : List ℕ) (cause : Cause) → closing spec 41 (inside n spec) text ≡ Err cause → OpenedFault spec n (40 ∷ text) cause
   opened_fault zero text cause h = opened_zero text cause h
   opened_fault (suc n) text cause h = opened_more (suc n) (deeper n (opened_fault n)) text cause h
 

@@ -1,5 +1,5 @@
 -- Readers of what stands at the front of a text, and where each of them is stuck.
-use Rattle.std.proofs.Common.{◌≡◌, ◌≢◌, ◌⊎◌, inl, inr, ℕ, Bool, true, false, ◌||◌, List, [], ◌∷◌, ◌++◌, Option, Some, None, Result, Ok, Err, refl, sym, ap, ◌∙◌, subst, append_assoc, append-nil}
+use Rattle.std.proofs.Common.{◌≡◌, ◌≢◌, ◌⊎◌, inl, inr, ℕ, Bool, true, false, ◌&&◌, ◌||◌, List, [], ◌∷◌, ◌++◌, Option, Some, None, Result, Ok, Err, refl, sym, ap, ◌∙◌, subst, append_assoc, append-nil, if◌then◌else◌}
 use Rattle.std.specs.Prelude.{◌==◌}
 use Rattle.std.specs.Char.{is_ascii_digit}
 use Rattle.std.proofs.lemmas.Bool.{false≢true}
@@ -8,6 +8,7 @@ use Rattle.plan_types.specs.declared.refusal.Cause.{Cause}
 use Rattle.plan_types.specs.declared.refusal.Cause.TheVariants.{BadVersion, BadRange, NeedsVersion, TooDeep}
 use Rattle.version_range.specs.Version.{begins_with_digit}
 use Rattle.version_range.specs.Grammar.{begins_with, is_old, ends_with_digit, IsNewForm}
+use Rattle.version_range.specs.Read.{cause_at}
 
 abbrev pub Reader : Type 0 → Type 0
 Reader A = List ℕ → Result (A × List ℕ) Cause
@@ -42,9 +43,19 @@ ends_behind [] b bs = refl
 ends_behind (x ∷ []) b bs = refl
 ends_behind (x ∷ y ∷ front) b bs = ends_behind (y ∷ front) b bs
 
+pub ends_some : (front back : List ℕ) → back ≢ [] → ends_with_digit (front ++ back) ≡ ends_with_digit back
+ends_some front [] some = absurd (some refl)
+ends_some front (b ∷ bs) some = ends_behind front b bs
+
 pub ends_kept : (front back : List ℕ) → ends_with_digit front ≡ false → ends_with_digit (front ++ back) ≡ ends_with_digit back
 ends_kept front [] h = ap ends_with_digit (append-nil front) ∙ h
 ends_kept front (b ∷ bs) h = ends_behind front b bs
+
+pub apart_before : (pre front rest : List ℕ) → ends_with_digit pre ≡ false → Apart front rest → Apart (pre ++ front) rest
+apart_before pre front rest e a d = a (sym (ends_kept pre front e) ∙ d)
+
+pub apart_within : (pre front rest : List ℕ) → ends_with_digit pre ≡ false → Apart (pre ++ front) rest → Apart front rest
+apart_within pre front rest e a d = a (ends_kept pre front e ∙ d)
 
 -- ---- what was read
 
@@ -82,6 +93,28 @@ pub record Fault {A B : Type 0} (spec : Spec) (L L' : List ℕ → A → Type 0)
   pub value : A
   pub goes_on : L (front ++ more) value
   pub why : Why spec L L' P P' front rest cause
+
+-- where another byte is due, which is no digit
+pub due_why : {A B : Type 0} (spec : Spec) (L L' : List ℕ → A → Type 0) (P P' : List ℕ → Result B Cause) (front rest : List ℕ) → Dead P' front rest
+    → (ends_with_digit front ≡ true → begins_with_digit rest ≡ false) → (ends_with_digit front ≡ false → NoDigit P' front) → Why spec L L' P P' front rest (cause_at spec BadRange rest)
+due_why spec L L' P P' front rest dead other none = by (is_old spec && begins_with 123 rest) refl (ends_with_digit front) refl
+  where
+    by : (t : Bool) → (is_old spec && begins_with 123 rest) ≡ t → (d : Bool) → ends_with_digit front ≡ d → Why spec L L' P P' front rest (if t then NeedsVersion else BadRange)
+    by true q d e = new_form q dead
+    by false q true e = behind_digit (λ n. false≢true (sym q ∙ n)) e (other e) dead
+    by false q false e = no_digit (λ n. false≢true (sym q ∙ n)) e (none e) dead
+
+unfoldable pub due_fault : {A B : Type 0} (spec : Spec) (L L' : List ℕ → A → Type 0) (P P' : List ℕ → Result B Cause) (front rest more : List ℕ) (x : A) → L (front ++ more) x → Dead P' front rest
+    → (ends_with_digit front ≡ true → begins_with_digit rest ≡ false) → (ends_with_digit front ≡ false → NoDigit P' front) → Fault spec L L' P P' (front ++ rest) (cause_at spec BadRange rest)
+due_fault spec L L' P P' front rest more x goes dead other none = record {
+  front = front;
+  rest = rest;
+  whole = refl;
+  more = more;
+  value = x;
+  goes_on = goes;
+  why = due_why spec L L' P P' front rest dead other none;
+}
 
 -- what stands in one language completes another
 abbrev pub Completes : {A B : Type 0} → (List ℕ → A → Type 0) → List ℕ → (List ℕ → B → Type 0) → Type 0

@@ -15,7 +15,6 @@ pub mod Factors
 pub mod Versions
 pub mod Whole
 pub mod ReadBack
-pub mod Marks
 pub mod Steps
 pub mod Closings
 pub mod Sets

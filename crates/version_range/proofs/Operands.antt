@@ -1,5 +1,5 @@
 -- Operands joined by a mark of two bytes, as they are read.
-use Rattle.std.proofs.Common.{◌≡◌, ◌≢◌, ℕ, ◌+◌, Bool, true, false, List, [], ◌∷◌, ◌++◌, Option, Some, None, Result, Ok, Err, refl, sym, ap, ◌∙◌, subst, append_assoc, append-nil}
+use Rattle.std.proofs.Common.{◌≡◌, ◌≢◌, inl, ℕ, ◌+◌, Bool, true, false, List, [], ◌∷◌, ◌++◌, Option, Some, None, Result, Ok, Err, refl, sym, ap, ◌∙◌, subst, append_assoc, append-nil}
 use Rattle.std.specs.Prelude.{◌==◌}
 use Rattle.std.specs.Char.{is_ascii_digit}
 use Rattle.std.specs.List.{list_all}
@@ -10,10 +10,10 @@ use Rattle.plan_types.specs.declared.refusal.Cause.TheVariants.{BadRange}
 use Rattle.version_range.specs.Read.{◌>>=◌, skip_blanks, byte_after, byte_due, cause_at, next_at}
 use Rattle.version_range.specs.Version.{begins_with_digit}
 use Rattle.version_range.specs.Grammar.{begins_with, is_blank, Blanks, ends_with_digit, Behind, behind, Chain, one, more}
-use Rattle.version_range.proofs.Fronts.{Reader, head_of, errs, ends_behind, ends_kept, Read, Dead, NoDigit, Fault, fault_up, fault_up_like}
-use Rattle.version_range.proofs.Spaces.{begins_same, due_why}
+use Rattle.version_range.proofs.Fronts.{Reader, errs, ends_behind, ends_some, ends_kept, Read, Fault, due_fault, fault_up, fault_up_like}
+use Rattle.version_range.proofs.Spaces.{no_digits, begins_like}
 use Rattle.version_range.proofs.Parts.{Parts, AllRead, NextFault, all_of, errs_then, ok_parts, reads, read_all, fault_all, wide}
-use Rattle.version_range.proofs.Led.{twice, at_mark, at_half, at_none, Mark, no_mark, half, mark, marked, digit_begins_other}
+use Rattle.version_range.proofs.Led.{twice, at_mark, at_half, at_none, Mark, no_mark, half, mark, marked}
 
 -- the reader P reads the language L, where E tells which texts may follow
 pub record Rules (L : List ℕ → Range → Type 0) (E : List ℕ → List ℕ → Type 0) (P : Reader Range) : Type 0 where
@@ -32,10 +32,6 @@ some_append (x ∷ xs) y ys e = cc e
 
 some_behind : {A : Type 0} (L : List ℕ → A → Type 0) (byte : ℕ) (text : List ℕ) (x : A) → Behind (twice byte) L text x → text ≢ []
 some_behind L byte text x (behind blanks {text = part} are is) e = some_append blanks byte (byte ∷ part) (sym (append_assoc blanks (twice byte) part) ∙ e)
-
-pub ends_some : (pre text : List ℕ) → text ≢ [] → ends_with_digit (pre ++ text) ≡ ends_with_digit text
-ends_some pre [] some = absurd (some refl)
-ends_some pre (b ∷ bs) some = ends_behind pre b bs
 
 module _ (spec : Spec) (byte : ℕ) (not-blank : is_blank byte ≡ false) (not-digit : is_ascii_digit byte ≡ false) (L : List ℕ → Range → Type 0) (E : List ℕ → List ℕ → Type 0) (P : Reader Range)
     (rules : Rules L E P) (follow : Follow E) (mark_follows : (text blanks again : List ℕ) → Blanks blanks → E text (blanks ++ (byte ∷ again))) where
@@ -173,19 +169,13 @@ module _ (spec : Spec) (byte : ℕ) (not-blank : is_blank byte ≡ false) (not-d
 
   -- one byte of the mark stands there alone
   fault_half : (blanks rest : List ℕ) → Blanks blanks → begins_with byte rest ≡ false → Failed (once blanks ++ rest) (cause_at spec BadRange rest)
+  unfolding due_fault
   fault_half blanks rest are other = record {
-    fault = record {
-      front = once blanks;
-      rest = rest;
-      whole = refl;
-      more = byte ∷ witness;
-      value = shown;
-      goes_on = subst (λ t. Behind-L t shown) (append_assoc blanks (twice byte) witness ∙ sym (once_more blanks (byte ∷ witness))) (behind blanks are witnessed);
-      why = due_why spec Behind-L Behind-L' next next' (once blanks) rest
-          (λ again same. half_errs blanks again are (begins_same byte rest again same ∙ other))
-          (λ digit. absurd (cc (digit, once_end blanks)))
-          (λ none digit again is. half_errs blanks (digit ∷ again) are (digit_begins_other byte (digit ∷ again) not-digit is));
-    };
+    fault = due_fault spec Behind-L Behind-L' next next' (once blanks) rest (byte ∷ witness) shown
+        (subst (λ t. Behind-L t shown) (append_assoc blanks (twice byte) witness ∙ sym (once_more blanks (byte ∷ witness))) (behind blanks are witnessed))
+        (λ again same. half_errs blanks again are (begins_like byte not-digit [] rest again (inl same) other))
+        (λ digit. absurd (cc (digit, once_end blanks)))
+        (λ none digit again is. half_errs blanks (digit ∷ again) are (no_digits byte not-digit digit is));
     begun = some_append blanks byte [];
     opens = λ text again. subst (E text) (sym (once_more blanks again)) (mark_follows text blanks again are);
   }

@@ -6,7 +6,7 @@ use Rattle.plan_types.specs.declared.refusal.TextFault.TheVariants.{Bad}
 use Rattle.version_range.specs.Read.{◌>>=◌, chain, chained}
 use Rattle.version_range.specs.Grammar.{Chain, one, more, ends_with_digit}
 use Rattle.version_range.proofs.Chains.{Goes, begun, goes_on, is_done, ends, step, stop, broken}
-use Rattle.version_range.proofs.Fronts.{Reader, errs, ends_behind, Read, Fault, Completes, Passes, fault_up}
+use Rattle.version_range.proofs.Fronts.{Reader, errs, ends_some, Read, Fault, Completes, Passes, fault_up}
 
 -- a reader of what comes next, if anything does
 abbrev pub Option-Reader : Type 0 → Type 0
@@ -122,10 +122,6 @@ module _ {A B : Type 0} (spec : Spec) (join : A → B → A) (First First' : Lis
 
   ends_with : {A B : Type 0} (join : A → B → A) (next : Option-Reader B) (left : A) (rest : List ℕ) (whole : Result (A × List ℕ) Cause) → Goes join next left rest whole → errs (next rest) ≡ true → errs whole ≡ true
   ends_with join next left rest whole g h = let e = err_of (next rest) h in ap errs (ends join next (Bad e.0) left rest whole g e.1)
-
-  ends_some : (text front : List ℕ) → front ≢ [] → ends_with_digit (text ++ front) ≡ ends_with_digit front
-  ends_some text [] some = absurd (some refl)
-  ends_some text (b ∷ bs) some = ends_behind text b bs
 
   fault_next : (text : List ℕ) (left : A) → Chain join First Next text left → (behind : List ℕ) (cause : Cause) → NextFault behind cause
       → Fault spec (Chain join First Next) (Chain join First' Next') (all_of join first next) (all_of join first' next') (text ++ behind) cause

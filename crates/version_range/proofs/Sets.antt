@@ -9,14 +9,13 @@ use Rattle.plan_types.specs.declared.range.Spec.{Spec}
 use Rattle.plan_types.specs.declared.version.Version.{Version}
 use Rattle.plan_types.specs.declared.refusal.Cause.{Cause}
 use Rattle.version_range.specs.declared.operator.Operator.{Operator}
-use Rattle.version_range.specs.Grammar.{is_blank, ends_with_digit, Blanks, Led, Behind, behind, of_version, Compared, compared, Members}
+use Rattle.version_range.specs.Grammar.{begins_with, is_blank, ends_with_digit, Blanks, Led, Behind, behind, of_version, Compared, compared, Members}
 use Rattle.version_range.specs.Read.{◌>>=◌, skip_blanks, byte_after, version_at, compared_at, next_member, set_at, chained}
-use Rattle.version_range.proofs.Fronts.{Reader, head_of, errs, goes_on_number, Apart, apart_same_head, ends_behind, ends_kept, Read, Like, Fault, fault_up_like}
+use Rattle.version_range.proofs.Fronts.{Reader, head_of, errs, goes_on_number, Apart, apart_before, apart_within, ends_behind, ends_kept, Read, Like, Fault, fault_up_like}
 use Rattle.version_range.proofs.Parts.{Parts, all_of, reads, read_all, NextFault, fault_all}
-use Rattle.version_range.proofs.Led.{blanks_no_number}
-use Rattle.version_range.proofs.Marks.{starts, NotDigits, starts_like, no_digits, blanks_none, on_number, blank_apart, Cut, cut, skip_over, byte_gone, Begun, begun}
-use Rattle.version_range.proofs.Steps.{Good, Never, apart_before, apart_within, good_led, valued, good_map, good_as}
-use Rattle.version_range.proofs.Closings.{apart_next, Closed, closing, closed_at, closed_reads, closed_read, closed_fault}
+use Rattle.version_range.proofs.Spaces.{Never, NotDigits, byte_gone, Begun, begun, blanks_none, on_number, blank_no_number, blanks_no_number, Cut, cut, skip_over}
+use Rattle.version_range.proofs.Steps.{Good, good_led, valued, good_map, good_as}
+use Rattle.version_range.proofs.Closings.{Instead, instead, begins_instead, apart_instead, Closed, closing, closed_at, closed_reads, closed_read, closed_fault}
 use Rattle.version_range.proofs.Versions.{VersionText, version_read, version_reads, version_fault, version_first}
 
 -- ---- parts that begin with a byte that goes on no number
@@ -39,7 +38,7 @@ module _ {A : Type 0} (L : List ℕ → A → Type 0) (never : Never on_number L
 
 pub never_behind : {A : Type 0} (mark : ℕ) → on_number mark ≡ false → (L : List ℕ → A → Type 0) → Never on_number (Behind (mark ∷ []) L)
 never_behind mark other L text x (behind [] {text = t} all l) = (mark, t, refl, other)
-never_behind mark other L text x (behind (b ∷ bs) {text = t} all l) = (b, (bs ++ mark ∷ []) ++ t, refl, blank_apart b (and_parts (is_blank b) (list_all is_blank bs) all).0)
+never_behind mark other L text x (behind (b ∷ bs) {text = t} all l) = (b, (bs ++ mark ∷ []) ++ t, refl, blank_no_number b (and_parts (is_blank b) (list_all is_blank bs) all).0)
 
 -- ---- versions that are compared
 
@@ -96,17 +95,17 @@ module _ (spec : Spec) (op : Operator) where
       by (Ok p) = refl
       by (Err cause) = refl
 
-  next_gone : (text : List ℕ) → starts (λ c. c == 44) (skip_blanks text) ≡ false → next_member op spec text ≡ Ok None
+  next_gone : (text : List ℕ) → begins_with 44 (skip_blanks text) ≡ false → next_member op spec text ≡ Ok None
   unfolding next_member
   next_gone text h = ap (λ (o : Option (List ℕ)). elim o [ None ↦ Ok None | Some m ↦ version_at false spec (skip_blanks m) >>= λ p. Ok (Some (of_version op p.0, p.1)) ]) (byte_gone 44 (skip_blanks text) h)
 
-  no_next : (text : List ℕ) → next_member op spec text ≡ Ok None → starts (λ c. c == 44) (skip_blanks text) ≡ false
+  no_next : (text : List ℕ) → next_member op spec text ≡ Ok None → begins_with 44 (skip_blanks text) ≡ false
   no_next text h = by (begun 44 (skip_blanks text))
     where
       at : (r : Result (Range × List ℕ) Cause) → found r ≡ Ok None → ⊥
       at (Ok p) e = absurd (cc e)
       at (Err cause) e = absurd (cc e)
-      by : Begun 44 (skip_blanks text) → starts (λ c. c == 44) (skip_blanks text) ≡ false
+      by : Begun 44 (skip_blanks text) → begins_with 44 (skip_blanks text) ≡ false
       by (inl p) = absurd (at (member_at spec op p.0) (sym (next_here text p.0 p.1) ∙ h))
       by (inr g) = g
 
@@ -206,18 +205,11 @@ module _ (spec : Spec) (op : Operator) where
   members_fault : (text : List ℕ) (cause : Cause) → members_at text ≡ Err cause → Fault spec (Members op) (Members op) members_at members_at text cause
   members_fault text cause h = fault_all spec Either (Led (Compared op)) (Led (Compared op)) Next Next Apart (member_at spec op) (member_at spec op) (next_member op spec) (next_member op spec) rules rules (λ t x l. l) (λ t x l. l) next_fault member_good.fault text cause h
 
-  ends_next : (text blanks rest again : List ℕ) → Blanks blanks → starts is_blank rest ≡ false → Ends text (blanks ++ rest) → Like again rest → (head_of again ≡ head_of rest) ⊎ (ends_with_digit (text ++ blanks) ≡ false) → Ends text (blanks ++ again)
-  ends_next text blanks rest again all solid e like o =
-      let none : starts (λ c. c == 44) rest ≡ false = ap (starts (λ c. c == 44)) (sym (skip_over blanks rest all solid)) ∙ no_next (blanks ++ rest) e.1 in
-      let over = skip_over blanks again all (starts_like is_blank blanks_none [] rest again like solid) in
-      (apart_next text blanks rest again e.0 o, next_gone (blanks ++ again) (ap (starts (λ c. c == 44)) over ∙ starts_like (λ c. c == 44) (no_digits 44 refl) [] rest again like none))
+  ends_instead : (text rest again : List ℕ) → Ends text rest → Instead text rest again → Ends text (instead rest again)
+  ends_instead text rest again e i = (apart_instead i e.0, next_gone (instead rest again) (begins_instead 44 refl i (no_next rest e.1)))
 
   closes : (text : List ℕ) (x : Range) (after rest : List ℕ) → Members op text x → Blanks after → Ends text (after ++ 125 ∷ rest)
-  closes text x after rest l all = (apart_close after all, next_gone (after ++ 125 ∷ rest) (ap (starts (λ c. c == 44)) (skip_over after (125 ∷ rest) all refl)))
-    where
-      apart_close : (after : List ℕ) → Blanks after → Apart text (after ++ 125 ∷ rest)
-      apart_close [] all d = refl
-      apart_close (b ∷ bs) all d = blank_apart b (and_parts (is_blank b) (list_all is_blank bs) all).0
+  closes text x after rest l all = ((λ d. blanks_no_number after (125 ∷ rest) all refl), next_gone (after ++ 125 ∷ rest) (ap (begins_with 44) (skip_over after (125 ∷ rest) all refl)))
 
   set_same : (text : List ℕ) → set_at op spec text ≡ closing spec 125 members_at text
   unfolding set_at compared_at
@@ -232,5 +224,5 @@ module _ (spec : Spec) (op : Operator) where
   set_good = good_as spec (Closed 125 (Members op)) (closing spec 125 members_at) (record {
     read = closed_read spec 125 refl refl (Members op) Ends members_at members_read;
     reads = λ text x rest l a. closed_reads spec 125 refl refl (Members op) Ends members_at members_reads closes l rest;
-    fault = closed_fault spec 125 refl refl (Members op) Ends members_at members_read (Members op) Ends members_at (λ t x l. l) (λ t r e. e.0) ends_next members_reads members_fault;
+    fault = closed_fault spec 125 refl refl (Members op) Ends members_at members_read (Members op) Ends members_at (λ t x l. l) (λ t r e. e.0) ends_instead members_reads members_fault;
   }) (Closed 125 (Members op)) (λ t x l. l) (λ t x l. l) (set_at op spec) set_same

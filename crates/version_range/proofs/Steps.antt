@@ -9,9 +9,10 @@ use Rattle.plan_types.specs.declared.refusal.Cause.TheVariants.{BadRange, NeedsV
 use Rattle.version_range.specs.Version.{begins_with_digit}
 use Rattle.version_range.specs.Grammar.{begins_with, is_blank, is_old, ends_with_digit, Led, led}
 use Rattle.version_range.specs.Read.{◌>>=◌, skip_blanks, byte_after, byte_due, cause_at}
-use Rattle.version_range.proofs.Fronts.{Reader, errs, Apart, ends_kept, Read, Dead, NoDigit, Why, new_form, behind_digit, no_digit, Like, Fault, fault_up_like}
+use Rattle.version_range.proofs.Fronts.{Reader, errs, Apart, ends_kept, apart_before, apart_within, Read, Like, Fault, due_fault, fault_up_like}
 use Rattle.version_range.proofs.Parts.{ok_parts}
-use Rattle.version_range.proofs.Marks.{starts, starts_same, starts_like, no_digits, blanks_none, cut, skip_over, ends_blanks, byte_here, byte_gone, Begun, begun}
+use Rattle.version_range.proofs.Spaces.{starts, Never, never_starts, starts_same, starts_like, no_digits, begins_like, byte_here, byte_gone, Begun, begun, due_here, due_gone}
+use Rattle.version_range.proofs.Led.{led_at, led_reads, led_read, led_fault}
 
 -- the reader reads this language, and where it fails, it is stuck
 pub record Good {A : Type 0} (spec : Spec) (L : List ℕ → A → Type 0) (R : Reader A) : Type 0 where
@@ -19,66 +20,10 @@ pub record Good {A : Type 0} (spec : Spec) (L : List ℕ → A → Type 0) (R : 
   pub reads : (text : List ℕ) (x : A) (rest : List ℕ) → L text x → Apart text rest → R (text ++ rest) ≡ Ok (x, rest)
   pub fault : (text : List ℕ) (cause : Cause) → R text ≡ Err cause → Fault spec L L R R text cause
 
-pub apart_before : (pre front rest : List ℕ) → ends_with_digit pre ≡ false → Apart front rest → Apart (pre ++ front) rest
-apart_before pre front rest e a d = a (sym (ends_kept pre front e) ∙ d)
-
-pub apart_within : (pre front rest : List ℕ) → ends_with_digit pre ≡ false → Apart (pre ++ front) rest → Apart front rest
-apart_within pre front rest e a d = a (ends_kept pre front e ∙ d)
-
--- no text of the language begins with such a byte, nor is it empty
-abbrev pub Never : {A : Type 0} → (ℕ → Bool) → (List ℕ → A → Type 0) → Type 0
-Never test L = (text : List ℕ) (x : _) → L text x → (b : ℕ) × (bs : List ℕ) × (text ≡ b ∷ bs) × (test b ≡ false)
-
-pub never_starts : {A : Type 0} (test : ℕ → Bool) (L : List ℕ → A → Type 0) → Never test L → (text : List ℕ) (x : A) → L text x → (rest : List ℕ) → starts test (text ++ rest) ≡ false
-never_starts test L never text x l rest = let f = never text x l in ap (λ t. starts test (t ++ rest)) f.2 ∙ f.3
-
--- the fault where another byte was wanting behind the front
-pub fresh : {A B : Type 0} (spec : Spec) (L L' : List ℕ → A → Type 0) (P P' : List ℕ → Result B Cause) (front rest more : List ℕ) (x : A) → L (front ++ more) x → Dead P' front rest
-    → (ends_with_digit front ≡ true → begins_with_digit rest ≡ false) → (ends_with_digit front ≡ false → NoDigit P' front) → Fault spec L L' P P' (front ++ rest) (cause_at spec BadRange rest)
-fresh spec L L' P P' front rest more x goes dead digit none = record {
-  front = front;
-  rest = rest;
-  whole = refl;
-  more = more;
-  value = x;
-  goes_on = goes;
-  why = by (is_old spec && begins_with 123 rest) refl (ends_with_digit front) refl;
-}
-  where
-    by : (t : Bool) → (is_old spec && begins_with 123 rest) ≡ t → (d : Bool) → ends_with_digit front ≡ d → Why spec L L' P P' front rest (if t then NeedsVersion else BadRange)
-    by true q d e = new_form q dead
-    by false q true e = behind_digit (λ n. false≢true (sym q ∙ n)) e (digit e) dead
-    by false q false e = no_digit (λ n. false≢true (sym q ∙ n)) e (none e) dead
-
 -- ---- blanks
 
-module _ {A : Type 0} (spec : Spec) (K : List ℕ → A → Type 0) (R : Reader A) (k : Good spec K R) (never : Never is_blank K) where
-  led_reads : {text : List ℕ} {x : A} → Led K text x → (rest : List ℕ) → Apart text rest → R (skip_blanks (text ++ rest)) ≡ Ok (x, rest)
-  led_reads {x = x} (led blanks {text = text} all l) rest a =
-      ap R (ap skip_blanks (append_assoc blanks text rest) ∙ skip_over blanks (text ++ rest) all (never_starts is_blank K never text x l rest))
-      ∙ k.reads text x rest l (apart_within blanks text rest (ends_blanks blanks all) a)
-
-  led_fault : (text : List ℕ) (cause : Cause) → R (skip_blanks text) ≡ Err cause → Fault spec (Led K) (Led K) (λ t. R (skip_blanks t)) (λ t. R (skip_blanks t)) text cause
-  led_fault text cause h =
-      let c = cut text in
-      let f = k.fault (skip_blanks text) cause h in
-      let completes : (t : List ℕ) (x : A) → K t x → (end : List ℕ) × (y : A) × Led K (c.blanks ++ (t ++ end)) y = λ t x l. ([], x, subst (λ u. Led K (c.blanks ++ u) x) (sym (append-nil t)) (led c.blanks c.all l)) in
-      let passes : (again : List ℕ) → Like again f.rest → errs (R (f.front ++ again)) ≡ true → errs (R (skip_blanks (c.blanks ++ (f.front ++ again)))) ≡ true =
-          λ again like e. ap (λ t. errs (R t)) (skip_over c.blanks (f.front ++ again) c.all (starts_like is_blank blanks_none f.front f.rest again like (subst (λ u. starts is_blank u ≡ false) f.whole c.none))) ∙ e in
-      subst (λ t. Fault spec (Led K) (Led K) (λ u. R (skip_blanks u)) (λ u. R (skip_blanks u)) t cause) (sym c.whole)
-      (fault_up_like spec K K R R (Led K) (Led K) (λ u. R (skip_blanks u)) (λ u. R (skip_blanks u)) c.blanks completes completes (skip_blanks text) cause f (ends_kept c.blanks f.front (ends_blanks c.blanks c.all)) passes passes)
-
-  pub good_led : Good spec (Led K) (λ text. R (skip_blanks text))
-  good_led = record {
-    read = λ text x rest h. let c = cut text in let r = k.read (skip_blanks text) x rest h in record {
-      front = c.blanks ++ r.front;
-      whole = c.whole ∙ ap (λ t. c.blanks ++ t) r.whole ∙ sym (append_assoc c.blanks r.front rest);
-      is = led c.blanks c.all r.is;
-      apart = apart_before c.blanks r.front rest (ends_blanks c.blanks c.all) r.apart;
-    };
-    reads = λ text x rest l a. led_reads l rest a;
-    fault = led_fault;
-  }
+pub good_led : {A : Type 0} (spec : Spec) (K : List ℕ → A → Type 0) (R : Reader A) → Good spec K R → Never is_blank K → Good spec (Led K) (led_at R)
+good_led spec K R k never = record { read = led_read K R k.read; reads = led_reads K R never k.reads; fault = led_fault spec K K R R k.fault }
 
 -- ---- a byte
 
@@ -116,45 +61,45 @@ module _ {A : Type 0} (spec : Spec) (byte : ℕ) (other : is_ascii_digit byte �
 
   -- a byte that must stand here
   module _ (sample : List ℕ) (value : A) (is : K sample value) where
-    due_here : (rest : List ℕ) → due spec byte R (byte ∷ rest) ≡ R rest
-    due_here rest = ap (λ (o : Option (List ℕ)). (elim o [ None ↦ Err (cause_at spec BadRange (byte ∷ rest)) | Some more ↦ Ok more ]) >>= R) (byte_here byte rest)
+    found : (rest : List ℕ) → due spec byte R (byte ∷ rest) ≡ R rest
+    found rest = ap (λ r. r >>= R) (due_here spec byte rest)
 
-    due_gone : (text : List ℕ) → starts is_byte text ≡ false → due spec byte R text ≡ Err (cause_at spec BadRange text)
-    due_gone text h = ap (λ (o : Option (List ℕ)). (elim o [ None ↦ Err (cause_at spec BadRange text) | Some more ↦ Ok more ]) >>= R) (byte_gone byte text h)
+    missed : (text : List ℕ) → begins_with byte text ≡ false → due spec byte R text ≡ Err (cause_at spec BadRange text)
+    missed text h = ap (λ r. r >>= R) (due_gone spec byte text h)
 
     due_reads : {text : List ℕ} {x : A} → After byte K text x → (rest : List ℕ) → Apart text rest → due spec byte R (text ++ rest) ≡ Ok (x, rest)
-    due_reads {x = x} (after {text = text} l) rest a = due_here (text ++ rest) ∙ k.reads text x rest l (apart_within (byte ∷ []) text rest other a)
+    due_reads {x = x} (after {text = text} l) rest a = found (text ++ rest) ∙ k.reads text x rest l (apart_within (byte ∷ []) text rest other a)
 
     due_read : (text : List ℕ) (x : A) (rest : List ℕ) → due spec byte R text ≡ Ok (x, rest) → Read (After byte K) Apart text x rest
     due_read text x rest h = by (begun byte text)
       where
         by : Begun byte text → Read (After byte K) Apart text x rest
-        by (inl p) = subst (λ t. Read (After byte K) Apart t x rest) (sym p.1) (byte_read p.0 x rest (sym (due_here p.0) ∙ ap (due spec byte R) (sym p.1) ∙ h) (After byte K) (λ t l. after l))
-        by (inr g) = absurd (cc (h, due_gone text g))
+        by (inl p) = subst (λ t. Read (After byte K) Apart t x rest) (sym p.1) (byte_read p.0 x rest (sym (found p.0) ∙ ap (due spec byte R) (sym p.1) ∙ h) (After byte K) (λ t l. after l))
+        by (inr g) = absurd (cc (h, missed text g))
 
-    due_fault : (text : List ℕ) (cause : Cause) → due spec byte R text ≡ Err cause → Fault spec (After byte K) (After byte K) (due spec byte R) (due spec byte R) text cause
-    due_fault text cause h = by (begun byte text)
+    missed_fault : (text : List ℕ) (cause : Cause) → due spec byte R text ≡ Err cause → Fault spec (After byte K) (After byte K) (due spec byte R) (due spec byte R) text cause
+    missed_fault text cause h = by (begun byte text)
       where
         by : Begun byte text → Fault spec (After byte K) (After byte K) (due spec byte R) (due spec byte R) text cause
         by (inl p) = subst (λ t. Fault spec (After byte K) (After byte K) (due spec byte R) (due spec byte R) t cause) (sym p.1)
-            (byte_fault p.0 cause (sym (due_here p.0) ∙ ap (due spec byte R) (sym p.1) ∙ h) (After byte K) (due spec byte R) (λ t x l. after l) due_here)
+            (byte_fault p.0 cause (sym (found p.0) ∙ ap (due spec byte R) (sym p.1) ∙ h) (After byte K) (due spec byte R) (λ t x l. after l) found)
         by (inr g) =
-            let same : cause_at spec BadRange text ≡ cause = cc (h, due_gone text g) in
+            let same : cause_at spec BadRange text ≡ cause = cc (h, missed text g) in
             subst (Fault spec (After byte K) (After byte K) (due spec byte R) (due spec byte R) text) same
-            (fresh spec (After byte K) (After byte K) (due spec byte R) (due spec byte R) [] text (byte ∷ sample) value (after is)
-            (λ again e. ap errs (due_gone again (starts_same is_byte text again e g)))
+            (due_fault spec (After byte K) (After byte K) (due spec byte R) (due spec byte R) [] text (byte ∷ sample) value (after is)
+            (λ again e. ap errs (missed again (starts_same is_byte text again e g)))
             (λ d. absurd (false≢true d))
-            (λ d digit again e. ap errs (due_gone (digit ∷ again) (no_digits byte other digit e))))
+            (λ d digit again e. ap errs (missed (digit ∷ again) (no_digits byte other digit e))))
 
     pub good_due : Good spec (After byte K) (due spec byte R)
-    good_due = record { read = due_read; reads = λ text x rest l a. due_reads l rest a; fault = due_fault }
+    good_due = record { read = due_read; reads = λ text x rest l a. due_reads l rest a; fault = missed_fault }
 
   -- a byte that may stand here
   module _ (M : List ℕ → A → Type 0) (T : Reader A) (m : Good spec M T) (never : Never is_byte M) where
     choose_here : (rest : List ℕ) → choose byte R T (byte ∷ rest) ≡ R rest
     choose_here rest = ap (λ (o : Option (List ℕ)). elim o [ Some more ↦ R more | None ↦ T (byte ∷ rest) ]) (byte_here byte rest)
 
-    choose_gone : (text : List ℕ) → starts is_byte text ≡ false → choose byte R T text ≡ T text
+    choose_gone : (text : List ℕ) → begins_with byte text ≡ false → choose byte R T text ≡ T text
     choose_gone text h = ap (λ (o : Option (List ℕ)). elim o [ Some more ↦ R more | None ↦ T text ]) (byte_gone byte text h)
 
     choose_reads : {text : List ℕ} {x : A} → Choice byte K M text x → (rest : List ℕ) → Apart text rest → choose byte R T (text ++ rest) ≡ Ok (x, rest)
@@ -178,7 +123,7 @@ module _ {A : Type 0} (spec : Spec) (byte : ℕ) (other : is_ascii_digit byte �
             let f = m.fault text cause (sym (choose_gone text g) ∙ h) in
             let completes : (t : List ℕ) (x : A) → M t x → (end : List ℕ) × (y : A) × Choice byte K M (t ++ end) y = λ t x l. ([], x, subst (λ u. Choice byte K M u x) (sym (append-nil t)) (there l)) in
             let passes : (again : List ℕ) → Like again f.rest → errs (T (f.front ++ again)) ≡ true → errs (choose byte R T (f.front ++ again)) ≡ true =
-                λ again like e. ap errs (choose_gone (f.front ++ again) (starts_like is_byte (no_digits byte other) f.front f.rest again like (subst (λ u. starts is_byte u ≡ false) f.whole g))) ∙ e in
+                λ again like e. ap errs (choose_gone (f.front ++ again) (begins_like byte other f.front f.rest again like (sym (ap (begins_with byte) f.whole) ∙ g))) ∙ e in
             fault_up_like spec M M T T (Choice byte K M) (Choice byte K M) (choose byte R T) (choose byte R T) [] completes completes text cause f refl passes passes
 
     pub good_choose : Good spec (Choice byte K M) (choose byte R T)

@@ -14,11 +14,11 @@ use Rattle.version_range.specs.Version.{begins_with_digit}
 use Rattle.version_range.specs.Grammar.{begins_with, is_old, is_blank, Blanks, ends_with_digit, atom, any, Factor, Term, Terms, Inside, Led, led, Behind, Chain, one, more, Stands, empty, range, Viable, Stuck, IsNewForm, IsNumberDue, OpensTooMany, CauseAt, needs_version, bad_version, too_deep, bad_range, FirstFault}
 use Rattle.version_range.proofs.Fronts.{head_of, errs, goes_on_number, Apart, ends_kept, Read, Dead, NoDigit, Like, Why, new_form, number_due, digit_more, behind_digit, no_digit, Fault, fault_up_like}
 use Rattle.version_range.proofs.Fronts as fronts
-use Rattle.version_range.proofs.Spaces.{unblank, Blanked, blanked, skip_to, unblank_head, begins_same}
+use Rattle.version_range.proofs.Spaces.{starts, starts_same, starts_digit, blanks_none, blanks_no_number, cut, skip_over}
 use Rattle.version_range.proofs.Parts.{errs_then, ok_parts}
-use Rattle.version_range.proofs.Led.{Unblank, blanks_no_number, blank_no_digit, digit_unblank, digit_begins_other}
+use Rattle.version_range.proofs.Closings.{Instead, instead, like_instead, skip_instead, misplaced}
 use Rattle.version_range.proofs.Operands.{Rules}
-use Rattle.version_range.proofs.Factors.{AfterRange, factor_unblank, inside_rules, range_rules, range_fault, wider_inside, wider_terms, Misplaced, misplaced}
+use Rattle.version_range.proofs.Factors.{AfterRange, after_instead, factor_unblank, inside_rules, range_rules, range_fault, wider_inside, wider_terms}
 
 -- what is read of a range is the text where only blanks are left
 abbrev pub to_end : Spec → Range × List ℕ → Result Range Cause
@@ -54,10 +54,10 @@ some_length (b ∷ bs) some = by (length (b ∷ bs) == 0) refl
     by false q = q
 
 all_blanks : (text : List ℕ) → skip_blanks text ≡ [] → Blanks text
-all_blanks text h = let b = blanked text in subst Blanks (sym (b.whole ∙ ap (λ t. b.blanks ++ t) (sym b.skipped ∙ h) ∙ append-nil b.blanks)) b.are
+all_blanks text h = let c = cut text in subst Blanks (sym (c.whole ∙ ap (λ t. c.blanks ++ t) h ∙ append-nil c.blanks)) c.all
 
 skip_all : (text : List ℕ) → Blanks text → skip_blanks text ≡ []
-skip_all text are = ap skip_blanks (sym (append-nil text)) ∙ skip_to text [] are refl
+skip_all text are = ap skip_blanks (sym (append-nil text)) ∙ skip_over text [] are refl
 
 blanks_parts : (xs ys : List ℕ) → Blanks (xs ++ ys) → Blanks xs × Blanks ys
 blanks_parts [] ys h = (refl, h)
@@ -139,7 +139,7 @@ module _ (spec : Spec) where
 
   -- behind blanks the fault is at no blank
   stuck_behind_blanks : (n : ℕ) (text : List ℕ) (cause : Cause) (f : Fault spec (Terms spec (Inside spec n)) (Terms spec (Inside spec (suc n))) (range_in (inside n spec) spec) (range_in (inside (suc n) spec) spec) text cause)
-      → Blanks f.front → unblank f.rest ≡ true
+      → Blanks f.front → starts is_blank f.rest ≡ false
   stuck_behind_blanks n text cause f are = by f.rest refl
     where
       any_read : (m : ℕ) (b : ℕ) → is_blank b ≡ true → errs (range_in (inside m spec) spec (f.front ++ (b ∷ codes "-any"))) ≡ false
@@ -153,13 +153,13 @@ module _ (spec : Spec) where
           why_dead spec (Terms spec (Inside spec n)) (Terms spec (Inside spec (suc n))) (range_in (inside n spec) spec) (range_in (inside (suc n) spec) spec) f.front f.rest f.why
           (b ∷ codes "-any") (ap head_of (sym e)) (any_read n b blank) (any_read (suc n) b blank)
 
-      by : (rest : List ℕ) → f.rest ≡ rest → unblank f.rest ≡ true
-      by [] e = ap unblank e
+      by : (rest : List ℕ) → f.rest ≡ rest → starts is_blank f.rest ≡ false
+      by [] e = ap (starts is_blank) e
       by (b ∷ rest) e = at (is_blank b) refl
         where
-          at : (t : Bool) → is_blank b ≡ t → unblank f.rest ≡ true
+          at : (t : Bool) → is_blank b ≡ t → starts is_blank f.rest ≡ false
           at true q = absurd (blank_no b rest e q)
-          at false q = ap unblank e ∙ rw q refl
+          at false q = ap (starts is_blank) e ∙ q
 
   range_stuck : (n : ℕ) (text : List ℕ) (cause : Cause) → NotBlank text → range_in (inside n spec) spec text ≡ Err cause → TextFault n text cause
   range_stuck n text cause some h =
@@ -175,9 +175,9 @@ module _ (spec : Spec) where
       behind_blanks : Blanks f.front → (again : List ℕ) → Like again f.rest → (rest : List ℕ) → f.rest ≡ rest → NotBlank (f.front ++ again)
       behind_blanks are again like [] e empty' = some (ap skip_blanks (f.whole ∙ ap (λ t. f.front ++ t) e ∙ append-nil f.front) ∙ skip_all f.front are)
       behind_blanks are again (inl same) (b ∷ rest) e empty' =
-          head_some again b rest (same ∙ ap head_of e) (sym (skip_to f.front again are (unblank_head f.rest again same (stuck_behind_blanks n text cause f are))) ∙ empty')
+          head_some again b rest (same ∙ ap head_of e) (sym (skip_over f.front again are (starts_same is_blank f.rest again same (stuck_behind_blanks n text cause f are))) ∙ empty')
       behind_blanks are again (inr digit) (b ∷ rest) e empty' =
-          digit_some again digit (sym (skip_to f.front again are (digit_unblank again digit)) ∙ empty')
+          digit_some again digit (sym (skip_over f.front again are (starts_digit is_blank blanks_none again digit)) ∙ empty')
 
       not_blank : (again : List ℕ) → Like again f.rest → NotBlank (f.front ++ again)
       not_blank again like = by (list_all is_blank f.front) refl
@@ -188,37 +188,27 @@ module _ (spec : Spec) where
 
   -- ---- something stands behind the range
 
-  module _ (n : ℕ) (front blanks rest : List ℕ) (r : Range) (c : Terms spec (Inside spec n) front r) (are : Blanks blanks) (end : unblank rest ≡ true) (after : AfterRange front (blanks ++ rest)) (some : rest ≢ []) where
+  module _ (n : ℕ) (front behind : List ℕ) (r : Range) (c : Terms spec (Inside spec n) front r) (after : AfterRange front behind) (some : skip_blanks behind ≢ []) where
     wide-c : Terms spec (Inside spec (suc n)) front r
     wide-c = wider_terms spec (Inside spec n) (Inside spec (suc n)) (wider_inside spec n) front r c
 
-    left_over : (again : List ℕ) → AfterRange front (blanks ++ again) → unblank again ≡ true → again ≢ [] → errs (text_at spec (suc n) ((front ++ blanks) ++ again)) ≡ true
-    left_over again follows u more' =
-        ap errs (at_range (suc n) ((front ++ blanks) ++ again) (λ e. terms_not_blank (suc n) front r wide-c (blanks_parts front (blanks ++ again) (subst Blanks (append_assoc front blanks again) (all_blanks ((front ++ blanks) ++ again) e))).0))
-        ∙ ap (λ t. errs (range_in (inside (suc n) spec) spec t >>= to_end spec)) (append_assoc front blanks again)
-        ∙ ap (λ o. errs (o >>= to_end spec)) ((range_rules spec (suc n)).reads front r (blanks ++ again) wide-c follows)
-        ∙ rw (ap (λ t. length t == 0) (skip_to blanks again are u) ∙ some_length again more') refl
-
-    still_some : (again : List ℕ) → Like again rest → again ≢ []
+    still_some : (again : List ℕ) → Like again (skip_blanks behind) → again ≢ []
     still_some again (inr digit) = digit_some again digit
-    still_some again (inl same) = by rest some same
+    still_some again (inl same) = by (skip_blanks behind) some same
       where
         by : (rest : List ℕ) → rest ≢ [] → head_of again ≡ head_of rest → again ≢ []
         by [] some same = absurd (some refl)
         by (b ∷ bs) some same = head_some again b bs same
 
-    left_fault : TextFault n (front ++ (blanks ++ rest)) (cause_at spec BadRange rest)
-    left_fault = record {
-      front = front ++ blanks;
-      rest = rest;
-      whole = sym (append_assoc front blanks rest);
-      more = [];
-      value = r;
-      goes_on = subst (λ t. Stands spec n t r) (sym (append-nil (front ++ blanks))) (range front blanks c are);
-      why = misplaced [] front blanks rest r (Terms spec (Inside spec n)) (λ t. t ≢ [])
-          (record { plain = refl; is = c; some = (range_rules spec n).some front r c; are = are; end = end; after = after; wrong_like = still_some })
-          (text_at spec (suc n)) left_over spec (Stands spec n) (Stands spec (suc n)) (text_at spec n);
-    }
+    left_over : (again : List ℕ) → Instead front behind again → errs (text_at spec (suc n) (front ++ instead behind again)) ≡ true
+    left_over again i =
+        ap errs (at_range (suc n) (front ++ instead behind again) (λ e. terms_not_blank (suc n) front r wide-c (blanks_parts front (instead behind again) (all_blanks (front ++ instead behind again) e)).0))
+        ∙ ap (λ o. errs (o >>= to_end spec)) ((range_rules spec (suc n)).reads front r (instead behind again) wide-c (after_instead front behind again after i))
+        ∙ rw (ap (λ t. length t == 0) (skip_instead i) ∙ some_length again (still_some again (like_instead i))) refl
+
+    left_fault : TextFault n (front ++ behind) (cause_at spec BadRange (skip_blanks behind))
+    left_fault = misplaced spec (Stands spec n) (Stands spec (suc n)) (text_at spec n) (text_at spec (suc n)) front behind after.0.0
+        [] r (range front (instead behind []) c (subst Blanks (sym (append-nil (cut behind).blanks)) (cut behind).all)) left_over
 
   -- ---- a text and its answer
 
@@ -229,11 +219,9 @@ module _ (spec : Spec) where
       left p q true e k = absurd (cc (k, to_end_ok spec p e))
       left p q false e k =
           let got = (range_rules spec n).read text p.0 p.1 q in
-          let b = blanked p.1 in
-          let some : b.rest ≢ [] = λ none. true≢false (sym (ap (λ t. length t == 0) (b.skipped ∙ none)) ∙ e) in
-          let same : cause_at spec BadRange b.rest ≡ cause = ap (cause_at spec BadRange) (sym b.skipped) ∙ cc (k, to_end_err spec p e) in
-          let f = left_fault n got.front b.blanks b.rest p.0 got.is b.are b.end (subst (AfterRange got.front) b.whole got.apart) some in
-          subst (TextFault n text) same (subst (λ t. TextFault n t (cause_at spec BadRange b.rest)) (ap (λ t. got.front ++ t) (sym b.whole) ∙ sym got.whole) f)
+          let some : skip_blanks p.1 ≢ [] = λ none. true≢false (sym (ap (λ t. length t == 0) none) ∙ e) in
+          let same : cause_at spec BadRange (skip_blanks p.1) ≡ cause = cc (k, to_end_err spec p e) in
+          subst (λ t. TextFault n t cause) (sym got.whole) (subst (TextFault n (got.front ++ p.1)) same (left_fault n got.front p.1 p.0 got.is got.apart some))
 
       ranged : NotBlank text → (o : Result (Range × List ℕ) Cause) → range_in (inside n spec) spec text ≡ o → TextFault n text cause
       ranged some (Err why) q =
