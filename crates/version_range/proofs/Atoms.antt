@@ -1,8 +1,8 @@
 -- How an atom is read: a word, or an operator and what it compares with.
-use Rattle.std.proofs.Common.{◌≡◌, ℕ, Bool, true, false, ◌&&◌, ◌||◌, List, [], ◌∷◌, ◌++◌, Option, Some, None, Result, Ok, Err, refl, sym, ap, ◌∙◌, subst, append_assoc, if◌then◌else◌}
+use Rattle.std.proofs.Common.{◌≡◌, ℕ, Bool, true, false, ◌&&◌, List, [], ◌∷◌, ◌++◌, Option, Some, None, Result, Ok, Err, refl, sym, ap, ◌∙◌, subst, append_assoc, if◌then◌else◌}
 use Rattle.std.specs.Prelude.{◌==◌, codes}
 use Rattle.std.specs.List.{list_all}
-use Rattle.std.proofs.lemmas.Bool.{false≢true, and_parts, or_parts}
+use Rattle.std.proofs.lemmas.Bool.{false≢true, and_parts}
 use Rattle.plan_types.specs.declared.range.Range.{Range}
 use Rattle.plan_types.specs.declared.range.Range.TheVariants as ranges
 use Rattle.plan_types.specs.declared.range.Spec.{Spec}
@@ -13,11 +13,11 @@ use Rattle.version_range.specs.declared.operator.Operator.TheVariants.{Equal, At
 use Rattle.version_range.specs.Version.{version_text}
 use Rattle.version_range.specs.Grammar.{begins_with, is_blank, Blanks, Led, led, operator_text, of_version, has_sets, Compared, compared, Members, Atom}
 use Rattle.version_range.specs.Grammar.{any as atom_any, none as atom_none, version as atom_version, prefix as atom_prefix, set as atom_set}
-use Rattle.version_range.specs.Read.{◌>>=◌, skip_blanks, byte_after, byte_due, cause_at, either_at, operator_at, word_at, operand_at, equal_at, compared_at, set_at, factor_at}
+use Rattle.version_range.specs.Read.{◌>>=◌, skip_blanks, byte_after, byte_due, cause_at, either_at, operator_at, word_at, operand_at, equal_at, compared_at, set_at}
 use Rattle.version_range.proofs.Fronts.{Reader, Apart, Read, Fault}
 use Rattle.version_range.proofs.Spaces.{Never, NotDigits, other_byte, no_digits, blanks_none}
 use Rattle.version_range.proofs.Steps.{Good, After, after, Choice, here, there, Done, done, good_led, choose, due, good_due, good_choose, good_done, good_as}
-use Rattle.version_range.proofs.Closings.{Closed, closed, closing}
+use Rattle.version_range.proofs.Closings.{Closed, closed}
 use Rattle.version_range.proofs.Versions.{version_zero, EqualText, whole, front, equal_read, equal_reads, equal_fault}
 use Rattle.version_range.proofs.Sets.{compared_good, never_version, never_compared, set_good}
 

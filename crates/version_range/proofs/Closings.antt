@@ -1,5 +1,5 @@
 -- What is read up to a byte that closes it.
-use Rattle.std.proofs.Common.{◌≡◌, ◌⊎◌, inl, inr, ℕ, true, false, List, [], ◌∷◌, ◌++◌, Option, Some, None, Result, Ok, Err, refl, sym, ap, ◌∙◌, subst, append_assoc, append-nil}
+use Rattle.std.proofs.Common.{◌≡◌, ◌⊎◌, inl, inr, ℕ, true, false, List, [], ◌∷◌, ◌++◌, Result, Ok, Err, refl, sym, ap, ◌∙◌, subst, append_assoc, append-nil}
 use Rattle.std.specs.Prelude.{◌==◌}
 use Rattle.std.specs.Char.{is_ascii_digit}
 use Rattle.std.proofs.lemmas.Bool.{false≢true, or_parts}
@@ -8,10 +8,10 @@ use Rattle.plan_types.specs.declared.refusal.Cause.{Cause}
 use Rattle.plan_types.specs.declared.refusal.Cause.TheVariants.{BadRange}
 use Rattle.version_range.specs.Version.{begins_with_digit}
 use Rattle.version_range.specs.Grammar.{begins_with, is_blank, ends_with_digit, Blanks}
-use Rattle.version_range.specs.Read.{◌>>=◌, skip_blanks, byte_after, byte_due, cause_at}
+use Rattle.version_range.specs.Read.{◌>>=◌, skip_blanks, byte_due, cause_at}
 use Rattle.version_range.proofs.Fronts.{Reader, head_of, errs, Apart, apart_same_head, ends_behind, Read, Like, Fault, due_fault, fault_up}
 use Rattle.version_range.proofs.Parts.{ok_parts, errs_then}
-use Rattle.version_range.proofs.Spaces.{starts, starts_like, begins_like, Begun, begun, due_here, due_gone, blanks_none, ends_blanks, cut, skip_over}
+use Rattle.version_range.proofs.Spaces.{starts_like, begins_like, Begun, begun, due_here, due_gone, blanks_none, ends_blanks, cut, skip_over}
 
 -- ---- what stands behind a part and blanks
 

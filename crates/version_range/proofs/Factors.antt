@@ -1,26 +1,22 @@
 -- Factors, terms and ranges, as they are read.
-use Rattle.std.proofs.Common.{◌≡◌, ◌≢◌, ◌⊎◌, inl, inr, ℕ, zero, suc, ◌+◌, Bool, true, false, List, [], ◌∷◌, ◌++◌, codes, Option, Some, None, Result, Ok, Err, refl, sym, ap, ◌∙◌, subst, append_assoc, append-nil}
+use Rattle.std.proofs.Common.{◌≡◌, ◌≢◌, inl, inr, ℕ, zero, suc, Bool, true, false, List, [], ◌∷◌, ◌++◌, codes, Option, Some, None, Result, Ok, Err, refl, sym, ap, ◌∙◌, subst, append_assoc, append-nil}
 use Rattle.std.specs.Prelude.{◌==◌}
 use Rattle.std.specs.Char.{is_ascii_digit}
-use Rattle.std.specs.List.{list_all}
-use Rattle.std.proofs.lemmas.Bool.{false≢true, eqb-true, and_parts}
+use Rattle.std.proofs.lemmas.Bool.{false≢true}
 use Rattle.plan_types.specs.declared.range.Spec.{Spec}
 use Rattle.plan_types.specs.declared.range.Range.{Range}
 use Rattle.plan_types.specs.declared.range.Range.TheVariants.{Any, Both, Either}
 use Rattle.plan_types.specs.declared.refusal.Cause.{Cause}
-use Rattle.plan_types.specs.declared.refusal.Cause.TheVariants.{BadRange, TooDeep}
-use Rattle.version_range.specs.Read.{◌>>=◌, skip_blanks, byte_after, byte_due, cause_at, word_at, operator_at, either_at, operand_at, factor_at, term_at, range_in, inside, next_at}
-use Rattle.version_range.specs.declared.operator.Operator.{Operator}
-use Rattle.version_range.specs.declared.operator.Operator.TheVariants.{Equal, AtLeast, Above, AtMost, Below, Major}
+use Rattle.version_range.specs.Read.{skip_blanks, factor_at, term_at, range_in, inside}
 use Rattle.version_range.specs.Version.{begins_with_digit}
-use Rattle.version_range.specs.Grammar.{begins_with, is_blank, Blanks, ends_with_digit, Atom, any, Factor, atom, enclosed, Term, Terms, Inside, Led, led, Behind, behind, Chain, one}
+use Rattle.version_range.specs.Grammar.{begins_with, is_blank, Blanks, Atom, any, Factor, atom, enclosed, Term, Terms, Inside, Led, led, Behind, behind, one}
 use Rattle.version_range.proofs.Fronts.{Reader, errs, Apart, ends_some, ends_kept, apart_before, Read, Dead, NoDigit, Like, too_deep, Fault, fault_up, fault_up_like}
 use Rattle.version_range.proofs.Spaces.{Never, never_starts, no_digits, begins_like, byte_gone, Begun, begun, blanks_no_number, skip_over}
-use Rattle.version_range.proofs.Parts.{all_of, errs_then, ok_parts, map_chain}
+use Rattle.version_range.proofs.Parts.{map_chain}
 use Rattle.version_range.proofs.Led.{led_at, led_reads, led_read, led_fault}
 use Rattle.version_range.proofs.Closings.{Instead, instead, begins_instead, apart_instead, Closed, closed, closing, closed_reads, closed_read, closed_fault}
 use Rattle.version_range.proofs.Atoms.{atom_at, atom_read, atom_reads, atom_fault, never_atom}
-use Rattle.version_range.proofs.Operands.{Rules, Follow, joined_rules, joined_fault, joined_wider}
+use Rattle.version_range.proofs.Operands.{Rules, Follow, joined_rules, joined_fault}
 
 -- ---- what may follow
 

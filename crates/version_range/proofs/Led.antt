@@ -1,20 +1,13 @@
 -- Blanks before a part, and a mark between two.
-use Rattle.std.proofs.Common.{◌≡◌, ◌≢◌, ◌⊎◌, inl, inr, ℕ, Bool, true, false, ◌||◌, List, [], ◌∷◌, ◌++◌, Option, Some, None, Result, Ok, Err, refl, sym, ap, ◌∙◌, subst, append_assoc, append-nil}
-use Rattle.std.specs.Prelude.{◌==◌, if◌then◌else◌}
-use Rattle.std.specs.Char.{is_ascii_digit}
-use Rattle.std.specs.List.{list_all}
-use Rattle.std.proofs.lemmas.Bool.{false≢true, true≢false, and_parts, and_from, eqb-true, eq-eqb}
+use Rattle.std.proofs.Common.{◌≡◌, inl, inr, ℕ, false, List, [], ◌∷◌, ◌++◌, Option, Some, None, Result, Ok, Err, sym, ap, ◌∙◌, subst, append_assoc, append-nil}
 use Rattle.plan_types.specs.declared.range.Spec.{Spec}
 use Rattle.plan_types.specs.declared.range.Range.{Range}
 use Rattle.plan_types.specs.declared.refusal.Cause.{Cause}
 use Rattle.plan_types.specs.declared.refusal.Cause.TheVariants.{BadRange}
-use Rattle.version_range.specs.Read.{◌>>=◌, skip_blanks, byte_after, byte_due, cause_at, behind, next_at}
-use Rattle.version_range.specs.Version.{begins_with_digit}
-use Rattle.version_range.specs.Grammar.{begins_with, is_blank, Blanks, ends_with_digit, Led, led, Behind}
-use Rattle.version_range.specs.Grammar as grammar
+use Rattle.version_range.specs.Read.{◌>>=◌, skip_blanks, byte_after, byte_due, cause_at, next_at}
+use Rattle.version_range.specs.Grammar.{begins_with, is_blank, Blanks, Led, led}
 use Rattle.version_range.proofs.Fronts.{Reader, errs, Apart, ends_kept, apart_before, apart_within, Read, Like, Fault, fault_up_like}
 use Rattle.version_range.proofs.Spaces.{starts, Never, never_starts, starts_like, byte_here, byte_gone, Begun, begun, due_here, due_gone, blanks_none, ends_blanks, Cut, cut, skip_over}
-use Rattle.version_range.proofs.Parts.{errs_then, ok_parts}
 
 -- ---- blanks, and then a part
 

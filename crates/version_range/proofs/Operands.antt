@@ -1,18 +1,15 @@
 -- Operands joined by a mark of two bytes, as they are read.
-use Rattle.std.proofs.Common.{◌≡◌, ◌≢◌, inl, ℕ, ◌+◌, Bool, true, false, List, [], ◌∷◌, ◌++◌, Option, Some, None, Result, Ok, Err, refl, sym, ap, ◌∙◌, subst, append_assoc, append-nil}
-use Rattle.std.specs.Prelude.{◌==◌}
+use Rattle.std.proofs.Common.{◌≡◌, ◌≢◌, inl, ℕ, true, false, List, [], ◌∷◌, ◌++◌, Option, Some, None, Result, Ok, Err, refl, sym, ap, ◌∙◌, subst, append_assoc, append-nil}
 use Rattle.std.specs.Char.{is_ascii_digit}
-use Rattle.std.specs.List.{list_all}
 use Rattle.plan_types.specs.declared.range.Spec.{Spec}
 use Rattle.plan_types.specs.declared.range.Range.{Range}
 use Rattle.plan_types.specs.declared.refusal.Cause.{Cause}
 use Rattle.plan_types.specs.declared.refusal.Cause.TheVariants.{BadRange}
-use Rattle.version_range.specs.Read.{◌>>=◌, skip_blanks, byte_after, byte_due, cause_at, next_at}
-use Rattle.version_range.specs.Version.{begins_with_digit}
+use Rattle.version_range.specs.Read.{◌>>=◌, skip_blanks, cause_at, next_at}
 use Rattle.version_range.specs.Grammar.{begins_with, is_blank, Blanks, ends_with_digit, Behind, behind, Chain, one, more}
-use Rattle.version_range.proofs.Fronts.{Reader, errs, ends_behind, ends_some, ends_kept, Read, Fault, due_fault, fault_up, fault_up_like}
+use Rattle.version_range.proofs.Fronts.{Reader, errs, ends_behind, ends_kept, Read, Fault, due_fault, fault_up, fault_up_like}
 use Rattle.version_range.proofs.Spaces.{no_digits, begins_like}
-use Rattle.version_range.proofs.Parts.{Parts, AllRead, NextFault, all_of, errs_then, ok_parts, reads, read_all, fault_all, wide}
+use Rattle.version_range.proofs.Parts.{Parts, NextFault, all_of, errs_then, reads, read_all, fault_all, wide}
 use Rattle.version_range.proofs.Led.{twice, at_mark, at_half, at_none, Mark, no_mark, half, mark, marked}
 
 -- the reader P reads the language L, where E tells which texts may follow

@@ -1,12 +1,12 @@
 -- Parts read one after the other, against the language of their chains.
-use Rattle.std.proofs.Common.{◌≡◌, ◌≢◌, ℕ, zero, suc, ◌+◌, ◌<◌, Bool, true, false, List, [], ◌∷◌, ◌++◌, length, Option, Some, None, Result, Ok, Err, refl, sym, ap, ◌∙◌, subst, append_assoc, append-nil, length-append, arith}
+use Rattle.std.proofs.Common.{◌≡◌, ◌≢◌, ℕ, zero, suc, ◌+◌, ◌<◌, true, List, [], ◌∷◌, ◌++◌, length, Option, Some, None, Result, Ok, Err, refl, sym, ap, ◌∙◌, subst, append_assoc, append-nil, length-append, arith}
 use Rattle.plan_types.specs.declared.range.Spec.{Spec}
 use Rattle.plan_types.specs.declared.refusal.Cause.{Cause}
 use Rattle.plan_types.specs.declared.refusal.TextFault.TheVariants.{Bad}
 use Rattle.version_range.specs.Read.{◌>>=◌, chain, chained}
-use Rattle.version_range.specs.Grammar.{Chain, one, more, ends_with_digit}
+use Rattle.version_range.specs.Grammar.{Chain, one, more}
 use Rattle.version_range.proofs.Chains.{Goes, begun, goes_on, is_done, ends, step, stop, broken}
-use Rattle.version_range.proofs.Fronts.{Reader, errs, ends_some, Read, Fault, Completes, Passes, fault_up}
+use Rattle.version_range.proofs.Fronts.{Reader, errs, ends_some, Read, Fault, fault_up}
 
 -- a reader of what comes next, if anything does
 abbrev pub Option-Reader : Type 0 → Type 0

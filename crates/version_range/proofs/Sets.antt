@@ -1,6 +1,6 @@
 -- How sets are read.
-use Rattle.std.proofs.Common.{◌≡◌, ◌≢◌, ◌⊎◌, inl, inr, ℕ, Bool, true, false, List, [], ◌∷◌, ◌++◌, Option, Some, None, Result, Ok, Err, refl, sym, ap, ◌∙◌, subst, append_assoc, append-nil}
-use Rattle.std.specs.Prelude.{◌==◌, codes}
+use Rattle.std.proofs.Common.{◌≡◌, ◌≢◌, inl, inr, ℕ, Bool, true, false, List, [], ◌∷◌, ◌++◌, Option, Some, None, Result, Ok, Err, refl, sym, ap, ◌∙◌, subst, append_assoc, append-nil}
+use Rattle.std.specs.Prelude.{codes}
 use Rattle.std.specs.List.{list_all}
 use Rattle.std.proofs.lemmas.Bool.{and_parts}
 use Rattle.plan_types.specs.declared.range.Range.{Range}
@@ -11,7 +11,7 @@ use Rattle.plan_types.specs.declared.refusal.Cause.{Cause}
 use Rattle.version_range.specs.declared.operator.Operator.{Operator}
 use Rattle.version_range.specs.Grammar.{begins_with, is_blank, ends_with_digit, Blanks, Led, Behind, behind, of_version, Compared, compared, Members}
 use Rattle.version_range.specs.Read.{◌>>=◌, skip_blanks, byte_after, version_at, compared_at, next_member, set_at, chained}
-use Rattle.version_range.proofs.Fronts.{Reader, head_of, errs, goes_on_number, Apart, apart_before, apart_within, ends_behind, ends_kept, Read, Like, Fault, fault_up_like}
+use Rattle.version_range.proofs.Fronts.{Reader, errs, goes_on_number, Apart, apart_before, apart_within, ends_behind, ends_kept, Read, Like, Fault, fault_up_like}
 use Rattle.version_range.proofs.Parts.{Parts, all_of, reads, read_all, NextFault, fault_all}
 use Rattle.version_range.proofs.Spaces.{Never, NotDigits, byte_gone, Begun, begun, blanks_none, on_number, blank_no_number, blanks_no_number, Cut, cut, skip_over}
 use Rattle.version_range.proofs.Steps.{Good, good_led, valued, good_map, good_as}

@@ -1,17 +1,16 @@
 -- Readers made of a byte or blanks and a reader behind them, each against its language.
-use Rattle.std.proofs.Common.{◌≡◌, inl, inr, ℕ, Bool, true, false, ◌&&◌, List, [], ◌∷◌, ◌++◌, Option, Some, None, Result, Ok, Err, refl, sym, ap, ◌∙◌, subst, append_assoc, append-nil, if◌then◌else◌}
+use Rattle.std.proofs.Common.{◌≡◌, inl, inr, ℕ, Bool, true, false, List, [], ◌∷◌, ◌++◌, Option, Some, None, Result, Ok, Err, refl, sym, ap, ◌∙◌, subst, append-nil}
 use Rattle.std.specs.Prelude.{◌==◌}
 use Rattle.std.specs.Char.{is_ascii_digit}
 use Rattle.std.proofs.lemmas.Bool.{false≢true}
 use Rattle.plan_types.specs.declared.range.Spec.{Spec}
 use Rattle.plan_types.specs.declared.refusal.Cause.{Cause}
-use Rattle.plan_types.specs.declared.refusal.Cause.TheVariants.{BadRange, NeedsVersion}
-use Rattle.version_range.specs.Version.{begins_with_digit}
-use Rattle.version_range.specs.Grammar.{begins_with, is_blank, is_old, ends_with_digit, Led, led}
-use Rattle.version_range.specs.Read.{◌>>=◌, skip_blanks, byte_after, byte_due, cause_at}
+use Rattle.plan_types.specs.declared.refusal.Cause.TheVariants.{BadRange}
+use Rattle.version_range.specs.Grammar.{begins_with, is_blank, Led}
+use Rattle.version_range.specs.Read.{◌>>=◌, byte_after, byte_due, cause_at}
 use Rattle.version_range.proofs.Fronts.{Reader, errs, Apart, ends_kept, apart_before, apart_within, Read, Like, Fault, due_fault, fault_up_like}
 use Rattle.version_range.proofs.Parts.{ok_parts}
-use Rattle.version_range.proofs.Spaces.{starts, Never, never_starts, starts_same, starts_like, no_digits, begins_like, byte_here, byte_gone, Begun, begun, due_here, due_gone}
+use Rattle.version_range.proofs.Spaces.{Never, never_starts, starts_same, no_digits, begins_like, byte_here, byte_gone, Begun, begun, due_here, due_gone}
 use Rattle.version_range.proofs.Led.{led_at, led_reads, led_read, led_fault}
 
 -- the reader reads this language, and where it fails, it is stuck

@@ -20,7 +20,7 @@ use Rattle.version_range.specs.Version.{IsNumber, IsVersion, is_version, version
 use Rattle.version_range.specs.Read.{◌>>=◌, byte_after, cause_at, digits_in, is_number, number_at, chained, followed, next_number, version_at, byte_due, equal_at}
 use Rattle.version_range.specs.Grammar.{is_old, begins_with, Chain, one, more, ends_with_digit, IsNewForm}
 use Rattle.version_range.proofs.Numbers.{numeral_text, decimal_digits, decimal_some, decimal_few, decimal_plain, digit_front, text_led, led_more, version_from, version_to, count_is}
-use Rattle.version_range.proofs.Fronts.{Reader, head_of, errs, goes_on_number, Apart, ends_behind, Read, Dead, Why, new_form, number_due, digit_more, too_deep, behind_digit, no_digit, Fault, Completes, fault_up, fault_up_like}
+use Rattle.version_range.proofs.Fronts.{Reader, head_of, errs, goes_on_number, Apart, ends_behind, Read, Dead, new_form, number_due, digit_more, Fault, Completes, fault_up, fault_up_like}
 use Rattle.version_range.proofs.Parts.{Option-Reader, all_of, Parts, errs_then, ok_parts, errs_err, reads, read_all, AllRead, NextFault, fault_all}
 
 -- ---- numbers

@@ -1,21 +1,21 @@
 -- A whole text: what it stands for, its first fault, and that it has one of both.
-use Rattle.std.proofs.Common.{◌≡◌, ◌≢◌, ◌⊎◌, inl, inr, ℕ, zero, suc, ◌+◌, Bool, true, false, ◌&&◌, List, [], ◌∷◌, ◌++◌, codes, length, Option, Some, None, Result, Ok, Err, refl, sym, ap, ◌∙◌, subst, append_assoc, append-nil, arith}
+use Rattle.std.proofs.Common.{◌≡◌, ◌≢◌, inl, inr, ℕ, suc, Bool, true, false, List, [], ◌∷◌, ◌++◌, codes, length, Some, Result, Ok, Err, refl, sym, ap, ◌∙◌, subst, append_assoc, append-nil, arith}
 use Rattle.std.specs.Prelude.{◌==◌, if◌then◌else◌}
 use Rattle.std.specs.Char.{is_ascii_digit}
 use Rattle.std.specs.List.{list_all}
-use Rattle.std.proofs.lemmas.Bool.{false≢true, true≢false, and_parts, and_from, eqb-true, eq-eqb}
+use Rattle.std.proofs.lemmas.Bool.{false≢true, true≢false, and_parts, and_from, eqb-true}
 use Rattle.plan_types.specs.declared.range.Spec.{Spec}
 use Rattle.plan_types.specs.declared.range.Range.{Range}
-use Rattle.plan_types.specs.declared.range.Range.TheVariants.{Any, Both, Either}
+use Rattle.plan_types.specs.declared.range.Range.TheVariants.{Any}
 use Rattle.plan_types.specs.declared.refusal.Cause.{Cause}
-use Rattle.plan_types.specs.declared.refusal.Cause.TheVariants.{BadVersion, BadRange, NeedsVersion, TooDeep}
+use Rattle.plan_types.specs.declared.refusal.Cause.TheVariants.{BadRange}
 use Rattle.version_range.specs.Read.{◌>>=◌, skip_blanks, cause_at, range_in, inside, range_of}
 use Rattle.version_range.specs.Version.{begins_with_digit}
-use Rattle.version_range.specs.Grammar.{begins_with, is_old, is_blank, Blanks, ends_with_digit, atom, any, Factor, Term, Terms, Inside, Led, led, Behind, Chain, one, more, Stands, empty, range, Viable, Stuck, IsNewForm, IsNumberDue, OpensTooMany, CauseAt, needs_version, bad_version, too_deep, bad_range, FirstFault}
+use Rattle.version_range.specs.Grammar.{begins_with, is_old, is_blank, Blanks, atom, any, Factor, Term, Terms, Inside, Led, led, one, more, Stands, empty, range, Viable, Stuck, IsNewForm, OpensTooMany, CauseAt, needs_version, bad_version, too_deep, bad_range, FirstFault}
 use Rattle.version_range.proofs.Fronts.{head_of, errs, goes_on_number, Apart, ends_kept, Read, Dead, NoDigit, Like, Why, new_form, number_due, digit_more, behind_digit, no_digit, Fault, fault_up_like}
 use Rattle.version_range.proofs.Fronts as fronts
 use Rattle.version_range.proofs.Spaces.{starts, starts_same, starts_digit, blanks_none, blanks_no_number, cut, skip_over}
-use Rattle.version_range.proofs.Parts.{errs_then, ok_parts}
+use Rattle.version_range.proofs.Parts.{errs_then}
 use Rattle.version_range.proofs.Closings.{Instead, instead, like_instead, skip_instead, misplaced}
 use Rattle.version_range.proofs.Operands.{Rules}
 use Rattle.version_range.proofs.Factors.{AfterRange, after_instead, factor_unblank, inside_rules, range_rules, range_fault, wider_inside, wider_terms}
