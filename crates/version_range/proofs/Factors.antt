@@ -10,13 +10,13 @@ use Rattle.plan_types.specs.declared.refusal.Cause.{Cause}
 use Rattle.version_range.specs.Read.{skip_blanks, factor_at, term_at, range_in, inside}
 use Rattle.version_range.specs.Version.{begins_with_digit}
 use Rattle.version_range.specs.Grammar.{begins_with, is_blank, Blanks, Atom, any, Factor, atom, enclosed, Term, Terms, Inside, Led, led, Behind, behind, one}
-use Rattle.version_range.proofs.Fronts.{Reader, errs, Apart, ends_some, ends_kept, apart_before, Read, Dead, NoDigit, Like, too_deep, Fault, fault_up, fault_up_like}
-use Rattle.version_range.proofs.Spaces.{Never, never_starts, no_digits, begins_like, byte_gone, Begun, begun, blanks_no_number, skip_over}
+use Rattle.version_range.proofs.Fronts.{Reader, errs, Apart, ends_kept, apart_before, apart_onto, apart_from, some_append, Read, Dead, NoDigit, Like, too_deep, Fault, fault_up, fault_up_like}
+use Rattle.version_range.proofs.Spaces.{Never, never_starts, never_empty, no_digits, begins_like, byte_gone, Begun, begun, blanks_no_number, skip_over}
 use Rattle.version_range.proofs.Parts.{map_chain}
 use Rattle.version_range.proofs.Led.{led_at, led_reads, led_read, led_fault}
 use Rattle.version_range.proofs.Closings.{Instead, instead, begins_instead, apart_instead, Closed, closed, closing, closed_reads, closed_read, closed_fault}
 use Rattle.version_range.proofs.Atoms.{atom_at, atom_read, atom_reads, atom_fault, never_atom}
-use Rattle.version_range.proofs.Operands.{Rules, Follow, joined_rules, joined_fault}
+use Rattle.version_range.proofs.Operands.{Rules, Follow, wider_behind, joined_rules, joined_fault}
 
 -- ---- what may follow
 
@@ -27,15 +27,12 @@ abbrev pub AfterRange : List ℕ → List ℕ → Type 0
 AfterRange front rest = AfterTerm front rest × (begins_with 124 (skip_blanks rest) ≡ false)
 
 follow_apart : Follow Apart
-follow_apart = record {
-  onto = λ pre text rest some e d. e (sym (ends_some pre text some) ∙ d);
-  from = λ pre text rest some e d. e (ends_some pre text some ∙ d);
-}
+follow_apart = record { onto = apart_onto; from = apart_from }
 
 follow_term : Follow AfterTerm
 follow_term = record {
-  onto = λ pre text rest some e. (follow_apart.onto pre text rest some e.0, e.1);
-  from = λ pre text rest some e. (follow_apart.from pre text rest some e.0, e.1);
+  onto = λ pre text rest some e. (apart_onto pre text rest some e.0, e.1);
+  from = λ pre text rest some e. (apart_from pre text rest some e.0, e.1);
 }
 
 and_follows : (text blanks again : List ℕ) → Blanks blanks → Apart text (blanks ++ (38 ∷ again))
@@ -98,7 +95,7 @@ module _ (spec : Spec) (L : List ℕ → Range → Type 0) (I : Reader Range) (r
   pub factor_unblank : Never is_blank (Factor spec L)
   factor_unblank = never_factor spec L is_blank refl (never_atom spec is_blank refl refl refl refl refl)
 
-  pub led_rules : Rules (Led (Factor spec L)) Apart (led_at (factor_at I spec))
+  led_rules : Rules (Led (Factor spec L)) Apart (led_at (factor_at I spec))
   led_rules = record {
     reads = λ text r rest. led_reads (Factor spec L) (factor_at I spec) factor_unblank factor_reads text r rest;
     read = λ text r rest. led_read (Factor spec L) (factor_at I spec) factor_read text r rest;
@@ -106,17 +103,13 @@ module _ (spec : Spec) (L : List ℕ → Range → Type 0) (I : Reader Range) (r
   }
     where
       some : (text : List ℕ) (r : Range) → Led (Factor spec L) text r → text ≢ []
-      some text r (led blanks {text = part} are is) e = let u = factor_unblank part r is in by blanks u.0 u.1 (subst (λ t. blanks ++ t ≡ []) u.2 e)
-        where
-          by : (blanks : List ℕ) (b : ℕ) (bs : List ℕ) → blanks ++ b ∷ bs ≡ [] → ⊥
-          by [] b bs e = cc e
-          by (c ∷ cs) b bs e = cc e
+      some text r (led blanks {text = part} are is) = some_append blanks part (never_empty is_blank (Factor spec L) factor_unblank part r is)
 
-  pub term_rules : Rules (Term spec L) AfterTerm (term_at I spec)
+  term_rules : Rules (Term spec L) AfterTerm (term_at I spec)
   unfolding term_at
   term_rules = joined_rules spec 38 refl refl (Led (Factor spec L)) Apart (led_at (factor_at I spec)) led_rules follow_apart and_follows Both
 
-  pub terms_rules : Rules (Terms spec L) AfterRange (range_in I spec)
+  terms_rules : Rules (Terms spec L) AfterRange (range_in I spec)
   unfolding range_in
   terms_rules = joined_rules spec 124 refl refl (Term spec L) AfterTerm (term_at I spec) term_rules follow_term or_follows Either
 
@@ -132,23 +125,20 @@ inside_rules spec (suc n) = terms_rules spec (Inside spec n) (inside n spec) (in
 -- ---- one more parenthesis
 
 module _ (spec : Spec) (L L' : List ℕ → Range → Type 0) (wider : (text : List ℕ) (r : Range) → L text r → L' text r) where
-  pub wider_factor : (text : List ℕ) (r : Range) → Factor spec L text r → Factor spec L' text r
+  wider_factor : (text : List ℕ) (r : Range) → Factor spec L text r → Factor spec L' text r
   wider_factor text r (atom a) = atom a
   wider_factor text r (enclosed front blanks is are) = enclosed front blanks (wider front r is) are
 
-  pub wider_led : (text : List ℕ) (r : Range) → Led (Factor spec L) text r → Led (Factor spec L') text r
+  wider_led : (text : List ℕ) (r : Range) → Led (Factor spec L) text r → Led (Factor spec L') text r
   wider_led text r (led blanks {text = part} are is) = led blanks are (wider_factor part r is)
 
-  wider_behind : (A A' : List ℕ → Range → Type 0) (mark : List ℕ) → ((text : List ℕ) (r : Range) → A text r → A' text r) → (text : List ℕ) (r : Range) → Behind mark A text r → Behind mark A' text r
-  wider_behind A A' mark f text r (behind blanks {text = part} are is) = behind blanks are (f part r is)
-
-  pub wider_term : (text : List ℕ) (r : Range) → Term spec L text r → Term spec L' text r
+  wider_term : (text : List ℕ) (r : Range) → Term spec L text r → Term spec L' text r
   wider_term text r c = map_chain Both (Led (Factor spec L)) (Led (Factor spec L')) (Behind (codes "&&") (Led (Factor spec L))) (Behind (codes "&&") (Led (Factor spec L'))) wider_led
-      (wider_behind (Led (Factor spec L)) (Led (Factor spec L')) (codes "&&") wider_led) c
+      (wider_behind (codes "&&") (Led (Factor spec L)) (Led (Factor spec L')) wider_led) c
 
   pub wider_terms : (text : List ℕ) (r : Range) → Terms spec L text r → Terms spec L' text r
   wider_terms text r c = map_chain Either (Term spec L) (Term spec L') (Behind (codes "||") (Term spec L)) (Behind (codes "||") (Term spec L')) wider_term
-      (wider_behind (Term spec L) (Term spec L') (codes "||") wider_term) c
+      (wider_behind (codes "||") (Term spec L) (Term spec L') wider_term) c
 
 pub wider_inside : (spec : Spec) (n : ℕ) (text : List ℕ) (r : Range) → Inside spec n text r → Inside spec (suc n) text r
 unfolding Inside
@@ -188,7 +178,7 @@ module _ (spec : Spec) (L L' : List ℕ → Range → Type 0) (I I' : Reader Ran
     term_fault = joined_fault spec 38 refl refl Both (Led (Factor spec L)) (Led (Factor spec L')) Apart (led_at (factor_at I spec)) (led_at (factor_at I' spec))
         (led_rules spec L I rules) (led_rules spec L' I' rules') follow_apart and_follows (wider_led spec L L' wider) (codes "-any") Any (led [] refl (atom any)) led_fails
 
-    pub terms_fault : (text : List ℕ) (cause : Cause) → range_in I spec text ≡ Err cause → Fault spec (Terms spec L) (Terms spec L') (range_in I spec) (range_in I' spec) text cause
+    terms_fault : (text : List ℕ) (cause : Cause) → range_in I spec text ≡ Err cause → Fault spec (Terms spec L) (Terms spec L') (range_in I spec) (range_in I' spec) text cause
     unfolding range_in
     terms_fault = joined_fault spec 124 refl refl Either (Term spec L) (Term spec L') AfterTerm (term_at I spec) (term_at I' spec)
         (term_rules spec L I rules) (term_rules spec L' I' rules') follow_term or_follows (wider_term spec L L' wider) (codes "-any") Any (one (led [] refl (atom any))) term_fault

@@ -7,7 +7,7 @@ use Rattle.plan_types.specs.declared.refusal.Cause.{Cause}
 use Rattle.plan_types.specs.declared.refusal.Cause.TheVariants.{BadRange}
 use Rattle.version_range.specs.Read.{◌>>=◌, skip_blanks, cause_at, next_at}
 use Rattle.version_range.specs.Grammar.{begins_with, is_blank, Blanks, ends_with_digit, Behind, behind, Chain, one, more}
-use Rattle.version_range.proofs.Fronts.{Reader, errs, ends_behind, ends_kept, Read, Fault, due_fault, fault_up, fault_up_like}
+use Rattle.version_range.proofs.Fronts.{Reader, some_append, errs, ends_behind, ends_kept, Read, Fault, due_fault, fault_up, fault_up_like}
 use Rattle.version_range.proofs.Spaces.{no_digits, begins_like}
 use Rattle.version_range.proofs.Parts.{Parts, NextFault, all_of, errs_then, reads, read_all, fault_all, wide}
 use Rattle.version_range.proofs.Led.{twice, at_mark, at_half, at_none, Mark, no_mark, half, mark, marked}
@@ -23,12 +23,11 @@ pub record Follow (E : List ℕ → List ℕ → Type 0) : Type 0 where
   pub onto : (pre text rest : List ℕ) → text ≢ [] → E text rest → E (pre ++ text) rest
   pub from : (pre text rest : List ℕ) → text ≢ [] → E (pre ++ text) rest → E text rest
 
-some_append : (xs : List ℕ) (y : ℕ) (ys : List ℕ) → xs ++ y ∷ ys ≢ []
-some_append [] y ys e = cc e
-some_append (x ∷ xs) y ys e = cc e
-
 some_behind : {A : Type 0} (L : List ℕ → A → Type 0) (byte : ℕ) (text : List ℕ) (x : A) → Behind (twice byte) L text x → text ≢ []
-some_behind L byte text x (behind blanks {text = part} are is) e = some_append blanks byte (byte ∷ part) (sym (append_assoc blanks (twice byte) part) ∙ e)
+some_behind L byte text x (behind blanks {text = part} are is) e = some_append blanks (byte ∷ byte ∷ part) (λ k. cc k) (sym (append_assoc blanks (twice byte) part) ∙ e)
+
+pub wider_behind : (joint : List ℕ) (L L' : List ℕ → Range → Type 0) → ((text : List ℕ) (r : Range) → L text r → L' text r) → (text : List ℕ) (r : Range) → Behind joint L text r → Behind joint L' text r
+wider_behind joint L L' wider text r (behind blanks {text = part} are is) = behind blanks are (wider part r is)
 
 module _ (spec : Spec) (byte : ℕ) (not-blank : is_blank byte ≡ false) (not-digit : is_ascii_digit byte ≡ false) (L : List ℕ → Range → Type 0) (E : List ℕ → List ℕ → Type 0) (P : Reader Range)
     (rules : Rules L E P) (follow : Follow E) (mark_follows : (text blanks again : List ℕ) → Blanks blanks → E text (blanks ++ (byte ∷ again))) where
@@ -107,17 +106,7 @@ module _ (spec : Spec) (byte : ℕ) (not-blank : is_blank byte ≡ false) (not-d
     where
       some_chain : (text : List ℕ) (r : Range) → Chain join L Next text r → text ≢ []
       some_chain text r (one f) e = rules.some text r f e
-      some_chain text r (more {text = front} {next = next} {right = right} c n) e = by front e
-        where
-          by : (front : List ℕ) → front ++ next ≡ [] → ⊥
-          by [] e = some_behind L byte next right n e
-          by (b ∷ bs) e = cc e
-
-  pub joined_follow : Follow Ended
-  joined_follow = record {
-    onto = λ pre text rest some e. (follow.onto pre text rest some e.0, e.1);
-    from = λ pre text rest some e. (follow.from pre text rest some e.0, e.1);
-  }
+      some_chain text r (more {text = front} {next = next} {right = right} c n) e = some_append front next (some_behind L byte next right n) e
 
 -- ---- faults
 
@@ -138,7 +127,7 @@ module _ (spec : Spec) (byte : ℕ) (not-blank : is_blank byte ≡ false) (not-d
   next' = next_at P' spec byte
 
   wider_next : (text : List ℕ) (r : Range) → Behind-L text r → Behind-L' text r
-  wider_next text r (behind blanks {text = part} are is) = behind blanks are (wider part r is)
+  wider_next = wider_behind (twice byte) L L' wider
 
   abbrev all-parts : Parts L Behind-L E P next
   all-parts = parts spec byte not-blank not-digit L E P rules follow mark_follows
@@ -173,7 +162,7 @@ module _ (spec : Spec) (byte : ℕ) (not-blank : is_blank byte ≡ false) (not-d
         (λ again same. half_errs blanks again are (begins_like byte not-digit [] rest again (inl same) other))
         (λ digit. absurd (cc (digit, once_end blanks)))
         (λ none digit again is. half_errs blanks (digit ∷ again) are (no_digits byte not-digit digit is));
-    begun = some_append blanks byte [];
+    begun = some_append blanks (byte ∷ []) (λ k. cc k);
     opens = λ text again. subst (E text) (sym (once_more blanks again)) (mark_follows text blanks again are);
   }
 
@@ -187,7 +176,7 @@ module _ (spec : Spec) (byte : ℕ) (not-blank : is_blank byte ≡ false) (not-d
         rest cause f (ends_kept (blanks ++ twice byte) f.front (twice_end blanks))
         (λ again e. passes P f.front again e)
         (λ again e. passes P' f.front again e);
-    begun = λ e. some_append blanks byte (byte ∷ f.front) (sym (append_assoc blanks (twice byte) f.front) ∙ e);
+    begun = λ e. some_append blanks (byte ∷ byte ∷ f.front) (λ k. cc k) (sym (append_assoc blanks (twice byte) f.front) ∙ e);
     opens = λ text again. subst (E text) (sym (flat' f.front again)) (mark_follows text blanks (byte ∷ (f.front ++ again)) are);
   }
     where
@@ -219,6 +208,3 @@ module _ (spec : Spec) (byte : ℕ) (not-blank : is_blank byte ≡ false) (not-d
   pub joined_fault : (text : List ℕ) (cause : Cause) → all_of join P next text ≡ Err cause
       → Fault spec (Chain join L Behind-L) (Chain join L' Behind-L') (all_of join P next) (all_of join P' next') text cause
   joined_fault = fault_all spec join L L' Behind-L Behind-L' E P P' next next' all-parts all-parts' wider wider_next next_fault operand_fault
-
-  pub joined_wider : (text : List ℕ) (r : Range) → Chain join L Behind-L text r → Chain join L' Behind-L' text r
-  joined_wider text r c = wide spec join L L' Behind-L Behind-L' E P P' next next' all-parts all-parts' wider wider_next c

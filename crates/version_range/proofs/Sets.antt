@@ -11,38 +11,16 @@ use Rattle.plan_types.specs.declared.refusal.Cause.{Cause}
 use Rattle.version_range.specs.declared.operator.Operator.{Operator}
 use Rattle.version_range.specs.Grammar.{begins_with, is_blank, ends_with_digit, Blanks, Led, Behind, behind, of_version, Compared, compared, Members}
 use Rattle.version_range.specs.Read.{◌>>=◌, skip_blanks, byte_after, version_at, compared_at, next_member, set_at, chained}
-use Rattle.version_range.proofs.Fronts.{Reader, errs, goes_on_number, Apart, apart_before, apart_within, ends_behind, ends_kept, Read, Like, Fault, fault_up_like}
+use Rattle.version_range.proofs.Fronts.{Reader, some_append, apart_onto, apart_from, errs, goes_on_number, Apart, apart_before, apart_within, ends_behind, ends_kept, Read, Like, Fault, fault_up_like}
 use Rattle.version_range.proofs.Parts.{Parts, all_of, reads, read_all, NextFault, fault_all}
-use Rattle.version_range.proofs.Spaces.{Never, NotDigits, byte_gone, Begun, begun, blanks_none, on_number, blank_no_number, blanks_no_number, Cut, cut, skip_over}
+use Rattle.version_range.proofs.Spaces.{Never, never_starts, never_empty, NotDigits, byte_gone, Begun, begun, blanks_none, on_number, blank_no_number, blanks_no_number, Cut, cut, skip_over}
 use Rattle.version_range.proofs.Steps.{Good, good_led, valued, good_map, good_as}
 use Rattle.version_range.proofs.Closings.{Instead, instead, begins_instead, apart_instead, Closed, closing, closed_at, closed_reads, closed_read, closed_fault}
 use Rattle.version_range.proofs.Versions.{VersionText, version_read, version_reads, version_fault, version_first}
 
--- ---- parts that begin with a byte that goes on no number
-
-module _ {A : Type 0} (L : List ℕ → A → Type 0) (never : Never on_number L) where
-  pub apart_opens : (text next rest : List ℕ) (y : A) → L next y → Apart text (next ++ rest)
-  apart_opens text next rest y l d = let f = never next y l in ap (λ t. goes_on_number (t ++ rest)) f.2 ∙ f.3
-
-  ends_as : (text next : List ℕ) (y : A) → L next y → ends_with_digit (text ++ next) ≡ ends_with_digit next
-  ends_as text next y l = let f = never next y l in ap (λ t. ends_with_digit (text ++ t)) f.2 ∙ ends_behind text f.0 f.1 ∙ sym (ap ends_with_digit f.2)
-
-  pub apart_behind : (text next rest : List ℕ) (y : A) → L next y → Apart next rest → Apart (text ++ next) rest
-  apart_behind text next rest y l a d = a (sym (ends_as text next y l) ∙ d)
-
-  pub apart_in : (text next rest : List ℕ) (y : A) → L next y → Apart (text ++ next) rest → Apart next rest
-  apart_in text next rest y l a d = a (ends_as text next y l ∙ d)
-
-  pub not_nothing : (y : A) → L [] y → ⊥
-  not_nothing y l = let f = never [] y l in absurd (cc f.2)
-
-pub never_behind : {A : Type 0} (mark : ℕ) → on_number mark ≡ false → (L : List ℕ → A → Type 0) → Never on_number (Behind (mark ∷ []) L)
-never_behind mark other L text x (behind [] {text = t} all l) = (mark, t, refl, other)
-never_behind mark other L text x (behind (b ∷ bs) {text = t} all l) = (b, (bs ++ mark ∷ []) ++ t, refl, blank_no_number b (and_parts (is_blank b) (list_all is_blank bs) all).0)
-
 -- ---- versions that are compared
 
-pub version_good : (spec : Spec) → Good spec VersionText (version_at false spec)
+version_good : (spec : Spec) → Good spec VersionText (version_at false spec)
 version_good spec = record { read = version_read spec; reads = version_reads spec; fault = version_fault spec }
 
 compared_same : (op : Operator) (spec : Spec) (text : List ℕ) → compared_at op spec text ≡ valued (of_version op) (version_at false spec text)
@@ -68,8 +46,13 @@ never_compared op test none text r (compared v h) = never_version test none text
 
 -- ---- the members of a set
 
+-- what begins with a mark or a blank goes on no number
+never_behind : {A : Type 0} (mark : ℕ) → on_number mark ≡ false → (L : List ℕ → A → Type 0) → Never on_number (Behind (mark ∷ []) L)
+never_behind mark other L text x (behind [] {text = t} all l) = (mark, t, refl, other)
+never_behind mark other L text x (behind (b ∷ bs) {text = t} all l) = (b, (bs ++ mark ∷ []) ++ t, refl, blank_no_number b (and_parts (is_blank b) (list_all is_blank bs) all).0)
+
 -- a member, as it is read
-abbrev pub member_at : Spec → Operator → Reader Range
+abbrev member_at : Spec → Operator → Reader Range
 member_at spec op text = compared_at op spec (skip_blanks text)
 
 abbrev found : {B : Type 0} → Result (B × List ℕ) Cause → Result (Option (B × List ℕ)) Cause
@@ -145,18 +128,14 @@ module _ (spec : Spec) (op : Operator) where
     first_read = member_good.read;
     next_reads = λ text y rest l a. next_reads l rest a;
     next_read = next_read;
-    next_some = not_nothing Next never_next;
-    opens = apart_opens Next never_next;
-    behind = apart_behind Next never_next;
-    within = apart_in Next never_next;
+    next_some = λ y n. never_empty on_number Next never_next [] y n refl;
+    opens = λ text next rest y n d. never_starts on_number Next never_next next y n rest;
+    behind = λ text next rest y n a. apart_onto text next rest (never_empty on_number Next never_next next y n) a;
+    within = λ text next rest y n a. apart_from text next rest (never_empty on_number Next never_next next y n) a;
   }
 
   abbrev NextFails : List ℕ → Cause → Type 0
   NextFails = NextFault spec Either (Led (Compared op)) (Led (Compared op)) Next Next Apart (member_at spec op) (member_at spec op) (next_member op spec) (next_member op spec) rules rules (λ t x l. l) (λ t x l. l)
-
-  some_mark : (blanks front : List ℕ) → (blanks ++ 44 ∷ []) ++ front ≢ []
-  some_mark [] front e = absurd (cc e)
-  some_mark (b ∷ bs) front e = absurd (cc e)
 
   fault_behind : (blanks text : List ℕ) → Blanks blanks → (cause : Cause) → Fault spec (Led (Compared op)) (Led (Compared op)) (member_at spec op) (member_at spec op) text cause → NextFails ((blanks ++ 44 ∷ []) ++ text) cause
   unfolding fault_up_like
@@ -168,7 +147,7 @@ module _ (spec : Spec) (op : Operator) where
       let ends : ends_with_digit (pre ++ f.front) ≡ ends_with_digit f.front = ends_kept pre f.front (ends_behind blanks 44 []) in
       record {
         fault = fault_up_like spec (Led (Compared op)) (Led (Compared op)) (member_at spec op) (member_at spec op) Next Next (next_member op spec) (next_member op spec) pre completes completes text cause f ends passes passes;
-        begun = some_mark blanks f.front;
+        begun = λ e. some_append blanks (44 ∷ f.front) (λ k. cc k) (sym (append_assoc blanks (44 ∷ []) f.front) ∙ e);
         opens = λ before again d. ap goes_on_number (append_assoc (blanks ++ 44 ∷ []) f.front again ∙ append_assoc blanks (44 ∷ []) (f.front ++ again)) ∙ blanks_no_number blanks (44 ∷ (f.front ++ again)) all refl;
       }
 

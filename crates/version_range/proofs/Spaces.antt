@@ -1,5 +1,5 @@
 -- The first byte of a text, and the blanks before it.
-use Rattle.std.proofs.Common.{◌≡◌, ◌⊎◌, inl, inr, ℕ, Bool, true, false, ◌||◌, List, [], ◌∷◌, ◌++◌, Option, Some, None, Result, Ok, Err, refl, sym, ap, ◌∙◌}
+use Rattle.std.proofs.Common.{◌≡◌, ◌≢◌, ◌⊎◌, inl, inr, ℕ, Bool, true, false, ◌||◌, List, [], ◌∷◌, ◌++◌, Option, Some, None, Result, Ok, Err, refl, sym, ap, ◌∙◌}
 use Rattle.std.specs.Prelude.{◌==◌}
 use Rattle.std.specs.Char.{is_ascii_digit}
 use Rattle.std.specs.List.{list_all}
@@ -26,14 +26,17 @@ Never test L = (text : List ℕ) (x : _) → L text x → (b : ℕ) × (bs : Lis
 pub never_starts : {A : Type 0} (test : ℕ → Bool) (L : List ℕ → A → Type 0) → Never test L → (text : List ℕ) (x : A) → L text x → (rest : List ℕ) → starts test (text ++ rest) ≡ false
 never_starts test L never text x l rest = let f = never text x l in ap (λ t. starts test (t ++ rest)) f.2 ∙ f.3
 
+pub never_empty : {A : Type 0} (test : ℕ → Bool) (L : List ℕ → A → Type 0) → Never test L → (text : List ℕ) (x : A) → L text x → text ≢ []
+never_empty test L never text x l e = let f = never text x l in cc (e, f.2)
+
 abbrev pub NotDigits : (ℕ → Bool) → Type 0
 NotDigits test = (b : ℕ) → is_ascii_digit b ≡ true → test b ≡ false
 
-pub starts_same : (test : ℕ → Bool) (rest again : List ℕ) → head_of again ≡ head_of rest → starts test rest ≡ false → starts test again ≡ false
-starts_same test [] [] e h = refl
-starts_same test [] (b ∷ again) e h = absurd (cc e)
-starts_same test (b ∷ rest) [] e h = refl
-starts_same test (b ∷ rest) (c ∷ again) e h = let same : c ≡ b = cc e in ap test same ∙ h
+pub starts_same : (test : ℕ → Bool) (rest again : List ℕ) → head_of again ≡ head_of rest → starts test again ≡ starts test rest
+starts_same test [] [] e = refl
+starts_same test [] (b ∷ again) e = absurd (cc e)
+starts_same test (b ∷ rest) [] e = absurd (cc e)
+starts_same test (b ∷ rest) (c ∷ again) e = let same : c ≡ b = cc e in ap test same
 
 pub starts_digit : (test : ℕ → Bool) → NotDigits test → (again : List ℕ) → begins_with_digit again ≡ true → starts test again ≡ false
 starts_digit test none [] d = refl
@@ -41,7 +44,7 @@ starts_digit test none (b ∷ again) d = none b d
 
 -- what is tested of the first byte stays so
 pub starts_like : (test : ℕ → Bool) → NotDigits test → (front rest again : List ℕ) → Like again rest → starts test (front ++ rest) ≡ false → starts test (front ++ again) ≡ false
-starts_like test none [] rest again (inl e) h = starts_same test rest again e h
+starts_like test none [] rest again (inl e) h = starts_same test rest again e ∙ h
 starts_like test none [] rest again (inr d) h = starts_digit test none again d
 starts_like test none (b ∷ front) rest again like h = h
 

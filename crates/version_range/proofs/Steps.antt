@@ -86,7 +86,7 @@ module _ {A : Type 0} (spec : Spec) (byte : ℕ) (other : is_ascii_digit byte �
             let same : cause_at spec BadRange text ≡ cause = cc (h, missed text g) in
             subst (Fault spec (After byte K) (After byte K) (due spec byte R) (due spec byte R) text) same
             (due_fault spec (After byte K) (After byte K) (due spec byte R) (due spec byte R) [] text (byte ∷ sample) value (after is)
-            (λ again e. ap errs (missed again (starts_same is_byte text again e g)))
+            (λ again e. ap errs (missed again (starts_same is_byte text again e ∙ g)))
             (λ d. absurd (false≢true d))
             (λ d digit again e. ap errs (missed (digit ∷ again) (no_digits byte other digit e))))
 

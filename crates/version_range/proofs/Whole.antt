@@ -84,9 +84,6 @@ why_dead spec L L' P P' front rest (fronts.too_deep first none others x goes dea
 why_dead spec L L' P P' front rest (behind_digit form last other dead) again same h k = false≢true (sym k ∙ dead again same)
 why_dead spec L L' P P' front rest (no_digit form last none dead) again same h k = false≢true (sym k ∙ dead again same)
 
-reads_well : {A : Type 0} (read : Result A Cause) (x : A) → read ≡ Ok x → errs read ≡ false
-reads_well read x h = ap errs h
-
 head_some : (again : List ℕ) (b : ℕ) (bs : List ℕ) → head_of again ≡ head_of (b ∷ bs) → again ≢ []
 head_some [] b bs same e = cc same
 head_some (c ∷ again) b bs same e = cc e
@@ -175,7 +172,7 @@ module _ (spec : Spec) where
       behind_blanks : Blanks f.front → (again : List ℕ) → Like again f.rest → (rest : List ℕ) → f.rest ≡ rest → NotBlank (f.front ++ again)
       behind_blanks are again like [] e empty' = some (ap skip_blanks (f.whole ∙ ap (λ t. f.front ++ t) e ∙ append-nil f.front) ∙ skip_all f.front are)
       behind_blanks are again (inl same) (b ∷ rest) e empty' =
-          head_some again b rest (same ∙ ap head_of e) (sym (skip_over f.front again are (starts_same is_blank f.rest again same (stuck_behind_blanks n text cause f are))) ∙ empty')
+          head_some again b rest (same ∙ ap head_of e) (sym (skip_over f.front again are (starts_same is_blank f.rest again same ∙ stuck_behind_blanks n text cause f are)) ∙ empty')
       behind_blanks are again (inr digit) (b ∷ rest) e empty' =
           digit_some again digit (sym (skip_over f.front again are (starts_digit is_blank blanks_none again digit)) ∙ empty')
 
