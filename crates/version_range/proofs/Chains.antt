@@ -48,8 +48,3 @@ module _ {A B : Type 0} (join : A → B → A) (next : List ℕ → Result (Opti
   pub ends : (fault : TextFault) (left : A) (rest : List ℕ) (whole : Result (A × List ℕ) Cause) → Goes left rest whole → Fails fault (next rest) → Fails fault whole
   ends NoMemory left rest whole g h = tt
   ends (Bad cause) left rest whole g h = at_fault g.fuel left rest whole cause g.enough g.same h
-
--- a fault before what is read next
-pub fails_first : {A B : Type 0} (fault : TextFault) (read : Result A Cause) (f : A → Result B Cause) → Fails fault read → Fails fault (read >>= f)
-fails_first NoMemory read f h = tt
-fails_first (Bad cause) read f h = ap (λ r. r >>= f) h

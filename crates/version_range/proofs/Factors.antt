@@ -9,7 +9,7 @@ use Rattle.plan_types.specs.declared.range.Range.TheVariants.{Any, Both, Either}
 use Rattle.plan_types.specs.declared.refusal.Cause.{Cause}
 use Rattle.version_range.specs.Read.{skip_blanks, factor_at, term_at, range_in, inside}
 use Rattle.version_range.specs.Version.{begins_with_digit}
-use Rattle.version_range.specs.Grammar.{begins_with, is_blank, Blanks, Atom, any, Factor, atom, enclosed, Term, Terms, Inside, Led, led, Behind, behind, one}
+use Rattle.version_range.specs.Grammar.{begins_with, is_blank, Blanks, Atom, any, Factor, atom, enclosed, Term, Terms, Inside, Led, led, Behind, one}
 use Rattle.version_range.proofs.Fronts.{Reader, errs, Apart, ends_kept, apart_before, apart_onto, apart_from, some_append, Read, Dead, NoDigit, Like, too_deep, Fault, fault_up, fault_up_like}
 use Rattle.version_range.proofs.Spaces.{Never, never_starts, never_empty, no_digits, begins_like, byte_gone, Begun, begun, blanks_no_number, skip_over}
 use Rattle.version_range.proofs.Parts.{map_chain}

@@ -1,5 +1,5 @@
 -- Numbers and the texts of versions.
-use Rattle.std.proofs.Common.{◌≡◌, ◌≢◌, ℕ, zero, suc, ◌+◌, ◌-◌, ◌*◌, ◌^◌, ◌<◌, ◌≤◌, Bool, true, false, List, [], ◌∷◌, ◌++◌, length, take, drop, get_or, refl, sym, ap, ◌∙◌, subst, arith, rules, append_assoc, length-append}
+use Rattle.std.proofs.Common.{◌≡◌, ◌≢◌, ℕ, zero, suc, ◌+◌, ◌-◌, ◌*◌, ◌^◌, ◌<◌, ◌≤◌, Bool, true, false, List, [], ◌∷◌, ◌++◌, length, take, drop, get_or, refl, sym, ap, ◌∙◌, subst, arith, rules, append_assoc}
 use Rattle.std.specs.List.{AllByRecursion}
 use Rattle.std.specs.Fmt.{decimal}
 use Rattle.std.specs.Str.{all_ascii_digits}
@@ -183,9 +183,6 @@ module _ (text : List ℕ) (ps : List ℕ) (rest : List ℕ) (read : (text ≡ p
         read.0 ∙ ap (λ t. pointed ps ++ t) (found.1 ∙ ap (λ t. decimal n ++ t) e ∙ sym (append_assoc (decimal n) (46 ∷ []) more)) ∙ sym (append_assoc (pointed ps) (decimal n ++ 46 ∷ []) more) ∙ ap (λ t. t ++ more) (sym (pointed_more ps n) ∙ ap pointed (sym pushed)),
         subst (AllByRecursion IsNumber) (sym pushed) (numbers_more ps n read.1 found.0),
       )
-
-      pub read_shorter : (more : List ℕ) → after ≡ 46 ∷ more → length more < length rest
-      read_shorter more e = omega (arith, ap length found.1, length-append (decimal n) after, ap length e)
 
 pub only_version : (text new : List ℕ) → IsVersion new → text ≡ version_text new → (qs : List ℕ) → IsVersion qs → text ≡ version_text qs → new ≡ qs
 only_version text new v e qs w f = one_version new qs v w (sym e ∙ f)

@@ -9,7 +9,7 @@ use Rattle.version_range.specs.Read.{◌>>=◌, skip_blanks, cause_at, next_at}
 use Rattle.version_range.specs.Grammar.{begins_with, is_blank, Blanks, ends_with_digit, Behind, behind, Chain, one, more}
 use Rattle.version_range.proofs.Fronts.{Reader, some_append, errs, ends_behind, ends_kept, Read, Fault, due_fault, fault_up, fault_up_like}
 use Rattle.version_range.proofs.Spaces.{no_digits, begins_like}
-use Rattle.version_range.proofs.Parts.{Parts, NextFault, all_of, errs_then, reads, read_all, fault_all, wide}
+use Rattle.version_range.proofs.Parts.{Parts, NextFault, all_of, errs_then, reads, read_all, fault_all}
 use Rattle.version_range.proofs.Led.{twice, at_mark, at_half, at_none, Mark, no_mark, half, mark, marked}
 
 -- the reader P reads the language L, where E tells which texts may follow
