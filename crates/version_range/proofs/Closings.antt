@@ -105,6 +105,7 @@ module _ {A : Type 0} (spec : Spec) (close : ℕ) (other : is_ascii_digit close 
               is = subst (Closed close L (r.front ++ (c.blanks ++ close ∷ []))) parts.0 (closed r.front c.blanks r.is c.all);
               apart = λ d. absurd (false≢true (sym (last_close r.front c.blanks close other) ∙ d));
             }
+
         by : (o : Result (A × List ℕ) Cause) → P text ≡ o → Read (Closed close L) Apart text x rest
         by (Err cause) q = absurd (cc (h, ap (λ r. r >>= closed_at spec close) q))
         by (Ok p) q = at p (read text p.0 p.1 q) (sym (ap (λ r. r >>= closed_at spec close) q) ∙ h) (begun close (skip_blanks p.1))
@@ -124,7 +125,7 @@ module _ {A : Type 0} (spec : Spec) (close : ℕ) (other : is_ascii_digit close 
           misplaced spec (Closed close L) (Closed close L') (closing spec close P) (closing spec close P') text behind (apart text behind e)
           (close ∷ []) x (closed text (cut behind).blanks l (cut behind).all)
           (λ again i. ap (λ r. errs (r >>= closed_at spec close)) (reads' text x (instead behind again) (wider text x l) (next text behind again e i))
-              ∙ ap errs (closed_gone spec close x (instead behind again) (begins_instead close other i gone)))
+          ∙ ap errs (closed_gone spec close x (instead behind again) (begins_instead close other i gone)))
 
       pub closed_fault : (text : List ℕ) (cause : Cause) → closing spec close P text ≡ Err cause → ClosedFault text cause
       closed_fault text cause h = by (P text) refl
@@ -134,8 +135,10 @@ module _ {A : Type 0} (spec : Spec) (close : ℕ) (other : is_ascii_digit close 
           at p r e (inr g) =
               let same : cause_at spec BadRange (skip_blanks p.1) ≡ cause = cc (e, closed_gone spec close p.0 p.1 g) in
               subst (λ t. ClosedFault t cause) (sym r.whole) (subst (ClosedFault (r.front ++ p.1)) same (not_closed r.front p.1 p.0 r.is r.apart g))
+
           completes : (K : List ℕ → A → Type 0) (t : List ℕ) (x : A) → K t x → (end : List ℕ) × (y : A) × Closed close K (t ++ end) y
           completes K t x l = (close ∷ [], x, closed t [] l refl)
+
           by : (o : Result (A × List ℕ) Cause) → P text ≡ o → ClosedFault text cause
           by (Ok p) q = at p (read text p.0 p.1 q) (sym (ap (λ r. r >>= closed_at spec close) q) ∙ h) (begun close (skip_blanks p.1))
           by (Err why) q =

@@ -40,7 +40,7 @@ module _ {A : Type 0} (spec : Spec) (L L' : List ℕ → A → Type 0) (P P' : R
       let c = cut text in
       let f = fault (skip_blanks text) cause h in
       let over : (again : List ℕ) → Like again f.rest → skip_blanks (c.blanks ++ (f.front ++ again)) ≡ f.front ++ again =
-          λ again like. skip_over c.blanks (f.front ++ again) c.all (starts_like is_blank blanks_none f.front f.rest again like (sym (ap (starts is_blank) f.whole) ∙ c.none)) in
+      λ again like. skip_over c.blanks (f.front ++ again) c.all (starts_like is_blank blanks_none f.front f.rest again like (sym (ap (starts is_blank) f.whole) ∙ c.none)) in
       subst (λ t. Fault spec (Led L) (Led L') (led_at P) (led_at P') t cause) (sym c.whole)
       (fault_up_like spec L L' P P' (Led L) (Led L') (led_at P) (led_at P') c.blanks (completes L c) (completes L' c)
       (skip_blanks text) cause f (ends_kept c.blanks f.front (ends_blanks c.blanks c.all))

@@ -122,7 +122,7 @@ module _ {A : Type 0} (spec : Spec) (byte : ℕ) (other : is_ascii_digit byte �
             let f = m.fault text cause (sym (choose_gone text g) ∙ h) in
             let completes : (t : List ℕ) (x : A) → M t x → (end : List ℕ) × (y : A) × Choice byte K M (t ++ end) y = λ t x l. ([], x, subst (λ u. Choice byte K M u x) (sym (append-nil t)) (there l)) in
             let passes : (again : List ℕ) → Like again f.rest → errs (T (f.front ++ again)) ≡ true → errs (choose byte R T (f.front ++ again)) ≡ true =
-                λ again like e. ap errs (choose_gone (f.front ++ again) (begins_like byte other f.front f.rest again like (sym (ap (begins_with byte) f.whole) ∙ g))) ∙ e in
+            λ again like e. ap errs (choose_gone (f.front ++ again) (begins_like byte other f.front f.rest again like (sym (ap (begins_with byte) f.whole) ∙ g))) ∙ e in
             fault_up_like spec M M T T (Choice byte K M) (Choice byte K M) (choose byte R T) (choose byte R T) [] completes completes text cause f refl passes passes
 
     pub good_choose : Good spec (Choice byte K M) (choose byte R T)
