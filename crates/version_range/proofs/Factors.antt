@@ -10,7 +10,7 @@ use Rattle.plan_types.specs.declared.refusal.Cause.{Cause}
 use Rattle.version_range.specs.Read.{skip_blanks, factor_at, term_at, range_in, inside}
 use Rattle.version_range.specs.Version.{begins_with_digit}
 use Rattle.version_range.specs.Grammar.{begins_with, is_blank, Blanks, Atom, any, Factor, atom, enclosed, Term, Terms, Inside, Led, led, Behind, one}
-use Rattle.version_range.proofs.Fronts.{Reader, errs, Apart, ends_kept, apart_before, apart_onto, apart_from, some_append, Read, Dead, NoDigit, Like, too_deep, Fault, fault_up, fault_up_like}
+use Rattle.version_range.proofs.Fronts.{Reader, errs, Apart, ends_kept, apart_before, apart_longer, apart_shorter, some_append, Read, Dead, NoDigit, Like, too_deep, Fault, fault_up, fault_up_like}
 use Rattle.version_range.proofs.Spaces.{Never, never_starts, never_empty, no_digits, begins_like, byte_gone, Begun, begun, blanks_no_number, skip_over}
 use Rattle.version_range.proofs.Parts.{map_chain}
 use Rattle.version_range.proofs.Led.{led_at, led_reads, led_read, led_fault}
@@ -27,12 +27,12 @@ abbrev pub AfterRange : List ℕ → List ℕ → Type 0
 AfterRange front rest = AfterTerm front rest × (begins_with 124 (skip_blanks rest) ≡ false)
 
 follow_apart : Follow Apart
-follow_apart = record { onto = apart_onto; from = apart_from }
+follow_apart = record { onto = apart_longer; from = apart_shorter }
 
 follow_term : Follow AfterTerm
 follow_term = record {
-  onto = λ pre text rest some e. (apart_onto pre text rest some e.0, e.1);
-  from = λ pre text rest some e. (apart_from pre text rest some e.0, e.1);
+  onto = λ pre text rest some e. (apart_longer pre text rest some e.0, e.1);
+  from = λ pre text rest some e. (apart_shorter pre text rest some e.0, e.1);
 }
 
 and_follows : (text blanks again : List ℕ) → Blanks blanks → Apart text (blanks ++ (38 ∷ again))

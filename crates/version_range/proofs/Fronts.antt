@@ -58,11 +58,11 @@ pub apart_within : (pre front rest : List ℕ) → ends_with_digit pre ≡ false
 apart_within pre front rest e a d = a (ends_kept pre front e ∙ d)
 
 -- what may follow a text depends on its end
-pub apart_onto : (pre text rest : List ℕ) → text ≢ [] → Apart text rest → Apart (pre ++ text) rest
-apart_onto pre text rest some a d = a (sym (ends_some pre text some) ∙ d)
+pub apart_longer : (pre text rest : List ℕ) → text ≢ [] → Apart text rest → Apart (pre ++ text) rest
+apart_longer pre text rest some a d = a (sym (ends_some pre text some) ∙ d)
 
-pub apart_from : (pre text rest : List ℕ) → text ≢ [] → Apart (pre ++ text) rest → Apart text rest
-apart_from pre text rest some a d = a (ends_some pre text some ∙ d)
+pub apart_shorter : (pre text rest : List ℕ) → text ≢ [] → Apart (pre ++ text) rest → Apart text rest
+apart_shorter pre text rest some a d = a (ends_some pre text some ∙ d)
 
 pub some_append : (front back : List ℕ) → back ≢ [] → front ++ back ≢ []
 some_append [] back some e = some e

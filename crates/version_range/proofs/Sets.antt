@@ -11,7 +11,7 @@ use Rattle.plan_types.specs.declared.refusal.Cause.{Cause}
 use Rattle.version_range.specs.declared.operator.Operator.{Operator}
 use Rattle.version_range.specs.Grammar.{begins_with, is_blank, ends_with_digit, Blanks, Led, Behind, behind, of_version, Compared, compared, Members}
 use Rattle.version_range.specs.Read.{◌>>=◌, skip_blanks, byte_after, version_at, compared_at, next_member, set_at, chained}
-use Rattle.version_range.proofs.Fronts.{Reader, some_append, apart_onto, apart_from, errs, goes_on_number, Apart, apart_before, apart_within, ends_behind, ends_kept, Read, Like, Fault, fault_up_like}
+use Rattle.version_range.proofs.Fronts.{Reader, some_append, apart_longer, apart_shorter, errs, goes_on_number, Apart, apart_before, apart_within, ends_behind, ends_kept, Read, Like, Fault, fault_up_like}
 use Rattle.version_range.proofs.Parts.{Parts, all_of, reads, read_all, NextFault, fault_all}
 use Rattle.version_range.proofs.Spaces.{Never, never_starts, never_empty, NotDigits, byte_gone, Begun, begun, blanks_none, on_number, blank_no_number, blanks_no_number, Cut, cut, skip_over}
 use Rattle.version_range.proofs.Steps.{Good, good_led, valued, good_map, good_as}
@@ -132,8 +132,8 @@ module _ (spec : Spec) (op : Operator) where
     next_read = next_read;
     next_some = λ y n. never_empty on_number Next never_next [] y n refl;
     opens = λ text next rest y n d. never_starts on_number Next never_next next y n rest;
-    behind = λ text next rest y n a. apart_onto text next rest (never_empty on_number Next never_next next y n) a;
-    within = λ text next rest y n a. apart_from text next rest (never_empty on_number Next never_next next y n) a;
+    behind = λ text next rest y n a. apart_longer text next rest (never_empty on_number Next never_next next y n) a;
+    within = λ text next rest y n a. apart_shorter text next rest (never_empty on_number Next never_next next y n) a;
   }
 
   abbrev NextFails : List ℕ → Cause → Type 0
