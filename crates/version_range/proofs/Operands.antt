@@ -5,11 +5,11 @@ use Rattle.plan_types.specs.declared.range.Spec.{Spec}
 use Rattle.plan_types.specs.declared.range.Range.{Range}
 use Rattle.plan_types.specs.declared.refusal.Cause.{Cause}
 use Rattle.plan_types.specs.declared.refusal.Cause.TheVariants.{BadRange}
-use Rattle.version_range.specs.Read.{◌>>=◌, skip_blanks, cause_at, next_at}
+use Rattle.version_range.specs.Read.{skip_blanks, cause_at, next_at}
 use Rattle.version_range.specs.Grammar.{begins_with, is_blank, Blanks, ends_with_digit, Behind, behind, Chain, one, more}
 use Rattle.version_range.proofs.Fronts.{Reader, some_append, errs, ends_behind, ends_kept, Read, Fault, due_fault, fault_up, fault_up_like}
 use Rattle.version_range.proofs.Spaces.{no_digits, begins_like}
-use Rattle.version_range.proofs.Parts.{Parts, NextFault, all_of, errs_then, reads, read_all, fault_all}
+use Rattle.version_range.proofs.Parts.{Parts, NextFault, all_of, errs_then, as_next, as_next_ok, as_next_none, as_next_err, reads, read_all, fault_all}
 use Rattle.version_range.proofs.Led.{twice, at_mark, at_half, at_none, Mark, no_mark, half, mark, marked}
 
 -- the reader P reads the language L, where E tells which texts may follow
@@ -42,27 +42,22 @@ module _ (spec : Spec) (byte : ℕ) (not-blank : is_blank byte ≡ false) (not-d
       let e' = follow.from (blanks ++ twice byte) part rest (rules.some part r is) e in
       ap (next_at P spec byte) (flat blanks part rest)
       ∙ at_mark P spec byte not-blank blanks (part ++ rest) are
-      ∙ ap (λ o. o >>= λ p. Ok (Some p)) (rules.reads part r rest is e')
+      ∙ ap as_next (rules.reads part r rest is e')
 
   next_read : (text : List ℕ) (r : Range) (rest : List ℕ) → next_at P spec byte text ≡ Ok (Some (r, rest)) → Read Next E text r rest
   next_read text r rest h = by (marked P spec byte not-blank text)
     where
-      found : (blanks behind' : List ℕ) → Blanks blanks → text ≡ blanks ++ (byte ∷ byte ∷ behind') → (o : Result (Range × List ℕ) Cause) → P behind' ≡ o → (o >>= λ p. Ok (Some p)) ≡ Ok (Some (r, rest)) → Read Next E text r rest
-      found blanks behind' are e (Err cause) q k = absurd (cc k)
-      found blanks behind' are e (Ok p) q k =
-          let pair : p ≡ (r, rest) = cc k in
-          let got = rules.read behind' r rest (q ∙ ap Ok pair) in
+      by : Mark P spec byte not-blank text → Read Next E text r rest
+      by (no_mark other none) = absurd (cc (h, none))
+      by (half blanks behind' are e other fails) = absurd (cc (h, fails))
+      by (mark blanks behind' are e is) =
+          let got = rules.read behind' r rest (as_next_ok (P behind') (r, rest) (sym is ∙ h)) in
           record {
             front = (blanks ++ twice byte) ++ got.front;
             whole = e ∙ ap (λ t. blanks ++ (byte ∷ byte ∷ t)) got.whole ∙ sym (flat blanks got.front rest);
             is = behind blanks are got.is;
             apart = follow.onto (blanks ++ twice byte) got.front rest (rules.some got.front r got.is) got.apart;
           }
-
-      by : Mark P spec byte not-blank text → Read Next E text r rest
-      by (no_mark other none) = absurd (cc (h, none))
-      by (half blanks behind' are e other fails) = absurd (cc (h, fails))
-      by (mark blanks behind' are e is) = found blanks behind' are e (P behind') refl (sym is ∙ h)
 
   pub parts : Parts L Next E P (next_at P spec byte)
   parts = record {
@@ -86,14 +81,10 @@ module _ (spec : Spec) (byte : ℕ) (not-blank : is_blank byte ≡ false) (not-d
   ended : (rest : List ℕ) → next_at P spec byte rest ≡ Ok None → begins_with byte (skip_blanks rest) ≡ false
   ended rest h = by (marked P spec byte not-blank rest)
     where
-      found : (behind' : List ℕ) (o : Result (Range × List ℕ) Cause) → (o >>= λ p. Ok (Some p)) ≡ Ok None → begins_with byte (skip_blanks rest) ≡ false
-      found behind' (Err cause) k = absurd (cc k)
-      found behind' (Ok p) k = absurd (cc k)
-
       by : Mark P spec byte not-blank rest → begins_with byte (skip_blanks rest) ≡ false
       by (no_mark other none) = other
       by (half blanks behind' are e other fails) = absurd (cc (h, fails))
-      by (mark blanks behind' are e is) = found behind' (P behind') (sym is ∙ h)
+      by (mark blanks behind' are e is) = absurd (as_next_none (P behind') (sym is ∙ h))
 
   pub joined_rules : (join : Range → Range → Range) → Rules (Chain join L Next) Ended (all_of join P (next_at P spec byte))
   joined_rules join = record {
@@ -192,18 +183,14 @@ module _ (spec : Spec) (byte : ℕ) (not-blank : is_blank byte ≡ false) (not-d
   next_fault : (text : List ℕ) (cause : Cause) → next text ≡ Err cause → Failed text cause
   next_fault text cause h = by (marked P spec byte not-blank text)
     where
-      part : (blanks rest : List ℕ) → Blanks blanks → text ≡ blanks ++ (byte ∷ byte ∷ rest) → (o : Result (Range × List ℕ) Cause) → P rest ≡ o → (o >>= λ p. Ok (Some p)) ≡ Err cause → Failed text cause
-      part blanks rest are e (Ok p) q k = absurd (cc k)
-      part blanks rest are e (Err why) q k =
-          let same : why ≡ cause = cc k in
-          subst (λ t. Failed t cause) (append_assoc blanks (twice byte) rest ∙ sym e) (fault_part blanks rest cause are (operand_fault rest cause (q ∙ ap Err same)))
-
       by : Mark P spec byte not-blank text → Failed text cause
       by (no_mark other none) = absurd (cc (h, none))
       by (half blanks rest are e other fails) =
           let same : cause_at spec BadRange rest ≡ cause = cc (h, fails) in
           subst (Failed text) same (subst (λ t. Failed t (cause_at spec BadRange rest)) (once_more blanks rest ∙ sym e) (fault_half blanks rest are other))
-      by (mark blanks rest are e is) = part blanks rest are e (P rest) refl (sym is ∙ h)
+      by (mark blanks rest are e is) =
+          let f = operand_fault rest cause (as_next_err (P rest) cause (sym is ∙ h)) in
+          subst (λ t. Failed t cause) (append_assoc blanks (twice byte) rest ∙ sym e) (fault_part blanks rest cause are f)
 
   pub joined_fault : (text : List ℕ) (cause : Cause) → all_of join P next text ≡ Err cause
       → Fault spec (Chain join L Behind-L) (Chain join L' Behind-L') (all_of join P next) (all_of join P' next') text cause

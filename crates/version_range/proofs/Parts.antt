@@ -44,6 +44,22 @@ pub err_of : {A : Type 0} (read : Result A Cause) → errs read ≡ true → (ca
 err_of (Ok x) h = absurd (cc h)
 err_of (Err cause) h = (cause, refl)
 
+-- what is read where something comes next
+abbrev pub as_next : {B : Type 0} → Result (B × List ℕ) Cause → Result (Option (B × List ℕ)) Cause
+as_next read = read >>= λ p. Ok (Some p)
+
+pub as_next_ok : {B : Type 0} (read : Result (B × List ℕ) Cause) (p : B × List ℕ) → as_next read ≡ Ok (Some p) → read ≡ Ok p
+as_next_ok (Ok q) p h = let same : q ≡ p = cc h in ap Ok same
+as_next_ok (Err cause) p h = absurd (cc h)
+
+pub as_next_none : {B : Type 0} (read : Result (B × List ℕ) Cause) → as_next read ≡ Ok None → ⊥
+as_next_none (Ok q) h = cc h
+as_next_none (Err cause) h = cc h
+
+pub as_next_err : {B : Type 0} (read : Result (B × List ℕ) Cause) (cause : Cause) → as_next read ≡ Err cause → read ≡ Err cause
+as_next_err (Ok q) cause h = absurd (cc h)
+as_next_err (Err why) cause h = let same : why ≡ cause = cc h in ap Err same
+
 longer : (front rest : List ℕ) → front ≢ [] → length rest < length (front ++ rest)
 longer [] rest some = absurd (some refl)
 longer (b ∷ bs) rest some = omega (arith, length-append bs rest)

@@ -12,7 +12,7 @@ use Rattle.version_range.specs.declared.operator.Operator.{Operator}
 use Rattle.version_range.specs.Grammar.{begins_with, is_blank, ends_with_digit, Blanks, Led, Behind, behind, of_version, Compared, compared, Members}
 use Rattle.version_range.specs.Read.{◌>>=◌, skip_blanks, byte_after, version_at, compared_at, next_member, set_at, chained}
 use Rattle.version_range.proofs.Fronts.{Reader, some_append, apart_longer, apart_shorter, errs, goes_on_number, Apart, apart_before, apart_within, ends_behind, ends_kept, Read, Like, Fault, fault_up_like}
-use Rattle.version_range.proofs.Parts.{Parts, all_of, reads, read_all, NextFault, fault_all}
+use Rattle.version_range.proofs.Parts.{errs_then, as_next, as_next_ok, as_next_none, as_next_err, Parts, all_of, reads, read_all, NextFault, fault_all}
 use Rattle.version_range.proofs.Spaces.{Never, never_starts, never_empty, NotDigits, byte_gone, Begun, begun, blanks_none, on_number, blank_no_number, blanks_no_number, Cut, cut, skip_over}
 use Rattle.version_range.proofs.Steps.{Good, good_led, valued, good_map, good_as}
 use Rattle.version_range.proofs.Closings.{Instead, instead, begins_instead, apart_instead, Closed, closing, closed_at, closed_reads, closed_read, closed_fault}
@@ -55,14 +55,6 @@ never_behind mark other L text x (behind (b ∷ bs) {text = t} all l) = (b, (bs 
 abbrev member_at : Spec → Operator → Reader Range
 member_at spec op text = compared_at op spec (skip_blanks text)
 
-abbrev found : {B : Type 0} → Result (B × List ℕ) Cause → Result (Option (B × List ℕ)) Cause
-found (Ok p) = Ok (Some p)
-found (Err cause) = Err cause
-
-errs_found : {B : Type 0} (r : Result (B × List ℕ) Cause) → errs r ≡ true → errs (found r) ≡ true
-errs_found (Ok p) h = h
-errs_found (Err cause) h = h
-
 module _ (spec : Spec) (op : Operator) where
   abbrev Next : List ℕ → Range → Type 0
   Next = Behind (codes ",") (Led (Compared op))
@@ -70,11 +62,11 @@ module _ (spec : Spec) (op : Operator) where
   member_good : Good spec (Led (Compared op)) (member_at spec op)
   member_good = good_led spec (Compared op) (compared_at op spec) (compared_good spec op) (never_compared op is_blank blanks_none)
 
-  next_here : (text more : List ℕ) → skip_blanks text ≡ 44 ∷ more → next_member op spec text ≡ found (member_at spec op more)
+  next_here : (text more : List ℕ) → skip_blanks text ≡ 44 ∷ more → next_member op spec text ≡ as_next (member_at spec op more)
   unfolding next_member compared_at
   next_here text more e = ap (λ t. elim (byte_after 44 t) [ None ↦ Ok None | Some m ↦ version_at false spec (skip_blanks m) >>= λ p. Ok (Some (of_version op p.0, p.1)) ]) e ∙ by (version_at false spec (skip_blanks more))
     where
-      by : (r : Result (Version × List ℕ) Cause) → ◌>>=◌ {B = Option (Range × List ℕ)} r (λ p. Ok (Some (of_version op p.0, p.1))) ≡ found (◌>>=◌ {B = Range × List ℕ} r (λ v. Ok (of_version op v.0, v.1)))
+      by : (r : Result (Version × List ℕ) Cause) → ◌>>=◌ {B = Option (Range × List ℕ)} r (λ p. Ok (Some (of_version op p.0, p.1))) ≡ as_next (◌>>=◌ {B = Range × List ℕ} r (λ v. Ok (of_version op v.0, v.1)))
       by (Ok p) = refl
       by (Err cause) = refl
 
@@ -85,12 +77,8 @@ module _ (spec : Spec) (op : Operator) where
   no_next : (text : List ℕ) → next_member op spec text ≡ Ok None → begins_with 44 (skip_blanks text) ≡ false
   no_next text h = by (begun 44 (skip_blanks text))
     where
-      at : (r : Result (Range × List ℕ) Cause) → found r ≡ Ok None → ⊥
-      at (Ok p) e = absurd (cc e)
-      at (Err cause) e = absurd (cc e)
-
       by : Begun 44 (skip_blanks text) → begins_with 44 (skip_blanks text) ≡ false
-      by (inl p) = absurd (at (member_at spec op p.0) (sym (next_here text p.0 p.1) ∙ h))
+      by (inl p) = absurd (as_next_none (member_at spec op p.0) (sym (next_here text p.0 p.1) ∙ h))
       by (inr g) = g
 
   over_mark : (blanks : List ℕ) → Blanks blanks → (text : List ℕ) → skip_blanks ((blanks ++ 44 ∷ []) ++ text) ≡ 44 ∷ text
@@ -100,20 +88,16 @@ module _ (spec : Spec) (op : Operator) where
   next_reads {y = y} (behind blanks {text = text} all l) rest a =
       let pre = blanks ++ 44 ∷ [] in
       next_here ((pre ++ text) ++ rest) (text ++ rest) (ap skip_blanks (append_assoc pre text rest) ∙ over_mark blanks all (text ++ rest))
-      ∙ ap found (member_good.reads text y rest l (apart_within pre text rest (ends_behind blanks 44 []) a))
+      ∙ ap as_next (member_good.reads text y rest l (apart_within pre text rest (ends_behind blanks 44 []) a))
 
   next_read : (text : List ℕ) (y : Range) (rest : List ℕ) → next_member op spec text ≡ Ok (Some (y, rest)) → Read Next Apart text y rest
   next_read text y rest h = by (begun 44 (skip_blanks text))
     where
-      some_of : (r : Result (Range × List ℕ) Cause) → found r ≡ Ok (Some (y, rest)) → r ≡ Ok (y, rest)
-      some_of (Ok p) e = cc e
-      some_of (Err cause) e = absurd (cc e)
-
       by : Begun 44 (skip_blanks text) → Read Next Apart text y rest
       by (inr g) = absurd (cc (h, next_gone text g))
       by (inl p) =
           let c = cut text in
-          let r = member_good.read p.0 y rest (some_of (member_at spec op p.0) (sym (next_here text p.0 p.1) ∙ h)) in
+          let r = member_good.read p.0 y rest (as_next_ok (member_at spec op p.0) (y, rest) (sym (next_here text p.0 p.1) ∙ h)) in
           record {
             front = (c.blanks ++ 44 ∷ []) ++ r.front;
             whole = c.whole ∙ ap (λ t. c.blanks ++ t) (p.1 ∙ ap (λ t. 44 ∷ t) r.whole) ∙ sym (append_assoc c.blanks (44 ∷ []) (r.front ++ rest)) ∙ sym (append_assoc (c.blanks ++ 44 ∷ []) r.front rest);
@@ -145,7 +129,7 @@ module _ (spec : Spec) (op : Operator) where
       let pre = blanks ++ 44 ∷ [] in
       let completes : (t : List ℕ) (x : Range) → Led (Compared op) t x → (end : List ℕ) × (y : Range) × Next (pre ++ (t ++ end)) y = λ t x l. ([], x, subst (λ u. Next (pre ++ u) x) (sym (append-nil t)) (behind blanks all l)) in
       let passes : (again : List ℕ) → Like again f.rest → errs (member_at spec op (f.front ++ again)) ≡ true → errs (next_member op spec (pre ++ (f.front ++ again))) ≡ true =
-      λ again like e. ap errs (next_here (pre ++ (f.front ++ again)) (f.front ++ again) (over_mark blanks all (f.front ++ again))) ∙ errs_found (member_at spec op (f.front ++ again)) e in
+      λ again like e. ap errs (next_here (pre ++ (f.front ++ again)) (f.front ++ again) (over_mark blanks all (f.front ++ again))) ∙ errs_then (member_at spec op (f.front ++ again)) (λ p. Ok (Some p)) e in
       let ends : ends_with_digit (pre ++ f.front) ≡ ends_with_digit f.front = ends_kept pre f.front (ends_behind blanks 44 []) in
       record {
         fault = fault_up_like spec (Led (Compared op)) (Led (Compared op)) (member_at spec op) (member_at spec op) Next Next (next_member op spec) (next_member op spec) pre completes completes text cause f ends passes passes;
@@ -156,15 +140,11 @@ module _ (spec : Spec) (op : Operator) where
   next_fault : (text : List ℕ) (cause : Cause) → next_member op spec text ≡ Err cause → NextFails text cause
   next_fault text cause h = by (begun 44 (skip_blanks text)) (cut text)
     where
-      err_of : (r : Result (Range × List ℕ) Cause) → found r ≡ Err cause → r ≡ Err cause
-      err_of (Ok p) e = absurd (cc e)
-      err_of (Err why) e = cc e
-
       by : Begun 44 (skip_blanks text) → Cut text → NextFails text cause
       by (inr g) c = absurd (cc (h, next_gone text g))
       by (inl p) c =
           let split : text ≡ (c.blanks ++ 44 ∷ []) ++ p.0 = c.whole ∙ ap (λ t. c.blanks ++ t) p.1 ∙ sym (append_assoc c.blanks (44 ∷ []) p.0) in
-          subst (λ t. NextFails t cause) (sym split) (fault_behind c.blanks p.0 c.all cause (member_good.fault p.0 cause (err_of (member_at spec op p.0) (sym (next_here text p.0 p.1) ∙ h))))
+          subst (λ t. NextFails t cause) (sym split) (fault_behind c.blanks p.0 c.all cause (member_good.fault p.0 cause (as_next_err (member_at spec op p.0) cause (sym (next_here text p.0 p.1) ∙ h))))
 
   -- ---- the set
 

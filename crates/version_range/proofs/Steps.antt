@@ -60,20 +60,20 @@ module _ {A : Type 0} (spec : Spec) (byte : ℕ) (other : is_ascii_digit byte �
 
   -- a byte that must stand here
   module _ (sample : List ℕ) (value : A) (is : K sample value) where
-    found : (rest : List ℕ) → due spec byte R (byte ∷ rest) ≡ R rest
-    found rest = ap (λ r. r >>= R) (due_here spec byte rest)
+    passed : (rest : List ℕ) → due spec byte R (byte ∷ rest) ≡ R rest
+    passed rest = ap (λ r. r >>= R) (due_here spec byte rest)
 
     missed : (text : List ℕ) → begins_with byte text ≡ false → due spec byte R text ≡ Err (cause_at spec BadRange text)
     missed text h = ap (λ r. r >>= R) (due_gone spec byte text h)
 
     due_reads : {text : List ℕ} {x : A} → After byte K text x → (rest : List ℕ) → Apart text rest → due spec byte R (text ++ rest) ≡ Ok (x, rest)
-    due_reads {x = x} (after {text = text} l) rest a = found (text ++ rest) ∙ k.reads text x rest l (apart_within (byte ∷ []) text rest other a)
+    due_reads {x = x} (after {text = text} l) rest a = passed (text ++ rest) ∙ k.reads text x rest l (apart_within (byte ∷ []) text rest other a)
 
     due_read : (text : List ℕ) (x : A) (rest : List ℕ) → due spec byte R text ≡ Ok (x, rest) → Read (After byte K) Apart text x rest
     due_read text x rest h = by (begun byte text)
       where
         by : Begun byte text → Read (After byte K) Apart text x rest
-        by (inl p) = subst (λ t. Read (After byte K) Apart t x rest) (sym p.1) (byte_read p.0 x rest (sym (found p.0) ∙ ap (due spec byte R) (sym p.1) ∙ h) (After byte K) (λ t l. after l))
+        by (inl p) = subst (λ t. Read (After byte K) Apart t x rest) (sym p.1) (byte_read p.0 x rest (sym (passed p.0) ∙ ap (due spec byte R) (sym p.1) ∙ h) (After byte K) (λ t l. after l))
         by (inr g) = absurd (cc (h, missed text g))
 
     missed_fault : (text : List ℕ) (cause : Cause) → due spec byte R text ≡ Err cause → Fault spec (After byte K) (After byte K) (due spec byte R) (due spec byte R) text cause
@@ -81,7 +81,7 @@ module _ {A : Type 0} (spec : Spec) (byte : ℕ) (other : is_ascii_digit byte �
       where
         by : Begun byte text → Fault spec (After byte K) (After byte K) (due spec byte R) (due spec byte R) text cause
         by (inl p) = subst (λ t. Fault spec (After byte K) (After byte K) (due spec byte R) (due spec byte R) t cause) (sym p.1)
-            (byte_fault p.0 cause (sym (found p.0) ∙ ap (due spec byte R) (sym p.1) ∙ h) (After byte K) (due spec byte R) (λ t x l. after l) found)
+            (byte_fault p.0 cause (sym (passed p.0) ∙ ap (due spec byte R) (sym p.1) ∙ h) (After byte K) (due spec byte R) (λ t x l. after l) passed)
         by (inr g) =
             let same : cause_at spec BadRange text ≡ cause = cc (h, missed text g) in
             subst (Fault spec (After byte K) (After byte K) (due spec byte R) (due spec byte R) text) same
