@@ -20,3 +20,4 @@ pub mod Steps
 pub mod Closings
 pub mod Sets
 pub mod Atoms
+pub mod Exact
