@@ -103,6 +103,7 @@ operand_set op spec h text = ap (λ t. if t && begins_with 123 text then byte_du
         (elim (if t then Some bs else None) [ Some rest ↦ set_at op spec rest | None ↦ plain_at op spec (b ∷ bs) ])
     by b bs true = refl
     by b bs false = refl
+
     at : (text : List ℕ) → (if true && begins_with 123 text then byte_due spec 123 text >>= set_at op spec else plain_at op spec text) ≡ choose 123 (set_at op spec) (plain_at op spec) text
     at [] = refl
     at (b ∷ bs) = by b bs (b == 123)
@@ -127,6 +128,7 @@ operand_good spec op = by (has_sets op spec) refl
         to : (text : List ℕ) (r : Range) → Choice 123 (Closed 125 (Members op)) (Plain op) text r → Operand spec op text r
         to text r (here l) = set h l
         to text r (there l) = plain l
+
         from : (text : List ℕ) (r : Range) → Operand spec op text r → Choice 123 (Closed 125 (Members op)) (Plain op) text r
         from text r (plain l) = there l
         from text r (set has l) = here l
@@ -256,6 +258,7 @@ module _ (spec : Spec) where
       second : (r : Result (List ℕ) Cause) → (◌>>=◌ {B = Operator × List ℕ} r (λ behind. Ok (op, behind))) >>= operand ≡ r >>= opened_at spec op
       second (Ok rest) = refl
       second (Err cause) = refl
+
       first : (r : Result (List ℕ) Cause) → (◌>>=◌ {B = Operator × List ℕ} r (λ more. ◌>>=◌ {B = Operator × List ℕ} (byte_due spec b more) (λ behind. Ok (op, behind)))) >>= operand ≡ r >>= due spec b (opened_at spec op)
       first (Ok more) = second (byte_due spec b more)
       first (Err cause) = refl

@@ -70,6 +70,7 @@ module _ {A : Type 0} (spec : Spec) (close : ℕ) (other : is_ascii_digit close 
               is = subst (Closed close L (r.front ++ (c.blanks ++ close ∷ []))) parts.0 (closed r.front c.blanks r.is c.all);
               apart = λ d. absurd (false≢true (sym (last_close r.front c.blanks close other) ∙ d));
             }
+
         by : (o : Result (A × List ℕ) Cause) → P text ≡ o → Read (Closed close L) Apart text x rest
         by (Err cause) q = absurd (cc (h, ap (λ r. r >>= closed_at spec close) q))
         by (Ok p) q = at p (read text p.0 p.1 q) (sym (ap (λ r. r >>= closed_at spec close) q) ∙ h) (begun close (skip_blanks p.1))
@@ -108,8 +109,10 @@ module _ {A : Type 0} (spec : Spec) (close : ℕ) (other : is_ascii_digit close 
               (λ again e. not again (inl e) (inl e))
               (λ d. apart_end r.front c.blanks rest c.all (apart r.front (c.blanks ++ rest) follows) d)
               (λ d digit again is. not (digit ∷ again) (inr is) (inr d))))
+
           completes : (K : List ℕ → A → Type 0) (t : List ℕ) (x : A) → K t x → (end : List ℕ) × (y : A) × Closed close K (t ++ end) y
           completes K t x l = (close ∷ [], x, closed t [] l refl)
+
           by : (o : Result (A × List ℕ) Cause) → P text ≡ o → Fault spec (Closed close L) (Closed close L') (closing spec close P) (closing spec close P') text cause
           by (Ok p) q = at p (read text p.0 p.1 q) (sym (ap (λ r. r >>= closed_at spec close) q) ∙ h) (begun close (skip_blanks p.1))
           by (Err why) q =

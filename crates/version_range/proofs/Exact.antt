@@ -8,8 +8,9 @@ use Rattle.plan_types.specs.declared.refusal.Cause.{Cause}
 use Rattle.plan_types.specs.declared.refusal.TextFault.{TextFault}
 use Rattle.plan_types.specs.declared.refusal.TextFault.TheVariants.{NoMemory, Bad}
 use Rattle.version_range.specs.Read.{Gives, range_of}
-use Rattle.version_range.specs.Version.{Refuses}
+use Rattle.version_range.specs.Version.{Refuses, has_versions}
 use Rattle.version_range.specs.Grammar.{Stands, Viable, Stuck, CauseAt, needs_version, bad_version, too_deep, bad_range, FirstFault}
+use Rattle.version_range.proofs.Forms.{stands_valid}
 use Rattle.version_range.proofs.Whole.{text_at, range_of_is, finds, found, first_fault}
 
 -- of two fronts of a text one goes on from the other
@@ -89,6 +90,10 @@ module _ (spec : Spec) (text : List ℕ) where
   pub range_found : (answer : Result Range TextFault) → Gives (λ r. r) answer (range_of spec text) → IfOk answer (λ r. Stands spec 64 text r)
   range_found (Ok r) h = found spec 64 text r (sym (range_of_is spec text) ∙ h)
   range_found (Err fault) h = tt
+
+  pub versions_found : (answer : Result Range TextFault) → Gives (λ r. r) answer (range_of spec text) → IfOk answer (λ r. has_versions r ≡ true)
+  versions_found (Ok r) h = stands_valid spec 64 text r (range_found (Ok r) h)
+  versions_found (Err fault) h = tt
 
   pub fault_found : (answer : Result Range TextFault) → Gives (λ r. r) answer (range_of spec text) → IfErr answer (Refuses (FirstFault spec 64 text))
   fault_found (Ok r) h = tt

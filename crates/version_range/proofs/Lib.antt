@@ -21,3 +21,4 @@ pub mod Closings
 pub mod Sets
 pub mod Atoms
 pub mod Exact
+pub mod Forms

@@ -107,8 +107,8 @@ module _ (spec : Spec) (byte : ℕ) (not-blank : is_blank byte ≡ false) (not-d
   joined_rules join = record {
     reads = λ text r rest c e. reads join L Next E P (next_at P spec byte) parts c rest e.0 (at_none P spec byte not-blank rest e.1);
     read = λ text r rest h.
-      let a = read_all join L Next E P (next_at P spec byte) parts text r rest h in
-      record { front = a.read.front; whole = a.read.whole; is = a.read.is; apart = (a.read.apart, ended rest a.none) };
+        let a = read_all join L Next E P (next_at P spec byte) parts text r rest h in
+        record { front = a.read.front; whole = a.read.whole; is = a.read.is; apart = (a.read.apart, ended rest a.none) };
     some = some_chain;
   }
     where

@@ -106,6 +106,7 @@ module _ (spec : Spec) (op : Operator) where
       at : (r : Result (Range × List ℕ) Cause) → found r ≡ Ok None → ⊥
       at (Ok p) e = absurd (cc e)
       at (Err cause) e = absurd (cc e)
+
       by : Begun 44 (skip_blanks text) → starts (λ c. c == 44) (skip_blanks text) ≡ false
       by (inl p) = absurd (at (member_at spec op p.0) (sym (next_here text p.0 p.1) ∙ h))
       by (inr g) = g
@@ -125,6 +126,7 @@ module _ (spec : Spec) (op : Operator) where
       some_of : (r : Result (Range × List ℕ) Cause) → found r ≡ Ok (Some (y, rest)) → r ≡ Ok (y, rest)
       some_of (Ok p) e = cc e
       some_of (Err cause) e = absurd (cc e)
+
       by : Begun 44 (skip_blanks text) → Read Next Apart text y rest
       by (inr g) = absurd (cc (h, next_gone text g))
       by (inl p) =
@@ -164,7 +166,7 @@ module _ (spec : Spec) (op : Operator) where
       let pre = blanks ++ 44 ∷ [] in
       let completes : (t : List ℕ) (x : Range) → Led (Compared op) t x → (end : List ℕ) × (y : Range) × Next (pre ++ (t ++ end)) y = λ t x l. ([], x, subst (λ u. Next (pre ++ u) x) (sym (append-nil t)) (behind blanks all l)) in
       let passes : (again : List ℕ) → Alike f.rest again → errs (member_at spec op (f.front ++ again)) ≡ true → errs (next_member op spec (pre ++ (f.front ++ again))) ≡ true =
-          λ again like e. ap errs (next_here (pre ++ (f.front ++ again)) (f.front ++ again) (over_mark blanks all (f.front ++ again))) ∙ errs_found (member_at spec op (f.front ++ again)) e in
+      λ again like e. ap errs (next_here (pre ++ (f.front ++ again)) (f.front ++ again) (over_mark blanks all (f.front ++ again))) ∙ errs_found (member_at spec op (f.front ++ again)) e in
       let ends : ends_with_digit (pre ++ f.front) ≡ ends_with_digit f.front = ends_kept pre f.front (ends_behind blanks 44 []) in
       let front = front_at spec (Led (Compared op)) (Led (Compared op)) (member_at spec op) (member_at spec op) Next Next (next_member op spec) (next_member op spec) pre completes completes text cause f ends passes passes in
       record {
@@ -179,6 +181,7 @@ module _ (spec : Spec) (op : Operator) where
       err_of : (r : Result (Range × List ℕ) Cause) → found r ≡ Err cause → r ≡ Err cause
       err_of (Ok p) e = absurd (cc e)
       err_of (Err why) e = cc e
+
       by : Begun 44 (skip_blanks text) → Cut text → NextFails text cause
       by (inr g) c = absurd (cc (h, next_gone text g))
       by (inl p) c =

@@ -64,7 +64,7 @@ module _ {A : Type 0} (spec : Spec) (K : List ℕ → A → Type 0) (R : Reader 
       let f = k.fault (skip_blanks text) cause h in
       let completes : (t : List ℕ) (x : A) → K t x → (end : List ℕ) × (y : A) × Led K (c.blanks ++ (t ++ end)) y = λ t x l. ([], x, subst (λ u. Led K (c.blanks ++ u) x) (sym (append-nil t)) (led c.blanks c.all l)) in
       let passes : (again : List ℕ) → Alike f.rest again → errs (R (f.front ++ again)) ≡ true → errs (R (skip_blanks (c.blanks ++ (f.front ++ again)))) ≡ true =
-          λ again like e. ap (λ t. errs (R t)) (skip_over c.blanks (f.front ++ again) c.all (starts_alike is_blank blanks_none f.front f.rest again like (subst (λ u. starts is_blank u ≡ false) f.whole c.none))) ∙ e in
+      λ again like e. ap (λ t. errs (R t)) (skip_over c.blanks (f.front ++ again) c.all (starts_alike is_blank blanks_none f.front f.rest again like (subst (λ u. starts is_blank u ≡ false) f.whole c.none))) ∙ e in
       subst (λ t. Fault spec (Led K) (Led K) (λ u. R (skip_blanks u)) (λ u. R (skip_blanks u)) t cause) (sym c.whole)
       (fault_at spec K K R R (Led K) (Led K) (λ u. R (skip_blanks u)) (λ u. R (skip_blanks u)) c.blanks completes completes (skip_blanks text) cause f (ends_kept c.blanks f.front (ends_blanks c.blanks c.all)) passes passes)
 
@@ -178,7 +178,7 @@ module _ {A : Type 0} (spec : Spec) (byte : ℕ) (other : is_ascii_digit byte �
             let f = m.fault text cause (sym (choose_gone text g) ∙ h) in
             let completes : (t : List ℕ) (x : A) → M t x → (end : List ℕ) × (y : A) × Choice byte K M (t ++ end) y = λ t x l. ([], x, subst (λ u. Choice byte K M u x) (sym (append-nil t)) (there l)) in
             let passes : (again : List ℕ) → Alike f.rest again → errs (T (f.front ++ again)) ≡ true → errs (choose byte R T (f.front ++ again)) ≡ true =
-                λ again like e. ap errs (choose_gone (f.front ++ again) (starts_alike is_byte (no_digits byte other) f.front f.rest again like (subst (λ u. starts is_byte u ≡ false) f.whole g))) ∙ e in
+            λ again like e. ap errs (choose_gone (f.front ++ again) (starts_alike is_byte (no_digits byte other) f.front f.rest again like (subst (λ u. starts is_byte u ≡ false) f.whole g))) ∙ e in
             fault_at spec M M T T (Choice byte K M) (Choice byte K M) (choose byte R T) (choose byte R T) [] completes completes text cause f refl passes passes
 
     pub good_choose : Good spec (Choice byte K M) (choose byte R T)

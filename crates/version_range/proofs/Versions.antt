@@ -238,6 +238,7 @@ fault_none star spec rest none free = by (is_old spec && begins_with 123 rest) r
   where
     dead : Dead (star_at star spec) [] rest
     dead again same = star_errs star spec again (ap (λ t. star && t) (begins_same 42 rest again same) ∙ free) (digits_absent spec again (digit_same rest again same ∙ none))
+
     by : (o : Bool) → (is_old spec && begins_with 123 rest) ≡ o → StarFault star spec rest (cause_at spec BadVersion rest)
     by true q = subst (StarFault star spec rest) (sym (cause_form spec BadVersion rest q)) (record { front = []; rest = rest; whole = refl; more = 48 ∷ []; value = 0; goes_on = zero_text; why = new_form q dead })
     by false q = subst (StarFault star spec rest) (sym (cause_other spec BadVersion rest q))
@@ -288,9 +289,11 @@ star_fault star spec text cause h = by (star && begins_with 42 text) refl
         let is : cause_at spec BadVersion (d.front ++ d.rest) ≡ cause = cc (failed, found, d.whole) in
         subst (λ t. StarFault star spec t cause) (sym d.whole)
         (subst (StarFault star spec (d.front ++ d.rest)) is (fault_split star spec d.front d.rest d.all d.end q (ap (λ t. star && begins_with 42 t) (sym d.whole) ∙ free)))
+
     failed : (r : Result (ℕ × List ℕ) Cause) → (let o : Result (Option (ℕ × List ℕ)) Cause = r >>= λ p. Ok (Some p) in o ≡ Err cause) → r ≡ Err cause
     failed (Ok p) e = absurd (cc e)
     failed (Err why) e = let same : why ≡ cause = cc e in ap Err same
+
     by : (o : Bool) → (star && begins_with 42 text) ≡ o → StarFault star spec text cause
     by true q = let found : star_at star spec text ≡ Ok None = ap (λ t. if t then Ok None else number_at spec text >>= λ p. Ok (Some p)) q in absurd (cc (h, found))
     by false q =
@@ -449,8 +452,8 @@ module _ (star : Bool) (spec : Spec) where
           let pointed : Completes NumberText (46 ∷ []) NextText = λ t n k. ([], n, (t ++ [], refl, (append-nil t ∙ k.0, k.1))) in
           let pass : (again : List ℕ) → errs (star_at star spec again) ≡ true → errs (next_number star spec (46 ∷ again)) ≡ true = λ again e. ap errs (next_point star spec again) ∙ e in
           let whole : Fault spec NextText NextText (next_number star spec) (next_number star spec) (46 ∷ p.0) cause =
-              fault_up spec NumberText NumberText (star_at star spec) (star_at star spec) NextText NextText (next_number star spec) (next_number star spec) (46 ∷ []) pointed pointed
-              p.0 cause f (ends_behind_point f.front) (λ again e. pass (f.front ++ again) e) (λ again e. pass (f.front ++ again) e) in
+          fault_up spec NumberText NumberText (star_at star spec) (star_at star spec) NextText NextText (next_number star spec) (next_number star spec) (46 ∷ []) pointed pointed
+          p.0 cause f (ends_behind_point f.front) (λ again e. pass (f.front ++ again) e) (λ again e. pass (f.front ++ again) e) in
           subst (λ t. NumbersNextFault t cause) (sym p.1) (record { fault = whole; begun = λ e. cc e; opens = λ behind again. refl })
 
   numbers_fault : (text : List ℕ) (cause : Cause) → all_numbers star spec text ≡ Err cause → Fault spec NumbersText NumbersText (all_numbers star spec) (all_numbers star spec) text cause
@@ -586,6 +589,7 @@ none_next star spec rest h = by (point_or rest)
     starred : (t : List ℕ) → begins_with 42 t ≡ true → (behind : List ℕ) × (t ≡ 42 ∷ behind)
     starred [] k = absurd (false≢true k)
     starred (b ∷ bs) k = (bs, ap (λ x. x ∷ bs) (eqb-true b 42 k))
+
     by : (begins_with 46 rest ≡ false) ⊎ ((behind : List ℕ) × (rest ≡ 46 ∷ behind)) → (begins_with 46 rest ≡ false) ⊎ ((behind : List ℕ) × (star ≡ true) × (rest ≡ 46 ∷ 42 ∷ behind))
     by (inl other) = inl other
     by (inr p) =
@@ -677,6 +681,7 @@ equal_read spec text r rest h = by (version_at true spec text) refl
         let is = version_is_text f.read.front v.parts f.read.is in
         read_as text (ranges.Prefix v) r p.0 rest (f.read.front ++ codes ".*") (sym (end_front spec v p.0) ∙ ap (λ t. equal_end spec (v, t)) (sym p.2) ∙ e)
         (f.read.whole ∙ ap (λ t. f.read.front ++ t) p.2 ∙ sym (append_assoc f.read.front (codes ".*") p.0)) (front_text f.read.front v is) (apart_star f.read.front p.0)
+
     by : (o : Result (Version × List ℕ) Cause) → version_at true spec text ≡ o → Read EqualText Apart text r rest
     by (Err why) q = absurd (cc (h, equal_is spec text, ap (λ o. o >>= equal_end spec) q))
     by (Ok p) q =
@@ -703,10 +708,13 @@ equal_fault spec text cause h = by (version_at true spec text) refl
     ends : (v : Version) (left : List ℕ) → (begins_with 46 left ≡ false) ⊎ ((behind : List ℕ) × (true ≡ true) × (left ≡ 46 ∷ 42 ∷ behind)) → equal_end spec (v, left) ≡ Err cause → ⊥
     ends v left (inl other) e = absurd (cc (e, end_whole spec v left other))
     ends v left (inr p) e = absurd (cc (e, p.2, end_front spec v p.0))
+
     up : (again : List ℕ) → errs (all_numbers true spec again) ≡ true → errs (equal_at spec again) ≡ true
     up again e = ap errs (equal_is spec again) ∙ errs_then (version_at true spec again) (equal_end spec) (version_errs true spec again e)
+
     done : Completes NumbersText [] EqualText
     done t ns c = ([], ranges.Equal (record { parts = ns }), subst (λ t'. EqualText t' (ranges.Equal (record { parts = ns }))) (sym (append-nil t)) (whole_text t (record { parts = ns }) (version_is_text t ns c)))
+
     by : (o : Result (Version × List ℕ) Cause) → version_at true spec text ≡ o → Fault spec EqualText EqualText (equal_at spec) (equal_at spec) text cause
     by (Ok p) q =
         let f = version_found true spec text p.0 p.1 q in

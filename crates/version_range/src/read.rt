@@ -3,7 +3,7 @@ ghost use Rattle.std.specs.Prelude.{◌≡◌, ◌<◌, ◌≤◌, ◌∷◌, []
 ghost use Rattle.std.specs.Option.{option_map};
 ghost use Rattle.plan_types.specs.declared.range.Range.{Range};
 ghost use Rattle.plan_types.specs.declared.refusal.Cause.{Cause};
-ghost use Rattle.version_range.specs.Version.{Refuses};
+ghost use Rattle.version_range.specs.Version.{Refuses, has_versions};
 ghost use Rattle.version_range.specs.Grammar.{Stands, FirstFault};
 ghost use Rattle.version_range.specs.Read.{Gives, chained, followed, number_at, next_number, version_at, next_member, set_at, equal_at, compared_at, operand_at, word_at, operator_at, either_at, factor_at, behind, next_at, term_at, range_in, inside, range_of, is_number, digits_in, skip_blanks};
 
@@ -380,6 +380,7 @@ fn range_in(alloc: Global, spec: Spec, room: u32, text: &[u8]) -> Result<(Range,
 /// text of blanks alone is any version. The fault is that of the first byte at which no reading goes on.
 pub fn read_range(alloc: Global, text: &[u8], spec: Spec) -> Result<Range, TextFault>
     ensures range { IfOk result (λ r. Stands spec 64 text.now r) }
+    ensures versions { IfOk result (λ r. has_versions r ≡ true) }
     ensures fault { IfErr result (Refuses (FirstFault spec 64 text.now)) }
     // A text that stands for a range isn't refused, but for want of memory.
     ensures exactly_ranges { (r : Range) → Stands spec 64 text.now r →
