@@ -5,25 +5,21 @@ ghost use Rattle.plan_types.specs.declared.range.Range.{Range};
 ghost use Rattle.plan_types.specs.declared.refusal.Cause.{Cause};
 ghost use Rattle.version_range.specs.Version.{Refuses, has_versions};
 ghost use Rattle.version_range.specs.Grammar.{Stands, FirstFault};
-ghost use Rattle.version_range.specs.Read.{Gives, chained, followed, number_at, next_number, version_at, next_member, set_at, equal_at, compared_at, operand_at, word_at, operator_at, either_at, factor_at, behind, next_at, term_at, range_in, inside, range_of, is_number, digits_in, skip_blanks};
+ghost use Rattle.version_range.specs.Read.{Gives, chained, followed, number_at, next_number, version_at, next_member, set_at, equal_at, compared_at, operand_at, word_at, operator_at, either_at, factor_at, behind, next_at, term_at, range_in, inside, range_of, skip_blanks};
 
 use crate::bytes::{begins_with, byte_after, byte_due, fault_at, skip_blanks};
-use crate::number::{front_digits, is_number, number_of};
+use crate::number::number_at;
 use crate::operator::Operator;
 use plan_types::{Boxed, Cause, List, NoMemory, Range, Spec, TextFault, Version};
 use std::alloc::Global;
 
-#[tactic(auto, unfolding(crate::specs::Read::number_at))]
 fn number_due(spec: Spec, text: &[u8]) -> Result<(u32, &[u8]), TextFault>
     ensures gives { Gives (λ p. (p.0, p.1.now)) result (number_at spec text.now) }
     ensures within { IfOk result (λ p. length p.1.now < length text.now) }
 {
-    let count = front_digits(text);
-    let (digits, rest) = text.split_at(count);
-    if is_number(digits) {
-        Ok((number_of(digits), rest))
-    } else {
-        Err(fault_at(spec, Cause::BadVersion, text))
+    match number_at(text) {
+        Some(found) => Ok(found),
+        None => Err(fault_at(spec, Cause::BadVersion, text)),
     }
 }
 
