@@ -19,3 +19,5 @@ pub mod Steps
 pub mod Closings
 pub mod Sets
 pub mod Atoms
+pub mod Exact
+pub mod Forms

@@ -724,3 +724,25 @@ equal_fault spec text cause h = by (version_at true spec text) refl
         let f = numbers_fault true spec text cause (version_failed true spec text cause (q ∙ ap Err same)) in
         fault_up spec NumbersText NumbersText (all_numbers true spec) (all_numbers true spec) EqualText EqualText (equal_at spec) (equal_at spec) [] done done
         text cause f refl (λ again e. up (f.front ++ again) e) (λ again e. up (f.front ++ again) e)
+
+-- ---- a number that was looked for
+
+pub number_given : (spec : Spec) (text : List ℕ) (n : ℕ) (rest : List ℕ) → IsNumber n × (text ≡ decimal n ++ rest) × (begins_with_digit rest ≡ false) → number_at spec text ≡ Ok (n, rest)
+number_given spec text n rest h = ap (number_at spec) h.1 ∙ number_reads spec (decimal n) n rest (refl, h.0) h.2
+
+only_cause : (spec : Spec) (text : List ℕ) (cause : Cause) → number_at spec text ≡ Err cause → cause ≡ cause_at spec BadVersion text
+unfolding number_at
+only_cause spec text cause h = by (is_number (take (digits_in text) text)) refl
+  where
+    by : (t : Bool) → is_number (take (digits_in text) text) ≡ t → cause ≡ cause_at spec BadVersion text
+    by true q = absurd (cc (rw q at h))
+    by false q = cc (rw q at h)
+
+pub number_missing : (spec : Spec) (text : List ℕ) → ((n : ℕ) (rest : List ℕ) → IsNumber n → text ≡ decimal n ++ rest → begins_with_digit rest ≡ true) → number_at spec text ≡ Err (cause_at spec BadVersion text)
+number_missing spec text none = by (number_at spec text) refl
+  where
+    by : (o : Result (ℕ × List ℕ) Cause) → number_at spec text ≡ o → number_at spec text ≡ Err (cause_at spec BadVersion text)
+    by (Ok p) q =
+        let r = number_read spec text p.0 p.1 q in
+        absurd (false≢true (sym r.apart ∙ none p.0 p.1 r.is.1 (r.whole ∙ ap (λ t. t ++ p.1) r.is.0)))
+    by (Err cause) q = q ∙ ap Err (only_cause spec text cause q)

@@ -1,7 +1,6 @@
 ghost use Rattle.std.specs.Prelude.{◌≡◌, ◌≢◌, ◌∷◌, ◌<◌, ◌≤◌, ◌++◌, ◌↔◌, ℕ, List, IsTrue, IfSome, IfNone, true, false, length, take, drop, slice_index};
 ghost use Rattle.std.specs.Fmt.{decimal};
 ghost use Rattle.std.specs.Str.{all_ascii_digits};
-ghost use Rattle.version_range.specs.Read.{digits_in, is_number};
 ghost use Rattle.version_range.specs.Version.{IsNumber, begins_with_digit, number_after};
 
 /// The number at the front, and what follows it. A number has one to nine digits and no leading zero
@@ -9,6 +8,7 @@ ghost use Rattle.version_range.specs.Version.{IsNumber, begins_with_digit, numbe
 pub fn number_at(text: &[u8]) -> Option<(u32, &[u8])>
     ensures found { IfSome result (λ p. IsNumber p.0
         × (text.now ≡ decimal p.0 ++ p.1.now) × (begins_with_digit p.1.now ≡ false)) }
+    ensures within { IfSome result (λ p. length p.1.now < length text.now) }
     ensures none { IfNone result ((n : ℕ) (rest : List ℕ) → IsNumber n
         → text.now ≡ decimal n ++ rest → begins_with_digit rest ≡ true) }
 {
@@ -32,15 +32,7 @@ pub fn strip_byte(text: &[u8], byte: u8) -> Option<&[u8]>
     }
 }
 
-/// How many digits are at the front.
-pub fn front_digits(text: &[u8]) -> usize
-    ensures count { result ≡ digits_in text.now }
-    ensures within { result ≤ length text.now }
-    ensures digits { all_ascii_digits (take result text.now) ≡ true }
-{
-    digit_count(text)
-}
-
+// How many digits are at the front.
 fn digit_count(text: &[u8]) -> usize
     ensures within { result ≤ length text.now }
     ensures digits { all_ascii_digits (take result text.now) ≡ true }
@@ -54,9 +46,8 @@ fn digit_count(text: &[u8]) -> usize
     text.len()
 }
 
-pub fn is_number(digits: &[u8]) -> bool
-    ensures test { result ≡ is_number digits.now }
-    ensures form { IsTrue result ↔ ((0 < length digits.now) × (length digits.now ≤ 9)
+fn is_number(digits: &[u8]) -> bool
+    ensures { IsTrue result ↔ ((0 < length digits.now) × (length digits.now ≤ 9)
         × (slice_index digits.now 0 ≡ 48 → length digits.now ≡ 1)) }
 {
     match digits {
@@ -66,7 +57,7 @@ pub fn is_number(digits: &[u8]) -> bool
     }
 }
 
-pub fn number_of(digits: &[u8]) -> u32
+fn number_of(digits: &[u8]) -> u32
     requires digits { all_ascii_digits digits.now ≡ true }
     requires short { length digits.now ≤ 9 }
     ensures { result ≡ number_after 0 digits.now }

@@ -1,25 +1,25 @@
 // A range is read from left to right; the first byte at which no reading goes on is the fault.
-ghost use Rattle.std.specs.Prelude.{◌≡◌, ◌<◌, ◌≤◌, ◌∷◌, [], false, true, length, IfOk, OnOk, IfSome};
+ghost use Rattle.std.specs.Prelude.{◌≡◌, ◌<◌, ◌≤◌, ◌∷◌, [], false, true, length, IfOk, IfErr, OnOk, IfSome, MatchResult};
 ghost use Rattle.std.specs.Option.{option_map};
-ghost use Rattle.version_range.specs.Read.{Gives, chained, followed, number_at, next_number, version_at, next_member, set_at, equal_at, compared_at, operand_at, word_at, operator_at, either_at, factor_at, behind, next_at, term_at, range_in, inside, range_of, is_number, digits_in, skip_blanks};
+ghost use Rattle.plan_types.specs.declared.range.Range.{Range};
+ghost use Rattle.plan_types.specs.declared.refusal.Cause.{Cause};
+ghost use Rattle.version_range.specs.Version.{Refuses, has_versions};
+ghost use Rattle.version_range.specs.Grammar.{Stands, FirstFault};
+ghost use Rattle.version_range.specs.Read.{Gives, chained, followed, number_at, next_number, version_at, next_member, set_at, equal_at, compared_at, operand_at, word_at, operator_at, either_at, factor_at, behind, next_at, term_at, range_in, inside, range_of, skip_blanks};
 
 use crate::bytes::{begins_with, byte_after, byte_due, fault_at, skip_blanks};
-use crate::number::{front_digits, is_number, number_of};
+use crate::number::number_at;
 use crate::operator::Operator;
 use plan_types::{Boxed, Cause, List, NoMemory, Range, Spec, TextFault, Version};
 use std::alloc::Global;
 
-#[tactic(auto, unfolding(crate::specs::Read::number_at))]
 fn number_due(spec: Spec, text: &[u8]) -> Result<(u32, &[u8]), TextFault>
     ensures gives { Gives (λ p. (p.0, p.1.now)) result (number_at spec text.now) }
     ensures within { IfOk result (λ p. length p.1.now < length text.now) }
 {
-    let count = front_digits(text);
-    let (digits, rest) = text.split_at(count);
-    if is_number(digits) {
-        Ok((number_of(digits), rest))
-    } else {
-        Err(fault_at(spec, Cause::BadVersion, text))
+    match number_at(text) {
+        Some(found) => Ok(found),
+        None => Err(fault_at(spec, Cause::BadVersion, text)),
     }
 }
 
@@ -374,8 +374,22 @@ fn range_in(alloc: Global, spec: Spec, room: u32, text: &[u8]) -> Result<(Range,
 
 /// Reads a range: terms joined by `||`, each of factors joined by `&&`, both grouped from the left. A
 /// text of blanks alone is any version. The fault is that of the first byte at which no reading goes on.
-#[tactic(auto, unfolding(crate::specs::Read::range_of))]
 pub fn read_range(alloc: Global, text: &[u8], spec: Spec) -> Result<Range, TextFault>
+    ensures range { IfOk result (λ r. Stands spec 64 text.now r) }
+    ensures versions { IfOk result (λ r. has_versions r ≡ true) }
+    ensures fault { IfErr result (Refuses (FirstFault spec 64 text.now)) }
+    // A text that stands for a range isn't refused, but for want of memory.
+    ensures exactly_ranges { (r : Range) → Stands spec 64 text.now r →
+        MatchResult result (λ found. found ≡ r) (Refuses (λ _. ⊥)) }
+    // A text that has a fault gives no range, and no other fault.
+    ensures exactly_faults { (cause : Cause) → FirstFault spec 64 text.now cause →
+        MatchResult result (λ _. ⊥) (Refuses (λ why. why ≡ cause)) }
+{
+    whole(alloc, text, spec)
+}
+
+#[tactic(auto, unfolding(crate::specs::Read::range_of))]
+fn whole(alloc: Global, text: &[u8], spec: Spec) -> Result<Range, TextFault>
     ensures { Gives (λ r. r) result (range_of spec text.now) }
 {
     if skip_blanks(text).is_empty() {

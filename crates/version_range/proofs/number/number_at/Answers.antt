@@ -12,7 +12,7 @@ returns-then-is_number-clause-found c =
     let count = c.digit_count-count in
     let s = c.split_at in
     let whole : text ≡ s.result.0.now ++ s.result.1.now = sym (take-append-drop count.result text) ∙ sym (λ i. s.ensures.front i ++ s.ensures.back i) in
-    is_number text s.result.0.now s.result.1.now c.number_of.result whole (ap all_ascii_digits s.ensures.front ∙ count.ensures.digits) (ap begins_with_digit s.ensures.back ∙ count.ensures.rest) (c.is_number.ensures.form.0 c.if-is_number.true) c.number_of.ensures
+    is_number text s.result.0.now s.result.1.now c.number_of.result whole (ap all_ascii_digits s.ensures.front ∙ count.ensures.digits) (ap begins_with_digit s.ensures.back ∙ count.ensures.rest) (c.is_number.ensures.0 c.if-is_number.true) c.number_of.ensures
 
 pub returns-else-is_number-clause-none : goal.returns-else-is_number-clause-none
 returns-else-is_number-clause-none c =
@@ -20,4 +20,4 @@ returns-else-is_number-clause-none c =
     let count = c.digit_count-count in
     let s = c.split_at in
     let whole : text ≡ s.result.0.now ++ s.result.1.now = sym (take-append-drop count.result text) ∙ sym (λ i. s.ensures.front i ++ s.ensures.back i) in
-    not_number text s.result.0.now s.result.1.now whole (ap all_ascii_digits s.ensures.front ∙ count.ensures.digits) (ap begins_with_digit s.ensures.back ∙ count.ensures.rest) (λ ok. false≢true (sym c.if-is_number.false ∙ c.is_number.ensures.form.1 ok))
+    not_number text s.result.0.now s.result.1.now whole (ap all_ascii_digits s.ensures.front ∙ count.ensures.digits) (ap begins_with_digit s.ensures.back ∙ count.ensures.rest) (λ ok. false≢true (sym c.if-is_number.false ∙ c.is_number.ensures.1 ok))

@@ -1,0 +1,5 @@
+use Rattle.version_range.proofs.Exact as proof
+use Rattle.version_range.proofs.laws.one_fault.Goals as goal
+
+pub returns : goal.returns
+returns c spec = proof.one_fault spec 64
