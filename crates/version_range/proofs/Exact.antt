@@ -1,7 +1,6 @@
 -- A text stands for one range at most, has one first fault at most, and never both; and reading tells which.
-use Rattle.std.proofs.Common.{◌≡◌, ◌≢◌, ◌⊎◌, inl, inr, ℕ, Bool, true, false, List, [], ◌∷◌, ◌++◌, Result, Ok, Err, refl, sym, ap, ◌∙◌, subst, append_assoc, append-nil}
+use Rattle.std.proofs.Common.{◌≡◌, ℕ, true, List, [], ◌∷◌, ◌++◌, Result, Ok, Err, refl, sym, ap, ◌∙◌, subst, append_assoc, append-nil}
 use Rattle.std.specs.Result.{IfOk, IfErr, MatchResult}
-use Rattle.std.proofs.lemmas.Bool.{false≢true}
 use Rattle.plan_types.specs.declared.range.Spec.{Spec}
 use Rattle.plan_types.specs.declared.range.Range.{Range}
 use Rattle.plan_types.specs.declared.refusal.Cause.{Cause}
@@ -11,7 +10,7 @@ use Rattle.version_range.specs.Read.{Gives, range_of}
 use Rattle.version_range.specs.Version.{Refuses, has_versions}
 use Rattle.version_range.specs.Grammar.{Stands, Viable, Stuck, CauseAt, needs_version, bad_version, too_deep, bad_range, FirstFault}
 use Rattle.version_range.proofs.Forms.{stands_valid}
-use Rattle.version_range.proofs.Whole.{text_at, range_of_is, finds, found, first_fault}
+use Rattle.version_range.proofs.Whole.{range_of_is, finds, found, first_fault}
 
 -- of two fronts of a text one goes on from the other
 data Order (xs ys zs ws : List ℕ) : Type 0 where

@@ -2,7 +2,7 @@
 use Rattle.std.specs.Prelude.{◌≡◌, ◌∷◌, [], true, false, refl, codes}
 use Rattle.std.specs.Fmt.{digits}
 use Rattle.plan_types.specs.declared.range.Range.TheVariants.{Any, AtLeast, Either}
-use Rattle.plan_types.specs.declared.range.Spec.TheVariants.{V2_4, V3_0}
+use Rattle.plan_types.specs.declared.range.Spec.TheVariants.{V2_4}
 use Rattle.version_range.specs.declared.operator.Operator.TheVariants as operator
 use Rattle.version_range.specs.Version.{version_text}
 use Rattle.version_range.specs.Print.{most_open}
@@ -20,8 +20,8 @@ unfolding digits
 either_of_two =
     range (codes ">= 1||-any") []
     (more
-      (one (one (led [] refl (atom (version operator.AtLeast (led (codes " ") refl (compared (record { parts = 1 ∷ [] }) refl)))))))
-      (behind [] refl (one (led [] refl (atom any)))))
+    (one (one (led [] refl (atom (version operator.AtLeast (led (codes " ") refl (compared (record { parts = 1 ∷ [] }) refl)))))))
+    (behind [] refl (one (led [] refl (atom any)))))
     refl
 
 -- behind ` -a` the text can go on, by `ny`

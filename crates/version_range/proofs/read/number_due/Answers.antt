@@ -1,5 +1,3 @@
-use Rattle.std.proofs.Common.{sym}
-use Rattle.version_range.specs.Read.{Fails, number_at}
 use Rattle.version_range.proofs.Versions.{number_given, number_missing}
 use Rattle.version_range.proofs.read.number_due.Goals as goal
 
