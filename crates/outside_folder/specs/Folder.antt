@@ -1,5 +1,8 @@
 -- What a folder answers, where it tells its files.
-use Rattle.std.specs.Prelude.{◌≡◌, ◌<◌, ◌≤◌, List, length, Option, Some, None, Result, Ok, Err, IfSome, IsSomeAnd}
+use Rattle.std.specs.Prelude.{◌≡◌, ◌<◌, ◌≤◌, List, length, map, Option, Some, None, Result, Ok, Err, IfSome, IsSomeAnd}
+use Rattle.std.specs.Cmp.Lexicographic.{slice_cmp}
+use Rattle.std.specs.List.Sorted.{IsStrictlySortedBy}
+use Rattle.std.specs.Ordering.{nat_cmp}
 use Rattle.outside_folder.specs.declared.folder.Name.{Name}
 use Rattle.outside_folder.specs.declared.folder.FolderFault.{FolderFault}
 use Rattle.outside_folder.specs.declared.folder.FolderFault.TheVariants.{Failed, TooLarge, NoMemory}
@@ -11,6 +14,10 @@ abbrev pub Lists : Option Files → Bytes → Result (Option (List Name)) Folder
 Lists None dir answer = Unit {0}
 Lists (Some files) dir (Ok names) = names ≡ listing files dir
 Lists (Some files) dir (Err fault) = Unit {0}
+
+-- the names stand in byte order, each once
+abbrev pub IsInOrder : List Name → Type 0
+IsInOrder names = IsStrictlySortedBy (slice_cmp nat_cmp) (map (λ name. name.text) names)
 
 -- the bytes at the path; a fault `TooLarge` tells that they are too many
 abbrev pub Reads : Option Files → Bytes → Result (Option Bytes) FolderFault → Type 0

@@ -1,11 +1,12 @@
-ghost use Rattle.std.specs.Prelude.{◌≡◌, ◌≢◌, ◌≤◌, ℕ, List, Option, length, IfOk, IfSome, IsErrOf, IsTrue};
+ghost use Rattle.std.specs.Prelude.{◌≡◌, ◌≢◌, ◌≤◌, ◌^◌, ◌-◌, ℕ, List, Option, length, [], IfOk, IfSome, IsSome, IsErrOf, IsTrue};
 ghost use Rattle.outside_folder.specs.declared.folder.FolderFault.TheVariants.{NoMemory as folder_no_memory};
-ghost use Rattle.outside_folder.specs.Files.{Files, is_tree};
-ghost use Rattle.outside_folder.specs.Folder.{Lists, Reads, IsWithinLimit};
+ghost use Rattle.outside_folder.specs.Files.{Files, is_tree, as_names};
+ghost use Rattle.outside_folder.specs.Folder.{Lists, Reads, IsInOrder, IsWithinLimit};
 ghost use Rattle.outside_folder.specs.Faults.{Rose};
 
 use plan_types::{List, NoMemory, Text};
 use std::alloc::Global;
+use std::collections::BTreeMap;
 use thiserror::Error;
 
 /// How many bytes the largest file that is read has.
@@ -47,17 +48,22 @@ pub trait Folder {
     /// What the count of faults never passes.
     ghost ceiling: { Self → ℕ };
 
-    /// How often the outside has failed so far.
+    /// How often the outside has failed so far: it rises where a call answers `Failed`, and in no other.
     ghost faults: { Self → ℕ };
 
-    /// The names in a directory, in byte order, each once; `None` where there is no such directory.
+    /// The names in a directory, in byte order, each once; `None` where there is no such directory. The root is
+    /// never missing.
     fn list(&mut self, alloc: Global, dir: &str) -> Result<Option<List<Name>>, FolderFault>
         ensures told { Lists (tells self.old) dir.now result }
+        ensures order { IfOk result (λ names. IfSome names IsInOrder) }
+        ensures root { dir.now ≡ [] → IfOk result IsSome }
         ensures never_too_large { IsErrOf result FolderFault.TooLarge → ⊥ }
 
         ensures failed { IsErrOf result FolderFault.Failed → Rose (faults self.old) (faults self.new) }
+        ensures still { (IsErrOf result FolderFault.Failed → ⊥) → faults self.new ≡ faults self.old }
         ensures later { faults self.old ≤ faults self.new }
         ensures bounded { faults self.new ≤ ceiling self.new }
+        ensures capped { ceiling self.new ≤ 2 ^ 64 - 1 }
 
         ensures tree { IfSome (tells self.old) (λ files. IsTrue (is_tree files)) }
         ensures same_files { tells self.new ≡ tells self.old }
@@ -69,10 +75,24 @@ pub trait Folder {
         ensures within { IfOk result IsWithinLimit }
 
         ensures failed { IsErrOf result FolderFault.Failed → Rose (faults self.old) (faults self.new) }
+        ensures still { (IsErrOf result FolderFault.Failed → ⊥) → faults self.new ≡ faults self.old }
         ensures later { faults self.old ≤ faults self.new }
         ensures bounded { faults self.new ≤ ceiling self.new }
+        ensures capped { ceiling self.new ≤ 2 ^ 64 - 1 }
 
         ensures tree { IfSome (tells self.old) (λ files. IsTrue (is_tree files)) }
         ensures same_files { tells self.new ≡ tells self.old }
         ensures same_ceiling { ceiling self.new ≡ ceiling self.old };
+}
+
+// The names of a directory, from a map that has each once.
+pub(crate) fn as_names(alloc: Global, names: BTreeMap<Text, bool>) -> Result<List<Name>, NoMemory>
+    ensures names { IfOk result (λ listed. listed ≡ as_names names.entries) }
+    ensures order { IfOk result IsInOrder }
+{
+    let mut listed = List::new(alloc);
+    for (text, folder) in names {
+        listed.push(Name { text, folder })?;
+    }
+    Ok(listed)
 }

@@ -1,11 +1,12 @@
-ghost use Rattle.std.specs.Prelude.{◌≡◌, ◌≤◌, ◌↔◌, Some, IfOk, OnOk, IsOk, IfErr, IsErrOf, IsTrue};
+ghost use Rattle.std.specs.Prelude.{◌≡◌, ◌≤◌, ◌^◌, ◌-◌, ◌↔◌, [], Some, IfOk, IfSome, IsSome, OnOk, IsOk, IfErr, IsErrOf, IsTrue, IsFalse};
 ghost use Rattle.std.specs.List.{list_any};
 ghost use Rattle.std.specs.Option.{option_copied, option_map};
-ghost use Rattle.outside_folder.specs.Files.{is_tree, is_path, clashes, after, inside, first_name, name_in, with_name, names_in, as_names, file_at, listing};
+ghost use Rattle.outside_folder.specs.Files.{is_tree, is_path, clashes, after, inside, first_name, name_in, with_name, names_in, file_at, listing};
 ghost use Rattle.outside_folder.specs.MemFile.{told};
-ghost use Rattle.outside_folder.specs.Folder.{Lists, Reads, IsWithinLimit};
+ghost use Rattle.outside_folder.specs.Folder.{Lists, Reads, IsInOrder, IsWithinLimit};
 ghost use Rattle.outside_folder.specs.Faults.{Rose, among, ceiling_of, fails_next, next_count};
 
+use crate::folder::as_names;
 use crate::{FILE_LIMIT, Folder, FolderFault, Name};
 use plan_types::{List, NoMemory, Text};
 use std::alloc::Global;
@@ -69,6 +70,7 @@ impl MemFolder {
         ensures answer { result ≡ fails_next (mem_fail_at self.old) (mem_calls self.old) }
         ensures counts { mem_calls self.new ≡ next_count (mem_calls self.old) }
         ensures failed { IsTrue result → Rose (mem_faults self.old) (mem_faults self.new) }
+        ensures still { IsFalse result → mem_faults self.new ≡ mem_faults self.old }
         ensures later { mem_faults self.old ≤ mem_faults self.new }
         ensures bounded { mem_faults self.new ≤ ceiling_of (mem_fail_at self.new) }
         ensures files { mem_files self.new ≡ mem_files self.old }
@@ -97,6 +99,8 @@ impl Folder for MemFolder {
 
     fn list(&mut self, alloc: Global, dir: &str) -> Result<Option<List<Name>>, FolderFault>
         ensures told { Lists (Some (mem_files self.old)) dir.now result }
+        ensures order { IfOk result (λ names. IfSome names IsInOrder) }
+        ensures root { dir.now ≡ [] → IfOk result IsSome }
         ensures never_too_large { IsErrOf result FolderFault.TooLarge → ⊥ }
 
         // It fails at the calls that are to fail, and at no other.
@@ -104,8 +108,10 @@ impl Folder for MemFolder {
         ensures counts { mem_calls self.new ≡ next_count (mem_calls self.old) }
         ensures fail_at { mem_fail_at self.new ≡ mem_fail_at self.old }
         ensures failed { IsErrOf result FolderFault.Failed → Rose (mem_faults self.old) (mem_faults self.new) }
+        ensures still { (IsErrOf result FolderFault.Failed → ⊥) → mem_faults self.new ≡ mem_faults self.old }
         ensures later { mem_faults self.old ≤ mem_faults self.new }
         ensures bounded { mem_faults self.new ≤ ceiling_of (mem_fail_at self.new) }
+        ensures capped { ceiling_of (mem_fail_at self.new) ≤ 2 ^ 64 - 1 }
 
         ensures tree { IsTrue (is_tree (mem_files self.old)) }
         ensures same_files { Some (mem_files self.new) ≡ Some (mem_files self.old) }
@@ -125,8 +131,10 @@ impl Folder for MemFolder {
         ensures counts { mem_calls self.new ≡ next_count (mem_calls self.old) }
         ensures fail_at { mem_fail_at self.new ≡ mem_fail_at self.old }
         ensures failed { IsErrOf result FolderFault.Failed → Rose (mem_faults self.old) (mem_faults self.new) }
+        ensures still { (IsErrOf result FolderFault.Failed → ⊥) → mem_faults self.new ≡ mem_faults self.old }
         ensures later { mem_faults self.old ≤ mem_faults self.new }
         ensures bounded { mem_faults self.new ≤ ceiling_of (mem_fail_at self.new) }
+        ensures capped { ceiling_of (mem_fail_at self.new) ≤ 2 ^ 64 - 1 }
 
         ensures tree { IsTrue (is_tree (mem_files self.old)) }
         ensures same_files { Some (mem_files self.new) ≡ Some (mem_files self.old) }
@@ -181,7 +189,8 @@ fn find<'a>(files: &'a [MemFile], path: &str) -> Option<&'a [u8]>
 }
 
 fn listing(alloc: Global, files: &[MemFile], dir: &str) -> Result<Option<List<Name>>, NoMemory>
-    ensures { IfOk result (λ names. names ≡ listing (told files.now) dir.now) }
+    ensures told { IfOk result (λ names. names ≡ listing (told files.now) dir.now) }
+    ensures order { IfOk result (λ names. IfSome names IsInOrder) }
 {
     let names = names_in(alloc, files, dir)?;
     if names.is_empty() && !dir.is_empty() {
@@ -211,16 +220,6 @@ fn add_name(
         names.insert(Text::from_str(alloc, name)?, folder)?;
     }
     Ok(())
-}
-
-fn as_names(alloc: Global, names: BTreeMap<Text, bool>) -> Result<List<Name>, NoMemory>
-    ensures { IfOk result (λ listed. listed ≡ as_names names.entries) }
-{
-    let mut listed = List::new(alloc);
-    for (text, folder) in names {
-        listed.push(Name { text, folder })?;
-    }
-    Ok(listed)
 }
 
 // The name in a directory by which a path goes on from there, and whether it is a directory's.

@@ -1,4 +1,4 @@
-ghost use Rattle.std.specs.Prelude.{◌≡◌, ◌≤◌, ◌<◌, ◌^◌, ◌-◌, ◌↔◌, ◌⊎◌, true, [], Some, length, take, vec_len, vec_capacity, IfOk, IsErr, OnErr};
+ghost use Rattle.std.specs.Prelude.{◌≡◌, ◌≤◌, ◌<◌, ◌^◌, ◌-◌, ◌↔◌, ◌⊎◌, true, [], Some, length, take, vec_len, vec_capacity, IfOk, IsErr, OnOk, OnErr};
 ghost use Rattle.outside_folder.specs.Sink.{Appends, IsCount};
 ghost use Rattle.outside_folder.specs.Faults.{Rose, next_count};
 
@@ -107,6 +107,7 @@ impl Sink for MemSink {
         ensures fail_at { sink_fail_at self.new ≡ sink_fail_at self.old }
 
         ensures failed { OnErr result (Rose (sink_faults self.old) (sink_faults self.new)) }
+        ensures still { OnOk result (sink_faults self.new ≡ sink_faults self.old) }
         ensures later { sink_faults self.old ≤ sink_faults self.new }
         ensures bounded { sink_faults self.new ≤ 2 ^ 64 - 1 }
     {

@@ -1,10 +1,12 @@
 // What a real folder holds isn't told, so that these lines are trusted as to content.
-ghost use Rattle.std.specs.Prelude.{◌≡◌, ◌≢◌, ◌<◌, ◌^◌, ◌-◌, None, IfOk, IsErrOf};
-ghost use Rattle.outside_folder.specs.Folder.{IsWithinLimit};
+ghost use Rattle.std.specs.Prelude.{◌≡◌, ◌≢◌, ◌<◌, ◌^◌, ◌-◌, [], None, IfOk, IfSome, IsSome, IsErrOf};
+ghost use Rattle.outside_folder.specs.Folder.{IsInOrder, IsWithinLimit};
 
+use crate::folder::as_names;
 use crate::{FILE_LIMIT, Folder, FolderFault, Name};
 use plan_types::{List, NoMemory, Text};
 use std::alloc::Global;
+use std::collections::BTreeMap;
 use std::fs::{self, DirEntry, Metadata};
 use std::io::{self, ErrorKind, Read};
 use std::rt::Files;
@@ -87,7 +89,9 @@ fn list_at<R: Files + AllocGlobal + Clone + Drop>(
     root: &str,
     dir: &str,
 ) -> Result<Option<List<Name>>, FolderFault>
-    ensures { IsErrOf result FolderFault.TooLarge → ⊥ }
+    ensures order { IfOk result (λ names. IfSome names IsInOrder) }
+    ensures root { dir.now ≡ [] → IfOk result IsSome }
+    ensures never_too_large { IsErrOf result FolderFault.TooLarge → ⊥ }
 {
     let path = system_path(alloc, root, dir)?;
     let entries = match fs::read_dir(rt, path.as_str()) {
@@ -95,16 +99,17 @@ fn list_at<R: Files + AllocGlobal + Clone + Drop>(
         Err(error) if is_missing(&error) && !dir.is_empty() => return Ok(None),
         Err(error) => return Err(fault_of(&error)),
     };
-    let mut names = Vec::new(alloc);
+    let mut names = BTreeMap::new(alloc);
     for entry in entries {
         if names.len() == NAME_LIMIT {
             return Err(FolderFault::Failed);
         }
-        let name = name_of(rt, alloc, entry)?;
-        names.push(name).map_err(|_| FolderFault::NoMemory)?;
+        let Name { text, folder } = name_of(rt, alloc, entry)?;
+        names
+            .insert(text, folder)
+            .map_err(|_| FolderFault::NoMemory)?;
     }
-    names.sort().map_err(|_| FolderFault::NoMemory)?;
-    Ok(Some(List::from_vec(names)))
+    Ok(Some(as_names(alloc, names)?))
 }
 
 fn name_of<R: Files + AllocGlobal + Clone + Drop>(

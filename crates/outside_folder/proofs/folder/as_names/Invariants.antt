@@ -1,6 +1,6 @@
 use Rattle.std.proofs.Common.{◌≡◌, ◌++◌}
 use Rattle.outside_folder.specs.Files.{as_names}
-use Rattle.outside_folder.proofs.mem_folder.as_names.Given as goal
+use Rattle.outside_folder.proofs.folder.as_names.Given as goal
 
 -- the names so far, and then those that are left
 abbrev pub invariant-loop-text : goal.invariant-loop-text
