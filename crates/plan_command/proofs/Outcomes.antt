@@ -1,5 +1,5 @@
 -- What an answer over a folder's files is: a refusal, the usage line, or the plan of the packages that they make.
-use Rattle.std.proofs.Common.{◌≡◌, ◌⊎◌, Bool, true, false, List, [], Result, Ok, Err, Option, Some, None, refl, sym, ap, subst, ◌∙◌, inl, inr}
+use Rattle.std.proofs.Common.{◌≡◌, ◌⊎◌, Bool, true, false, List, Result, Ok, Err, Option, Some, None, refl, sym, ap, subst, ◌∙◌, inl, inr}
 use Rattle.std.specs.Bool.{MatchBool}
 use Rattle.std.specs.Option.{IfSome}
 use Rattle.plan_types.specs.declared.refusal.Fault.{Fault}
@@ -13,15 +13,15 @@ use Rattle.outside_folder.specs.Sink.{Appends}
 use Rattle.plan_command.specs.declared.answer.Answer.{Answer}
 use Rattle.plan_command.specs.declared.command.Status.{Status}
 use Rattle.plan_command.specs.declared.command.Status.TheVariants as status
-use Rattle.plan_command.specs.declared.index.Package.{Package}
-use Rattle.plan_command.specs.declared.index.Reading.{Reading}
-use Rattle.plan_command.specs.declared.index.Reading.TheVariants.{Refused, Read}
-use Rattle.plan_command.specs.declared.plain_file.PlainFile.{PlainFile}
+use Rattle.package_index.specs.declared.index.Package.{Package}
+use Rattle.package_index.specs.declared.index.Reading.{Reading}
+use Rattle.package_index.specs.declared.index.Reading.TheVariants.{Refused, Read}
+use Rattle.plain_file.specs.declared.file.PlainFile.{PlainFile}
 use Rattle.plan_command.specs.Answer.{usage, read_of, is_plan}
 use Rattle.plan_command.specs.FolderProblem.{problem_of}
-use Rattle.plan_command.specs.Index.{IsReading}
+use Rattle.package_index.specs.Index.{IsReading}
 use Rattle.plan_command.specs.Plan.{IsPlanOf, answer_of_plain}
-use Rattle.plan_command.specs.PlainFile.{plain_file}
+use Rattle.plain_file.specs.File.{plain_file}
 use Rattle.plan_command.specs.Root.{root_names, cabal_file, unbuilt_name}
 use Rattle.plan_command.specs.Text.{trail_text}
 use Rattle.plan_command.specs.Run.{IsAnswerOfReading, IsAnswerOfIndex, IsAnswerOfFile, IsAnswerOfBytes, IsAnswerOfLocal, IsAnswerOfRoot, IsAnswerOfFolder, IsAnswerOf, MakesPackages, PlansFirst, HasNone, Prints}

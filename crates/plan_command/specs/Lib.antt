@@ -2,17 +2,8 @@ pub mod Answer
 pub mod FolderProblem
 pub mod FolderProblemExamples
 pub mod FolderProblemLaws
-pub mod Index
-pub mod IndexExamples
-pub mod Line
-pub mod Need
-pub mod PlainFile
 pub mod Plan
-pub mod Releases
 pub mod Resolved
 pub mod Root
 pub mod Run
 pub mod Text
-pub mod Totals
-pub mod Version
-pub mod Visits

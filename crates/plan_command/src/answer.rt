@@ -2,17 +2,16 @@
 ghost use Rattle.std.specs.Prelude.{◌≡◌, ◌≢◌, ◌≤◌, None, IfOk, IfSome, IsErrOf};
 ghost use Rattle.outside_folder.specs.Faults.{Rose};
 ghost use Rattle.plan_command.specs.Answer.{IsMade, refused, usage, read_of};
-ghost use Rattle.plan_command.specs.PlainFile.{plain_file};
+ghost use Rattle.plain_file.specs.File.{plain_file};
 ghost use Rattle.plan_command.specs.Run.{IsAnswerOfReading, IsAnswerOfIndex, IsAnswerOfFile, IsAnswerOfBytes, IsAnswerOfFolder};
 
 use crate::Status;
-use crate::index::{Reading, read_index};
-use crate::plain_file::{PlainFile, plain_file};
 use crate::plan::plan_of;
 use crate::root::{cabal_file, root_names, unbuilt_name};
 use crate::text::{USAGE, text_of_refusal};
-use crate::trouble::Trouble;
 use outside_folder::{Folder, FolderFault};
+use package_index::{Reading, Trouble, read_index};
+use plain_file::{PlainFile, plain_file};
 use plan_types::{Cause, Fault, List, NoMemory, Refusal, Text};
 use std::alloc::Global;
 

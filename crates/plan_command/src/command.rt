@@ -4,8 +4,8 @@ ghost use Rattle.plan_command.specs.Answer.{is_plan, IsMade, IsUsage, IsUsageAns
 ghost use Rattle.plan_command.specs.Run.{HasNone, IsAnswerOf, PlansFirst, Prints};
 
 use crate::answer::{Answer, answer_of_folder, usage};
-use crate::trouble::Trouble;
 use outside_folder::{Folder, Sink, write_all};
+use package_index::Trouble;
 use plan_types::Text;
 use std::alloc::Global;
 

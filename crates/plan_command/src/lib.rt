@@ -5,21 +5,12 @@
 mod answer;
 mod command;
 mod folder_problem;
-mod index;
-mod line;
-mod need;
-mod plain_file;
 mod plan;
-mod releases;
 mod resolved;
 mod root;
 mod text;
-mod totals;
-mod trouble;
-mod version;
 
 pub use command::{Status, run};
-pub use index::a_part_too_many;
 
 #[cfg(test)]
 mod tests;
