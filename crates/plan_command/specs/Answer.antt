@@ -1,12 +1,10 @@
 -- Answers: a status, and the text that is printed.
-use Rattle.std.specs.Prelude.{◌≡◌, ℕ, Bool, false, List, [], ◌∷◌, codes, Result, Ok, Err, Option, unwrap_or}
+use Rattle.std.specs.Prelude.{ℕ, Bool, false, List, [], ◌∷◌, codes, Option, unwrap_or}
 use Rattle.plan_types.specs.declared.refusal.Cause.{Cause}
 use Rattle.outside_folder.specs.Files.{Bytes, Files, file_at}
 use Rattle.plan_command.specs.declared.answer.Answer.{Answer}
-use Rattle.package_index.specs.declared.trouble.Trouble.{Trouble}
-use Rattle.package_index.specs.declared.trouble.Trouble.TheVariants as trouble
-use Rattle.plan_command.specs.declared.command.Status.{Status}
-use Rattle.plan_command.specs.declared.command.Status.TheVariants as status
+use Rattle.plan_command.specs.declared.status.Status.{Status}
+use Rattle.plan_command.specs.declared.status.Status.TheVariants as status
 use Rattle.plain_file.specs.Line.{is_text}
 use Rattle.package_index.specs.Releases.{within_limit}
 use Rattle.plan_command.specs.Text.{refusal_text, usage_text}
@@ -40,18 +38,12 @@ IsMade status.ReadFault = ⊥
 IsMade status.WriteFault = ⊥
 IsMade status.NoMemory = ⊥
 
--- the answer of words without a reading, unless it couldn't be written or memory was wanting
+-- what a run ends with for words without a reading: the usage line was written, or couldn't be
 abbrev pub IsUsage : Status → Type 0
 IsUsage status.Usage = Unit {0}
 IsUsage status.WriteFault = Unit {0}
-IsUsage status.NoMemory = Unit {0}
 IsUsage status.Planned = ⊥
 IsUsage status.NoPlan = ⊥
 IsUsage status.Refused = ⊥
 IsUsage status.ReadFault = ⊥
-
--- what was answered to words without a reading, unless memory was wanting
-abbrev pub IsUsageAnswer : Result Answer Trouble → Type 0
-IsUsageAnswer (Ok answer) = answer ≡ usage
-IsUsageAnswer (Err trouble.Failed) = ⊥
-IsUsageAnswer (Err trouble.NoMemory) = Unit {0}
+IsUsage status.NoMemory = ⊥

@@ -6,4 +6,5 @@ pub mod Plan
 pub mod Resolved
 pub mod Root
 pub mod Run
+pub mod Status
 pub mod Text

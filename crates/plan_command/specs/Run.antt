@@ -9,8 +9,8 @@ use Rattle.choice_problem.specs.Plain.{IsFirst, IsWholeValid}
 use Rattle.outside_folder.specs.Files.{Bytes, Files}
 use Rattle.outside_folder.specs.Sink.{Appends, AppendsPrefix}
 use Rattle.plan_command.specs.declared.answer.Answer.{Answer}
-use Rattle.plan_command.specs.declared.command.Status.{Status}
-use Rattle.plan_command.specs.declared.command.Status.TheVariants as status
+use Rattle.plan_command.specs.declared.status.Status.{Status}
+use Rattle.plan_command.specs.declared.status.Status.TheVariants as status
 use Rattle.package_index.specs.declared.index.Package.{Package}
 use Rattle.package_index.specs.declared.index.Reading.{Reading}
 use Rattle.package_index.specs.declared.index.Reading.TheVariants.{Refused, Read}

@@ -8,9 +8,11 @@ mod folder_problem;
 mod plan;
 mod resolved;
 mod root;
+mod status;
 mod text;
 
-pub use command::{Status, run};
+pub use command::{print_usage, run};
+pub use status::{Status, code_of};
 
 #[cfg(test)]
 mod tests;
