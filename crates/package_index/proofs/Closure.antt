@@ -15,11 +15,11 @@ use Rattle.std.proofs.lemmas.List.Sums.{sum_by-append}
 use Rattle.std.proofs.lemmas.Map.Keys.{IsDistinct-from_sorted}
 use Rattle.outside_folder.specs.Files.{Bytes, Files}
 use Rattle.plain_file.specs.declared.file.PlainFile.{PlainFile}
+use Rattle.plain_file.specs.Line.{is_text}
 use Rattle.package_index.specs.declared.totals.Totals.{Totals}
 use Rattle.package_index.specs.declared.index.Found.{Found}
 use Rattle.package_index.specs.Releases.{IndexRead, reads_of, bytes_of, names_of, Counts, IsBeyond}
 use Rattle.package_index.specs.Totals.{is_too_many}
-use Rattle.plain_file.specs.Line.{is_text}
 use Rattle.package_index.specs.Index.{IsOneOf, InClosure, of_local, needed, mentioned, IsRead, IsFound, IsTooMany, mentioned_by, index_reads}
 use Rattle.package_index.specs.Visits.{Kept, IsCovered, IsPartly, IsKept}
 

@@ -8,12 +8,12 @@ use Rattle.std.specs.Cmp.Lexicographic.{slice_cmp}
 use Rattle.plan_types.specs.declared.refusal.Cause.TheVariants.{TooMany}
 use Rattle.outside_folder.specs.Files.{Bytes, Files}
 use Rattle.plain_file.specs.declared.file.PlainFile.{PlainFile}
+use Rattle.plain_file.specs.Line.{is_text}
 use Rattle.package_index.specs.declared.releases.IndexFault.{IndexFault}
 use Rattle.package_index.specs.declared.index.Found.{Found}
 use Rattle.package_index.specs.declared.index.Package.{Package}
 use Rattle.package_index.specs.declared.index.Reading.{Reading}
 use Rattle.package_index.specs.declared.index.Reading.TheVariants.{Refused, Read}
-use Rattle.plain_file.specs.Line.{is_text}
 use Rattle.package_index.specs.Releases.{IndexRead, reads_of, bytes_of, names_of, plain_files, faults_in, mentioned_in, in_order}
 use Rattle.package_index.specs.Totals.{is_too_many}
 

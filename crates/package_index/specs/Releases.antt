@@ -11,13 +11,13 @@ use Rattle.outside_folder.specs.declared.folder.Name.{Name}
 use Rattle.outside_folder.specs.declared.folder.TheConstants.{FILE_LIMIT}
 use Rattle.outside_folder.specs.Files.{Bytes, Files, file_at, listing}
 use Rattle.plain_file.specs.declared.file.PlainFile.{PlainFile}
+use Rattle.plain_file.specs.declared.need.Need.{Need}
+use Rattle.plain_file.specs.File.{plain_file}
+use Rattle.plain_file.specs.Version.{version_of}
 use Rattle.package_index.specs.declared.releases.IndexFault.{IndexFault}
 use Rattle.package_index.specs.declared.releases.Releases.{Releases}
 use Rattle.package_index.specs.declared.totals.Totals.{Totals}
-use Rattle.plain_file.specs.declared.need.Need.{Need}
-use Rattle.plain_file.specs.File.{plain_file}
 use Rattle.package_index.specs.Totals.{is_too_many}
-use Rattle.plain_file.specs.Version.{version_of}
 
 -- the directory of a name's versions
 abbrev pub name_dir : Bytes → Bytes

@@ -51,7 +51,9 @@ pub fn read_index<F: Folder>(
     local: PlainFile,
 ) -> Result<Reading, Trouble>
     ensures told { IfSome (F.tells folder.old) (λ files. IfOk result (IsReading files local)) }
+    ensures same_files { F.tells folder.new ≡ F.tells folder.old }
     ensures failed { IsErrOf result Trouble.Failed → Rose (F.faults folder.old) (F.faults folder.new) }
+    ensures later { F.faults folder.old ≤ F.faults folder.new }
 {
     match read_names(alloc, folder, &local)? {
         None => Ok(Reading::Refused {
@@ -70,7 +72,9 @@ fn read_names<F: Folder>(
     local: &PlainFile,
 ) -> Result<Option<BTreeMap<Text, Found>>, Trouble>
     ensures told { IfSome (F.tells folder.old) (λ files. IfOk result (Keeps files local.now)) }
+    ensures same_files { F.tells folder.new ≡ F.tells folder.old }
     ensures failed { IsErrOf result Trouble.Failed → Rose (F.faults folder.old) (F.faults folder.new) }
+    ensures later { F.faults folder.old ≤ F.faults folder.new }
 {
     let mut pending = List::new(alloc);
     push_names(&mut pending, local.needs.as_slice())?;

@@ -9,18 +9,18 @@ use Rattle.choice_problem.specs.Plain.{Answers}
 use Rattle.choice_problem.specs.Trail.{trail_of}
 use Rattle.outside_folder.specs.Files.{Bytes, Files}
 use Rattle.outside_folder.specs.Sink.{Appends}
-use Rattle.plan_command.specs.declared.answer.Answer.{Answer}
-use Rattle.plan_command.specs.declared.status.Status.{Status}
-use Rattle.plan_command.specs.declared.status.Status.TheVariants as status
+use Rattle.plain_file.specs.declared.file.PlainFile.{PlainFile}
+use Rattle.plain_file.specs.File.{plain_file}
 use Rattle.package_index.specs.declared.index.Package.{Package}
 use Rattle.package_index.specs.declared.index.Reading.{Reading}
 use Rattle.package_index.specs.declared.index.Reading.TheVariants.{Refused, Read}
-use Rattle.plain_file.specs.declared.file.PlainFile.{PlainFile}
+use Rattle.package_index.specs.Index.{IsReading}
+use Rattle.plan_command.specs.declared.answer.Answer.{Answer}
+use Rattle.plan_command.specs.declared.status.Status.{Status}
+use Rattle.plan_command.specs.declared.status.Status.TheVariants as status
 use Rattle.plan_command.specs.Answer.{read_of}
 use Rattle.plan_command.specs.FolderProblem.{problem_of}
-use Rattle.package_index.specs.Index.{IsReading}
 use Rattle.plan_command.specs.Plan.{IsPlanOf, answer_of_plain}
-use Rattle.plain_file.specs.File.{plain_file}
 use Rattle.plan_command.specs.Root.{root_names, cabal_file, unbuilt_name}
 use Rattle.plan_command.specs.Text.{trail_text}
 use Rattle.plan_command.specs.Run.{IsAnswerOfReading, IsAnswerOfIndex, IsAnswerOfFile, IsAnswerOfBytes, IsAnswerOfLocal, IsAnswerOfRoot, IsAnswerOfFolder, MakesPackages, PlansFirst, HasNone, Prints}

@@ -2,11 +2,11 @@
 use Rattle.std.specs.Prelude.{ℕ, Bool, false, List, [], ◌∷◌, codes, Option, unwrap_or}
 use Rattle.plan_types.specs.declared.refusal.Cause.{Cause}
 use Rattle.outside_folder.specs.Files.{Bytes, Files, file_at}
+use Rattle.plain_file.specs.Line.{is_text}
+use Rattle.package_index.specs.Releases.{within_limit}
 use Rattle.plan_command.specs.declared.answer.Answer.{Answer}
 use Rattle.plan_command.specs.declared.status.Status.{Status}
 use Rattle.plan_command.specs.declared.status.Status.TheVariants as status
-use Rattle.plain_file.specs.Line.{is_text}
-use Rattle.package_index.specs.Releases.{within_limit}
 use Rattle.plan_command.specs.Text.{refusal_text, usage_text}
 
 abbrev pub refused : Bytes → ℕ → Cause → Answer

@@ -1,8 +1,8 @@
 // The answer of a folder is made whole before anything is written.
 ghost use Rattle.std.specs.Prelude.{◌≡◌, ◌≢◌, ◌≤◌, None, IfOk, IfSome, IsErrOf};
 ghost use Rattle.outside_folder.specs.Faults.{Rose};
-ghost use Rattle.plan_command.specs.Answer.{IsMade, refused, read_of};
 ghost use Rattle.plain_file.specs.File.{plain_file};
+ghost use Rattle.plan_command.specs.Answer.{IsMade, refused, read_of};
 ghost use Rattle.plan_command.specs.Run.{IsAnswerOfReading, IsAnswerOfIndex, IsAnswerOfFile, IsAnswerOfBytes, IsAnswerOfFolder};
 
 use crate::Status;
