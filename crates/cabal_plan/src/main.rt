@@ -1,8 +1,12 @@
 //! The program `cabal-plan`: it plans the packages of the current folder, and prints the plan.
 #![tactic(auto)]
 
+ghost use Rattle.std.specs.Prelude.{◌≡◌};
+ghost use Rattle.std.specs.Process.{exit_status};
+ghost use Rattle.plan_command.specs.Status.{number_of_status};
+
 use outside_folder::{RealFolder, RealSink};
-use plan_command::{Status, run};
+use plan_command::{Status, code_of, print_usage, run};
 use plan_types::{List, Text};
 use std::env;
 use std::io::ErrorKind;
@@ -10,14 +14,18 @@ use std::process::ExitCode;
 use std::rt::{Env, Files};
 
 fn main(rt: HostRuntime) -> ExitCode {
-    let words = match words_of(&rt) {
+    ended(&rt, status_of(&rt))
+}
+
+fn status_of<R: Env + Files + Print + AllocGlobal + Clone + Drop>(rt: &R) -> Status {
+    let words = match words_of(rt) {
         Ok(words) => words,
-        Err(ErrorKind::OutOfMemory) => return ended(&rt, Status::NoMemory),
-        Err(_) => return not_text(&rt),
+        Err(ErrorKind::OutOfMemory) => return Status::NoMemory,
+        Err(_) => return print_usage(&mut RealSink::new(rt)),
     };
-    match root_of(&rt) {
-        Some(root) => ended(&rt, planned(&rt, &words, root)),
-        None => ended(&rt, Status::NoMemory),
+    match root_of(rt) {
+        Some(root) => planned(rt, &words, root),
+        None => Status::NoMemory,
     }
 }
 
@@ -47,26 +55,20 @@ fn planned<R: Files + Print + AllocGlobal + Clone + Drop>(
 }
 
 // Says on standard error what the output can't say. Where even that fails, the status alone tells.
-fn ended(rt: &impl Eprint, status: Status) -> ExitCode {
-    match status {
-        Status::Planned => ExitCode::SUCCESS,
-        Status::NoPlan => ExitCode::from(1),
-        Status::Refused => ExitCode::from(3),
-        Status::ReadFault => failed(rt, "a file or folder could not be read", 4),
-        Status::WriteFault => failed(rt, "the output could not be written", 5),
-        Status::NoMemory => failed(rt, "out of memory", 6),
-        Status::Usage => ExitCode::from(64),
+fn ended(rt: &impl Eprint, status: Status) -> ExitCode
+    ensures { exit_status result ≡ number_of_status status }
+{
+    if let Some(why) = failure_of(status) {
+        let _ = eprintln!(rt; "cabal-plan: {why}");
     }
+    ExitCode::from(code_of(status))
 }
 
-fn failed(rt: &impl Eprint, why: &str, code: u8) -> ExitCode {
-    let _ = eprintln!(rt; "cabal-plan: {why}");
-    ExitCode::from(code)
-}
-
-fn not_text<R: Print + Eprint>(rt: &R) -> ExitCode {
-    match println!(rt; "usage: cabal-plan plan or generate, with options") {
-        Ok(()) => ended(rt, Status::Usage),
-        Err(_) => ended(rt, Status::WriteFault),
+fn failure_of(status: Status) -> Option<&'static str> {
+    match status {
+        Status::ReadFault => Some("a file or folder could not be read"),
+        Status::WriteFault => Some("the output could not be written"),
+        Status::NoMemory => Some("out of memory"),
+        Status::Planned | Status::NoPlan | Status::Refused | Status::Usage => None,
     }
 }

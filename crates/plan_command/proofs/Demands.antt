@@ -2,9 +2,9 @@
 use Rattle.std.proofs.Common.{◌≡◌, ℕ, List, [], ◌∷◌, get_or, map, refl, ap, ◌∙◌}
 use Rattle.std.proofs.Math.ListN.{get_or-map}
 use Rattle.choice_problem.specs.declared.problem.Choice.{Choice}
+use Rattle.plain_file.specs.declared.need.Need.{Need}
+use Rattle.package_index.specs.declared.index.Package.{Package}
 use Rattle.plan_command.specs.declared.resolved.Resolved.{Resolved}
-use Rattle.plan_command.specs.declared.index.Package.{Package}
-use Rattle.plan_command.specs.declared.need.Need.{Need}
 use Rattle.plan_command.specs.FolderProblem.{no_package, no_file, releases_of, release_at, demand_of}
 use Rattle.plan_command.specs.Resolved.{resolved, resolved_needs, resolved_releases, table_of, needs_at, demanded}
 

@@ -1,10 +1,2 @@
-pub mod Ascii
-pub mod Closure
 pub mod Demands
-pub mod Digits
-pub mod InTurn
-pub mod Kept
 pub mod Outcomes
-pub mod Pieces
-pub mod Progress
-pub mod TooMany

@@ -1,6 +1,5 @@
--- What an answer over a folder's files is: a refusal, the usage line, or the plan of the packages that they make.
-use Rattle.std.proofs.Common.{◌≡◌, ◌⊎◌, Bool, true, false, List, [], Result, Ok, Err, Option, Some, None, refl, sym, ap, subst, ◌∙◌, inl, inr}
-use Rattle.std.specs.Bool.{MatchBool}
+-- What an answer over a folder's files is: a refusal, or the plan of the packages that they make.
+use Rattle.std.proofs.Common.{◌≡◌, ◌⊎◌, false, List, Result, Ok, Err, Option, Some, None, refl, sym, ap, subst, ◌∙◌, inl, inr}
 use Rattle.std.specs.Option.{IfSome}
 use Rattle.plan_types.specs.declared.refusal.Fault.{Fault}
 use Rattle.plan_types.specs.declared.refusal.Fault.TheVariants as fault
@@ -10,21 +9,21 @@ use Rattle.choice_problem.specs.Plain.{Answers}
 use Rattle.choice_problem.specs.Trail.{trail_of}
 use Rattle.outside_folder.specs.Files.{Bytes, Files}
 use Rattle.outside_folder.specs.Sink.{Appends}
+use Rattle.plain_file.specs.declared.file.PlainFile.{PlainFile}
+use Rattle.plain_file.specs.File.{plain_file}
+use Rattle.package_index.specs.declared.index.Package.{Package}
+use Rattle.package_index.specs.declared.index.Reading.{Reading}
+use Rattle.package_index.specs.declared.index.Reading.TheVariants.{Refused, Read}
+use Rattle.package_index.specs.Index.{IsReading}
 use Rattle.plan_command.specs.declared.answer.Answer.{Answer}
-use Rattle.plan_command.specs.declared.command.Status.{Status}
-use Rattle.plan_command.specs.declared.command.Status.TheVariants as status
-use Rattle.plan_command.specs.declared.index.Package.{Package}
-use Rattle.plan_command.specs.declared.index.Reading.{Reading}
-use Rattle.plan_command.specs.declared.index.Reading.TheVariants.{Refused, Read}
-use Rattle.plan_command.specs.declared.plain_file.PlainFile.{PlainFile}
-use Rattle.plan_command.specs.Answer.{usage, read_of, is_plan}
+use Rattle.plan_command.specs.declared.status.Status.{Status}
+use Rattle.plan_command.specs.declared.status.Status.TheVariants as status
+use Rattle.plan_command.specs.Answer.{read_of}
 use Rattle.plan_command.specs.FolderProblem.{problem_of}
-use Rattle.plan_command.specs.Index.{IsReading}
 use Rattle.plan_command.specs.Plan.{IsPlanOf, answer_of_plain}
-use Rattle.plan_command.specs.PlainFile.{plain_file}
 use Rattle.plan_command.specs.Root.{root_names, cabal_file, unbuilt_name}
 use Rattle.plan_command.specs.Text.{trail_text}
-use Rattle.plan_command.specs.Run.{IsAnswerOfReading, IsAnswerOfIndex, IsAnswerOfFile, IsAnswerOfBytes, IsAnswerOfLocal, IsAnswerOfRoot, IsAnswerOfFolder, IsAnswerOf, MakesPackages, PlansFirst, HasNone, Prints}
+use Rattle.plan_command.specs.Run.{IsAnswerOfReading, IsAnswerOfIndex, IsAnswerOfFile, IsAnswerOfBytes, IsAnswerOfLocal, IsAnswerOfRoot, IsAnswerOfFolder, MakesPackages, PlansFirst, HasNone, Prints}
 
 pub some_index : (tells : Option Files) (local : PlainFile) (reading : Reading) (answer : Answer) → IfSome tells (λ files. IsReading files local reading)
     → IsAnswerOfReading reading answer → IfSome tells (λ files. IsAnswerOfIndex files local answer)
@@ -36,7 +35,7 @@ abbrev IsPlanned : Files → Answer → Type 0
 IsPlanned files answer = (packages : List Package) × MakesPackages files packages × IsPlanOf packages answer
 
 abbrev Outcome : Files → Answer → Type 0
-Outcome files answer = (answer.status ≡ status.Refused) ⊎ ((answer.status ≡ status.Usage) ⊎ IsPlanned files answer)
+Outcome files answer = (answer.status ≡ status.Refused) ⊎ IsPlanned files answer
 
 abbrev status_of : Answer → Status
 status_of answer = answer.status
@@ -46,7 +45,7 @@ module _ (files : Files) (answer : Answer) (root : unbuilt_name false (root_name
       → (reading : Reading) → IsReading files local reading → IsAnswerOfReading reading answer → Outcome files answer
   by_reading path bytes local named read file (Refused at line cause) is e = inl (ap status_of e)
   by_reading path bytes local named read file (Read packages) is e =
-      inr (inr (packages, record { path = path; bytes = bytes; local = local; root = root; named = named; read = read; plain = file; reading = is }, e))
+      inr (packages, record { path = path; bytes = bytes; local = local; root = root; named = named; read = read; plain = file; reading = is }, e)
 
   by_file : (path bytes : Bytes) → cabal_file (root_names files) ≡ Some path → read_of files path ≡ Some bytes
       → (r : Result PlainFile Fault) → plain_file None bytes ≡ r → IsAnswerOfFile files path r answer → Outcome files answer
@@ -66,13 +65,9 @@ by_root : (files : Files) (answer : Answer) (p : Option Bytes) → unbuilt_name 
 by_root files answer None root is = by_local files answer root (cabal_file (root_names files)) refl is
 by_root files answer (Some path) root is = inl (ap status_of is)
 
-by_words : (files : Files) (answer : Answer) (b : Bool) → MatchBool b (IsAnswerOfFolder files answer) (answer ≡ usage) → Outcome files answer
+outcome : (files : Files) (answer : Answer) → IsAnswerOfFolder files answer → Outcome files answer
 unfolding IsAnswerOfFolder
-by_words files answer true is = by_root files answer (unbuilt_name false (root_names files)) refl is
-by_words files answer false is = inr (inl (ap status_of is))
-
-outcome : (words : List Bytes) (files : Files) (answer : Answer) → IsAnswerOf words files answer → Outcome files answer
-outcome words files answer is = by_words files answer (is_plan words) is
+outcome files answer is = by_root files answer (unbuilt_name false (root_names files)) refl is
 
 abbrev text_of : Answer → Bytes
 text_of answer = answer.text
@@ -94,49 +89,47 @@ none_in files answer old new packages made plain.NoPlan is e s printed =
 
 first_of : (files : Files) (answer : Answer) (old new : Option Bytes) → Outcome files answer → answer.status ≡ status.Planned → Appends old new answer.text → PlansFirst files old new
 first_of files answer old new (inl refused) s printed = cc
-first_of files answer old new (inr (inl used)) s printed = cc
-first_of files answer old new (inr (inr plan)) s printed = first_in files answer old new plan.0 plan.1 plan.2.0 plan.2.1 plan.2.2 s printed
+first_of files answer old new (inr plan) s printed = first_in files answer old new plan.0 plan.1 plan.2.0 plan.2.1 plan.2.2 s printed
 
 none_of : (files : Files) (answer : Answer) (old new : Option Bytes) → Outcome files answer → answer.status ≡ status.NoPlan → Appends old new answer.text → HasNone files old new
 none_of files answer old new (inl refused) s printed = cc
-none_of files answer old new (inr (inl used)) s printed = cc
-none_of files answer old new (inr (inr plan)) s printed = none_in files answer old new plan.0 plan.1 plan.2.0 plan.2.1 plan.2.2 s printed
+none_of files answer old new (inr plan) s printed = none_in files answer old new plan.0 plan.1 plan.2.0 plan.2.1 plan.2.2 s printed
 
 abbrev IsThis : Answer → Answer → Type 0
 IsThis answer printed = printed ≡ answer
 
-plans : (words : List Bytes) (files : Files) (answer : Answer) (old new : Option Bytes) (result : Status) → IsAnswerOf words files answer
+plans : (files : Files) (answer : Answer) (old new : Option Bytes) (result : Status) → IsAnswerOfFolder files answer
     → Prints (IsThis answer) old new result → result ≡ status.Planned → PlansFirst files old new
-plans words files answer old new status.Planned is prints e =
+plans files answer old new status.Planned is prints e =
     let here : answer.status ≡ status.Planned = sym (prints.2 ∙ ap status_of prints.1) in
-    first_of files answer old new (outcome words files answer is) here (subst (λ (a : Answer). Appends old new a.text) prints.1 prints.3)
-plans words files answer old new status.NoPlan is prints e = cc
-plans words files answer old new status.Refused is prints e = cc
-plans words files answer old new status.ReadFault is prints e = cc
-plans words files answer old new status.WriteFault is prints e = cc
-plans words files answer old new status.NoMemory is prints e = cc
-plans words files answer old new status.Usage is prints e = cc
+    first_of files answer old new (outcome files answer is) here (subst (λ (a : Answer). Appends old new a.text) prints.1 prints.3)
+plans files answer old new status.NoPlan is prints e = cc
+plans files answer old new status.Refused is prints e = cc
+plans files answer old new status.ReadFault is prints e = cc
+plans files answer old new status.WriteFault is prints e = cc
+plans files answer old new status.NoMemory is prints e = cc
+plans files answer old new status.Usage is prints e = cc
 
-has_none : (words : List Bytes) (files : Files) (answer : Answer) (old new : Option Bytes) (result : Status) → IsAnswerOf words files answer
+has_none : (files : Files) (answer : Answer) (old new : Option Bytes) (result : Status) → IsAnswerOfFolder files answer
     → Prints (IsThis answer) old new result → result ≡ status.NoPlan → HasNone files old new
-has_none words files answer old new status.NoPlan is prints e =
+has_none files answer old new status.NoPlan is prints e =
     let here : answer.status ≡ status.NoPlan = sym (prints.2 ∙ ap status_of prints.1) in
-    none_of files answer old new (outcome words files answer is) here (subst (λ (a : Answer). Appends old new a.text) prints.1 prints.3)
-has_none words files answer old new status.Planned is prints e = cc
-has_none words files answer old new status.Refused is prints e = cc
-has_none words files answer old new status.ReadFault is prints e = cc
-has_none words files answer old new status.WriteFault is prints e = cc
-has_none words files answer old new status.NoMemory is prints e = cc
-has_none words files answer old new status.Usage is prints e = cc
+    none_of files answer old new (outcome files answer is) here (subst (λ (a : Answer). Appends old new a.text) prints.1 prints.3)
+has_none files answer old new status.Planned is prints e = cc
+has_none files answer old new status.Refused is prints e = cc
+has_none files answer old new status.ReadFault is prints e = cc
+has_none files answer old new status.WriteFault is prints e = cc
+has_none files answer old new status.NoMemory is prints e = cc
+has_none files answer old new status.Usage is prints e = cc
 
-pub planned_where_told : (words : List Bytes) (tells : Option Files) (answer : Answer) (old new : Option Bytes) (result : Status)
-    → IfSome tells (λ files. IsAnswerOf words files answer) → Prints (IsThis answer) old new result
+pub planned_where_told : (tells : Option Files) (answer : Answer) (old new : Option Bytes) (result : Status)
+    → IfSome tells (λ files. IsAnswerOfFolder files answer) → Prints (IsThis answer) old new result
     → result ≡ status.Planned → IfSome tells (λ files. PlansFirst files old new)
-planned_where_told words None answer old new result told prints e = tt
-planned_where_told words (Some files) answer old new result told prints e = plans words files answer old new result told prints e
+planned_where_told None answer old new result told prints e = tt
+planned_where_told (Some files) answer old new result told prints e = plans files answer old new result told prints e
 
-pub none_where_told : (words : List Bytes) (tells : Option Files) (answer : Answer) (old new : Option Bytes) (result : Status)
-    → IfSome tells (λ files. IsAnswerOf words files answer) → Prints (IsThis answer) old new result
+pub none_where_told : (tells : Option Files) (answer : Answer) (old new : Option Bytes) (result : Status)
+    → IfSome tells (λ files. IsAnswerOfFolder files answer) → Prints (IsThis answer) old new result
     → result ≡ status.NoPlan → IfSome tells (λ files. HasNone files old new)
-none_where_told words None answer old new result told prints e = tt
-none_where_told words (Some files) answer old new result told prints e = has_none words files answer old new result told prints e
+none_where_told None answer old new result told prints e = tt
+none_where_told (Some files) answer old new result told prints e = has_none files answer old new result told prints e

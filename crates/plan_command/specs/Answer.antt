@@ -1,17 +1,12 @@
 -- Answers: a status, and the text that is printed.
-use Rattle.std.specs.Prelude.{◌≡◌, ℕ, Bool, false, nat_lt, List, [], ◌∷◌, length, codes, Result, Ok, Err, Option, Some, None, unwrap_or, if◌then◌else◌}
+use Rattle.std.specs.Prelude.{ℕ, Bool, false, List, [], ◌∷◌, codes, Option, unwrap_or}
 use Rattle.plan_types.specs.declared.refusal.Cause.{Cause}
-use Rattle.plan_types.specs.declared.refusal.Cause.TheVariants.{NoPackages, TooLarge, Unbuilt}
-use Rattle.plan_types.specs.declared.refusal.Fault.{Fault}
-use Rattle.plan_types.specs.declared.refusal.Fault.TheVariants.{NoMemory, At}
-use Rattle.outside_folder.specs.declared.folder.TheConstants.{FILE_LIMIT}
 use Rattle.outside_folder.specs.Files.{Bytes, Files, file_at}
+use Rattle.plain_file.specs.Line.{is_text}
+use Rattle.package_index.specs.Releases.{within_limit}
 use Rattle.plan_command.specs.declared.answer.Answer.{Answer}
-use Rattle.plan_command.specs.declared.trouble.Trouble.{Trouble}
-use Rattle.plan_command.specs.declared.trouble.Trouble.TheVariants as trouble
-use Rattle.plan_command.specs.declared.command.Status.{Status}
-use Rattle.plan_command.specs.declared.command.Status.TheVariants as status
-use Rattle.plan_command.specs.Line.{is_text}
+use Rattle.plan_command.specs.declared.status.Status.{Status}
+use Rattle.plan_command.specs.declared.status.Status.TheVariants as status
 use Rattle.plan_command.specs.Text.{refusal_text, usage_text}
 
 abbrev pub refused : Bytes → ℕ → Cause → Answer
@@ -24,9 +19,6 @@ abbrev pub usage : Answer
 usage = record { status = status.Usage; text = usage_text }
 
 -- the bytes of the file at a path, of which a missing one has none; `None` where they are too many
-abbrev pub within_limit : Bytes → Option Bytes
-within_limit bytes = if nat_lt FILE_LIMIT (length bytes) then None else Some bytes
-
 abbrev pub read_of : Files → Bytes → Option Bytes
 read_of files path = within_limit (unwrap_or (file_at files path) [])
 
@@ -46,18 +38,12 @@ IsMade status.ReadFault = ⊥
 IsMade status.WriteFault = ⊥
 IsMade status.NoMemory = ⊥
 
--- the answer of words without a reading, unless it couldn't be written or memory was wanting
+-- what a run ends with for words without a reading: the usage line was written, or couldn't be
 abbrev pub IsUsage : Status → Type 0
 IsUsage status.Usage = Unit {0}
 IsUsage status.WriteFault = Unit {0}
-IsUsage status.NoMemory = Unit {0}
 IsUsage status.Planned = ⊥
 IsUsage status.NoPlan = ⊥
 IsUsage status.Refused = ⊥
 IsUsage status.ReadFault = ⊥
-
--- what was answered to words without a reading, unless memory was wanting
-abbrev pub IsUsageAnswer : Result Answer Trouble → Type 0
-IsUsageAnswer (Ok answer) = answer ≡ usage
-IsUsageAnswer (Err trouble.Failed) = ⊥
-IsUsageAnswer (Err trouble.NoMemory) = Unit {0}
+IsUsage status.NoMemory = ⊥

@@ -12,12 +12,12 @@ use Rattle.choice_problem.specs.declared.problem.Demand.{Demand}
 use Rattle.choice_problem.specs.Variable.{same_var}
 use Rattle.choice_problem.specs.Problem.{Problem}
 use Rattle.outside_folder.specs.Files.{Bytes}
-use Rattle.plan_command.specs.declared.need.Bound.{Bound}
-use Rattle.plan_command.specs.declared.need.Bound.TheVariants.{Any, Equal, AtLeast, Below}
-use Rattle.plan_command.specs.declared.need.Need.{Need}
-use Rattle.plan_command.specs.declared.plain_file.PlainFile.{PlainFile}
-use Rattle.plan_command.specs.declared.index.Package.{Package}
-use Rattle.plan_command.specs.Line.{is_text}
+use Rattle.plain_file.specs.declared.need.Bound.{Bound}
+use Rattle.plain_file.specs.declared.need.Bound.TheVariants.{Any, Equal, AtLeast, Below}
+use Rattle.plain_file.specs.declared.need.Need.{Need}
+use Rattle.plain_file.specs.declared.file.PlainFile.{PlainFile}
+use Rattle.plain_file.specs.Line.{is_text}
+use Rattle.package_index.specs.declared.index.Package.{Package}
 
 -- the numbers below n, rising and falling
 abbrev pub rising : ℕ → List ℕ

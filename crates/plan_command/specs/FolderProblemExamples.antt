@@ -2,11 +2,11 @@
 use Rattle.std.specs.Prelude.{◌≡◌, ℕ, true, false, List, [], ◌∷◌, ◌++◌, codes, refl}
 use Rattle.choice_problem.specs.declared.problem.Choice.{Choice}
 use Rattle.outside_folder.specs.Files.{Bytes}
-use Rattle.plan_command.specs.declared.need.Bound.{Bound}
-use Rattle.plan_command.specs.declared.need.Bound.TheVariants.{Any, AtLeast}
-use Rattle.plan_command.specs.declared.need.Need.{Need}
-use Rattle.plan_command.specs.declared.plain_file.PlainFile.{PlainFile}
-use Rattle.plan_command.specs.declared.index.Package.{Package}
+use Rattle.plain_file.specs.declared.need.Bound.{Bound}
+use Rattle.plain_file.specs.declared.need.Bound.TheVariants.{Any, AtLeast}
+use Rattle.plain_file.specs.declared.need.Need.{Need}
+use Rattle.plain_file.specs.declared.file.PlainFile.{PlainFile}
+use Rattle.package_index.specs.declared.index.Package.{Package}
 use Rattle.plan_command.specs.FolderProblem.{number_of, variable, is_known, is_below, problem_of}
 use Rattle.plan_command.specs.Text.{trail_text}
 

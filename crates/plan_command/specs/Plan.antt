@@ -3,9 +3,9 @@ use Rattle.std.specs.Prelude.{◌≡◌, List}
 use Rattle.choice_problem.specs.declared.plain.Plain.{Plain}
 use Rattle.choice_problem.specs.declared.plain.Plain.TheVariants.{Found, NoPlan}
 use Rattle.choice_problem.specs.Plain.{Answers}
+use Rattle.package_index.specs.declared.index.Package.{Package}
 use Rattle.plan_command.specs.declared.answer.Answer.{Answer}
-use Rattle.plan_command.specs.declared.command.Status.TheVariants as status
-use Rattle.plan_command.specs.declared.index.Package.{Package}
+use Rattle.plan_command.specs.declared.status.Status.TheVariants as status
 use Rattle.plan_command.specs.FolderProblem.{problem_of}
 use Rattle.plan_command.specs.Text.{trail_text, no_plan_text}
 

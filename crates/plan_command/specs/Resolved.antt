@@ -2,10 +2,10 @@
 use Rattle.std.specs.Prelude.{ℕ, List, [], ◌∷◌, slice_index_or, map}
 use Rattle.choice_problem.specs.declared.problem.Choice.{Choice}
 use Rattle.choice_problem.specs.declared.problem.Demand.{Demand}
+use Rattle.plain_file.specs.declared.need.Need.{Need}
+use Rattle.plain_file.specs.declared.file.PlainFile.{PlainFile}
+use Rattle.package_index.specs.declared.index.Package.{Package}
 use Rattle.plan_command.specs.declared.resolved.Resolved.{Resolved}
-use Rattle.plan_command.specs.declared.need.Need.{Need}
-use Rattle.plan_command.specs.declared.plain_file.PlainFile.{PlainFile}
-use Rattle.plan_command.specs.declared.index.Package.{Package}
 use Rattle.plan_command.specs.FolderProblem.{number_of, releases_of, meeting, variable}
 
 abbrev pub resolved : List Package → Need → Resolved

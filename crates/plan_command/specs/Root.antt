@@ -3,7 +3,7 @@ use Rattle.std.specs.Prelude.{Bool, ◌&&◌, ◌||◌, not, nat_eq, List, [], �
 use Rattle.std.specs.List.{starts_with, ends_with}
 use Rattle.outside_folder.specs.declared.folder.Name.{Name}
 use Rattle.outside_folder.specs.Files.{Bytes, Files, listing}
-use Rattle.plan_command.specs.Line.{is_text}
+use Rattle.plain_file.specs.Line.{is_text}
 
 abbrev pub root_names : Files → List Name
 root_names files = unwrap_or (listing files []) []

@@ -1,5 +1,5 @@
 -- The answer of a folder, and what a run leaves in the sink.
-use Rattle.std.specs.Prelude.{◌≡◌, ℕ, Bool, true, false, List, [], ◌∷◌, codes, Result, Ok, Err, Option, Some, None, MatchBool}
+use Rattle.std.specs.Prelude.{◌≡◌, false, List, codes, Result, Ok, Err, Option, Some, None, MatchBool}
 use Rattle.plan_types.specs.declared.refusal.Cause.TheVariants.{NoPackages, TooLarge, Unbuilt}
 use Rattle.plan_types.specs.declared.refusal.Fault.{Fault}
 use Rattle.plan_types.specs.declared.refusal.Fault.TheVariants as fault
@@ -8,18 +8,18 @@ use Rattle.choice_problem.specs.Trail.{trail_of}
 use Rattle.choice_problem.specs.Plain.{IsFirst, IsWholeValid}
 use Rattle.outside_folder.specs.Files.{Bytes, Files}
 use Rattle.outside_folder.specs.Sink.{Appends, AppendsPrefix}
+use Rattle.plain_file.specs.declared.file.PlainFile.{PlainFile}
+use Rattle.plain_file.specs.File.{plain_file}
+use Rattle.package_index.specs.declared.index.Package.{Package}
+use Rattle.package_index.specs.declared.index.Reading.{Reading}
+use Rattle.package_index.specs.declared.index.Reading.TheVariants.{Refused, Read}
+use Rattle.package_index.specs.Index.{IsReading}
 use Rattle.plan_command.specs.declared.answer.Answer.{Answer}
-use Rattle.plan_command.specs.declared.command.Status.{Status}
-use Rattle.plan_command.specs.declared.command.Status.TheVariants as status
-use Rattle.plan_command.specs.declared.index.Package.{Package}
-use Rattle.plan_command.specs.declared.index.Reading.{Reading}
-use Rattle.plan_command.specs.declared.index.Reading.TheVariants.{Refused, Read}
-use Rattle.plan_command.specs.declared.plain_file.PlainFile.{PlainFile}
+use Rattle.plan_command.specs.declared.status.Status.{Status}
+use Rattle.plan_command.specs.declared.status.Status.TheVariants as status
 use Rattle.plan_command.specs.Answer.{refused, usage, read_of, is_plan}
 use Rattle.plan_command.specs.FolderProblem.{problem_of}
-use Rattle.plan_command.specs.Index.{IsReading}
 use Rattle.plan_command.specs.Plan.{IsPlanOf}
-use Rattle.plan_command.specs.PlainFile.{plain_file}
 use Rattle.plan_command.specs.Root.{root_names, cabal_file, unbuilt_name}
 use Rattle.plan_command.specs.Text.{trail_text, no_plan_text}
 

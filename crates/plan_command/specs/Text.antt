@@ -6,7 +6,7 @@ use Rattle.plan_types.specs.declared.refusal.Cause.TheVariants.{NotUtf8, StrayBr
 use Rattle.plan_types.specs.declared.refusal.Refusal.{Refusal}
 use Rattle.choice_problem.specs.declared.problem.Choice.{Choice}
 use Rattle.outside_folder.specs.Files.{Bytes}
-use Rattle.plan_command.specs.declared.index.Package.{Package}
+use Rattle.package_index.specs.declared.index.Package.{Package}
 use Rattle.plan_command.specs.FolderProblem.{no_package, release_at}
 
 abbrev pub cause_name : Cause → Bytes

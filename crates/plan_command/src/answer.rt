@@ -1,18 +1,17 @@
 // The answer of a folder is made whole before anything is written.
 ghost use Rattle.std.specs.Prelude.{◌≡◌, ◌≢◌, ◌≤◌, None, IfOk, IfSome, IsErrOf};
 ghost use Rattle.outside_folder.specs.Faults.{Rose};
-ghost use Rattle.plan_command.specs.Answer.{IsMade, refused, usage, read_of};
-ghost use Rattle.plan_command.specs.PlainFile.{plain_file};
+ghost use Rattle.plain_file.specs.File.{plain_file};
+ghost use Rattle.plan_command.specs.Answer.{IsMade, refused, read_of};
 ghost use Rattle.plan_command.specs.Run.{IsAnswerOfReading, IsAnswerOfIndex, IsAnswerOfFile, IsAnswerOfBytes, IsAnswerOfFolder};
 
 use crate::Status;
-use crate::index::{Reading, read_index};
-use crate::plain_file::{PlainFile, plain_file};
 use crate::plan::plan_of;
 use crate::root::{cabal_file, root_names, unbuilt_name};
-use crate::text::{USAGE, text_of_refusal};
-use crate::trouble::Trouble;
+use crate::text::text_of_refusal;
 use outside_folder::{Folder, FolderFault};
+use package_index::{Reading, Trouble, read_index};
+use plain_file::{PlainFile, plain_file};
 use plan_types::{Cause, Fault, List, NoMemory, Refusal, Text};
 use std::alloc::Global;
 
@@ -131,15 +130,5 @@ fn refused(alloc: Global, path: &str, line: u32, cause: Cause) -> Result<Answer,
     Ok(Answer {
         status: Status::Refused,
         text: text_of_refusal(alloc, &refusal)?,
-    })
-}
-
-/// The answer to words that have no reading.
-pub(crate) fn usage(alloc: Global) -> Result<Answer, NoMemory>
-    ensures { IfOk result (λ answer. answer ≡ usage) }
-{
-    Ok(Answer {
-        status: Status::Usage,
-        text: Text::from_str(alloc, USAGE)?,
     })
 }

@@ -1,31 +1,15 @@
-ghost use Rattle.std.specs.Prelude.{◌≡◌, ◌≢◌, ◌≤◌, false, IfOk, IfSome, IsErrOf};
+ghost use Rattle.std.specs.Prelude.{◌≡◌, ◌≢◌, false, IfSome};
 ghost use Rattle.outside_folder.specs.Faults.{Rose};
-ghost use Rattle.plan_command.specs.Answer.{is_plan, IsMade, IsUsage, IsUsageAnswer};
+ghost use Rattle.plan_command.specs.Answer.{usage, is_plan, IsMade, IsUsage};
 ghost use Rattle.plan_command.specs.Run.{HasNone, IsAnswerOf, PlansFirst, Prints};
 
-use crate::answer::{Answer, answer_of_folder, usage};
-use crate::trouble::Trouble;
+use crate::Status;
+use crate::answer::{Answer, answer_of_folder};
+use crate::text::USAGE;
 use outside_folder::{Folder, Sink, write_all};
+use package_index::Trouble;
 use plan_types::Text;
 use std::alloc::Global;
-
-/// How a run ended.
-#[derive(Clone, Copy, Debug, PartialEq, Eq)]
-pub enum Status {
-    /// A plan was printed.
-    Planned,
-    /// There is no plan, which was printed.
-    NoPlan,
-    /// The input was refused; the line that says why was printed.
-    Refused,
-    /// A file or folder could not be read.
-    ReadFault,
-    /// The output could not be written.
-    WriteFault,
-    NoMemory,
-    /// The words have no reading; the usage line was printed.
-    Usage,
-}
 
 /// Plans the packages of a folder, and writes the plan, that there is none, or the refusal.
 pub fn run<F: Folder, S: Sink>(alloc: Global, words: &[Text], folder: &mut F, out: &mut S) -> Status
@@ -45,24 +29,25 @@ pub fn run<F: Folder, S: Sink>(alloc: Global, words: &[Text], folder: &mut F, ou
     ensures usage { result ≡ Status.Usage → is_plan words.now ≡ false }
     ensures no_reading { is_plan words.now ≡ false → IsUsage result }
 {
-    match answer(alloc, words, folder) {
+    if !is_plan(words) {
+        return print_usage(out);
+    }
+    match answer_of_folder(alloc, folder) {
         Ok(answer) => print(&answer, out),
         Err(Trouble::Failed) => Status::ReadFault,
         Err(Trouble::NoMemory) => Status::NoMemory,
     }
 }
 
-fn answer<F: Folder>(alloc: Global, words: &[Text], folder: &mut F) -> Result<Answer, Trouble>
-    ensures told { IfSome (F.tells folder.old) (λ files. IfOk result (IsAnswerOf words.now files)) }
-    ensures failed { IsErrOf result Trouble.Failed → Rose (F.faults folder.old) (F.faults folder.new) }
-    ensures made { IfOk result (λ answer. IsMade answer.status) }
-    ensures usage { IfOk result (λ answer. answer.status ≡ Status.Usage → is_plan words.now ≡ false) }
-    ensures no_reading { is_plan words.now ≡ false → IsUsageAnswer result }
+/// Writes the usage line, which is the answer to words without a reading, also to such as aren't text.
+pub fn print_usage<S: Sink>(out: &mut S) -> Status
+    ensures prints { Prints (λ answer. answer ≡ usage) (S.bytes out.old) (S.bytes out.new) result }
+    ensures write_fault { result ≡ Status.WriteFault → Rose (S.faults out.old) (S.faults out.new) }
+    ensures status { IsUsage result }
 {
-    if is_plan(words) {
-        answer_of_folder(alloc, folder)
-    } else {
-        Ok(usage(alloc)?)
+    match write_all(out, USAGE.as_bytes()) {
+        Ok(()) => Status::Usage,
+        Err(_) => Status::WriteFault,
     }
 }
 

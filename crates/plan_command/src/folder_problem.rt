@@ -6,11 +6,10 @@ ghost use Rattle.std.specs.BTreeMap as tree;
 ghost use Rattle.plan_command.specs.FolderProblem.{rising, falling, releases_of, number_of, is_below, meets, meeting, variable, is_known, root_of};
 ghost use Rattle.plan_command.specs.Resolved.{table_of};
 
-use crate::index::Package;
-use crate::need::Bound;
-use crate::plain_file::PlainFile;
 use crate::resolved::{Resolved, demands_of, needs_at, table_of};
 use choice_problem::{Choice, Choices, Demand, Part, Qual, Var};
+use package_index::Package;
+use plain_file::{Bound, PlainFile};
 use plan_types::{List, NoMemory, Text, Version};
 use std::alloc::Global;
 use std::collections::BTreeMap;

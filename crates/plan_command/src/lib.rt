@@ -5,21 +5,14 @@
 mod answer;
 mod command;
 mod folder_problem;
-mod index;
-mod line;
-mod need;
-mod plain_file;
 mod plan;
-mod releases;
 mod resolved;
 mod root;
+mod status;
 mod text;
-mod totals;
-mod trouble;
-mod version;
 
-pub use command::{Status, run};
-pub use index::a_part_too_many;
+pub use command::{print_usage, run};
+pub use status::{Status, code_of};
 
 #[cfg(test)]
 mod tests;

@@ -5,9 +5,9 @@ ghost use Rattle.plan_command.specs.Plan.{IsPlanOf, answer_of_plain};
 use crate::Status;
 use crate::answer::Answer;
 use crate::folder_problem::FolderProblem;
-use crate::index::Package;
 use crate::text::{NO_PLAN, text_of_trail};
 use choice_problem::{Plain, plain_search};
+use package_index::Package;
 use plan_types::{List, NoMemory, Text};
 use std::alloc::Global;
 

@@ -7,10 +7,9 @@ ghost use Rattle.plan_command.specs.FolderProblem.{number_of};
 ghost use Rattle.plan_command.specs.Resolved.{resolved, resolved_needs, resolved_releases, table_of, needs_at, demanded};
 
 use crate::folder_problem::{meeting, number_of, numbers_of, releases_of, variable};
-use crate::index::Package;
-use crate::need::Need;
-use crate::plain_file::PlainFile;
 use choice_problem::{Choice, Demand};
+use package_index::Package;
+use plain_file::{Need, PlainFile};
 use plan_types::{List, NoMemory, Text};
 use std::alloc::Global;
 use std::collections::BTreeMap;

@@ -4,8 +4,8 @@ ghost use Rattle.std.specs.Option.{option_copied, option_map};
 ghost use Rattle.outside_folder.specs.Faults.{Rose};
 ghost use Rattle.plan_command.specs.Root.{root_names, is_hidden, is_cabal_file, is_project_part, cabal_file, unbuilt_name};
 
-use crate::trouble::Trouble;
 use outside_folder::{Folder, FolderFault, Name};
+use package_index::Trouble;
 use plan_types::List;
 use std::alloc::Global;
 

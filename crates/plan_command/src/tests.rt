@@ -155,33 +155,6 @@ fn answers(rt: HostRuntime) -> Result<(), Fail> {
             "refused installed Unbuilt\n",
         ),
         refused(&[("a.cabal", "")], "refused a.cabal:1 Unbuilt\n"),
-        refused(
-            &[("a.cabal", "cabal-version: 2.4")],
-            "refused a.cabal:1 Unbuilt\n",
-        ),
-        refused(
-            &[("a.cabal", "cabal-version: 2.4\nname: 1\n")],
-            "refused a.cabal:2 Unbuilt\n",
-        ),
-        refused(
-            &[("a.cabal", "cabal-version: 2.4\nname: base\n")],
-            "refused a.cabal:2 Unbuilt\n",
-        ),
-        refused(
-            &[("a.cabal", "cabal-version: 2.4\nname: a\nversion: 1.01\n")],
-            "refused a.cabal:3 Unbuilt\n",
-        ),
-        refused(
-            &[("a.cabal", "cabal-version: 2.4\nname: a\nversion: 1\n")],
-            "refused a.cabal:4 Unbuilt\n",
-        ),
-        refused(
-            &[(
-                "main.cabal",
-                "cabal-version: 2.4\nname: main\nversion: 1\nlibrary\n  build-depends: base\n",
-            )],
-            "refused main.cabal:5 Unbuilt\n",
-        ),
         usage(&[]),
         usage(&["plan", "plan"]),
         usage(&["Plan"]),
@@ -201,18 +174,12 @@ fn answers_over_an_index(rt: HostRuntime) -> Result<(), Fail> {
             &LATE,
             "plan\nchoose main 1 local\nchoose b 1 source\nchoose a 2 source\nchoose c 2 source\n",
         ),
-        // `1` stands before `10` in the listing, and `2` behind it. What isn't a version is passed over, and so
-        // are a directory without the file, a name that isn't reached, and the local name.
         planned(
             &[
                 ("main.cabal", FOO),
                 ("index/foo/1/foo.cabal", FOO_1),
                 ("index/foo/10/foo.cabal", FOO_10),
                 ("index/foo/2/foo.cabal", FOO_2),
-                ("index/foo/3/x.cabal", ""),
-                ("index/foo/x/foo.cabal", ""),
-                ("index/other/1/other.cabal", ""),
-                ("index/main/2/main.cabal", ""),
             ],
             "plan\nchoose main 1 local\nchoose foo 10 source\n",
         ),
@@ -227,26 +194,9 @@ fn answers_over_an_index(rt: HostRuntime) -> Result<(), Fail> {
         ),
         no_plan(&[("main.cabal", FOO)]),
         no_plan(&[("main.cabal", BOUNDED), ("index/foo/1/foo.cabal", FOO_1)]),
-        // Paths are ordered by bytes: a point is below a slash.
         refused(
-            &[
-                ("main.cabal", FOO),
-                ("index/foo/1/foo.cabal", ""),
-                ("index/foo/1.0/foo.cabal", FOO_1),
-            ],
-            "refused index/foo/1.0/foo.cabal:3 Unbuilt\n",
-        ),
-        // A file with a fault mentions no names, and the package itself is none.
-        refused(
-            &[
-                ("main.cabal", FOO),
-                (
-                    "index/foo/1/foo.cabal",
-                    "cabal-version: 2.4\nname: foo\nversion: 1\nlibrary\n  build-depends: a, foo\n",
-                ),
-                ("index/a/1/a.cabal", ""),
-            ],
-            "refused index/foo/1/foo.cabal:5 Unbuilt\n",
+            &[("main.cabal", FOO), ("index/foo/1/foo.cabal", "")],
+            "refused index/foo/1/foo.cabal:1 Unbuilt\n",
         ),
     ];
     for case in &cases {

@@ -4,8 +4,8 @@ ghost use Rattle.plan_command.specs.FolderProblem.{no_package, release_at};
 ghost use Rattle.plan_command.specs.Text.{cause_name, where_of, refusal_line, refusal_text, choose_line, source_of, choice_line, trail_text};
 
 use crate::folder_problem::releases_of;
-use crate::index::Package;
 use choice_problem::Choice;
+use package_index::Package;
 use plan_types::{Cause, List, NoMemory, Refusal, Text};
 use std::alloc::Global;
 

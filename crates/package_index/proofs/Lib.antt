@@ -1,0 +1,5 @@
+pub mod Closure
+pub mod InTurn
+pub mod Kept
+pub mod Progress
+pub mod TooMany

@@ -1,0 +1,4 @@
+pub mod File
+pub mod Line
+pub mod Need
+pub mod Version
