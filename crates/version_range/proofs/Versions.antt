@@ -4,7 +4,6 @@ use Rattle.std.specs.Prelude.{◌==◌, nat_le, if◌then◌else◌, codes}
 use Rattle.std.specs.Fmt.{decimal}
 use Rattle.std.specs.Str.{all_ascii_digits}
 use Rattle.std.specs.Char.{is_ascii_digit}
-use Rattle.std.specs.Int.{IsInRange}
 use Rattle.std.specs.List.{AllByRecursion}
 use Rattle.std.proofs.lemmas.List.{take-append-drop}
 use Rattle.std.proofs.lemmas.Bool.{false≢true, and_parts, and_from, and_right, leb-true, leb-false, le-leb, lt-leb, eqb-true, eqb-false, eq-eqb, ne_eqb, or_parts, or_from}
@@ -19,8 +18,9 @@ use Rattle.plan_types.specs.declared.refusal.Cause.TheVariants.{BadVersion, Need
 use Rattle.version_range.specs.Version.{IsNumber, IsVersion, is_version, version_text, led_by_points, begins_with_digit, number_after}
 use Rattle.version_range.specs.Read.{◌>>=◌, byte_after, cause_at, digits_in, is_number, number_at, chained, followed, next_number, version_at, byte_due, equal_at}
 use Rattle.version_range.specs.Grammar.{is_old, begins_with, Chain, one, more, ends_with_digit, IsNewForm}
-use Rattle.version_range.proofs.Numbers.{numeral_text, decimal_digits, decimal_some, decimal_few, decimal_plain, digit_front, text_led, led_more, version_from, version_to, count_is}
-use Rattle.version_range.proofs.Fronts.{Reader, head_of, errs, goes_on_number, Apart, ends_behind, Read, Dead, new_form, number_due, digit_more, Fault, Completes, fault_up, fault_up_like}
+use Rattle.version_range.proofs.Numbers.{numeral_text, decimal_digits, decimal_some, decimal_few, decimal_plain, text_led, led_more, version_from, version_to, count_is}
+use Rattle.version_range.proofs.Fronts.{Reader, errs, goes_on_number, Apart, ends_behind, Read, Dead, new_form, number_due, digit_more, Fault, Completes, fault_up, fault_up_like}
+use Rattle.version_range.proofs.Spaces.{Begun, begun, byte_gone, no_digits, starts_digit, starts_same}
 use Rattle.version_range.proofs.Parts.{Option-Reader, all_of, Parts, errs_then, ok_parts, errs_err, reads, read_all, AllRead, NextFault, fault_all}
 
 -- ---- numbers
@@ -32,9 +32,6 @@ NumberText text n = (text ≡ decimal n) × IsNumber n
 -- what may follow a number
 abbrev pub NotDigit : List ℕ → List ℕ → Type 0
 NotDigit front rest = begins_with_digit rest ≡ false
-
-digit_of : (b : ℕ) → is_ascii_digit b ≡ true → IsInRange 48 57 b
-digit_of b h = (digit_front b [] (and_from (is_ascii_digit b) true h refl)).0
 
 all_more : (b : ℕ) (bs : List ℕ) → is_ascii_digit b ≡ true → all_ascii_digits bs ≡ true → all_ascii_digits (b ∷ bs) ≡ true
 all_more b bs h all = and_from (is_ascii_digit b) (all_ascii_digits bs) h all
@@ -140,15 +137,8 @@ number_reads spec text n rest is apart =
 abbrev star_at : Bool → Spec → Option-Reader ℕ
 star_at star spec text = if star && begins_with 42 text then Ok None else number_at spec text >>= λ p. Ok (Some p)
 
-not_byte : (byte b : ℕ) → (IsInRange 48 57 byte → ⊥) → is_ascii_digit b ≡ true → (b == byte) ≡ false
-not_byte byte b other h = ne_eqb b byte (λ e. other (subst (IsInRange 48 57) e (digit_of b h)))
-
-begins_other : (byte : ℕ) (text : List ℕ) → (IsInRange 48 57 byte → ⊥) → begins_with_digit text ≡ true → begins_with byte text ≡ false
-begins_other byte [] other h = refl
-begins_other byte (b ∷ bs) other h = not_byte byte b other h
-
 no_form : (spec : Spec) (rest : List ℕ) → begins_with_digit rest ≡ true → IsNewForm spec rest → ⊥
-no_form spec rest digit form = false≢true (sym (and_right (is_old spec) (begins_with 123 rest) (begins_other 123 rest (λ k. omega (arith, k.1)) digit)) ∙ form)
+no_form spec rest digit form = false≢true (sym (and_right (is_old spec) (begins_with 123 rest) (starts_digit (λ c. c == 123) (no_digits 123 refl) rest digit)) ∙ form)
 
 cause_form : (spec : Spec) (cause : Cause) (rest : List ℕ) → IsNewForm spec rest → cause_at spec cause rest ≡ NeedsVersion
 cause_form spec cause rest form = ap (λ t. if t then NeedsVersion else cause) form
@@ -157,26 +147,13 @@ cause_other : (spec : Spec) (cause : Cause) (rest : List ℕ) → (is_old spec &
 cause_other spec cause rest old = ap (λ t. if t then NeedsVersion else cause) old
 
 cause_digit : (spec : Spec) (cause : Cause) (rest : List ℕ) → begins_with_digit rest ≡ true → cause_at spec cause rest ≡ cause
-cause_digit spec cause rest digit = cause_other spec cause rest (and_right (is_old spec) (begins_with 123 rest) (begins_other 123 rest (λ k. omega (arith, k.1)) digit))
-
--- what is told of the first byte
-begins_same : (byte : ℕ) (text again : List ℕ) → head_of again ≡ head_of text → begins_with byte again ≡ begins_with byte text
-begins_same byte [] [] e = refl
-begins_same byte [] (c ∷ again) e = absurd (cc e)
-begins_same byte (b ∷ bs) [] e = absurd (cc e)
-begins_same byte (b ∷ bs) (c ∷ again) e = let same : c ≡ b = cc e in ap (λ x. x == byte) same
-
-digit_same : (text again : List ℕ) → head_of again ≡ head_of text → begins_with_digit again ≡ begins_with_digit text
-digit_same [] [] e = refl
-digit_same [] (c ∷ again) e = absurd (cc e)
-digit_same (b ∷ bs) [] e = absurd (cc e)
-digit_same (b ∷ bs) (c ∷ again) e = let same : c ≡ b = cc e in ap is_ascii_digit same
+cause_digit spec cause rest digit = cause_other spec cause rest (and_right (is_old spec) (begins_with 123 rest) (starts_digit (λ c. c == 123) (no_digits 123 refl) rest digit))
 
 star_errs : (star : Bool) (spec : Spec) (text : List ℕ) → (star && begins_with 42 text) ≡ false → errs (number_at spec text) ≡ true → errs (star_at star spec text) ≡ true
 star_errs star spec text free h = ap (λ t. errs (if t then Ok None else number_at spec text >>= λ p. Ok (Some p))) free ∙ errs_then (number_at spec text) (λ p. Ok (Some p)) h
 
 star_digit : (star : Bool) (spec : Spec) (text : List ℕ) → begins_with_digit text ≡ true → errs (number_at spec text) ≡ true → errs (star_at star spec text) ≡ true
-star_digit star spec text digit h = star_errs star spec text (and_right star (begins_with 42 text) (begins_other 42 text (λ k. omega (arith, k.0)) digit)) h
+star_digit star spec text digit h = star_errs star spec text (and_right star (begins_with 42 text) (starts_digit (λ c. c == 42) (no_digits 42 refl) text digit)) h
 
 digits_absent : (spec : Spec) (text : List ℕ) → begins_with_digit text ≡ false → errs (number_at spec text) ≡ true
 digits_absent spec text none = errs_err (number_at spec text) (cause_at spec BadVersion text) (number_no spec [] text refl none refl)
@@ -230,14 +207,14 @@ fault_more star spec ds rest all some n is digit none =
       value = n;
       goes_on = (append-nil ds ∙ is.0, is.1);
       why = digit_more (no_form spec rest digit) (digits_last ds all some) digit
-          (λ again same. star_digit star spec (ds ++ again) (digits_begin ds again all some) (digits_no spec ds again all (digit_same rest again same ∙ digit) none));
+          (λ again same. star_digit star spec (ds ++ again) (digits_begin ds again all some) (digits_no spec ds again all (starts_same is_ascii_digit rest again same ∙ digit) none));
     }
 
 fault_none : (star : Bool) (spec : Spec) (rest : List ℕ) → begins_with_digit rest ≡ false → (star && begins_with 42 rest) ≡ false → StarFault star spec rest (cause_at spec BadVersion rest)
 fault_none star spec rest none free = by (is_old spec && begins_with 123 rest) refl
   where
     dead : Dead (star_at star spec) [] rest
-    dead again same = star_errs star spec again (ap (λ t. star && t) (begins_same 42 rest again same) ∙ free) (digits_absent spec again (digit_same rest again same ∙ none))
+    dead again same = star_errs star spec again (ap (λ t. star && t) (starts_same (λ c. c == 42) rest again same) ∙ free) (digits_absent spec again (starts_same is_ascii_digit rest again same ∙ none))
 
     by : (o : Bool) → (is_old spec && begins_with 123 rest) ≡ o → StarFault star spec rest (cause_at spec BadVersion rest)
     by true q = subst (StarFault star spec rest) (sym (cause_form spec BadVersion rest q)) (record { front = []; rest = rest; whole = refl; more = 48 ∷ []; value = 0; goes_on = zero_text; why = new_form q dead })
@@ -334,20 +311,11 @@ next_point star spec rest = refl
 
 next_other : (star : Bool) (spec : Spec) (text : List ℕ) → begins_with 46 text ≡ false → next_number star spec text ≡ Ok None
 unfolding next_number
-next_other star spec [] h = refl
-next_other star spec (b ∷ bs) h =
-    ap (λ t. let o : Option (List ℕ) = if t then Some bs else None in elim o [
+next_other star spec text h =
+    ap (λ (o : Option (List ℕ)). elim o [
       | None ↦ Ok None
       | Some rest ↦ if star && begins_with 42 rest then Ok None else number_at spec rest >>= λ p. Ok (Some p)
-    ]) h
-
-point_or : (text : List ℕ) → (begins_with 46 text ≡ false) ⊎ ((rest : List ℕ) × (text ≡ 46 ∷ rest))
-point_or [] = inl refl
-point_or (b ∷ bs) = by (b == 46) refl
-  where
-    by : (o : Bool) → (b == 46) ≡ o → ((b == 46) ≡ false) ⊎ ((rest : List ℕ) × (b ∷ bs ≡ 46 ∷ rest))
-    by true q = inr (bs, ap (λ x. x ∷ bs) (eqb-true b 46 q))
-    by false q = inl q
+    ]) (byte_gone 46 text h)
 
 -- what each answer says
 star_parts : (t : Bool) (r : Result (ℕ × List ℕ) Cause) (p : ℕ × List ℕ) → (let o : Result (Option (ℕ × List ℕ)) Cause = if t then Ok None else r >>= λ p. Ok (Some p) in o ≡ Ok (Some p)) → r ≡ Ok p
@@ -368,7 +336,7 @@ star_none star spec text h = and_parts star (begins_with 42 text) (star_free (st
 
 star_reads : (star : Bool) (spec : Spec) (text : List ℕ) (n : ℕ) (rest : List ℕ) → begins_with_digit text ≡ true → number_at spec text ≡ Ok (n, rest) → star_at star spec text ≡ Ok (Some (n, rest))
 star_reads star spec text n rest digit h =
-    ap (λ t. if t then Ok None else number_at spec text >>= λ p. Ok (Some p)) (and_right star (begins_with 42 text) (begins_other 42 text (λ k. omega (arith, k.0)) digit))
+    ap (λ t. if t then Ok None else number_at spec text >>= λ p. Ok (Some p)) (and_right star (begins_with 42 text) (starts_digit (λ c. c == 42) (no_digits 42 refl) text digit))
     ∙ ap (λ r. r >>= λ p. Ok (Some p)) h
 
 number_begins : (text : List ℕ) (n : ℕ) (rest : List ℕ) → NumberText text n → begins_with_digit (text ++ rest) ≡ true
@@ -397,11 +365,11 @@ next_reads star spec text n rest k e =
     ∙ star_reads star spec (k.0 ++ rest) n rest (number_begins k.0 n rest k.2) (number_reads spec k.0 n rest k.2 e)
 
 next_read : (star : Bool) (spec : Spec) (text : List ℕ) (n : ℕ) (rest : List ℕ) → next_number star spec text ≡ Ok (Some (n, rest)) → Read NextText NotDigit text n rest
-next_read star spec text n rest h = by (point_or text)
+next_read star spec text n rest h = by (begun 46 text)
   where
-    by : (begins_with 46 text ≡ false) ⊎ ((rest : List ℕ) × (text ≡ 46 ∷ rest)) → Read NextText NotDigit text n rest
-    by (inl other) = absurd (cc (h, next_other star spec text other))
-    by (inr p) =
+    by : Begun 46 text → Read NextText NotDigit text n rest
+    by (inr other) = absurd (cc (h, next_other star spec text other))
+    by (inl p) =
         let r = number_read spec p.0 n rest (star_some star spec p.0 n rest (sym (next_point star spec p.0) ∙ ap (next_number star spec) (sym p.1) ∙ h)) in
         record { front = 46 ∷ r.front; whole = p.1 ∙ ap (λ t. 46 ∷ t) r.whole; is = (r.front, refl, r.is); apart = r.apart }
 
@@ -443,11 +411,11 @@ module _ (star : Bool) (spec : Spec) where
 
   next_fault : (text : List ℕ) (cause : Cause) → next_number star spec text ≡ Err cause → NumbersNextFault text cause
   unfolding fault_up fault_up_like
-  next_fault text cause h = by (point_or text)
+  next_fault text cause h = by (begun 46 text)
     where
-      by : (begins_with 46 text ≡ false) ⊎ ((rest : List ℕ) × (text ≡ 46 ∷ rest)) → NumbersNextFault text cause
-      by (inl other) = absurd (cc (h, next_other star spec text other))
-      by (inr p) =
+      by : Begun 46 text → NumbersNextFault text cause
+      by (inr other) = absurd (cc (h, next_other star spec text other))
+      by (inl p) =
           let f = star_fault star spec p.0 cause (sym (next_point star spec p.0) ∙ ap (next_number star spec) (sym p.1) ∙ h) in
           let pointed : Completes NumberText (46 ∷ []) NextText = λ t n k. ([], n, (t ++ [], refl, (append-nil t ∙ k.0, k.1))) in
           let pass : (again : List ℕ) → errs (star_at star spec again) ≡ true → errs (next_number star spec (46 ∷ again)) ≡ true = λ again e. ap errs (next_point star spec again) ∙ e in
@@ -584,15 +552,15 @@ version_is_text text ns c = let p = numbers_text c in (p.0, version_to ns p.1)
 
 -- why no further number is read
 none_next : (star : Bool) (spec : Spec) (rest : List ℕ) → next_number star spec rest ≡ Ok None → (begins_with 46 rest ≡ false) ⊎ ((behind : List ℕ) × (star ≡ true) × (rest ≡ 46 ∷ 42 ∷ behind))
-none_next star spec rest h = by (point_or rest)
+none_next star spec rest h = by (begun 46 rest)
   where
     starred : (t : List ℕ) → begins_with 42 t ≡ true → (behind : List ℕ) × (t ≡ 42 ∷ behind)
     starred [] k = absurd (false≢true k)
     starred (b ∷ bs) k = (bs, ap (λ x. x ∷ bs) (eqb-true b 42 k))
 
-    by : (begins_with 46 rest ≡ false) ⊎ ((behind : List ℕ) × (rest ≡ 46 ∷ behind)) → (begins_with 46 rest ≡ false) ⊎ ((behind : List ℕ) × (star ≡ true) × (rest ≡ 46 ∷ 42 ∷ behind))
-    by (inl other) = inl other
-    by (inr p) =
+    by : Begun 46 rest → (begins_with 46 rest ≡ false) ⊎ ((behind : List ℕ) × (star ≡ true) × (rest ≡ 46 ∷ 42 ∷ behind))
+    by (inr other) = inl other
+    by (inl p) =
         let s = star_none star spec p.0 (sym (next_point star spec p.0) ∙ ap (next_number star spec) (sym p.1) ∙ h) in
         let k = starred p.0 s.1 in
         inr (k.0, s.0, p.1 ∙ ap (λ t. 46 ∷ t) k.1)
@@ -647,9 +615,8 @@ unfolding equal_at
 equal_is spec text = refl
 
 end_whole : (spec : Spec) (v : Version) (rest : List ℕ) → begins_with 46 rest ≡ false → equal_end spec (v, rest) ≡ Ok (ranges.Equal v, rest)
-end_whole spec v [] h = refl
-end_whole spec v (b ∷ bs) h =
-    ap (λ t. let o : Option (List ℕ) = if t then Some bs else None in elim o [ None ↦ Ok (ranges.Equal v, b ∷ bs) | Some star ↦ byte_due spec 42 star >>= λ rest. Ok (ranges.Prefix v, rest) ]) h
+end_whole spec v rest h =
+    ap (λ (o : Option (List ℕ)). elim o [ None ↦ Ok (ranges.Equal v, rest) | Some star ↦ byte_due spec 42 star >>= λ rest'. Ok (ranges.Prefix v, rest') ]) (byte_gone 46 rest h)
 
 end_front : (spec : Spec) (v : Version) (rest : List ℕ) → equal_end spec (v, 46 ∷ 42 ∷ rest) ≡ Ok (ranges.Prefix v, rest)
 end_front spec v rest = refl
