@@ -7,12 +7,10 @@ use Rattle.std.specs.Cmp.{IsTotalOrder}
 use Rattle.std.specs.Cmp.Lexicographic.{on_texts}
 use Rattle.std.proofs.lemmas.Cmp.{alike_right, tied_itself, tied_back}
 use Rattle.std.proofs.lemmas.Bool.{true≢false, false≢true, and_parts, and_from}
-use Rattle.std.proofs.lemmas.List.{append-nil}
 use Rattle.std.proofs.lemmas.Map.Lookups.{exact_bytes}
 use Rattle.plan_types.specs.declared.version.Version.{Version}
 use Rattle.plan_types.specs.Members.{order}
 use Rattle.version_range.specs.declared.merge.Joint.{Joint}
-use Rattle.version_range.specs.declared.merge.Joint.TheVariants.{Both, Either}
 use Rattle.version_range.specs.Cuts.{is_below, HasNumbers, inside, all_above, rises, are_ends, no_numbers, join, flip, not_same, pushed, Takes, IsStep}
 
 abbrev R : Version → Version → Ordering
@@ -235,13 +233,6 @@ pub record Merges (j : Joint) (xs ys out : List Version) (a b : Bool) (xs' ys' :
   pub second_rises : are_ends (out ++ ys') ≡ true
   pub follows : (more : List Version) → Continues j a b xs' ys' more → (v : Version) → inside (out ++ more) v ≡ join j (inside xs v) (inside ys v)
 
-pub merges_none : (j : Joint) (xs ys : List Version) → are_ends xs ≡ true → are_ends ys ≡ true → Merges j xs ys [] false false xs ys
-merges_none j xs ys h k = record { first_rises = h; second_rises = k; follows = λ more goes_on v. ap (λ w. flip w (inside more v)) (sym (neither j)) ∙ goes_on v }
-  where
-    neither : (j : Joint) → join j false false ≡ false
-    neither Both = refl
-    neither Either = refl
-
 pub merges_step : (j : Joint) (xs ys out : List Version) (a b : Bool) (xs' ys' : List Version) (e : Version) (s t : Bool) (xs'' ys'' : List Version) (w : Bool) (out' : List Version) → Merges j xs ys out a b xs' ys' → IsStep xs' ys' e s xs'' t ys'' → w ≡ not_same (join j a b) (join j (flip s a) (flip t b)) → out' ≡ pushed w out e → Merges j xs ys out' (flip s a) (flip t b) xs'' ys''
 merges_step j xs ys out a b xs' ys' e s t xs'' ys'' w out' m step wanted pushed_is = by w wanted (out') pushed_is
   where
@@ -259,12 +250,6 @@ merges_step j xs ys out a b xs' ys' e s t xs'' ys'' w out' m step wanted pushed_
       second_rises = rises_drop (no_numbers ∷ out) e ys'' r.1;
       follows = λ more goes_on v. m.follows more (holds j a b xs' ys' e s t xs'' ys'' step more goes_on (sym (not_same_false _ _ (sym u)))) v;
     })
-
-pub merges_all : (j : Joint) (xs ys out : List Version) (a b : Bool) (xs' ys' : List Version) → Merges j xs ys out a b xs' ys' → xs' ≡ [] → ys' ≡ [] → (are_ends out ≡ true) × ((v : Version) → inside out v ≡ join j (inside xs v) (inside ys v))
-merges_all j xs ys out a b xs' ys' m p q = (
-  ap are_ends (sym (append-nil out) ∙ ap (λ l. out ++ l) (sym p)) ∙ m.first_rises,
-  λ v. ap (λ l. inside l v) (sym (append-nil out)) ∙ m.follows [] (λ w. flip_off (join j a b) ∙ (λ i. join j (sym (flip_off a) i) (sym (flip_off b) i)) ∙ (λ i. join j (flip a (inside (sym p i) w)) (flip b (inside (sym q i) w)))) v,
-)
 
 rises_tail : (out xs : List Version) → rises (out ++ xs) ≡ true → rises xs ≡ true
 rises_tail [] xs h = h

@@ -6,11 +6,11 @@ use Rattle.std.specs.declared.cmp.Ordering.TheVariants.{Less, Equal, Greater}
 use Rattle.std.specs.Ordering.{is_lt, is_le, is_gt, is_ge, is_eq, nat_cmp, ordering_then}
 use Rattle.std.specs.List.{starts_with}
 use Rattle.std.proofs.lemmas.Bool.Decides.{nat_tests}
-use Rattle.std.proofs.lemmas.Bool.{false≢true, and_from}
+use Rattle.std.proofs.lemmas.Bool.{false≢true}
 use Rattle.plan_types.specs.declared.version.Version.{Version}
 use Rattle.plan_types.specs.Members.{order, major_end}
 use Rattle.version_range.specs.Version.{IsVersion, IsNumber}
-use Rattle.version_range.specs.Cuts.{is_below, HasNumbers, inside, all_above, rises, are_ends, no_numbers, raised}
+use Rattle.version_range.specs.Cuts.{is_below, HasNumbers, inside, no_numbers, raised}
 use Rattle.version_range.proofs.Ends.{below_through, not_below_through}
 use Rattle.version_range.proofs.Relaxing.{least}
 
@@ -26,24 +26,6 @@ numbers_below v n = by v.parts n
     by : (ps : List ℕ) → 0 < length ps → is_lt (order [] ps) ≡ true
     by [] n = absurd (omega arith)
     by (p ∷ ps) n = refl
-
-pub one_end : (e : Version) → HasNumbers e → are_ends (e ∷ []) ≡ true
-one_end e n = and_from (is_below no_numbers e && true) true (and_from (is_below no_numbers e) true (numbers_below e n) refl) refl
-
-pub two_ends : (e f : Version) → HasNumbers e → is_below e f ≡ true → are_ends (e ∷ f ∷ []) ≡ true
-two_ends e f n h =
-    let a = numbers_below e n in
-    let b : is_below no_numbers f ≡ true = below_through no_numbers e f a h in
-    and_from (all_above no_numbers (e ∷ f ∷ [])) (rises (e ∷ f ∷ []))
-    (and_from (is_below no_numbers e) (all_above no_numbers (f ∷ [])) a (and_from (is_below no_numbers f) true b refl))
-    (and_from (all_above e (f ∷ [])) (rises (f ∷ [])) (and_from (is_below e f) true h refl) refl)
-
-pub inside_one : (e v : Version) → inside (e ∷ []) v ≡ not (is_below v e)
-inside_one e v = by (is_below v e) refl
-  where
-    by : (t : Bool) → is_below v e ≡ t → inside (e ∷ []) v ≡ not (is_below v e)
-    by true p = rw p refl
-    by false p = rw p refl
 
 pub inside_two : (e f : Version) → is_below e f ≡ true → (v : Version) → inside (e ∷ f ∷ []) v ≡ not (is_below v e) && is_below v f
 inside_two e f h v = by (is_below v e) refl (is_below v f) refl

@@ -66,13 +66,6 @@ pub record Takes_over (j : Joint) (left right : Range) (operands : List (List Ve
   pub versions_are : has_versions rest ≡ true
   pub no_larger : size-Range rest ≤ size-Range left
 
-pub takes_first : (j : Joint) (left right : Range) (operands : List (List Version)) (cuts : List Version) → operands ≡ [] ++ cuts ∷ [] → ((v : Version) → HasNumbers v → inside cuts v ≡ members right v) → has_versions left ≡ true → Takes_over j left right operands left
-takes_first j left right operands cuts e are h = record {
-  members_are = λ v n. ap (join j (members left v)) (ap (λ l. joined j l v) e ∙ joined_one j cuts v ∙ are v n);
-  versions_are = h;
-  no_larger = omega arith;
-}
-
 pub takes_next : (j : Joint) (left right : Range) (operands operands' : List (List Version)) (rest l r : Range) (cuts : List Version) → Takes_over j left right operands rest → IsSplit j rest l r → operands' ≡ operands ++ cuts ∷ [] → ((v : Version) → HasNumbers v → inside cuts v ≡ members r v) → Takes_over j left right operands' l
 takes_next j left right operands operands' rest l r cuts t s e are = record {
   members_are = λ v n.

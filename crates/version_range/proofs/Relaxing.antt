@@ -265,9 +265,6 @@ lowered_by (f ∷ rest) new z are some e l = (
   λ v n. subst (λ m. IsTrue (inside m v) ↔ IsRelaxedBelow (inside (f ∷ rest)) v) (sym e) (lowered z f rest l are v n),
 )
 
-pub lowered_empty : (ends : List Version) → ends ≡ [] → (v : Version) → IsTrue (inside ends v) ↔ IsRelaxedBelow (inside ends) v
-lowered_empty ends e v = subst (λ m. IsTrue (inside m v) ↔ IsRelaxedBelow (inside m) v) (sym e) (lowered_none v)
-
 pub first_numbers : (ends : List Version) (f : Version) → are_ends ends ≡ true → ends ≢ [] → f ≡ get_or ends 0 f → HasNumbers f
 first_numbers [] f are some e = absurd (some refl)
 first_numbers (x ∷ rest) f are some e = subst HasNumbers (sym e) (has_numbers x (and_parts (is_below no_numbers x) (all_above no_numbers rest) (and_parts (all_above no_numbers (x ∷ rest)) (rises (x ∷ rest)) are).0).0)
