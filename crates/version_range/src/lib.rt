@@ -1,5 +1,6 @@
-//! Versions and ranges of versions: their texts, which versions a range has, and the sorted cuts in
-//! which a planner asks.
+//! Versions and ranges of versions. In go texts; out come versions and ranges, or the first fault of the
+//! text, exactly as the grammar says, and what is printed reads back. A range becomes sorted cuts, in which
+//! a planner asks: they have the same members, and relaxing them moves one end.
 #![tactic(auto)]
 
 mod bytes;
