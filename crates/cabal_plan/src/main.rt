@@ -1,8 +1,9 @@
 //! The program `cabal-plan`: it plans the packages of the current folder, and prints the plan.
 #![tactic(auto)]
 
-ghost use Rattle.std.specs.Prelude.{◌≡◌};
+ghost use Rattle.std.specs.Prelude.{◌≡◌, false, codes, IfSome};
 ghost use Rattle.std.specs.Process.{exit_status};
+ghost use Rattle.plan_command.specs.Answer.{is_plan, IsUsage};
 ghost use Rattle.plan_command.specs.Status.{number_of_status};
 
 use outside_folder::{RealFolder, RealSink};
@@ -40,7 +41,10 @@ fn words_of<R: Env + AllocGlobal>(rt: &R) -> Result<List<Text>, ErrorKind> {
     Ok(words)
 }
 
-fn root_of(rt: &impl AllocGlobal) -> Option<Text> {
+// The current folder.
+fn root_of(rt: &impl AllocGlobal) -> Option<Text>
+    ensures { IfSome result (λ root. root ≡ codes ".") }
+{
     Text::from_str(rt.alloc(), ".").ok()
 }
 
@@ -48,7 +52,10 @@ fn planned<R: Files + Print + AllocGlobal + Clone + Drop>(
     rt: &R,
     words: &List<Text>,
     root: Text,
-) -> Status {
+) -> Status
+    ensures usage { result ≡ Status.Usage → is_plan words.now ≡ false }
+    ensures no_reading { is_plan words.now ≡ false → IsUsage result }
+{
     let mut folder = RealFolder::new(rt, root);
     let mut out = RealSink::new(rt);
     run(rt.alloc(), words.as_slice(), &mut folder, &mut out)
