@@ -10,22 +10,13 @@ use Rattle.std.proofs.lemmas.Bool.{false≢true}
 use Rattle.plan_types.specs.declared.version.Version.{Version}
 use Rattle.plan_types.specs.Members.{order, major_end}
 use Rattle.version_range.specs.Version.{IsVersion, IsNumber}
-use Rattle.version_range.specs.Cuts.{is_below, HasNumbers, inside, no_numbers, raised}
+use Rattle.version_range.specs.Cuts.{is_below, HasNumbers, inside, raised}
 use Rattle.version_range.proofs.Ends.{below_through, not_below_through}
 use Rattle.version_range.proofs.Relaxing.{least}
 
 pub version_some : (ps : List ℕ) → IsVersion ps → 0 < length ps
 version_some [] h = absurd h
 version_some (n ∷ ns) h = omega arith
-
--- ---- ends
-
-numbers_below : (v : Version) → HasNumbers v → is_below no_numbers v ≡ true
-numbers_below v n = by v.parts n
-  where
-    by : (ps : List ℕ) → 0 < length ps → is_lt (order [] ps) ≡ true
-    by [] n = absurd (omega arith)
-    by (p ∷ ps) n = refl
 
 pub inside_two : (e f : Version) → is_below e f ≡ true → (v : Version) → inside (e ∷ f ∷ []) v ≡ not (is_below v e) && is_below v f
 inside_two e f h v = by (is_below v e) refl (is_below v f) refl

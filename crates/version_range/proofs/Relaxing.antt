@@ -77,13 +77,6 @@ module _ (z f : Version) (rest : List Version) (is_least : z.parts ≡ 0 ∷ [])
           by true q = absurd (r.1 (f, numbers, first_member, q))
           by false q = from_least v n ∙ ap not (quiet v rest (above_to v f rest q outer.1))
 
-pub lowered_none : (v : Version) → (IsTrue (inside [] v) → IsRelaxedBelow (inside []) v) × (IsRelaxedBelow (inside []) v → IsTrue (inside [] v))
-lowered_none v = (λ h. inl h, by)
-  where
-    by : IsRelaxedBelow (inside []) v → false ≡ true
-    by (inl h) = h
-    by (inr r) = r.0.2
-
 -- ---- above
 
 abbrev pub odd_many : List Version → Bool
