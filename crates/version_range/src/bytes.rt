@@ -1,4 +1,4 @@
-ghost use Rattle.std.specs.Prelude.{◌≡◌, ◌<◌, ◌≤◌, length, drop, take, IfOk, IfSome};
+ghost use Rattle.std.specs.Prelude.{◌≡◌, ◌≢◌, ◌∷◌, ◌<◌, ◌≤◌, ℕ, List, length, drop, take, IfOk, IfSome, IfNone};
 ghost use Rattle.std.specs.Option.{option_copied};
 ghost use Rattle.plan_types.specs.declared.refusal.TextFault.TheVariants.{Bad};
 ghost use Rattle.version_range.specs.Grammar.{begins_with};
@@ -24,6 +24,8 @@ pub fn skip_blanks(text: &[u8]) -> &[u8]
 /// What follows the byte, where it is the first.
 pub fn byte_after(text: &[u8], byte: u8) -> Option<&[u8]>
     ensures value { option_copied result ≡ byte_after byte text.now }
+    ensures some { IfSome result (λ rest. text.now ≡ byte ∷ rest.now) }
+    ensures none { IfNone result ((rest : List ℕ) → text.now ≢ byte ∷ rest) }
     ensures within { IfSome result (λ rest. length rest.now < length text.now) }
 {
     match text {

@@ -1,4 +1,4 @@
-ghost use Rattle.std.specs.Prelude.{◌≡◌, ◌≢◌, ◌∷◌, ◌<◌, ◌≤◌, ◌++◌, ◌↔◌, ℕ, List, IsTrue, IfSome, IfNone, true, false, length, take, drop, slice_index};
+ghost use Rattle.std.specs.Prelude.{◌≡◌, ◌<◌, ◌≤◌, ◌++◌, ◌↔◌, ℕ, List, IsTrue, IfSome, IfNone, true, false, length, take, drop, slice_index};
 ghost use Rattle.std.specs.Fmt.{decimal};
 ghost use Rattle.std.specs.Str.{all_ascii_digits};
 ghost use Rattle.version_range.specs.Version.{IsNumber, begins_with_digit, number_after};
@@ -18,17 +18,6 @@ pub fn number_at(text: &[u8]) -> Option<(u32, &[u8])>
         Some((number_of(digits), rest))
     } else {
         None
-    }
-}
-
-/// What follows the byte, where the text begins with it.
-pub fn strip_byte(text: &[u8], byte: u8) -> Option<&[u8]>
-    ensures some { IfSome result (λ rest. text.now ≡ byte ∷ rest.now) }
-    ensures none { IfNone result ((rest : List ℕ) → text.now ≢ byte ∷ rest) }
-{
-    match text {
-        [first, rest @ ..] if *first == byte => Some(rest),
-        _ => None,
     }
 }
 

@@ -3,7 +3,8 @@ ghost use Rattle.std.specs.Fmt.{decimal};
 ghost use Rattle.plan_types.specs.declared.refusal.Cause.TheVariants.{BadVersion};
 ghost use Rattle.version_range.specs.Version.{is_version, version_text, led_by_points, Refuses};
 
-use crate::number::{number_at, strip_byte};
+use crate::bytes::byte_after;
+use crate::number::number_at;
 use plan_types::{Cause, List, NoMemory, Text, TextFault, Version};
 use std::alloc::Global;
 
@@ -22,7 +23,7 @@ pub fn read_version(alloc: Global, text: &[u8]) -> Result<Version, TextFault>
         if after.is_empty() {
             return Ok(Version { parts });
         }
-        let Some(more) = strip_byte(after, b'.') else {
+        let Some(more) = byte_after(after, b'.') else {
             return Err(TextFault::Bad(Cause::BadVersion));
         };
         rest = more;

@@ -19,14 +19,14 @@ returns-then-is_empty-clause-only c =
     let r = read_last c.args.text.now c.loop-number.parts c.loop-number.rest.now c.loop-number.invariant c.in-Some.number after c.in-Some.ensures.found c.push.new.self c.in_ok-push.ensures.ok none in
     λ ps h. only_version c.args.text.now c.push.new.self r.0 r.1 ps (version_from ps h)
 
-pub returns-in_default-strip_byte-clause-refused : goal.returns-in_default-strip_byte-clause-refused
-returns-in_default-strip_byte-clause-refused c =
+pub returns-in_default-byte_after-clause-refused : goal.returns-in_default-byte_after-clause-refused
+returns-in_default-byte_after-clause-refused c =
     let after = c.in-Some.after.now in
-    (refl, λ ps h. refused_other c.args.text.now c.loop-number.parts c.loop-number.rest.now c.loop-number.invariant c.in-Some.number after c.in-Some.ensures.found (λ e. false≢true (sym c.if-is_empty.false ∙ c.is_empty.ensures ∙ ap (λ xs. nat_eq (length xs) 0) e)) c.in_default-strip_byte.ensures.none ps (version_from ps h))
+    (refl, λ ps h. refused_other c.args.text.now c.loop-number.parts c.loop-number.rest.now c.loop-number.invariant c.in-Some.number after c.in-Some.ensures.found (λ e. false≢true (sym c.if-is_empty.false ∙ c.is_empty.ensures ∙ ap (λ xs. nat_eq (length xs) 0) e)) c.in_default-byte_after.ensures.none ps (version_from ps h))
 
 pub loop-number-preserved : goal.loop-number-preserved
 loop-number-preserved c =
-    read_more c.args.text.now c.loop-number.parts c.loop-number.rest.now c.loop-number.invariant c.in-Some.number c.in-Some.after.now c.in-Some.ensures.found c.push.new.self c.in_ok-push.ensures.ok c.in-Some-strip_byte.more.now c.in-Some-strip_byte.ensures.some
+    read_more c.args.text.now c.loop-number.parts c.loop-number.rest.now c.loop-number.invariant c.in-Some.number c.in-Some.after.now c.in-Some.ensures.found c.push.new.self c.in_ok-push.ensures.ok c.in-Some-byte_after.more.now c.in-Some-byte_after.ensures.some
 
 pub returns-clause-refused : goal.returns-clause-refused
 returns-clause-refused c =
