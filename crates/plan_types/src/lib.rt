@@ -3,6 +3,9 @@
 #![tactic(auto)]
 
 mod boxed;
+mod condition;
+mod constraint;
+mod dependency;
 mod element;
 mod list;
 mod members;
@@ -14,6 +17,9 @@ mod text;
 mod version;
 
 pub use boxed::Boxed;
+pub use condition::{Cond, Env, FlagSet};
+pub use constraint::{Constraint, Scope, What};
+pub use dependency::{Dep, DepKind, LibName, Named, Relax, RelaxOwner};
 pub use element::Element;
 pub use list::List;
 pub use memory::NoMemory;

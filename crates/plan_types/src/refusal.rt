@@ -23,6 +23,12 @@ pub enum Cause {
     BadRange,
     /// The text is of a later cabal-version than its file.
     NeedsVersion,
+    /// A condition can't be read.
+    BadCond,
+    /// A dependency can't be read.
+    BadDepend,
+    /// A text of a project about packages can't be read.
+    BadConstraint,
     /// There is no local package.
     NoPackages,
     /// A file has more than 1,048,576 bytes.

@@ -1,0 +1,54 @@
+use crate::{List, Range, Text, Version};
+
+/// A library of a package: the main one, or one with a name of its own.
+#[derive(Debug, PartialEq, Eq, Drop)]
+pub enum LibName {
+    Main,
+    Named(Text),
+}
+
+/// What a dependency is on: libraries, an executable that builds, or libraries of the setup script.
+#[derive(Clone, Copy, Debug, PartialEq, Eq)]
+pub enum DepKind {
+    Library,
+    Tool,
+    Setup,
+}
+
+/// A dependency of a description.
+#[derive(Debug, Drop)]
+pub struct Dep {
+    /// Of the field's name, from 1.
+    pub line: u32,
+    pub kind: DepKind,
+    pub package: Text,
+    /// In the order in which they are written; none for a tool.
+    pub libs: List<LibName>,
+    /// Empty unless the dependency is on a tool.
+    pub exe: Text,
+    pub range: Range,
+    /// Whether it means a component of the package itself.
+    pub internal: bool,
+}
+
+/// A package and the versions of it that are meant.
+#[derive(Debug, Drop)]
+pub struct Named {
+    pub name: Text,
+    pub range: Range,
+}
+
+/// Whose dependencies are relaxed: those of every package, of a package, or of one version of it.
+#[derive(Debug, PartialEq, Eq, Drop)]
+pub enum RelaxOwner {
+    Any,
+    Package(Text),
+    Release(Text, Version),
+}
+
+/// Dependencies whose ranges are relaxed: on one package, or all.
+#[derive(Debug, PartialEq, Eq, Drop)]
+pub struct Relax {
+    pub owner: RelaxOwner,
+    pub dep: Option<Text>,
+}
