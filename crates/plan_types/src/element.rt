@@ -1,4 +1,8 @@
-use crate::{List, Text};
+ghost use Rattle.std.specs.Prelude.{IfOk, OnOk, ◌≡◌, ◌++◌};
+ghost use Rattle.plan_types.specs.Bytes.{joined_text};
+
+use crate::{List, NoMemory, Text};
+use std::alloc::Global;
 
 /// A part of a file: a field, or a section with items of its own. Lines are numbered from 1, and
 /// names are in lower case.
@@ -15,4 +19,20 @@ pub enum Element {
         args: Text,
         items: List<Element>,
     },
+}
+
+/// The text of a field, where it is read further: its values joined by one space.
+pub fn joined_text(alloc: Global, values: &[Text]) -> Result<Text, NoMemory>
+    ensures { IfOk result (λ text. text ≡ joined_text values.now) }
+{
+    let mut text = Text::new(alloc);
+    let mut rest = values;
+    while let [value, more @ ..] = rest {
+        text.push_str(value.as_str())?;
+        if !more.is_empty() {
+            text.push_str(" ")?;
+        }
+        rest = more;
+    }
+    Ok(text)
 }

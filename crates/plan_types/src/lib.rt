@@ -20,7 +20,7 @@ pub use boxed::Boxed;
 pub use condition::{Cond, Env, FlagSet};
 pub use constraint::{Constraint, Scope, What};
 pub use dependency::{Dep, DepKind, LibName, Named, Relax, RelaxOwner};
-pub use element::Element;
+pub use element::{Element, joined_text};
 pub use list::List;
 pub use memory::NoMemory;
 pub use name::{is_component_name, is_flag_name, is_package_name};

@@ -1,5 +1,6 @@
 ghost use Rattle.std.specs.Prelude.{◌≡◌, ◌++◌, [], refl, IfOk, OnOk, OnErr, Some, nat_eq, length};
 ghost use Rattle.std.specs.Hash as fed;
+ghost use Rattle.std.specs.Str.{IsAscii};
 ghost use Rattle.std.specs.Ordering.{nat_cmp};
 ghost use Rattle.std.specs.Cmp.{partial_equiv_from_equiv};
 ghost use Rattle.std.specs.Cmp.Lexicographic.{pointwise, slice_cmp, nat_list_eq_equiv, nat_list_cmp_total, texts_po, texts_ties};
@@ -48,6 +49,15 @@ impl Text {
         })
     }
 
+    /// The text of bytes that are ASCII.
+    pub fn from_ascii(alloc: Global, bytes: &[u8]) -> Result<Text, NoMemory>
+        requires { IsAscii bytes.now }
+        ensures { IfOk result (λ copied. copied ≡ bytes.now) }
+    {
+        let text = ascii_str(bytes);
+        Text::from_str(alloc, text)
+    }
+
     pub fn from_string(string: String) -> Text
         ensures { result ≡ string_bytes string }
     {
@@ -81,6 +91,13 @@ impl Text {
         self.string.push_str(text)?;
         Ok(())
     }
+}
+
+fn ascii_str(bytes: &[u8]) -> &str
+    requires { IsAscii bytes.now }
+    ensures { result.now ≡ bytes.now }
+{
+    str::from_utf8(bytes).unwrap()
 }
 
 impl AsStr for Text {
@@ -160,6 +177,7 @@ mod tests {
         assert_eq!(rt; text.as_str(), "gr\u{fc}n");
         assert_eq!(rt; text.as_bytes(), b"gr\xc3\xbcn".as_slice());
         assert_eq!(rt; AsStr::as_str(&text), "gr\u{fc}n");
+        assert_eq!(rt; Text::from_ascii(rt.alloc(), b"gr")?.as_str(), "gr");
         let string = String::from_str(rt.alloc(), "gr\u{fc}n")?;
         assert_eq!(rt; Text::from_string(string), text);
         Ok(())

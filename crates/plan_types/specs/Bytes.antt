@@ -1,0 +1,20 @@
+-- Bytes of texts.
+use Rattle.std.specs.Prelude.{◌≡◌, ℕ, Bool, true, false, ◌||◌, ◌==◌, List, [], ◌∷◌, ◌++◌}
+use Rattle.std.specs.List.{list_all}
+
+-- a space or a tab
+abbrev pub is_blank : ℕ → Bool
+is_blank b = b == 32 || b == 9
+
+abbrev pub Blanks : List ℕ → Type 0
+Blanks text = list_all is_blank text ≡ true
+
+abbrev pub begins_with : ℕ → List ℕ → Bool
+begins_with byte [] = false
+begins_with byte (b ∷ bs) = b == byte
+
+-- the values of a field as one text, with a space between two
+abbrev pub joined_text : List (List ℕ) → List ℕ
+joined_text [] = []
+joined_text (value ∷ []) = value
+joined_text (value ∷ next ∷ values) = value ++ 32 ∷ joined_text (next ∷ values)

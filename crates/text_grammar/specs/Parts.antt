@@ -1,0 +1,16 @@
+-- Texts made of parts. A language tells which text stands for which value.
+use Rattle.std.specs.Prelude.{ℕ, List, ◌++◌}
+use Rattle.plan_types.specs.Bytes.{Blanks}
+
+-- blanks, and then what has this
+pub data Led {A : Type 0} (Part : List ℕ → A → Type 0) : List ℕ → A → Type 0 where
+  led : (blanks : List ℕ) {text : List ℕ} {x : A} → Blanks blanks → Part text x → Led Part (blanks ++ text) x
+
+-- blanks and a mark, and then what has this
+pub data Behind {A : Type 0} (mark : List ℕ) (Part : List ℕ → A → Type 0) : List ℕ → A → Type 0 where
+  behind : (blanks : List ℕ) {text : List ℕ} {x : A} → Blanks blanks → Part text x → Behind mark Part (blanks ++ mark ++ text) x
+
+-- parts, each joined to all before it, so that they group from the left
+pub data Chain {A B : Type 0} (join : A → B → A) (First : List ℕ → A → Type 0) (Next : List ℕ → B → Type 0) : List ℕ → A → Type 0 where
+  one : {text : List ℕ} {x : A} → First text x → Chain join First Next text x
+  more : {text next : List ℕ} {left : A} {right : B} → Chain join First Next text left → Next next right → Chain join First Next (text ++ next) (join left right)

@@ -1,0 +1,37 @@
+-- How texts are read from left to right. What a text stands for and which fault is the first is told without this.
+use Rattle.std.specs.Prelude.{◌≡◌, ◌+◌, ℕ, zero, suc, ◌==◌, ◌||◌, if◌then◌else◌, List, [], ◌∷◌, length, Option, Some, None, Result, Ok, Err}
+use Rattle.plan_types.specs.declared.refusal.Cause.{Cause}
+use Rattle.plan_types.specs.declared.refusal.TextFault.{TextFault}
+use Rattle.plan_types.specs.declared.refusal.TextFault.TheVariants.{NoMemory, Bad}
+
+infixl 10 ◌>>=◌
+abbrev pub ◌>>=◌ : {A B : Type 0} → Result A Cause → (A → Result B Cause) → Result B Cause
+(Ok x) >>= f = f x
+(Err cause) >>= f = Err cause
+
+-- what a call answered is what reading gives, unless memory was wanting
+abbrev pub Fails : {B : Type 0} → TextFault → Result B Cause → Type 0
+Fails NoMemory read = Unit {0}
+Fails (Bad cause) read = read ≡ Err cause
+
+abbrev pub Gives : {A B : Type 0} → (A → B) → Result A TextFault → Result B Cause → Type 0
+Gives view (Ok x) read = read ≡ Ok (view x)
+Gives view (Err fault) read = Fails fault read
+
+-- without the spaces and tabs at the front
+abbrev pub skip_blanks : List ℕ → List ℕ
+skip_blanks [] = []
+skip_blanks (b ∷ bs) = if b == 32 || b == 9 then skip_blanks bs else b ∷ bs
+
+-- what follows the byte, where it is the first
+abbrev pub byte_after : ℕ → List ℕ → Option (List ℕ)
+byte_after byte [] = None
+byte_after byte (b ∷ bs) = if b == byte then Some bs else None
+
+-- Parts, each joined to those before it, up to where none follows. Each takes bytes, so there are at most n.
+unfoldable pub chain : {A B : Type 0} → (A → B → A) → (List ℕ → Result (Option (B × List ℕ)) Cause) → ℕ → A → List ℕ → Result (A × List ℕ) Cause
+chain join next zero left rest = Ok (left, rest)
+chain join next (suc n) left rest = next rest >>= λ found. elim found [ None ↦ Ok (left, rest) | Some p ↦ chain join next n (join left p.0) p.1 ]
+
+abbrev pub chained : {A B : Type 0} → (A → B → A) → (List ℕ → Result (Option (B × List ℕ)) Cause) → A × List ℕ → Result (A × List ℕ) Cause
+chained join next first = chain join next (length first.1 + 1) first.0 first.1
