@@ -14,8 +14,9 @@ use Rattle.std.proofs.lemmas.Grind.{flat_map-append}
 use Rattle.plan_types.specs.declared.element.Element.{Element, fold-Element}
 use Rattle.plan_types.specs.declared.element.Element.TheVariants.{Field, Section}
 use Rattle.plan_types.specs.Name.{is_letter}
-use Rattle.cabal_lexer.specs.Lines.{Line, is_blank, indent, trim_start, trim_end, trim, is_comment, kept_line, kept_from}
-use Rattle.cabal_lexer.specs.Opening.{Opening, field, braced_field, section, braced_section, is_name_byte, name_len, lower_case, is_lone, begins_with, ends_with_brace, before_brace, opening}
+use Rattle.cabal_lexer.specs.Lines.{Line, indent, trim_start, trim_end, trim, is_comment, kept_line, kept_from}
+use Rattle.plan_types.specs.Bytes.{is_blank, begins_with}
+use Rattle.cabal_lexer.specs.Opening.{Opening, field, braced_field, section, braced_section, is_name_byte, name_len, lower_case, is_lone, ends_with_brace, before_brace, opening}
 use Rattle.cabal_lexer.specs.Layout.{ends, Ends, Inside, Begins, texts, first_value, Stands, nothing, element, Block, run, braced_run, indented, enclosed}
 use Rattle.cabal_lexer.specs.Canonical.{value_lines, field_text, section_line, items_text, element_text}
 use Rattle.cabal_lexer.specs.Folds.{text-field, text-section, zero-field, zero-section, return-field, return-section}

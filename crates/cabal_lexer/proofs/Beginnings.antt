@@ -11,7 +11,8 @@ use Rattle.plan_types.specs.declared.refusal.Cause.{Cause}
 use Rattle.plan_types.specs.declared.refusal.Cause.TheVariants.{StrayBrace, BadName, TooDeep}
 use Rattle.plan_types.specs.Name.{is_letter}
 use Rattle.cabal_lexer.specs.Lines.{indent, trim_start, trim_end, trim, is_comment}
-use Rattle.cabal_lexer.specs.Opening.{Opening, field, braced_field, section, braced_section, is_name_byte, name_len, lower_case, is_lone, begins_with, ends_with_brace, field_opening, before_brace, section_opening, named_opening, opening, within}
+use Rattle.cabal_lexer.specs.Opening.{Opening, field, braced_field, section, braced_section, is_name_byte, name_len, lower_case, is_lone, ends_with_brace, field_opening, before_brace, section_opening, named_opening, opening, within}
+use Rattle.plan_types.specs.Bytes.{begins_with}
 use Rattle.cabal_lexer.proofs.Runs.{front_passes}
 use Rattle.cabal_lexer.proofs.Pieces.{Piece, prefix-past, and-left, and-right, trim-behind, trim_start-behind, trim-same}
 

@@ -15,7 +15,8 @@ use Rattle.plan_types.specs.declared.refusal.Cause.TheVariants.{UnclosedBrace, T
 use Rattle.cabal_lexer.specs.Lines.{Line, kept_lines}
 use Rattle.cabal_lexer.specs.Opening.{Opening, opening, within, cause_of}
 use Rattle.cabal_lexer.specs.Layout.{Ends, Stands, Fails, Cut, At}
-use Rattle.cabal_lexer.specs.Fault.{StandsFor, Sound, FirstFault, IsTree, IsFault, Refused}
+use Rattle.cabal_lexer.specs.Fault.{StandsFor, Sound, FirstFault, IsTree, IsFault}
+use Rattle.plan_types.specs.Refusal.{RefusesAt}
 use Rattle.cabal_lexer.specs.Fault as fault
 use Rattle.cabal_lexer.proofs.Reading.{Outcome, done, stands_read, fails_read}
 use Rattle.cabal_lexer.proofs.Reading as reading
@@ -156,21 +157,21 @@ one_refusal bytes n m c d (inl h) (inr k) = absurd (h.0 k.0)
 one_refusal bytes n m c d (inr h) (inl k) = absurd (k.0 h.0)
 one_refusal bytes n m c d (inr h) (inr k) = one_fault h.1 k.1
 
-pub At-refused : {bytes : List ℕ} {lines : List Line} (f : Fault) → lines ≡ kept_lines bytes → IsUtf8 bytes → At (Fails 0 1 false lines) f → Refused (IsFault bytes) f
+pub At-refused : {bytes : List ℕ} {lines : List Line} (f : Fault) → lines ≡ kept_lines bytes → IsUtf8 bytes → At (Fails 0 1 false lines) f → RefusesAt (IsFault bytes) f
 At-refused faults.NoMemory e u h = tt
 At-refused {bytes} (faults.At number cause) e u h =
     inr (u, subst (λ n. FirstFault (kept_lines bytes) n cause) (sym h.1) (first_fault (subst (λ v. Fails 0 1 false v h.0 cause) e h.2)))
 
 -- ---- of a result
 
-pub tree_found : (bytes : List ℕ) (r : Result (List Element) Fault) → IfOk r (λ items. IsTree bytes items) → IfErr r (Refused (IsFault bytes)) →
-    (items : List Element) → IsTree bytes items → MatchResult r (λ found. found ≡ items) (Refused (λ _ _. ⊥))
+pub tree_found : (bytes : List ℕ) (r : Result (List Element) Fault) → IfOk r (λ items. IsTree bytes items) → IfErr r (RefusesAt (IsFault bytes)) →
+    (items : List Element) → IsTree bytes items → MatchResult r (λ found. found ≡ items) (RefusesAt (λ _ _. ⊥))
 tree_found bytes (Ok found) tree fault items s = one_tree bytes found items tree s
 tree_found bytes (Err faults.NoMemory) tree fault items s = tt
 tree_found bytes (Err (faults.At line cause)) tree fault items s = tree_or_fault bytes items line cause s fault
 
-pub fault_found : (bytes : List ℕ) (r : Result (List Element) Fault) → IfOk r (λ items. IsTree bytes items) → IfErr r (Refused (IsFault bytes)) →
-    (line : ℕ) (cause : Cause) → IsFault bytes line cause → MatchResult r (λ _. ⊥) (Refused (λ at why. (at ≡ line) × (why ≡ cause)))
+pub fault_found : (bytes : List ℕ) (r : Result (List Element) Fault) → IfOk r (λ items. IsTree bytes items) → IfErr r (RefusesAt (IsFault bytes)) →
+    (line : ℕ) (cause : Cause) → IsFault bytes line cause → MatchResult r (λ _. ⊥) (RefusesAt (λ at why. (at ≡ line) × (why ≡ cause)))
 fault_found bytes (Ok found) tree fault line cause f = tree_or_fault bytes found line cause tree f
 fault_found bytes (Err faults.NoMemory) tree fault line cause f = tt
 fault_found bytes (Err (faults.At at why)) tree fault line cause f = one_refusal bytes at line why cause fault f

@@ -7,7 +7,8 @@ use Rattle.std.proofs.Math.Seq.{drop-append_seam}
 use Rattle.std.proofs.lemmas.List.{reverse-append, reverse-reverse, length-reverse}
 use Rattle.std.proofs.lemmas.List.Elements.{All-take, All-drop, All-append}
 use Rattle.std.proofs.lemmas.Str.{IsUtf8-take, IsUtf8-drop, IsUtf8-append}
-use Rattle.cabal_lexer.specs.Lines.{is_blank, indent, trim_start, trim_end, trim}
+use Rattle.cabal_lexer.specs.Lines.{indent, trim_start, trim_end, trim}
+use Rattle.plan_types.specs.Bytes.{is_blank}
 use Rattle.cabal_lexer.proofs.Texts.{boundary_front, boundary_end, is_blank-ascii, trim_end-take}
 
 abbrev pub OneLine : List ℕ → Type 0

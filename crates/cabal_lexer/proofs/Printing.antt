@@ -7,7 +7,8 @@ use Rattle.std.specs.Str.Lines.{lines, lines_of_parts, strip_carriage_return}
 use Rattle.std.proofs.lemmas.List.Splits.{slice_split_at, length-slice_split}
 use Rattle.std.proofs.lemmas.Str.{IsUtf8-append, IsUtf8-nil}
 use Rattle.std.proofs.lemmas.Bool.Decides.{nat_tests}
-use Rattle.cabal_lexer.specs.Lines.{Line, is_blank, indent, is_comment, is_kept, kept_line, kept_from, mark, without_mark}
+use Rattle.cabal_lexer.specs.Lines.{Line, indent, is_comment, is_kept, kept_line, kept_from, mark, without_mark}
+use Rattle.plan_types.specs.Bytes.{is_blank}
 use Rattle.cabal_lexer.specs.RoundTrip.{ends_with_return}
 use Rattle.cabal_lexer.proofs.Pieces.{OneLine, Piece, trim-behind, indent-behind}
 

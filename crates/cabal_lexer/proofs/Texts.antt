@@ -11,8 +11,9 @@ use Rattle.std.proofs.lemmas.List.Sums.{prefix_len-le-length, prefix_len_passes,
 use Rattle.std.proofs.lemmas.List.Splits.{length-slice_split}
 use Rattle.std.proofs.lemmas.Str.{IsCharBoundary-start, IsCharBoundary-end, IsCharBoundary-before_ascii, IsCharBoundary-after_ascii}
 use Rattle.std.proofs.lemmas.Bool.Decides.{nat_tests}
-use Rattle.cabal_lexer.specs.Opening.{is_name_byte, begins_with, ends_with_brace}
-use Rattle.cabal_lexer.specs.Lines.{is_blank, indent, trim_start, trim_end, kept_line, kept_from, mark, without_mark}
+use Rattle.cabal_lexer.specs.Opening.{is_name_byte, ends_with_brace}
+use Rattle.plan_types.specs.Bytes.{begins_with, is_blank}
+use Rattle.cabal_lexer.specs.Lines.{indent, trim_start, trim_end, kept_line, kept_from, mark, without_mark}
 
 -- where a test passes ASCII alone
 abbrev pub PassesAscii : (ℕ → Bool) → Type 0

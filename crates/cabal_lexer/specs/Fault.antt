@@ -6,8 +6,6 @@ use Rattle.std.specs.List.{list_all}
 use Rattle.plan_types.specs.declared.element.Element.{Element}
 use Rattle.plan_types.specs.declared.refusal.Cause.{Cause}
 use Rattle.plan_types.specs.declared.refusal.Cause.TheVariants.{NotUtf8, UnclosedBrace}
-use Rattle.plan_types.specs.declared.refusal.Fault.{Fault}
-use Rattle.plan_types.specs.declared.refusal.Fault.TheVariants as fault
 use Rattle.cabal_lexer.specs.Lines.{Line, kept_lines}
 use Rattle.cabal_lexer.specs.Opening.{opening, cause_of}
 use Rattle.cabal_lexer.specs.Layout.{Stands, Fails, closes}
@@ -43,8 +41,3 @@ bad_line bytes = count_by (λ b. b == 10) (take (utf8_valid_len bytes) bytes) + 
 abbrev pub IsFault : List ℕ → ℕ → Cause → Type 0
 IsFault bytes line cause =
     ((IsUtf8 bytes → ⊥) × (line ≡ bad_line bytes) × (cause ≡ NotUtf8)) ⊎ (IsUtf8 bytes × FirstFault (kept_lines bytes) line cause)
-
--- the fault is a line and a cause that have this, unless memory is wanting
-abbrev pub Refused : (ℕ → Cause → Type 0) → Fault → Type 0
-Refused P fault.NoMemory = Unit {0}
-Refused P (fault.At line cause) = P line cause

@@ -7,7 +7,7 @@ use Rattle.plan_types.specs.declared.element.Element.TheVariants.{Field, Section
 use Rattle.plan_types.specs.declared.refusal.Cause.{Cause}
 use Rattle.plan_types.specs.declared.refusal.Cause.TheVariants.{UnclosedBrace}
 use Rattle.plan_types.specs.declared.refusal.Fault.{Fault}
-use Rattle.plan_types.specs.declared.refusal.Fault.TheVariants as fault
+use Rattle.plan_types.specs.Refusal.{RefusesAt}
 use Rattle.cabal_lexer.specs.Lines.{Line}
 use Rattle.cabal_lexer.specs.Opening.{Opening, field, braced_field, section, braced_section, is_lone, opening, within}
 
@@ -109,5 +109,4 @@ pub record IsElement (depth : ℕ) (braced : Bool) (line : Line) (lines : List L
 
 -- a fault, unless memory is wanting, at a line that has this
 abbrev pub At : (Line → Cause → Type 0) → Fault → Type 0
-At P fault.NoMemory = Unit {0}
-At P (fault.At number cause) = (line : Line) × (number ≡ line.number) × P line cause
+At P = RefusesAt (λ number cause. (line : Line) × (number ≡ line.number) × P line cause)

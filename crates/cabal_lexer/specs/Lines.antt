@@ -2,6 +2,7 @@
 use Rattle.std.specs.Prelude.{ℕ, ◌+◌, Bool, ◌&&◌, ◌||◌, not, List, [], ◌∷◌, ◌++◌, ◌==◌, if◌then◌else◌, length, drop, reverse, slice_index, nat_eq}
 use Rattle.std.specs.List.{prefix_len, starts_with}
 use Rattle.std.specs.Str.Lines.{lines}
+use Rattle.plan_types.specs.Bytes.{is_blank}
 
 -- Lines are numbered from 1. The indent is the number of blanks in front, each one column, and the
 -- text is the rest without the blanks at its end.
@@ -9,10 +10,6 @@ pub record Line : Type 0 where
   pub number : ℕ
   pub indent : ℕ
   pub text : List ℕ
-
--- a space or a tab
-abbrev pub is_blank : ℕ → Bool
-is_blank b = b == 32 || b == 9
 
 unfoldable pub indent : List ℕ → ℕ
 indent text = prefix_len is_blank text

@@ -7,6 +7,7 @@ use Rattle.std.specs.Char.{to_ascii_lowercase}
 use Rattle.plan_types.specs.declared.refusal.Cause.{Cause}
 use Rattle.plan_types.specs.declared.refusal.Cause.TheVariants.{StrayBrace, BadName, TooDeep}
 use Rattle.plan_types.specs.Name.{is_letter, is_letter_or_digit}
+use Rattle.plan_types.specs.Bytes.{begins_with}
 use Rattle.cabal_lexer.specs.declared.opening.Opening.{Opening as Begun}
 use Rattle.cabal_lexer.specs.declared.opening.Opening.TheVariants as begun
 use Rattle.cabal_lexer.specs.Lines.{trim, trim_start, trim_end}
@@ -36,10 +37,6 @@ lower_case name = map to_ascii_lowercase name
 -- the text is this one byte
 unfoldable pub is_lone : ℕ → List ℕ → Bool
 is_lone b text = length text == 1 && slice_index text 0 == b
-
-abbrev pub begins_with : ℕ → List ℕ → Bool
-begins_with b [] = false
-begins_with b (x ∷ xs) = x == b
 
 -- the byte `{`
 unfoldable pub ends_with_brace : List ℕ → Bool

@@ -1,7 +1,8 @@
 ghost use Rattle.std.specs.Prelude.{◌≡◌, ◌+◌, ◌-◌, ◌^◌, ◌<◌, ◌≤◌, ◌++◌, IfOk, OnOk, length, reverse};
 ghost use Rattle.std.specs.List.{prefix_len};
 ghost use Rattle.std.specs.Str.Lines.{lines as text_lines};
-ghost use Rattle.cabal_lexer.specs.Lines.{is_blank, indent, trim_start, trim_end, trim, is_comment, is_kept, kept_line, kept_from, without_mark};
+ghost use Rattle.cabal_lexer.specs.Lines.{indent, trim_start, trim_end, trim, is_comment, is_kept, kept_line, kept_from, without_mark};
+ghost use Rattle.plan_types.specs.Bytes.{is_blank};
 ghost use Rattle.cabal_lexer.specs.Opening.{is_lone};
 ghost use Rattle.cabal_lexer.specs.Layout.{closes, ends};
 

@@ -1,7 +1,8 @@
 ghost use Rattle.std.specs.Prelude.{◌≡◌, ◌≤◌, true, IfOk};
 ghost use Rattle.std.specs.List.{list_any};
 ghost use Rattle.plan_types.specs.Name.{is_letter};
-ghost use Rattle.cabal_lexer.specs.Opening.{is_name_byte, name_len, begins_with, ends_with_brace, before_brace, field_opening, section_opening, named_opening, lower_case, opening, within, shown, seen};
+ghost use Rattle.cabal_lexer.specs.Opening.{is_name_byte, name_len, ends_with_brace, before_brace, field_opening, section_opening, named_opening, lower_case, opening, within, shown, seen};
+ghost use Rattle.plan_types.specs.Bytes.{begins_with};
 
 use crate::lines::{is_lone, trim, trim_end, trim_start};
 use plan_types::Cause;

@@ -2,7 +2,8 @@ ghost use Rattle.std.specs.Prelude.{◌≡◌, ◌+◌, ◌≤◌, ◌<◌, ◌=
 ghost use Rattle.std.specs.Str.{IsUtf8};
 ghost use Rattle.plan_types.specs.declared.element.Element.{Element};
 ghost use Rattle.plan_types.specs.declared.refusal.Cause.{Cause};
-ghost use Rattle.cabal_lexer.specs.Fault.{IsTree, IsFault, Refused, bad_line};
+ghost use Rattle.cabal_lexer.specs.Fault.{IsTree, IsFault, bad_line};
+ghost use Rattle.plan_types.specs.Refusal.{RefusesAt};
 
 use crate::elements::read_items;
 use crate::lines::kept_lines;
@@ -17,13 +18,13 @@ use std::str;
 pub fn read_elements(alloc: Global, bytes: &[u8]) -> Result<List<Element>, Fault>
     requires { length bytes.now ≤ 1048576 }
     ensures tree { IfOk result (λ items. IsTree bytes.now items) }
-    ensures fault { IfErr result (Refused (IsFault bytes.now)) }
+    ensures fault { IfErr result (RefusesAt (IsFault bytes.now)) }
     // A text that has a tree isn't refused, but for want of memory.
     ensures exactly_trees { (items : List Element) → IsTree bytes.now items →
-        MatchResult result (λ found. found ≡ items) (Refused (λ _ _. ⊥)) }
+        MatchResult result (λ found. found ≡ items) (RefusesAt (λ _ _. ⊥)) }
     // A text that has a fault gives no tree, and no other fault.
     ensures exactly_faults { (line : ℕ) (cause : Cause) → IsFault bytes.now line cause →
-        MatchResult result (λ _. ⊥) (Refused (λ at why. (at ≡ line) × (why ≡ cause))) }
+        MatchResult result (λ _. ⊥) (RefusesAt (λ at why. (at ≡ line) × (why ≡ cause))) }
 {
     read_tree(alloc, bytes)
 }
@@ -31,7 +32,7 @@ pub fn read_elements(alloc: Global, bytes: &[u8]) -> Result<List<Element>, Fault
 fn read_tree(alloc: Global, bytes: &[u8]) -> Result<List<Element>, Fault>
     requires { length bytes.now ≤ 1048576 }
     ensures tree { IfOk result (λ items. IsTree bytes.now items) }
-    ensures fault { IfErr result (Refused (IsFault bytes.now)) }
+    ensures fault { IfErr result (RefusesAt (IsFault bytes.now)) }
 {
     let text = decoded(bytes)?;
     let lines = kept_lines(alloc, text)?;
@@ -41,7 +42,7 @@ fn read_tree(alloc: Global, bytes: &[u8]) -> Result<List<Element>, Fault>
 
 fn decoded(bytes: &[u8]) -> Result<&str, Fault>
     requires { length bytes.now ≤ 1048576 }
-    ensures { MatchResult result (λ text. (text.now ≡ bytes.now) × IsUtf8 bytes.now) (Refused (IsFault bytes.now)) }
+    ensures { MatchResult result (λ text. (text.now ≡ bytes.now) × IsUtf8 bytes.now) (RefusesAt (IsFault bytes.now)) }
 {
     match str::from_utf8(bytes) {
         Ok(text) => Ok(text),

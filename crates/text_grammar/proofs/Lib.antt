@@ -1,0 +1,10 @@
+pub mod TextKind
+pub mod Fronts
+pub mod Chains
+pub mod Spaces
+pub mod ChainParts
+pub mod Marks
+pub mod Operands
+pub mod Closings
+pub mod Steps
+pub mod Exactly

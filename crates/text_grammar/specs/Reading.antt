@@ -35,3 +35,15 @@ chain join next (suc n) left rest = next rest >>= λ found. elim found [ None �
 
 abbrev pub chained : {A B : Type 0} → (A → B → A) → (List ℕ → Result (Option (B × List ℕ)) Cause) → A × List ℕ → Result (A × List ℕ) Cause
 chained join next first = chain join next (length first.1 + 1) first.0 first.1
+
+-- A byte that must stand here. Where it is missing, a cause is told by what stands there.
+abbrev pub byte_due : (List ℕ → Cause) → ℕ → List ℕ → Result (List ℕ) Cause
+byte_due missing byte text = elim (byte_after byte text) [ None ↦ Err (missing text) | Some rest ↦ Ok rest ]
+
+-- what stands behind blanks and a byte twice, where it is there once
+abbrev pub behind_twice : (List ℕ → Cause) → ℕ → List ℕ → Result (Option (List ℕ)) Cause
+behind_twice missing byte text = elim (byte_after byte (skip_blanks text)) [ None ↦ Ok None | Some more ↦ byte_due missing byte more >>= λ rest. Ok (Some rest) ]
+
+-- an operand behind them
+abbrev pub next_at : {A : Type 0} → (List ℕ → Result (A × List ℕ) Cause) → (List ℕ → Cause) → ℕ → List ℕ → Result (Option (A × List ℕ)) Cause
+next_at operand missing byte text = behind_twice missing byte text >>= λ found. elim found [ None ↦ Ok None | Some rest ↦ operand rest >>= λ p. Ok (Some p) ]

@@ -11,15 +11,21 @@ use Rattle.plan_types.specs.declared.refusal.Cause.TheVariants.{BadRange}
 use Rattle.version_range.specs.declared.operator.Operator.{Operator}
 use Rattle.version_range.specs.declared.operator.Operator.TheVariants.{Equal, AtLeast, Above, AtMost, Below, Major}
 use Rattle.version_range.specs.Version.{version_text}
-use Rattle.version_range.specs.Grammar.{begins_with, is_blank, Blanks, Led, led, operator_text, of_version, has_sets, Compared, compared, Members, Atom}
+use Rattle.version_range.specs.Grammar.{operator_text, of_version, has_sets, Compared, compared, Members, Atom}
+use Rattle.plan_types.specs.Bytes.{begins_with, is_blank, Blanks}
+use Rattle.text_grammar.specs.Parts.{Led, led}
 use Rattle.version_range.specs.Grammar.{any as atom_any, none as atom_none, version as atom_version, prefix as atom_prefix, set as atom_set}
-use Rattle.version_range.specs.Read.{◌>>=◌, skip_blanks, byte_after, byte_due, cause_at, either_at, operator_at, word_at, operand_at, equal_at, compared_at, set_at}
-use Rattle.version_range.proofs.Fronts.{Reader, Apart, Read, Fault}
-use Rattle.version_range.proofs.Spaces.{Never, NotDigits, other_byte, no_digits, blanks_none}
-use Rattle.version_range.proofs.Steps.{Good, After, after, Choice, here, there, Done, done, good_led, choose, due, good_due, good_choose, good_done, good_as}
-use Rattle.version_range.proofs.Closings.{Closed, closed}
+use Rattle.version_range.specs.Read.{byte_due, cause_at, either_at, operator_at, word_at, operand_at, equal_at, compared_at, set_at}
+use Rattle.text_grammar.specs.Reading.{◌>>=◌, skip_blanks, byte_after}
+use Rattle.text_grammar.proofs.Fronts.{Reader, Apart, Read, Fault}
+use Rattle.text_grammar.proofs.Spaces.{Never, NotDigits, other_byte, no_digits, blanks_none}
+use Rattle.text_grammar.proofs.Steps.{Good, After, after, Choice, here, there, Done, done, good_led, choose, due, good_due, good_choose, good_done, good_as}
+use Rattle.text_grammar.proofs.Closings.{Closed, closed}
 use Rattle.version_range.proofs.Versions.{version_zero, EqualText, whole, front, equal_read, equal_reads, equal_fault}
 use Rattle.version_range.proofs.Sets.{compared_good, never_version, never_compared, set_good}
+use Rattle.text_grammar.proofs.TextKind.{starts}
+use Rattle.version_range.proofs.RangeKind.{on_number, blank_off, decimals, range_kind}
+use Rattle.version_range.specs.Read.{missing}
 
 -- a factor that begins with no parenthesis, as it is read
 abbrev pub atom_at : Spec → Reader Range
@@ -59,7 +65,7 @@ plain_at op spec text = elim op [
   | Major ↦ compared_at Major spec text
 ]
 
-plain_good : (spec : Spec) (op : Operator) → Good spec (Plain op) (plain_at op spec)
+plain_good : (spec : Spec) (op : Operator) → Good (range_kind spec) (Plain op) (plain_at op spec)
 plain_good spec Equal = record { read = equal_read spec; reads = equal_reads spec; fault = equal_fault spec }
 plain_good spec AtLeast = compared_good spec AtLeast
 plain_good spec Above = compared_good spec Above
@@ -67,11 +73,11 @@ plain_good spec AtMost = compared_good spec AtMost
 plain_good spec Below = compared_good spec Below
 plain_good spec Major = compared_good spec Major
 
-never_equal : (test : ℕ → Bool) → NotDigits test → Never test EqualText
+never_equal : (test : ℕ → Bool) → NotDigits decimals test → Never test EqualText
 never_equal test none text r (whole v h) = never_version test none (version_text v.parts) v (refl, h)
 never_equal test none text r (front v h) = let f = never_version test none (version_text v.parts) v (refl, h) in (f.0, f.1 ++ codes ".*", ap (λ t. t ++ codes ".*") f.2, f.3)
 
-never_plain : (op : Operator) (test : ℕ → Bool) → NotDigits test → Never test (Plain op)
+never_plain : (op : Operator) (test : ℕ → Bool) → NotDigits decimals test → Never test (Plain op)
 never_plain Equal = never_equal
 never_plain AtLeast = never_compared AtLeast
 never_plain Above = never_compared Above
@@ -112,17 +118,17 @@ operand_plain : (op : Operator) (spec : Spec) → has_sets op spec ≡ false →
 unfolding operand_at
 operand_plain op spec h text = ap (λ t. if t && begins_with 123 text then byte_due spec 123 text >>= set_at op spec else plain_at op spec text) h
 
-operand_good : (spec : Spec) (op : Operator) → Good spec (Operand spec op) (operand_at op spec)
+operand_good : (spec : Spec) (op : Operator) → Good (range_kind spec) (Operand spec op) (operand_at op spec)
 operand_good spec op = by (has_sets op spec) refl
   where
-    by : (t : Bool) → has_sets op spec ≡ t → Good spec (Operand spec op) (operand_at op spec)
-    by false h = good_as spec (Plain op) (plain_at op spec) (plain_good spec op) (Operand spec op) (λ text r l. plain l) from (operand_at op spec) (operand_plain op spec h)
+    by : (t : Bool) → has_sets op spec ≡ t → Good (range_kind spec) (Operand spec op) (operand_at op spec)
+    by false h = good_as (range_kind spec) (Plain op) (plain_at op spec) (plain_good spec op) (Operand spec op) (λ text r l. plain l) from (operand_at op spec) (operand_plain op spec h)
       where
         from : (text : List ℕ) (r : Range) → Operand spec op text r → Plain op text r
         from text r (plain l) = l
         from text r (set has l) = absurd (false≢true (sym h ∙ has))
-    by true h = good_as spec (Choice 123 (Closed 125 (Members op)) (Plain op)) (choose 123 (set_at op spec) (plain_at op spec))
-        (good_choose spec 123 refl (Closed 125 (Members op)) (set_at op spec) (set_good spec op) (Plain op) (plain_at op spec) (plain_good spec op) (never_plain op (λ c. c == 123) (no_digits 123 refl)))
+    by true h = good_as (range_kind spec) (Choice 123 (Closed 125 (Members op)) (Plain op)) (choose 123 (set_at op spec) (plain_at op spec))
+        (good_choose (range_kind spec) 123 refl (Closed 125 (Members op)) (set_at op spec) (set_good spec op) (Plain op) (plain_at op spec) (plain_good spec op) (never_plain op (λ c. c == 123) (no_digits decimals 123 refl)))
         (Operand spec op) to from (operand_at op spec) (operand_set op spec h)
       where
         to : (text : List ℕ) (r : Range) → Choice 123 (Closed 125 (Members op)) (Plain op) text r → Operand spec op text r
@@ -133,7 +139,7 @@ operand_good spec op = by (has_sets op spec) refl
         from text r (plain l) = there l
         from text r (set has l) = here l
 
-never_operand : (spec : Spec) (op : Operator) (test : ℕ → Bool) → NotDigits test → test 123 ≡ false → Never test (Operand spec op)
+never_operand : (spec : Spec) (op : Operator) (test : ℕ → Bool) → NotDigits decimals test → test 123 ≡ false → Never test (Operand spec op)
 never_operand spec op test none brace text r (plain l) = never_plain op test none text r l
 never_operand spec op test none brace text r (set {text = t} has l) = (123, t, refl, brace)
 
@@ -145,12 +151,12 @@ Opened spec op = Led (Operand spec op)
 abbrev opened_at : Spec → Operator → Reader Range
 opened_at spec op text = operand_at op spec (skip_blanks text)
 
-opened_good : (spec : Spec) (op : Operator) → Good spec (Opened spec op) (opened_at spec op)
-opened_good spec op = good_led spec (Operand spec op) (operand_at op spec) (operand_good spec op) (never_operand spec op is_blank blanks_none refl)
+opened_good : (spec : Spec) (op : Operator) → Good (range_kind spec) (Opened spec op) (opened_at spec op)
+opened_good spec op = good_led (range_kind spec) (Operand spec op) (operand_at op spec) (operand_good spec op) (never_operand spec op is_blank (blanks_none decimals) refl)
 
 -- no second byte of an operator begins it
 never_opened : (spec : Spec) (op : Operator) → Never (λ c. c == 61) (Opened spec op)
-never_opened spec op = never_led (λ c. c == 61) (Operand spec op) (other_byte is_blank 61 refl) (never_operand spec op (λ c. c == 61) (no_digits 61 refl) refl)
+never_opened spec op = never_led (λ c. c == 61) (Operand spec op) (other_byte is_blank 61 refl) (never_operand spec op (λ c. c == 61) (no_digits decimals 61 refl) refl)
 
 opened_zero : (spec : Spec) (op : Operator) → Opened spec op (48 ∷ []) (of_version op (record { parts = 0 ∷ [] }))
 opened_zero spec op = led [] refl (plain (zero_plain op))
@@ -167,32 +173,32 @@ abbrev longer_at : Spec → Operator → Operator → Reader Range
 longer_at spec long short = choose 61 (opened_at spec long) (opened_at spec short)
 
 abbrev compares_at : Spec → Reader Range
-compares_at spec = choose 62 (longer_at spec AtLeast Above) (choose 60 (longer_at spec AtMost Below) (choose 94 (due spec 62 (due spec 61 (opened_at spec Major))) (due spec 61 (due spec 61 (opened_at spec Equal)))))
+compares_at spec = choose 62 (longer_at spec AtLeast Above) (choose 60 (longer_at spec AtMost Below) (choose 94 (due (missing spec) 62 (due (missing spec) 61 (opened_at spec Major))) (due (missing spec) 61 (due (missing spec) 61 (opened_at spec Equal)))))
 
 never_compares : (spec : Spec) (test : ℕ → Bool) → test 62 ≡ false → test 60 ≡ false → test 94 ≡ false → test 61 ≡ false → Never test (Compares spec)
 never_compares spec test a b c d = never_choice test 62 _ _ a (never_choice test 60 _ _ b (never_choice test 94 _ _ c (never_after test 61 _ d)))
 
-longer_good : (spec : Spec) (long short : Operator) → Good spec (Longer spec long short) (longer_at spec long short)
-longer_good spec long short = good_choose spec 61 refl (Opened spec long) (opened_at spec long) (opened_good spec long) (Opened spec short) (opened_at spec short) (opened_good spec short) (never_opened spec short)
+longer_good : (spec : Spec) (long short : Operator) → Good (range_kind spec) (Longer spec long short) (longer_at spec long short)
+longer_good spec long short = good_choose (range_kind spec) 61 refl (Opened spec long) (opened_at spec long) (opened_good spec long) (Opened spec short) (opened_at spec short) (opened_good spec short) (never_opened spec short)
 
 module _ (spec : Spec) where
-  equal_sign : Good spec (After 61 (Opened spec Equal)) (due spec 61 (opened_at spec Equal))
-  equal_sign = good_due spec 61 refl (Opened spec Equal) (opened_at spec Equal) (opened_good spec Equal) (48 ∷ []) _ (opened_zero spec Equal)
+  equal_sign : Good (range_kind spec) (After 61 (Opened spec Equal)) (due (missing spec) 61 (opened_at spec Equal))
+  equal_sign = good_due (range_kind spec) 61 refl (Opened spec Equal) (opened_at spec Equal) (opened_good spec Equal) (48 ∷ []) _ (opened_zero spec Equal)
 
-  equal_signs : Good spec (After 61 (After 61 (Opened spec Equal))) (due spec 61 (due spec 61 (opened_at spec Equal)))
-  equal_signs = good_due spec 61 refl (After 61 (Opened spec Equal)) (due spec 61 (opened_at spec Equal)) equal_sign (61 ∷ 48 ∷ []) _ (after (opened_zero spec Equal))
+  equal_signs : Good (range_kind spec) (After 61 (After 61 (Opened spec Equal))) (due (missing spec) 61 (due (missing spec) 61 (opened_at spec Equal)))
+  equal_signs = good_due (range_kind spec) 61 refl (After 61 (Opened spec Equal)) (due (missing spec) 61 (opened_at spec Equal)) equal_sign (61 ∷ 48 ∷ []) _ (after (opened_zero spec Equal))
 
-  major_sign : Good spec (After 61 (Opened spec Major)) (due spec 61 (opened_at spec Major))
-  major_sign = good_due spec 61 refl (Opened spec Major) (opened_at spec Major) (opened_good spec Major) (48 ∷ []) _ (opened_zero spec Major)
+  major_sign : Good (range_kind spec) (After 61 (Opened spec Major)) (due (missing spec) 61 (opened_at spec Major))
+  major_sign = good_due (range_kind spec) 61 refl (Opened spec Major) (opened_at spec Major) (opened_good spec Major) (48 ∷ []) _ (opened_zero spec Major)
 
-  major_signs : Good spec (After 62 (After 61 (Opened spec Major))) (due spec 62 (due spec 61 (opened_at spec Major)))
-  major_signs = good_due spec 62 refl (After 61 (Opened spec Major)) (due spec 61 (opened_at spec Major)) major_sign (61 ∷ 48 ∷ []) _ (after (opened_zero spec Major))
+  major_signs : Good (range_kind spec) (After 62 (After 61 (Opened spec Major))) (due (missing spec) 62 (due (missing spec) 61 (opened_at spec Major)))
+  major_signs = good_due (range_kind spec) 62 refl (After 61 (Opened spec Major)) (due (missing spec) 61 (opened_at spec Major)) major_sign (61 ∷ 48 ∷ []) _ (after (opened_zero spec Major))
 
-  compares_good : Good spec (Compares spec) (compares_at spec)
+  compares_good : Good (range_kind spec) (Compares spec) (compares_at spec)
   compares_good =
-      good_choose spec 62 refl _ _ (longer_good spec AtLeast Above) _ _
-      (good_choose spec 60 refl _ _ (longer_good spec AtMost Below) _ _
-      (good_choose spec 94 refl _ _ major_signs _ _ equal_signs (never_after (λ c. c == 94) 61 (After 61 (Opened spec Equal)) refl))
+      good_choose (range_kind spec) 62 refl _ _ (longer_good spec AtLeast Above) _ _
+      (good_choose (range_kind spec) 60 refl _ _ (longer_good spec AtMost Below) _ _
+      (good_choose (range_kind spec) 94 refl _ _ major_signs _ _ equal_signs (never_after (λ c. c == 94) 61 (After 61 (Opened spec Equal)) refl))
       (never_choice (λ c. c == 60) 94 _ _ refl (never_after (λ c. c == 60) 61 (After 61 (Opened spec Equal)) refl)))
       (never_choice (λ c. c == 62) 60 _ _ refl (never_choice (λ c. c == 62) 94 _ _ refl (never_after (λ c. c == 62) 61 (After 61 (Opened spec Equal)) refl)))
 
@@ -208,33 +214,33 @@ abbrev pure : Range → Reader Range
 pure r text = Ok (r, text)
 
 module _ (spec : Spec) where
-  y_good : Good spec (After 121 (Done ranges.Any)) (due spec 121 (pure ranges.Any))
-  y_good = good_due spec 121 refl (Done ranges.Any) (pure ranges.Any) (good_done spec ranges.Any) [] ranges.Any done
+  y_good : Good (range_kind spec) (After 121 (Done ranges.Any)) (due (missing spec) 121 (pure ranges.Any))
+  y_good = good_due (range_kind spec) 121 refl (Done ranges.Any) (pure ranges.Any) (good_done (range_kind spec) ranges.Any) [] ranges.Any done
 
-  any_good : Good spec AnyText (due spec 110 (due spec 121 (pure ranges.Any)))
-  any_good = good_due spec 110 refl (After 121 (Done ranges.Any)) (due spec 121 (pure ranges.Any)) y_good (121 ∷ []) ranges.Any (after done)
+  any_good : Good (range_kind spec) AnyText (due (missing spec) 110 (due (missing spec) 121 (pure ranges.Any)))
+  any_good = good_due (range_kind spec) 110 refl (After 121 (Done ranges.Any)) (due (missing spec) 121 (pure ranges.Any)) y_good (121 ∷ []) ranges.Any (after done)
 
-  e_good : Good spec (After 101 (Done ranges.Nothing)) (due spec 101 (pure ranges.Nothing))
-  e_good = good_due spec 101 refl (Done ranges.Nothing) (pure ranges.Nothing) (good_done spec ranges.Nothing) [] ranges.Nothing done
+  e_good : Good (range_kind spec) (After 101 (Done ranges.Nothing)) (due (missing spec) 101 (pure ranges.Nothing))
+  e_good = good_due (range_kind spec) 101 refl (Done ranges.Nothing) (pure ranges.Nothing) (good_done (range_kind spec) ranges.Nothing) [] ranges.Nothing done
 
-  ne_good : Good spec (After 110 (After 101 (Done ranges.Nothing))) (due spec 110 (due spec 101 (pure ranges.Nothing)))
-  ne_good = good_due spec 110 refl _ _ e_good (101 ∷ []) ranges.Nothing (after done)
+  ne_good : Good (range_kind spec) (After 110 (After 101 (Done ranges.Nothing))) (due (missing spec) 110 (due (missing spec) 101 (pure ranges.Nothing)))
+  ne_good = good_due (range_kind spec) 110 refl _ _ e_good (101 ∷ []) ranges.Nothing (after done)
 
-  one_good : Good spec (After 111 (After 110 (After 101 (Done ranges.Nothing)))) (due spec 111 (due spec 110 (due spec 101 (pure ranges.Nothing))))
-  one_good = good_due spec 111 refl _ _ ne_good (110 ∷ 101 ∷ []) ranges.Nothing (after (after done))
+  one_good : Good (range_kind spec) (After 111 (After 110 (After 101 (Done ranges.Nothing)))) (due (missing spec) 111 (due (missing spec) 110 (due (missing spec) 101 (pure ranges.Nothing))))
+  one_good = good_due (range_kind spec) 111 refl _ _ ne_good (110 ∷ 101 ∷ []) ranges.Nothing (after (after done))
 
-  none_good : Good spec NoneText (due spec 110 (due spec 111 (due spec 110 (due spec 101 (pure ranges.Nothing)))))
-  none_good = good_due spec 110 refl _ _ one_good (111 ∷ 110 ∷ 101 ∷ []) ranges.Nothing (after (after (after done)))
+  none_good : Good (range_kind spec) NoneText (due (missing spec) 110 (due (missing spec) 111 (due (missing spec) 110 (due (missing spec) 101 (pure ranges.Nothing)))))
+  none_good = good_due (range_kind spec) 110 refl _ _ one_good (111 ∷ 110 ∷ 101 ∷ []) ranges.Nothing (after (after (after done)))
 
   abbrev words_at : Reader Range
-  words_at = choose 97 (due spec 110 (due spec 121 (pure ranges.Any))) (due spec 110 (due spec 111 (due spec 110 (due spec 101 (pure ranges.Nothing)))))
+  words_at = choose 97 (due (missing spec) 110 (due (missing spec) 121 (pure ranges.Any))) (due (missing spec) 110 (due (missing spec) 111 (due (missing spec) 110 (due (missing spec) 101 (pure ranges.Nothing)))))
 
   word_same : (text : List ℕ) → word_at spec text ≡ words_at text
   unfolding word_at
   word_same text = refl
 
-  word_good : Good spec (Choice 97 AnyText NoneText) (word_at spec)
-  word_good = good_as spec (Choice 97 AnyText NoneText) words_at (good_choose spec 97 refl _ _ any_good _ _ none_good (never_after (λ c. c == 97) 110 _ refl)) (Choice 97 AnyText NoneText) (λ t x l. l) (λ t x l. l) (word_at spec) word_same
+  word_good : Good (range_kind spec) (Choice 97 AnyText NoneText) (word_at spec)
+  word_good = good_as (range_kind spec) (Choice 97 AnyText NoneText) words_at (good_choose (range_kind spec) 97 refl _ _ any_good _ _ none_good (never_after (λ c. c == 97) 110 _ refl)) (Choice 97 AnyText NoneText) (λ t x l. l) (λ t x l. l) (word_at spec) word_same
 
 -- ---- both
 
@@ -252,14 +258,14 @@ module _ (spec : Spec) where
       by (Some rest) = refl
       by None = refl
 
-  signs_same : (op : Operator) (a b : ℕ) (text : List ℕ) → (◌>>=◌ {B = Operator × List ℕ} (byte_due spec a text) (λ more. ◌>>=◌ {B = Operator × List ℕ} (byte_due spec b more) (λ behind. Ok (op, behind)))) >>= operand ≡ due spec a (due spec b (opened_at spec op)) text
+  signs_same : (op : Operator) (a b : ℕ) (text : List ℕ) → (◌>>=◌ {B = Operator × List ℕ} (byte_due spec a text) (λ more. ◌>>=◌ {B = Operator × List ℕ} (byte_due spec b more) (λ behind. Ok (op, behind)))) >>= operand ≡ due (missing spec) a (due (missing spec) b (opened_at spec op)) text
   signs_same op a b text = first (byte_due spec a text)
     where
       second : (r : Result (List ℕ) Cause) → (◌>>=◌ {B = Operator × List ℕ} r (λ behind. Ok (op, behind))) >>= operand ≡ r >>= opened_at spec op
       second (Ok rest) = refl
       second (Err cause) = refl
 
-      first : (r : Result (List ℕ) Cause) → (◌>>=◌ {B = Operator × List ℕ} r (λ more. ◌>>=◌ {B = Operator × List ℕ} (byte_due spec b more) (λ behind. Ok (op, behind)))) >>= operand ≡ r >>= due spec b (opened_at spec op)
+      first : (r : Result (List ℕ) Cause) → (◌>>=◌ {B = Operator × List ℕ} r (λ more. ◌>>=◌ {B = Operator × List ℕ} (byte_due spec b more) (λ behind. Ok (op, behind)))) >>= operand ≡ r >>= due (missing spec) b (opened_at spec op)
       first (Ok more) = second (byte_due spec b more)
       first (Err cause) = refl
 
@@ -282,8 +288,8 @@ module _ (spec : Spec) where
     | None ↦ elim p [
       | Some rest ↦ longer_at spec AtMost Below rest
       | None ↦ elim q [
-        | Some rest ↦ due spec 62 (due spec 61 (opened_at spec Major)) rest
-        | None ↦ due spec 61 (due spec 61 (opened_at spec Equal)) text
+        | Some rest ↦ due (missing spec) 62 (due (missing spec) 61 (opened_at spec Major)) rest
+        | None ↦ due (missing spec) 61 (due (missing spec) 61 (opened_at spec Equal)) text
       ]
     ]
   ]
@@ -352,16 +358,16 @@ tree_of spec text r (atom_version op {text = t} l) = tree_opened spec op t r (op
 tree_of spec text r (atom_prefix blanks v all h) = subst (λ t. Tree spec t (ranges.Prefix v)) (sym (prefix_text (operator_text Equal) blanks (version_text v.parts))) (tree_opened spec Equal (blanks ++ (version_text v.parts ++ codes ".*")) (ranges.Prefix v) (led blanks all (plain (front v h))))
 tree_of spec text r (atom_set op blanks t end has all l all') = subst (λ u. Tree spec u r) (sym (set_text (operator_text op) blanks t end)) (tree_opened spec op (blanks ++ 123 ∷ (t ++ (end ++ 125 ∷ []))) r (led blanks all (set has (closed t end l all'))))
 
-atom_good : (spec : Spec) → Good spec (Atom spec) (atom_at spec)
-atom_good spec = good_as spec (Tree spec) (choose 45 (word_at spec) (compares_at spec)) (good_choose spec 45 refl _ _ (word_good spec) (Compares spec) (compares_at spec) (compares_good spec) (never_compares spec (λ c. c == 45) refl refl refl refl)) (Atom spec) (atom_of spec) (tree_of spec) (atom_at spec) (atom_same spec)
+atom_good : (spec : Spec) → Good (range_kind spec) (Atom spec) (atom_at spec)
+atom_good spec = good_as (range_kind spec) (Tree spec) (choose 45 (word_at spec) (compares_at spec)) (good_choose (range_kind spec) 45 refl _ _ (word_good spec) (Compares spec) (compares_at spec) (compares_good spec) (never_compares spec (λ c. c == 45) refl refl refl refl)) (Atom spec) (atom_of spec) (tree_of spec) (atom_at spec) (atom_same spec)
 
-pub atom_read : (spec : Spec) (text : List ℕ) (r : Range) (rest : List ℕ) → atom_at spec text ≡ Ok (r, rest) → Read (Atom spec) Apart text r rest
+pub atom_read : (spec : Spec) (text : List ℕ) (r : Range) (rest : List ℕ) → atom_at spec text ≡ Ok (r, rest) → Read (Atom spec) (Apart decimals) text r rest
 atom_read spec = (atom_good spec).read
 
-pub atom_reads : (spec : Spec) (text : List ℕ) (r : Range) (rest : List ℕ) → Atom spec text r → Apart text rest → atom_at spec (text ++ rest) ≡ Ok (r, rest)
+pub atom_reads : (spec : Spec) (text : List ℕ) (r : Range) (rest : List ℕ) → Atom spec text r → Apart decimals text rest → atom_at spec (text ++ rest) ≡ Ok (r, rest)
 atom_reads spec = (atom_good spec).reads
 
-pub atom_fault : (spec : Spec) (text : List ℕ) (cause : Cause) → atom_at spec text ≡ Err cause → Fault spec (Atom spec) (Atom spec) (atom_at spec) (atom_at spec) text cause
+pub atom_fault : (spec : Spec) (text : List ℕ) (cause : Cause) → atom_at spec text ≡ Err cause → Fault (range_kind spec) (Atom spec) (Atom spec) (atom_at spec) (atom_at spec) text cause
 atom_fault spec = (atom_good spec).fault
 
 pub never_atom : (spec : Spec) (test : ℕ → Bool) → test 45 ≡ false → test 60 ≡ false → test 61 ≡ false → test 62 ≡ false → test 94 ≡ false → Never test (Atom spec)

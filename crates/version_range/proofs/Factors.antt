@@ -7,58 +7,64 @@ use Rattle.plan_types.specs.declared.range.Spec.{Spec}
 use Rattle.plan_types.specs.declared.range.Range.{Range}
 use Rattle.plan_types.specs.declared.range.Range.TheVariants.{Any, Both, Either}
 use Rattle.plan_types.specs.declared.refusal.Cause.{Cause}
-use Rattle.version_range.specs.Read.{skip_blanks, factor_at, term_at, range_in, inside}
+use Rattle.version_range.specs.Read.{factor_at, term_at, range_in, inside}
+use Rattle.text_grammar.specs.Reading.{skip_blanks}
 use Rattle.version_range.specs.Version.{begins_with_digit}
-use Rattle.version_range.specs.Grammar.{begins_with, is_blank, Blanks, Atom, any, Factor, atom, enclosed, Term, Terms, Inside, Led, led, Behind, one}
-use Rattle.version_range.proofs.Fronts.{Reader, errs, Apart, ends_kept, apart_before, apart_longer, apart_shorter, some_append, Read, Dead, NoDigit, Like, too_deep, Fault, fault_up, fault_up_like}
-use Rattle.version_range.proofs.Spaces.{Never, never_starts, never_empty, no_digits, begins_like, byte_gone, Begun, begun, blanks_no_number, skip_over}
-use Rattle.version_range.proofs.Parts.{map_chain}
-use Rattle.version_range.proofs.Led.{led_at, led_reads, led_read, led_fault}
-use Rattle.version_range.proofs.Closings.{Instead, instead, begins_instead, apart_instead, Closed, closed, closing, closed_reads, closed_read, closed_fault}
+use Rattle.version_range.specs.Grammar.{Atom, any, Factor, atom, enclosed, Term, Terms, Inside}
+use Rattle.plan_types.specs.Bytes.{begins_with, is_blank, Blanks}
+use Rattle.text_grammar.specs.Parts.{Led, led, Behind, one}
+use Rattle.text_grammar.proofs.Fronts.{Reader, errs, Apart, ends_kept, apart_before, apart_longer, apart_shorter, some_append, Read, Dead, NoDigit, Like, wider, Fault, fault_up, fault_up_like}
+use Rattle.text_grammar.proofs.Spaces.{Never, never_starts, never_empty, no_digits, begins_like, byte_gone, Begun, begun, blanks_go_on, skip_over}
+use Rattle.text_grammar.proofs.ChainParts.{map_chain}
+use Rattle.text_grammar.proofs.Marks.{led_at, led_reads, led_read, led_fault}
+use Rattle.text_grammar.proofs.Closings.{Instead, instead, begins_instead, apart_instead, Closed, closed, closing, closed_reads, closed_read, closed_fault}
 use Rattle.version_range.proofs.Atoms.{atom_at, atom_read, atom_reads, atom_fault, never_atom}
-use Rattle.version_range.proofs.Operands.{Rules, Follow, wider_behind, joined_rules, joined_fault}
+use Rattle.text_grammar.proofs.Operands.{Rules, Follow, wider_behind, joined_rules, joined_fault}
+use Rattle.text_grammar.proofs.TextKind.{starts}
+use Rattle.version_range.proofs.RangeKind.{on_number, blank_off, decimals, range_kind}
+use Rattle.version_range.specs.Read.{missing}
 
 -- ---- what may follow
 
 abbrev pub AfterTerm : List ℕ → List ℕ → Type 0
-AfterTerm front rest = Apart front rest × (begins_with 38 (skip_blanks rest) ≡ false)
+AfterTerm front rest = Apart decimals front rest × (begins_with 38 (skip_blanks rest) ≡ false)
 
 abbrev pub AfterRange : List ℕ → List ℕ → Type 0
 AfterRange front rest = AfterTerm front rest × (begins_with 124 (skip_blanks rest) ≡ false)
 
-follow_apart : Follow Apart
-follow_apart = record { onto = apart_longer; from = apart_shorter }
+follow_apart : Follow (Apart decimals)
+follow_apart = record { onto = apart_longer decimals; from = apart_shorter decimals }
 
 follow_term : Follow AfterTerm
 follow_term = record {
-  onto = λ pre text rest some e. (apart_longer pre text rest some e.0, e.1);
-  from = λ pre text rest some e. (apart_shorter pre text rest some e.0, e.1);
+  onto = λ pre text rest some e. (apart_longer decimals pre text rest some e.0, e.1);
+  from = λ pre text rest some e. (apart_shorter decimals pre text rest some e.0, e.1);
 }
 
-and_follows : (text blanks again : List ℕ) → Blanks blanks → Apart text (blanks ++ (38 ∷ again))
-and_follows text blanks again all d = blanks_no_number blanks (38 ∷ again) all refl
+and_follows : (text blanks again : List ℕ) → Blanks blanks → Apart decimals text (blanks ++ (38 ∷ again))
+and_follows text blanks again all d = blanks_go_on decimals blanks (38 ∷ again) all refl
 
 or_follows : (text blanks again : List ℕ) → Blanks blanks → AfterTerm text (blanks ++ (124 ∷ again))
-or_follows text blanks again all = ((λ d. blanks_no_number blanks (124 ∷ again) all refl), ap (begins_with 38) (skip_over blanks (124 ∷ again) all refl))
+or_follows text blanks again all = ((λ d. blanks_go_on decimals blanks (124 ∷ again) all refl), ap (begins_with 38) (skip_over blanks (124 ∷ again) all refl))
 
 -- a closing parenthesis
 close_follows : (text blanks again : List ℕ) → Blanks blanks → AfterRange text (blanks ++ (41 ∷ again))
 close_follows text blanks again all =
     let over = skip_over blanks (41 ∷ again) all refl in
-    (((λ d. blanks_no_number blanks (41 ∷ again) all refl), ap (begins_with 38) over), ap (begins_with 124) over)
+    (((λ d. blanks_go_on decimals blanks (41 ∷ again) all refl), ap (begins_with 38) over), ap (begins_with 124) over)
 
-pub after_instead : (front rest again : List ℕ) → AfterRange front rest → Instead front rest again → AfterRange front (instead rest again)
-after_instead front rest again e i = ((apart_instead i e.0.0, begins_instead 38 refl i e.0.1), begins_instead 124 refl i e.1)
+pub after_instead : (front rest again : List ℕ) → AfterRange front rest → Instead decimals front rest again → AfterRange front (instead rest again)
+after_instead front rest again e i = ((apart_instead decimals i e.0.0, begins_instead decimals 38 refl i e.0.1), begins_instead decimals 124 refl i e.1)
 
 -- ---- a factor, over what stands in a parenthesis
 
-at_open : (I : Reader Range) (spec : Spec) (rest : List ℕ) → factor_at I spec (40 ∷ rest) ≡ closing spec 41 I rest
+at_open : (I : Reader Range) (spec : Spec) (rest : List ℕ) → factor_at I spec (40 ∷ rest) ≡ closing (missing spec) 41 I rest
 unfolding factor_at
 at_open I spec rest = refl
 
 at_atom : (I : Reader Range) (spec : Spec) (text : List ℕ) → begins_with 40 text ≡ false → factor_at I spec text ≡ atom_at spec text
 unfolding factor_at
-at_atom I spec text other = ap (λ (o : Option (List ℕ)). elim o [ Some rest ↦ closing spec 41 I rest | None ↦ atom_at spec text ]) (byte_gone 40 text other)
+at_atom I spec text other = ap (λ (o : Option (List ℕ)). elim o [ Some rest ↦ closing (missing spec) 41 I rest | None ↦ atom_at spec text ]) (byte_gone 40 text other)
 
 opened : {spec : Spec} {L : List ℕ → Range → Type 0} {text : List ℕ} {r : Range} → Closed 41 L text r → Factor spec L (40 ∷ text) r
 opened {spec = spec} {L = L} {r = r} (closed text after is all) = subst (λ t. Factor spec L (40 ∷ t) r) (append_assoc text after (41 ∷ [])) (enclosed text after is all)
@@ -68,37 +74,37 @@ never_factor spec L test open' never text r (atom a) = never text r a
 never_factor spec L test open' never text r (enclosed front blanks is all) = (40, (front ++ blanks) ++ codes ")", refl, open')
 
 module _ (spec : Spec) (L : List ℕ → Range → Type 0) (I : Reader Range) (rules : Rules L AfterRange I) where
-  factor_reads : (text : List ℕ) (r : Range) (rest : List ℕ) → Factor spec L text r → Apart text rest → factor_at I spec (text ++ rest) ≡ Ok (r, rest)
+  factor_reads : (text : List ℕ) (r : Range) (rest : List ℕ) → Factor spec L text r → Apart decimals text rest → factor_at I spec (text ++ rest) ≡ Ok (r, rest)
   factor_reads text r rest (atom a) e =
       at_atom I spec (text ++ rest) (never_starts (λ c. c == 40) (Atom spec) (never_atom spec (λ c. c == 40) refl refl refl refl refl) text r a rest) ∙ atom_reads spec text r rest a e
   factor_reads text r rest (enclosed front blanks is all) e =
       ap (λ t. factor_at I spec (40 ∷ (t ++ rest))) (append_assoc front blanks (41 ∷ []))
       ∙ at_open I spec ((front ++ (blanks ++ 41 ∷ [])) ++ rest)
-      ∙ closed_reads spec 41 refl refl L AfterRange I rules.reads (λ text x after rest' l all'. close_follows text after rest' all') (closed front blanks is all) rest
+      ∙ closed_reads (range_kind spec) 41 refl refl L AfterRange I rules.reads (λ text x after rest' l all'. close_follows text after rest' all') (closed front blanks is all) rest
 
-  factor_read : (text : List ℕ) (r : Range) (rest : List ℕ) → factor_at I spec text ≡ Ok (r, rest) → Read (Factor spec L) Apart text r rest
+  factor_read : (text : List ℕ) (r : Range) (rest : List ℕ) → factor_at I spec text ≡ Ok (r, rest) → Read (Factor spec L) (Apart decimals) text r rest
   factor_read text r rest h = by (begun 40 text)
     where
-      by : Begun 40 text → Read (Factor spec L) Apart text r rest
+      by : Begun 40 text → Read (Factor spec L) (Apart decimals) text r rest
       by (inr other) =
           let a = atom_read spec text r rest (sym (at_atom I spec text other) ∙ h) in
           record { front = a.front; whole = a.whole; is = atom a.is; apart = a.apart }
       by (inl p) =
-          let c = closed_read spec 41 refl refl L AfterRange I rules.read p.0 r rest (sym (at_open I spec p.0) ∙ sym (ap (factor_at I spec) p.1) ∙ h) in
+          let c = closed_read (range_kind spec) 41 refl refl L AfterRange I rules.read p.0 r rest (sym (at_open I spec p.0) ∙ sym (ap (factor_at I spec) p.1) ∙ h) in
           record {
             front = 40 ∷ c.front;
             whole = p.1 ∙ ap (λ t. 40 ∷ t) c.whole;
             is = opened c.is;
-            apart = apart_before (40 ∷ []) c.front rest refl c.apart;
+            apart = apart_before decimals (40 ∷ []) c.front rest refl c.apart;
           }
 
   pub factor_unblank : Never is_blank (Factor spec L)
   factor_unblank = never_factor spec L is_blank refl (never_atom spec is_blank refl refl refl refl refl)
 
-  led_rules : Rules (Led (Factor spec L)) Apart (led_at (factor_at I spec))
+  led_rules : Rules (Led (Factor spec L)) (Apart decimals) (led_at (factor_at I spec))
   led_rules = record {
-    reads = λ text r rest. led_reads (Factor spec L) (factor_at I spec) factor_unblank factor_reads text r rest;
-    read = λ text r rest. led_read (Factor spec L) (factor_at I spec) factor_read text r rest;
+    reads = λ text r rest. led_reads decimals (Factor spec L) (factor_at I spec) factor_unblank factor_reads text r rest;
+    read = λ text r rest. led_read decimals (Factor spec L) (factor_at I spec) factor_read text r rest;
     some = some;
   }
     where
@@ -107,11 +113,11 @@ module _ (spec : Spec) (L : List ℕ → Range → Type 0) (I : Reader Range) (r
 
   term_rules : Rules (Term spec L) AfterTerm (term_at I spec)
   unfolding term_at
-  term_rules = joined_rules spec 38 refl refl (Led (Factor spec L)) Apart (led_at (factor_at I spec)) led_rules follow_apart and_follows Both
+  term_rules = joined_rules (range_kind spec) 38 refl refl (Led (Factor spec L)) (Apart decimals) (led_at (factor_at I spec)) led_rules follow_apart and_follows Both
 
   terms_rules : Rules (Terms spec L) AfterRange (range_in I spec)
   unfolding range_in
-  terms_rules = joined_rules spec 124 refl refl (Term spec L) AfterTerm (term_at I spec) term_rules follow_term or_follows Either
+  terms_rules = joined_rules (range_kind spec) 124 refl refl (Term spec L) AfterTerm (term_at I spec) term_rules follow_term or_follows Either
 
 pub inside_rules : (spec : Spec) (n : ℕ) → Rules (Inside spec n) AfterRange (inside n spec)
 unfolding Inside inside
@@ -149,20 +155,20 @@ wider_inside spec (suc n) text r c = wider_terms spec (Inside spec n) (Inside sp
 
 module _ (spec : Spec) (L L' : List ℕ → Range → Type 0) (I I' : Reader Range) (rules : Rules L AfterRange I) (rules' : Rules L' AfterRange I') (wider : (text : List ℕ) (r : Range) → L text r → L' text r) where
   abbrev FactorFault : List ℕ → Cause → Type 0
-  FactorFault = Fault spec (Factor spec L) (Factor spec L') (factor_at I spec) (factor_at I' spec)
+  FactorFault = Fault (range_kind spec) (Factor spec L) (Factor spec L') (factor_at I spec) (factor_at I' spec)
 
   atom_fails : (text : List ℕ) (cause : Cause) → begins_with 40 text ≡ false → atom_at spec text ≡ Err cause → FactorFault text cause
   atom_fails text cause other h =
       let f = atom_fault spec text cause h in
-      let still : (again : List ℕ) → Like again f.rest → begins_with 40 (f.front ++ again) ≡ false = λ again like. begins_like 40 refl f.front f.rest again like (sym (ap (begins_with 40) f.whole) ∙ other) in
-      fault_up_like spec (Atom spec) (Atom spec) (atom_at spec) (atom_at spec) (Factor spec L) (Factor spec L') (factor_at I spec) (factor_at I' spec) []
+      let still : (again : List ℕ) → Like decimals again f.rest → begins_with 40 (f.front ++ again) ≡ false = λ again like. begins_like decimals 40 refl f.front f.rest again like (sym (ap (begins_with 40) f.whole) ∙ other) in
+      fault_up_like (range_kind spec) (Atom spec) (Atom spec) (atom_at spec) (atom_at spec) (Factor spec L) (Factor spec L') (factor_at I spec) (factor_at I' spec) []
       (λ t r k. ([], r, subst (λ t'. Factor spec L t' r) (sym (append-nil t)) (atom k)))
       (λ t r k. ([], r, subst (λ t'. Factor spec L' t' r) (sym (append-nil t)) (atom k)))
       text cause f refl
       (λ again like e. ap errs (at_atom I spec (f.front ++ again) (still again like)) ∙ e)
       (λ again like e. ap errs (at_atom I' spec (f.front ++ again) (still again like)) ∙ e)
 
-  module _ (opened_fault : (text : List ℕ) (cause : Cause) → closing spec 41 I text ≡ Err cause → FactorFault (40 ∷ text) cause) where
+  module _ (opened_fault : (text : List ℕ) (cause : Cause) → closing (missing spec) 41 I text ≡ Err cause → FactorFault (40 ∷ text) cause) where
     factor_fault : (text : List ℕ) (cause : Cause) → factor_at I spec text ≡ Err cause → FactorFault text cause
     factor_fault text cause h = by (begun 40 text)
       where
@@ -170,17 +176,17 @@ module _ (spec : Spec) (L L' : List ℕ → Range → Type 0) (I I' : Reader Ran
         by (inr other) = atom_fails text cause other (sym (at_atom I spec text other) ∙ h)
         by (inl p) = subst (λ t. FactorFault t cause) (sym p.1) (opened_fault p.0 cause (sym (at_open I spec p.0) ∙ sym (ap (factor_at I spec) p.1) ∙ h))
 
-    led_fails : (text : List ℕ) (cause : Cause) → led_at (factor_at I spec) text ≡ Err cause → Fault spec (Led (Factor spec L)) (Led (Factor spec L')) (led_at (factor_at I spec)) (led_at (factor_at I' spec)) text cause
-    led_fails = led_fault spec (Factor spec L) (Factor spec L') (factor_at I spec) (factor_at I' spec) factor_fault
+    led_fails : (text : List ℕ) (cause : Cause) → led_at (factor_at I spec) text ≡ Err cause → Fault (range_kind spec) (Led (Factor spec L)) (Led (Factor spec L')) (led_at (factor_at I spec)) (led_at (factor_at I' spec)) text cause
+    led_fails = led_fault (range_kind spec) (Factor spec L) (Factor spec L') (factor_at I spec) (factor_at I' spec) factor_fault
 
-    term_fault : (text : List ℕ) (cause : Cause) → term_at I spec text ≡ Err cause → Fault spec (Term spec L) (Term spec L') (term_at I spec) (term_at I' spec) text cause
+    term_fault : (text : List ℕ) (cause : Cause) → term_at I spec text ≡ Err cause → Fault (range_kind spec) (Term spec L) (Term spec L') (term_at I spec) (term_at I' spec) text cause
     unfolding term_at
-    term_fault = joined_fault spec 38 refl refl Both (Led (Factor spec L)) (Led (Factor spec L')) Apart (led_at (factor_at I spec)) (led_at (factor_at I' spec))
+    term_fault = joined_fault (range_kind spec) 38 refl refl Both (Led (Factor spec L)) (Led (Factor spec L')) (Apart decimals) (led_at (factor_at I spec)) (led_at (factor_at I' spec))
         (led_rules spec L I rules) (led_rules spec L' I' rules') follow_apart and_follows (wider_led spec L L' wider) (codes "-any") Any (led [] refl (atom any)) led_fails
 
-    terms_fault : (text : List ℕ) (cause : Cause) → range_in I spec text ≡ Err cause → Fault spec (Terms spec L) (Terms spec L') (range_in I spec) (range_in I' spec) text cause
+    terms_fault : (text : List ℕ) (cause : Cause) → range_in I spec text ≡ Err cause → Fault (range_kind spec) (Terms spec L) (Terms spec L') (range_in I spec) (range_in I' spec) text cause
     unfolding range_in
-    terms_fault = joined_fault spec 124 refl refl Either (Term spec L) (Term spec L') AfterTerm (term_at I spec) (term_at I' spec)
+    terms_fault = joined_fault (range_kind spec) 124 refl refl Either (Term spec L) (Term spec L') AfterTerm (term_at I spec) (term_at I' spec)
         (term_rules spec L I rules) (term_rules spec L' I' rules') follow_term or_follows (wider_term spec L L' wider) (codes "-any") Any (one (led [] refl (atom any))) term_fault
 
 -- ---- at each depth
@@ -200,14 +206,14 @@ any_stands : (spec : Spec) (L : List ℕ → Range → Type 0) → Terms spec L 
 any_stands spec L = one (one (led [] refl (atom any)))
 
 abbrev OpenedFault : Spec → ℕ → List ℕ → Cause → Type 0
-OpenedFault spec n = Fault spec (Factor spec (Inside spec n)) (Factor spec (Inside spec (suc n))) (factor_at (inside n spec) spec) (factor_at (inside (suc n) spec) spec)
+OpenedFault spec n = Fault (range_kind spec) (Factor spec (Inside spec n)) (Factor spec (Inside spec (suc n))) (factor_at (inside n spec) spec) (factor_at (inside (suc n) spec) spec)
 
 module _ (spec : Spec) where
   abbrev depth-rules : (n : ℕ) → Rules (Inside spec n) AfterRange (inside n spec)
   depth-rules n = inside_rules spec n
 
   -- one parenthesis more than may be open
-  opened_zero : (text : List ℕ) (cause : Cause) → closing spec 41 (inside zero spec) text ≡ Err cause → OpenedFault spec zero (40 ∷ text) cause
+  opened_zero : (text : List ℕ) (cause : Cause) → closing (missing spec) 41 (inside zero spec) text ≡ Err cause → OpenedFault spec zero (40 ∷ text) cause
   unfolding Inside inside
   opened_zero text cause h = subst (OpenedFault spec zero (40 ∷ text)) (cc h) (record {
     front = [];
@@ -216,45 +222,45 @@ module _ (spec : Spec) where
     more = codes "-any";
     value = Any;
     goes_on = atom any;
-    why = too_deep refl no_digit_opens (codes "-any)") Any (enclosed (codes "-any") [] (any_stands spec (Inside spec zero)) refl) still_deep;
+    why = wider 40 text refl refl no_digit_opens (codes "-any)") Any (enclosed (codes "-any") [] (any_stands spec (Inside spec zero)) refl) still_deep;
   })
     where
-      no_digit_opens : NoDigit (factor_at (inside (suc zero) spec) spec) []
-      no_digit_opens digit again d = ap errs (at_atom (inside (suc zero) spec) spec (digit ∷ again) (no_digits 40 refl digit d)) ∙ atom_digit spec (digit ∷ again) d
+      no_digit_opens : NoDigit decimals (factor_at (inside (suc zero) spec) spec) []
+      no_digit_opens digit again d = ap errs (at_atom (inside (suc zero) spec) spec (digit ∷ again) (no_digits decimals 40 refl digit d)) ∙ atom_digit spec (digit ∷ again) d
 
       still_deep : Dead (factor_at (inside zero spec) spec) [] (40 ∷ text)
       still_deep [] same = absurd (cc same)
       still_deep (b ∷ again) same = let open' : b ≡ 40 = cc same in subst (λ x. errs (factor_at (inside zero spec) spec (x ∷ again)) ≡ true) (sym open') (ap errs (at_open (inside zero spec) spec again))
 
   -- the fault of a range, or of what closes it, behind its opening parenthesis
-  opened_more : (n : ℕ) → ((text : List ℕ) (cause : Cause) → inside n spec text ≡ Err cause → Fault spec (Inside spec n) (Inside spec (suc n)) (inside n spec) (inside (suc n) spec) text cause)
-      → (text : List ℕ) (cause : Cause) → closing spec 41 (inside n spec) text ≡ Err cause → OpenedFault spec n (40 ∷ text) cause
+  opened_more : (n : ℕ) → ((text : List ℕ) (cause : Cause) → inside n spec text ≡ Err cause → Fault (range_kind spec) (Inside spec n) (Inside spec (suc n)) (inside n spec) (inside (suc n) spec) text cause)
+      → (text : List ℕ) (cause : Cause) → closing (missing spec) 41 (inside n spec) text ≡ Err cause → OpenedFault spec n (40 ∷ text) cause
   opened_more n fault text cause h =
-      fault_up spec (Closed 41 (Inside spec n)) (Closed 41 (Inside spec (suc n))) (closing spec 41 (inside n spec)) (closing spec 41 (inside (suc n) spec))
+      fault_up (range_kind spec) (Closed 41 (Inside spec n)) (Closed 41 (Inside spec (suc n))) (closing (missing spec) 41 (inside n spec)) (closing (missing spec) 41 (inside (suc n) spec))
       (Factor spec (Inside spec n)) (Factor spec (Inside spec (suc n))) (factor_at (inside n spec) spec) (factor_at (inside (suc n) spec) spec) (40 ∷ [])
-      (completes (Inside spec n)) (completes (Inside spec (suc n))) text cause f (ends_kept (40 ∷ []) f.front refl)
+      (completes (Inside spec n)) (completes (Inside spec (suc n))) text cause f (ends_kept is_ascii_digit (40 ∷ []) f.front refl)
       (λ again e. ap errs (at_open (inside n spec) spec (f.front ++ again)) ∙ e)
       (λ again e. ap errs (at_open (inside (suc n) spec) spec (f.front ++ again)) ∙ e)
     where
-      f : Fault spec (Closed 41 (Inside spec n)) (Closed 41 (Inside spec (suc n))) (closing spec 41 (inside n spec)) (closing spec 41 (inside (suc n) spec)) text cause
-      f = closed_fault spec 41 refl refl (Inside spec n) AfterRange (inside n spec) (depth-rules n).read (Inside spec (suc n)) AfterRange (inside (suc n) spec)
+      f : Fault (range_kind spec) (Closed 41 (Inside spec n)) (Closed 41 (Inside spec (suc n))) (closing (missing spec) 41 (inside n spec)) (closing (missing spec) 41 (inside (suc n) spec)) text cause
+      f = closed_fault (range_kind spec) 41 refl refl (Inside spec n) AfterRange (inside n spec) (depth-rules n).read (Inside spec (suc n)) AfterRange (inside (suc n) spec)
           (wider_inside spec n) (λ t rest e. e.0.0) after_instead (depth-rules (suc n)).reads fault text cause h
 
       completes : (L : List ℕ → Range → Type 0) (t : List ℕ) (r : Range) → Closed 41 L t r → (after : List ℕ) × (y : Range) × Factor spec L (40 ∷ (t ++ after)) y
       completes L t r k = ([], r, subst (λ t'. Factor spec L (40 ∷ t') r) (sym (append-nil t)) (opened k))
 
-  deeper : (n : ℕ) → ((text : List ℕ) (cause : Cause) → closing spec 41 (inside n spec) text ≡ Err cause → OpenedFault spec n (40 ∷ text) cause)
-      → (text : List ℕ) (cause : Cause) → inside (suc n) spec text ≡ Err cause → Fault spec (Inside spec (suc n)) (Inside spec (suc (suc n))) (inside (suc n) spec) (inside (suc (suc n)) spec) text cause
+  deeper : (n : ℕ) → ((text : List ℕ) (cause : Cause) → closing (missing spec) 41 (inside n spec) text ≡ Err cause → OpenedFault spec n (40 ∷ text) cause)
+      → (text : List ℕ) (cause : Cause) → inside (suc n) spec text ≡ Err cause → Fault (range_kind spec) (Inside spec (suc n)) (Inside spec (suc (suc n))) (inside (suc n) spec) (inside (suc (suc n)) spec) text cause
   unfolding Inside inside
   deeper n opened_fault text cause h = terms_fault spec (Inside spec n) (Inside spec (suc n)) (inside n spec) (inside (suc n) spec) (depth-rules n) (depth-rules (suc n)) (wider_inside spec n) opened_fault text cause h
 
-  opened_fault : (n : ℕ) (text : List ℕ) (cause : Cause) → closing spec 41 (inside n spec) text ≡ Err cause → OpenedFault spec n (40 ∷ text) cause
+  opened_fault : (n : ℕ) (text : List ℕ) (cause : Cause) → closing (missing spec) 41 (inside n spec) text ≡ Err cause → OpenedFault spec n (40 ∷ text) cause
   opened_fault zero text cause h = opened_zero text cause h
   opened_fault (suc n) text cause h = opened_more (suc n) (deeper n (opened_fault n)) text cause h
 
   -- a range with at most n parentheses open is stuck where its parts are
   pub range_fault : (n : ℕ) (text : List ℕ) (cause : Cause) → range_in (inside n spec) spec text ≡ Err cause
-      → Fault spec (Terms spec (Inside spec n)) (Terms spec (Inside spec (suc n))) (range_in (inside n spec) spec) (range_in (inside (suc n) spec) spec) text cause
+      → Fault (range_kind spec) (Terms spec (Inside spec n)) (Terms spec (Inside spec (suc n))) (range_in (inside n spec) spec) (range_in (inside (suc n) spec) spec) text cause
   range_fault n = terms_fault spec (Inside spec n) (Inside spec (suc n)) (inside n spec) (inside (suc n) spec) (depth-rules n) (depth-rules (suc n)) (wider_inside spec n) (opened_fault n)
 
   pub range_rules : (n : ℕ) → Rules (Terms spec (Inside spec n)) AfterRange (range_in (inside n spec) spec)

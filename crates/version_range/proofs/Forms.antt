@@ -10,7 +10,8 @@ use Rattle.plan_types.specs.declared.range.Range.TheVariants as ranges
 use Rattle.version_range.specs.declared.operator.Operator.{Operator}
 use Rattle.version_range.specs.declared.operator.Operator.TheVariants.{Equal, AtLeast, Above, AtMost, Below, Major}
 use Rattle.version_range.specs.Version.{is_version, has_versions, versions_step}
-use Rattle.version_range.specs.Grammar.{of_version, Led, led, Behind, behind, Chain, one, more, Compared, compared, Members, Atom, any, none, version, prefix, set, Factor, atom, enclosed, Term, Terms, Inside, Stands, empty, range}
+use Rattle.version_range.specs.Grammar.{of_version, Compared, compared, Members, Atom, any, none, version, prefix, set, Factor, atom, enclosed, Term, Terms, Inside, Stands, empty, range}
+use Rattle.text_grammar.specs.Parts.{Led, led, Behind, behind, Chain, one, more}
 
 abbrev Valid : (List ℕ → Range → Type 0) → Type 0
 Valid L = (text : List ℕ) (r : Range) → L text r → has_versions r ≡ true

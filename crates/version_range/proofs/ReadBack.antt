@@ -15,7 +15,8 @@ use Rattle.version_range.specs.declared.print.Place.TheVariants as places
 use Rattle.version_range.specs.declared.operator.Operator.{Operator}
 use Rattle.version_range.specs.declared.operator.Operator.TheVariants as operators
 use Rattle.version_range.specs.Version.{has_versions, versions_step, is_version, IsVersion, version_text}
-use Rattle.version_range.specs.Grammar.{Led, led, behind, Chain, one, more, compared, Atom, any, none, version, prefix, Factor, atom, enclosed, Term, Terms, Inside, Stands, range, operator_text, of_version}
+use Rattle.version_range.specs.Grammar.{compared, Atom, any, none, version, prefix, Factor, atom, enclosed, Term, Terms, Inside, Stands, range, operator_text, of_version}
+use Rattle.text_grammar.specs.Parts.{Led, led, behind, Chain, one, more}
 use Rattle.version_range.specs.Print.{text_in, text_step, as_term, as_whole, range_text, most_open}
 use Rattle.version_range.specs.Print as print
 use Rattle.version_range.proofs.Printed.{text_Both, text_Either}

@@ -16,12 +16,18 @@ use Rattle.plan_types.specs.declared.version.Version.{Version}
 use Rattle.plan_types.specs.declared.refusal.Cause.{Cause}
 use Rattle.plan_types.specs.declared.refusal.Cause.TheVariants.{BadVersion, NeedsVersion}
 use Rattle.version_range.specs.Version.{IsNumber, IsVersion, is_version, version_text, led_by_points, begins_with_digit, number_after}
-use Rattle.version_range.specs.Read.{◌>>=◌, byte_after, cause_at, digits_in, is_number, number_at, chained, followed, next_number, version_at, byte_due, equal_at}
-use Rattle.version_range.specs.Grammar.{is_old, begins_with, Chain, one, more, ends_with_digit, IsNewForm}
+use Rattle.version_range.specs.Read.{cause_at, digits_in, is_number, number_at, followed, next_number, version_at, byte_due, equal_at}
+use Rattle.text_grammar.specs.Reading.{◌>>=◌, byte_after, chained}
+use Rattle.version_range.specs.Grammar.{is_old, ends_with_digit, IsNewForm}
+use Rattle.plan_types.specs.Bytes.{begins_with}
+use Rattle.text_grammar.specs.Parts.{Chain, one, more}
 use Rattle.version_range.proofs.Numbers.{numeral_text, decimal_digits, decimal_some, decimal_few, decimal_plain, text_led, led_more, version_from, version_to, count_is}
-use Rattle.version_range.proofs.Fronts.{Reader, errs, goes_on_number, Apart, ends_behind, Read, Dead, new_form, number_due, digit_more, Fault, Completes, fault_up, fault_up_like}
-use Rattle.version_range.proofs.Spaces.{Begun, begun, byte_gone, no_digits, starts_digit, starts_same}
-use Rattle.version_range.proofs.Parts.{Option-Reader, all_of, Parts, errs_then, ok_parts, errs_err, reads, read_all, AllRead, NextFault, fault_all}
+use Rattle.text_grammar.proofs.Fronts.{Reader, errs, Apart, ends_behind, Read, Dead, new_form, digit_due, digit_more, Fault, Completes, fault_up, fault_up_like}
+use Rattle.text_grammar.proofs.Spaces.{Begun, begun, byte_gone, no_digits, starts_digit, starts_same}
+use Rattle.text_grammar.proofs.ChainParts.{Option-Reader, all_of, Parts, errs_then, ok_parts, errs_err, reads, read_all, AllRead, NextFault, fault_all}
+use Rattle.text_grammar.proofs.TextKind.{starts}
+use Rattle.version_range.proofs.RangeKind.{on_number, blank_off, decimals, range_kind}
+use Rattle.version_range.specs.Read.{missing}
 
 -- ---- numbers
 
@@ -138,7 +144,7 @@ abbrev star_at : Bool → Spec → Option-Reader ℕ
 star_at star spec text = if star && begins_with 42 text then Ok None else number_at spec text >>= λ p. Ok (Some p)
 
 no_form : (spec : Spec) (rest : List ℕ) → begins_with_digit rest ≡ true → IsNewForm spec rest → ⊥
-no_form spec rest digit form = false≢true (sym (and_right (is_old spec) (begins_with 123 rest) (starts_digit (λ c. c == 123) (no_digits 123 refl) rest digit)) ∙ form)
+no_form spec rest digit form = false≢true (sym (and_right (is_old spec) (begins_with 123 rest) (starts_digit decimals (λ c. c == 123) (no_digits decimals 123 refl) rest digit)) ∙ form)
 
 cause_form : (spec : Spec) (cause : Cause) (rest : List ℕ) → IsNewForm spec rest → cause_at spec cause rest ≡ NeedsVersion
 cause_form spec cause rest form = ap (λ t. if t then NeedsVersion else cause) form
@@ -147,13 +153,13 @@ cause_other : (spec : Spec) (cause : Cause) (rest : List ℕ) → (is_old spec &
 cause_other spec cause rest old = ap (λ t. if t then NeedsVersion else cause) old
 
 cause_digit : (spec : Spec) (cause : Cause) (rest : List ℕ) → begins_with_digit rest ≡ true → cause_at spec cause rest ≡ cause
-cause_digit spec cause rest digit = cause_other spec cause rest (and_right (is_old spec) (begins_with 123 rest) (starts_digit (λ c. c == 123) (no_digits 123 refl) rest digit))
+cause_digit spec cause rest digit = cause_other spec cause rest (and_right (is_old spec) (begins_with 123 rest) (starts_digit decimals (λ c. c == 123) (no_digits decimals 123 refl) rest digit))
 
 star_errs : (star : Bool) (spec : Spec) (text : List ℕ) → (star && begins_with 42 text) ≡ false → errs (number_at spec text) ≡ true → errs (star_at star spec text) ≡ true
 star_errs star spec text free h = ap (λ t. errs (if t then Ok None else number_at spec text >>= λ p. Ok (Some p))) free ∙ errs_then (number_at spec text) (λ p. Ok (Some p)) h
 
 star_digit : (star : Bool) (spec : Spec) (text : List ℕ) → begins_with_digit text ≡ true → errs (number_at spec text) ≡ true → errs (star_at star spec text) ≡ true
-star_digit star spec text digit h = star_errs star spec text (and_right star (begins_with 42 text) (starts_digit (λ c. c == 42) (no_digits 42 refl) text digit)) h
+star_digit star spec text digit h = star_errs star spec text (and_right star (begins_with 42 text) (starts_digit decimals (λ c. c == 42) (no_digits decimals 42 refl) text digit)) h
 
 digits_absent : (spec : Spec) (text : List ℕ) → begins_with_digit text ≡ false → errs (number_at spec text) ≡ true
 digits_absent spec text none = errs_err (number_at spec text) (cause_at spec BadVersion text) (number_no spec [] text refl none refl)
@@ -193,7 +199,7 @@ digits_last (b ∷ []) all some = (all_parts b [] all).0
 digits_last (b ∷ c ∷ ds) all some = digits_last (c ∷ ds) (all_parts b (c ∷ ds) all).1 (omega arith)
 
 abbrev StarFault : Bool → Spec → List ℕ → Cause → Type 0
-StarFault star spec = Fault spec NumberText NumberText (star_at star spec) (star_at star spec)
+StarFault star spec = Fault (range_kind spec) NumberText NumberText (star_at star spec) (star_at star spec)
 
 -- digits that are a number, and one more
 fault_more : (star : Bool) (spec : Spec) (ds rest : List ℕ) → all_ascii_digits ds ≡ true → 0 < length ds → (n : ℕ) → NumberText ds n → begins_with_digit rest ≡ true
@@ -219,7 +225,7 @@ fault_none star spec rest none free = by (is_old spec && begins_with 123 rest) r
     by : (o : Bool) → (is_old spec && begins_with 123 rest) ≡ o → StarFault star spec rest (cause_at spec BadVersion rest)
     by true q = subst (StarFault star spec rest) (sym (cause_form spec BadVersion rest q)) (record { front = []; rest = rest; whole = refl; more = 48 ∷ []; value = 0; goes_on = zero_text; why = new_form q dead })
     by false q = subst (StarFault star spec rest) (sym (cause_other spec BadVersion rest q))
-        (record { front = []; rest = rest; whole = refl; more = 48 ∷ []; value = 0; goes_on = zero_text; why = number_due (λ form. false≢true (sym q ∙ form)) refl [] 0 zero_text dead })
+        (record { front = []; rest = rest; whole = refl; more = 48 ∷ []; value = 0; goes_on = zero_text; why = digit_due (λ form. false≢true (sym q ∙ form)) refl 48 refl [] 0 zero_text dead })
 
 -- the first nine digits of more
 fault_nine : (star : Bool) (spec : Spec) (b c : ℕ) (fs es rest : List ℕ) → all_ascii_digits (b ∷ c ∷ fs) ≡ true → length fs ≡ 7 → b ≢ 48 → begins_with_digit (es ++ rest) ≡ true → StarFault star spec ((b ∷ c ∷ fs) ++ (es ++ rest)) BadVersion
@@ -282,11 +288,11 @@ back : (r : Result (ℕ × List ℕ) Cause) → (let o : Result (Option (ℕ × 
 back (Ok p) e = e
 back (Err why) e = e
 
-pub number_fault : (spec : Spec) (text : List ℕ) (cause : Cause) → number_at spec text ≡ Err cause → Fault spec NumberText NumberText (number_at spec) (number_at spec) text cause
+pub number_fault : (spec : Spec) (text : List ℕ) (cause : Cause) → number_at spec text ≡ Err cause → Fault (range_kind spec) NumberText NumberText (number_at spec) (number_at spec) text cause
 number_fault spec text cause h =
     let given : star_at false spec text ≡ Err cause = ap (λ r. r >>= λ p. Ok (Some p)) h in
     let same : Completes NumberText [] NumberText = λ t n k. ([], n, (append-nil t ∙ k.0, k.1)) in
-    fault_up spec NumberText NumberText (star_at false spec) (star_at false spec) NumberText NumberText (number_at spec) (number_at spec) [] same same
+    fault_up (range_kind spec) NumberText NumberText (star_at false spec) (star_at false spec) NumberText NumberText (number_at spec) (number_at spec) [] same same
     text cause (star_fault false spec text cause given) refl (λ again e. back (number_at spec _) e) (λ again e. back (number_at spec _) e)
 
 -- ---- the numbers of a version, one after the other
@@ -336,7 +342,7 @@ star_none star spec text h = and_parts star (begins_with 42 text) (star_free (st
 
 star_reads : (star : Bool) (spec : Spec) (text : List ℕ) (n : ℕ) (rest : List ℕ) → begins_with_digit text ≡ true → number_at spec text ≡ Ok (n, rest) → star_at star spec text ≡ Ok (Some (n, rest))
 star_reads star spec text n rest digit h =
-    ap (λ t. if t then Ok None else number_at spec text >>= λ p. Ok (Some p)) (and_right star (begins_with 42 text) (starts_digit (λ c. c == 42) (no_digits 42 refl) text digit))
+    ap (λ t. if t then Ok None else number_at spec text >>= λ p. Ok (Some p)) (and_right star (begins_with 42 text) (starts_digit decimals (λ c. c == 42) (no_digits decimals 42 refl) text digit))
     ∙ ap (λ r. r >>= λ p. Ok (Some p)) h
 
 number_begins : (text : List ℕ) (n : ℕ) (rest : List ℕ) → NumberText text n → begins_with_digit (text ++ rest) ≡ true
@@ -391,10 +397,10 @@ all_numbers star spec = all_of followed (first_at spec) (next_number star spec)
 abbrev NumbersText : List ℕ → List ℕ → Type 0
 NumbersText = Chain followed FirstText NextText
 
-first_fault : (spec : Spec) (text : List ℕ) (cause : Cause) → first_at spec text ≡ Err cause → Fault spec FirstText FirstText (first_at spec) (first_at spec) text cause
+first_fault : (spec : Spec) (text : List ℕ) (cause : Cause) → first_at spec text ≡ Err cause → Fault (range_kind spec) FirstText FirstText (first_at spec) (first_at spec) text cause
 first_fault spec text cause h =
     let single : Completes NumberText [] FirstText = λ t n k. ([], n ∷ [], (n, (append-nil t ∙ k.0, k.1), refl)) in
-    fault_up spec NumberText NumberText (number_at spec) (number_at spec) FirstText FirstText (first_at spec) (first_at spec) [] single single
+    fault_up (range_kind spec) NumberText NumberText (number_at spec) (number_at spec) FirstText FirstText (first_at spec) (first_at spec) [] single single
     text cause (number_fault spec text cause (failed (number_at spec text) h)) refl (λ again e. errs_then (number_at spec _) alone e) (λ again e. errs_then (number_at spec _) alone e)
   where
     failed : (r : Result (ℕ × List ℕ) Cause) → (let o : Result (List ℕ × List ℕ) Cause = r >>= alone in o ≡ Err cause) → r ≡ Err cause
@@ -407,7 +413,7 @@ ends_behind_point (b ∷ bs) = refl
 
 module _ (star : Bool) (spec : Spec) where
   abbrev NumbersNextFault : List ℕ → Cause → Type 0
-  NumbersNextFault = NextFault spec followed FirstText FirstText NextText NextText NotDigit (first_at spec) (first_at spec) (next_number star spec) (next_number star spec) (rules star spec) (rules star spec) (λ t x k. k) (λ t y k. k)
+  NumbersNextFault = NextFault (range_kind spec) followed FirstText FirstText NextText NextText NotDigit (first_at spec) (first_at spec) (next_number star spec) (next_number star spec) (rules star spec) (rules star spec) (λ t x k. k) (λ t y k. k)
 
   next_fault : (text : List ℕ) (cause : Cause) → next_number star spec text ≡ Err cause → NumbersNextFault text cause
   unfolding fault_up fault_up_like
@@ -419,13 +425,13 @@ module _ (star : Bool) (spec : Spec) where
           let f = star_fault star spec p.0 cause (sym (next_point star spec p.0) ∙ ap (next_number star spec) (sym p.1) ∙ h) in
           let pointed : Completes NumberText (46 ∷ []) NextText = λ t n k. ([], n, (t ++ [], refl, (append-nil t ∙ k.0, k.1))) in
           let pass : (again : List ℕ) → errs (star_at star spec again) ≡ true → errs (next_number star spec (46 ∷ again)) ≡ true = λ again e. ap errs (next_point star spec again) ∙ e in
-          let whole : Fault spec NextText NextText (next_number star spec) (next_number star spec) (46 ∷ p.0) cause =
-          fault_up spec NumberText NumberText (star_at star spec) (star_at star spec) NextText NextText (next_number star spec) (next_number star spec) (46 ∷ []) pointed pointed
+          let whole : Fault (range_kind spec) NextText NextText (next_number star spec) (next_number star spec) (46 ∷ p.0) cause =
+          fault_up (range_kind spec) NumberText NumberText (star_at star spec) (star_at star spec) NextText NextText (next_number star spec) (next_number star spec) (46 ∷ []) pointed pointed
           p.0 cause f (ends_behind_point f.front) (λ again e. pass (f.front ++ again) e) (λ again e. pass (f.front ++ again) e) in
           subst (λ t. NumbersNextFault t cause) (sym p.1) (record { fault = whole; begun = λ e. cc e; opens = λ behind again. refl })
 
-  numbers_fault : (text : List ℕ) (cause : Cause) → all_numbers star spec text ≡ Err cause → Fault spec NumbersText NumbersText (all_numbers star spec) (all_numbers star spec) text cause
-  numbers_fault = fault_all spec followed FirstText FirstText NextText NextText NotDigit (first_at spec) (first_at spec) (next_number star spec) (next_number star spec) (rules star spec) (rules star spec) (λ t x k. k) (λ t y k. k) next_fault (first_fault spec)
+  numbers_fault : (text : List ℕ) (cause : Cause) → all_numbers star spec text ≡ Err cause → Fault (range_kind spec) NumbersText NumbersText (all_numbers star spec) (all_numbers star spec) text cause
+  numbers_fault = fault_all (range_kind spec) followed FirstText FirstText NextText NextText NotDigit (first_at spec) (first_at spec) (next_number star spec) (next_number star spec) (rules star spec) (rules star spec) (λ t x k. k) (λ t y k. k) next_fault (first_fault spec)
 
   -- what was read of the numbers
   abbrev NumbersRead : List ℕ → List ℕ → List ℕ → Type 0
@@ -496,11 +502,11 @@ abbrev pub VersionText : List ℕ → Version → Type 0
 VersionText text v = (text ≡ version_text v.parts) × (is_version v.parts ≡ true)
 
 -- what ends with a digit has neither a digit nor a point behind it
-apart_parts : (rest : List ℕ) → goes_on_number rest ≡ false → (begins_with_digit rest ≡ false) × (begins_with 46 rest ≡ false)
+apart_parts : (rest : List ℕ) → starts on_number rest ≡ false → (begins_with_digit rest ≡ false) × (begins_with 46 rest ≡ false)
 apart_parts [] h = (refl, refl)
 apart_parts (b ∷ bs) h = or_parts (is_ascii_digit b) (b == 46) h
 
-apart_from : (rest : List ℕ) → begins_with_digit rest ≡ false → begins_with 46 rest ≡ false → goes_on_number rest ≡ false
+apart_from : (rest : List ℕ) → begins_with_digit rest ≡ false → begins_with 46 rest ≡ false → starts on_number rest ≡ false
 apart_from [] h k = refl
 apart_from (b ∷ bs) h k = or_from (is_ascii_digit b) (b == 46) h k
 
@@ -511,7 +517,7 @@ ends_after b (c ∷ cs) h = h
 version_ends : (ns : List ℕ) → IsVersion ns → ends_with_digit (version_text ns) ≡ true
 version_ends [] v = absurd v
 version_ends (n ∷ []) v = number_ends (decimal n) n (refl, v)
-version_ends (n ∷ m ∷ ns) v = ends_behind (decimal n) 46 (version_text (m ∷ ns)) ∙ ends_after 46 (version_text (m ∷ ns)) (version_ends (m ∷ ns) v.1)
+version_ends (n ∷ m ∷ ns) v = ends_behind is_ascii_digit (decimal n) 46 (version_text (m ∷ ns)) ∙ ends_after 46 (version_text (m ∷ ns)) (version_ends (m ∷ ns) v.1)
 
 version_begins : (ns : List ℕ) → IsVersion ns → begins_with_digit (version_text ns) ≡ true
 version_begins [] v = absurd v
@@ -565,21 +571,21 @@ none_next star spec rest h = by (begun 46 rest)
         let k = starred p.0 s.1 in
         inr (k.0, s.0, p.1 ∙ ap (λ t. 46 ∷ t) k.1)
 
-pub version_read : (spec : Spec) (text : List ℕ) (v : Version) (rest : List ℕ) → version_at false spec text ≡ Ok (v, rest) → Read VersionText Apart text v rest
+pub version_read : (spec : Spec) (text : List ℕ) (v : Version) (rest : List ℕ) → version_at false spec text ≡ Ok (v, rest) → Read VersionText (Apart decimals) text v rest
 version_read spec text v rest h =
     let f = version_found false spec text v rest h in
     record { front = f.read.front; whole = f.read.whole; is = version_is_text f.read.front v.parts f.read.is; apart = λ _. ends f.read.apart (none_next false spec rest f.none) }
   where
-    ends : begins_with_digit rest ≡ false → (begins_with 46 rest ≡ false) ⊎ ((behind : List ℕ) × (false ≡ true) × (rest ≡ 46 ∷ 42 ∷ behind)) → goes_on_number rest ≡ false
+    ends : begins_with_digit rest ≡ false → (begins_with 46 rest ≡ false) ⊎ ((behind : List ℕ) × (false ≡ true) × (rest ≡ 46 ∷ 42 ∷ behind)) → starts on_number rest ≡ false
     ends digit (inl other) = apart_from rest digit other
     ends digit (inr p) = absurd (false≢true p.1)
 
-version_whole : (star : Bool) (spec : Spec) (text : List ℕ) (v : Version) (rest : List ℕ) → VersionText text v → Apart text rest → version_at star spec (text ++ rest) ≡ Ok (v, rest)
+version_whole : (star : Bool) (spec : Spec) (text : List ℕ) (v : Version) (rest : List ℕ) → VersionText text v → Apart decimals text rest → version_at star spec (text ++ rest) ≡ Ok (v, rest)
 version_whole star spec text v rest is apart =
     let p = apart_parts rest (apart (version_last text v is)) in
     version_made star spec text v rest is p.0 (next_other star spec rest p.1)
 
-pub version_reads : (spec : Spec) (text : List ℕ) (v : Version) (rest : List ℕ) → VersionText text v → Apart text rest → version_at false spec (text ++ rest) ≡ Ok (v, rest)
+pub version_reads : (spec : Spec) (text : List ℕ) (v : Version) (rest : List ℕ) → VersionText text v → Apart decimals text rest → version_at false spec (text ++ rest) ≡ Ok (v, rest)
 version_reads = version_whole false
 
 version_failed : (star : Bool) (spec : Spec) (text : List ℕ) (cause : Cause) → version_at star spec text ≡ Err cause → all_numbers star spec text ≡ Err cause
@@ -592,11 +598,11 @@ version_failed star spec text cause h = by (all_numbers star spec text) (sym (ve
 version_errs : (star : Bool) (spec : Spec) (text : List ℕ) → errs (all_numbers star spec text) ≡ true → errs (version_at star spec text) ≡ true
 version_errs star spec text h = ap errs (version_is star spec text) ∙ errs_then (all_numbers star spec text) (as_version star spec) h
 
-pub version_fault : (spec : Spec) (text : List ℕ) (cause : Cause) → version_at false spec text ≡ Err cause → Fault spec VersionText VersionText (version_at false spec) (version_at false spec) text cause
+pub version_fault : (spec : Spec) (text : List ℕ) (cause : Cause) → version_at false spec text ≡ Err cause → Fault (range_kind spec) VersionText VersionText (version_at false spec) (version_at false spec) text cause
 version_fault spec text cause h =
     let f = numbers_fault false spec text cause (version_failed false spec text cause h) in
     let done : Completes NumbersText [] VersionText = λ t ns c. ([], record { parts = ns }, version_is_text (t ++ []) ns (subst (λ t'. NumbersText t' ns) (sym (append-nil t)) c)) in
-    fault_up spec NumbersText NumbersText (all_numbers false spec) (all_numbers false spec) VersionText VersionText (version_at false spec) (version_at false spec) [] done done
+    fault_up (range_kind spec) NumbersText NumbersText (all_numbers false spec) (all_numbers false spec) VersionText VersionText (version_at false spec) (version_at false spec) [] done done
     text cause f refl (λ again e. version_errs false spec (f.front ++ again) e) (λ again e. version_errs false spec (f.front ++ again) e)
 
 -- ---- what stands behind `==`
@@ -621,8 +627,8 @@ end_whole spec v rest h =
 end_front : (spec : Spec) (v : Version) (rest : List ℕ) → equal_end spec (v, 46 ∷ 42 ∷ rest) ≡ Ok (ranges.Prefix v, rest)
 end_front spec v rest = refl
 
-apart_star : (text rest : List ℕ) → Apart (text ++ codes ".*") rest
-apart_star text rest h = absurd (false≢true (sym (ends_behind text 46 (42 ∷ [])) ∙ h))
+apart_star : (text rest : List ℕ) → Apart decimals (text ++ codes ".*") rest
+apart_star text rest h = absurd (false≢true (sym (ends_behind is_ascii_digit text 46 (42 ∷ [])) ∙ h))
 
 whole_text : (text : List ℕ) (v : Version) → VersionText text v → EqualText text (ranges.Equal v)
 whole_text text v is = subst (λ t. EqualText t (ranges.Equal v)) (sym is.0) (whole v is.1)
@@ -631,16 +637,16 @@ front_text : (text : List ℕ) (v : Version) → VersionText text v → EqualTex
 front_text text v is = subst (λ t. EqualText (t ++ codes ".*") (ranges.Prefix v)) (sym is.0) (front v is.1)
 
 read_as : (text : List ℕ) (a r : Range) (b rest start : List ℕ) → (let p : Result (Range × List ℕ) Cause = Ok (a, b) in let q : Result (Range × List ℕ) Cause = Ok (r, rest) in p ≡ q)
-    → text ≡ start ++ b → EqualText start a → Apart start b → Read EqualText Apart text r rest
+    → text ≡ start ++ b → EqualText start a → Apart decimals start b → Read EqualText (Apart decimals) text r rest
 read_as text a r b rest start e is_text is apart =
     let same = ok_parts a r b rest e in
-    record { front = start; whole = is_text ∙ ap (λ t. start ++ t) same.1; is = subst (EqualText start) same.0 is; apart = subst (Apart start) same.1 apart }
+    record { front = start; whole = is_text ∙ ap (λ t. start ++ t) same.1; is = subst (EqualText start) same.0 is; apart = subst (Apart decimals start) same.1 apart }
 
-pub equal_read : (spec : Spec) (text : List ℕ) (r : Range) (rest : List ℕ) → equal_at spec text ≡ Ok (r, rest) → Read EqualText Apart text r rest
+pub equal_read : (spec : Spec) (text : List ℕ) (r : Range) (rest : List ℕ) → equal_at spec text ≡ Ok (r, rest) → Read EqualText (Apart decimals) text r rest
 equal_read spec text r rest h = by (version_at true spec text) refl
   where
     at : (v : Version) (left : List ℕ) (f : NumbersRead true spec text v.parts left) → (begins_with 46 left ≡ false) ⊎ ((behind : List ℕ) × (true ≡ true) × (left ≡ 46 ∷ 42 ∷ behind))
-        → equal_end spec (v, left) ≡ Ok (r, rest) → Read EqualText Apart text r rest
+        → equal_end spec (v, left) ≡ Ok (r, rest) → Read EqualText (Apart decimals) text r rest
     at v left f (inl other) e =
         let is = version_is_text f.read.front v.parts f.read.is in
         read_as text (ranges.Equal v) r left rest f.read.front (sym (end_whole spec v left other) ∙ e) f.read.whole (whole_text f.read.front v is) (λ _. apart_from left f.read.apart other)
@@ -649,13 +655,13 @@ equal_read spec text r rest h = by (version_at true spec text) refl
         read_as text (ranges.Prefix v) r p.0 rest (f.read.front ++ codes ".*") (sym (end_front spec v p.0) ∙ ap (λ t. equal_end spec (v, t)) (sym p.2) ∙ e)
         (f.read.whole ∙ ap (λ t. f.read.front ++ t) p.2 ∙ sym (append_assoc f.read.front (codes ".*") p.0)) (front_text f.read.front v is) (apart_star f.read.front p.0)
 
-    by : (o : Result (Version × List ℕ) Cause) → version_at true spec text ≡ o → Read EqualText Apart text r rest
+    by : (o : Result (Version × List ℕ) Cause) → version_at true spec text ≡ o → Read EqualText (Apart decimals) text r rest
     by (Err why) q = absurd (cc (h, equal_is spec text, ap (λ o. o >>= equal_end spec) q))
     by (Ok p) q =
         let f = version_found true spec text p.0 p.1 q in
         at p.0 p.1 f (none_next true spec p.1 f.none) (sym (equal_is spec text ∙ ap (λ o. o >>= equal_end spec) q) ∙ h)
 
-pub equal_reads : (spec : Spec) (text : List ℕ) (r : Range) (rest : List ℕ) → EqualText text r → Apart text rest → equal_at spec (text ++ rest) ≡ Ok (r, rest)
+pub equal_reads : (spec : Spec) (text : List ℕ) (r : Range) (rest : List ℕ) → EqualText text r → Apart decimals text rest → equal_at spec (text ++ rest) ≡ Ok (r, rest)
 equal_reads spec text r rest (whole v is) apart =
     let here : VersionText (version_text v.parts) v = (refl, is) in
     equal_is spec (version_text v.parts ++ rest)
@@ -668,7 +674,7 @@ equal_reads spec text r rest (front v is) apart =
     ∙ ap (λ o. o >>= equal_end spec) (version_made true spec (version_text v.parts) v (46 ∷ 42 ∷ rest) here refl (next_point true spec (42 ∷ rest)))
     ∙ end_front spec v rest
 
-pub equal_fault : (spec : Spec) (text : List ℕ) (cause : Cause) → equal_at spec text ≡ Err cause → Fault spec EqualText EqualText (equal_at spec) (equal_at spec) text cause
+pub equal_fault : (spec : Spec) (text : List ℕ) (cause : Cause) → equal_at spec text ≡ Err cause → Fault (range_kind spec) EqualText EqualText (equal_at spec) (equal_at spec) text cause
 equal_fault spec text cause h = by (version_at true spec text) refl
   where
     -- behind the version nothing fails
@@ -682,14 +688,14 @@ equal_fault spec text cause h = by (version_at true spec text) refl
     done : Completes NumbersText [] EqualText
     done t ns c = ([], ranges.Equal (record { parts = ns }), subst (λ t'. EqualText t' (ranges.Equal (record { parts = ns }))) (sym (append-nil t)) (whole_text t (record { parts = ns }) (version_is_text t ns c)))
 
-    by : (o : Result (Version × List ℕ) Cause) → version_at true spec text ≡ o → Fault spec EqualText EqualText (equal_at spec) (equal_at spec) text cause
+    by : (o : Result (Version × List ℕ) Cause) → version_at true spec text ≡ o → Fault (range_kind spec) EqualText EqualText (equal_at spec) (equal_at spec) text cause
     by (Ok p) q =
         let f = version_found true spec text p.0 p.1 q in
         absurd (ends p.0 p.1 (none_next true spec p.1 f.none) (sym (equal_is spec text ∙ ap (λ o. o >>= equal_end spec) q) ∙ h))
     by (Err why) q =
         let same : why ≡ cause = cc (h, equal_is spec text, ap (λ o. o >>= equal_end spec) q) in
         let f = numbers_fault true spec text cause (version_failed true spec text cause (q ∙ ap Err same)) in
-        fault_up spec NumbersText NumbersText (all_numbers true spec) (all_numbers true spec) EqualText EqualText (equal_at spec) (equal_at spec) [] done done
+        fault_up (range_kind spec) NumbersText NumbersText (all_numbers true spec) (all_numbers true spec) EqualText EqualText (equal_at spec) (equal_at spec) [] done done
         text cause f refl (λ again e. up (f.front ++ again) e) (λ again e. up (f.front ++ again) e)
 
 -- ---- a number that was looked for

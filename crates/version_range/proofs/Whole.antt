@@ -1,5 +1,5 @@
 -- A whole text: what it stands for, its first fault, and that it has one of both.
-use Rattle.std.proofs.Common.{◌≡◌, ◌≢◌, inl, inr, ℕ, suc, Bool, true, false, List, [], ◌∷◌, ◌++◌, codes, length, Some, Result, Ok, Err, refl, sym, ap, ◌∙◌, subst, append_assoc, append-nil, arith}
+use Rattle.std.proofs.Common.{◌≡◌, ◌≢◌, inl, inr, ℕ, suc, Bool, true, false, List, [], ◌∷◌, ◌++◌, codes, length, Some, None, Result, Ok, Err, refl, sym, ap, ◌∙◌, subst, append_assoc, append-nil, arith}
 use Rattle.std.specs.Prelude.{◌==◌, if◌then◌else◌}
 use Rattle.std.specs.Char.{is_ascii_digit}
 use Rattle.std.specs.List.{list_all}
@@ -8,17 +8,22 @@ use Rattle.plan_types.specs.declared.range.Spec.{Spec}
 use Rattle.plan_types.specs.declared.range.Range.{Range}
 use Rattle.plan_types.specs.declared.range.Range.TheVariants.{Any}
 use Rattle.plan_types.specs.declared.refusal.Cause.{Cause}
-use Rattle.plan_types.specs.declared.refusal.Cause.TheVariants.{BadRange}
-use Rattle.version_range.specs.Read.{◌>>=◌, skip_blanks, cause_at, range_in, inside, range_of}
+use Rattle.plan_types.specs.declared.refusal.Cause.TheVariants.{BadRange, TooDeep}
+use Rattle.version_range.specs.Read.{cause_at, range_in, inside, range_of}
+use Rattle.text_grammar.specs.Reading.{◌>>=◌, skip_blanks}
 use Rattle.version_range.specs.Version.{begins_with_digit}
-use Rattle.version_range.specs.Grammar.{begins_with, is_old, is_blank, Blanks, atom, any, Factor, Term, Terms, Inside, Led, led, one, more, Stands, empty, range, Viable, Stuck, IsNewForm, OpensTooMany, CauseAt, needs_version, bad_version, too_deep, bad_range, FirstFault}
-use Rattle.version_range.proofs.Fronts.{head_of, errs, goes_on_number, Apart, ends_kept, Read, Dead, NoDigit, Like, Why, new_form, number_due, digit_more, behind_digit, no_digit, Fault, fault_up_like}
-use Rattle.version_range.proofs.Fronts as fronts
-use Rattle.version_range.proofs.Spaces.{starts, starts_same, starts_digit, blanks_none, blanks_no_number, cut, skip_over}
-use Rattle.version_range.proofs.Parts.{errs_then}
-use Rattle.version_range.proofs.Closings.{Instead, instead, like_instead, skip_instead, misplaced}
-use Rattle.version_range.proofs.Operands.{Rules}
+use Rattle.version_range.specs.Grammar.{is_old, atom, any, Factor, Term, Terms, Inside, Stands, empty, range, Viable, IsNewForm, OpensTooMany, CauseAt, needs_version, bad_version, too_deep, bad_range, FirstFault}
+use Rattle.plan_types.specs.Bytes.{begins_with, is_blank, Blanks}
+use Rattle.text_grammar.specs.Parts.{Led, led, one, more}
+use Rattle.text_grammar.proofs.Fronts.{head_of, errs, Apart, ends_kept, Read, Dead, NoDigit, Like, Why, new_form, digit_due, digit_more, wider, behind_digit, no_digit, Fault, fault_up_like, why_dead, head_some, digit_some, viable_by, stuck_of, no_viable_digit, not_wider}
+use Rattle.text_grammar.specs.FirstFault.{Stuck}
+use Rattle.text_grammar.proofs.Spaces.{starts_same, starts_digit, blanks_none, blanks_go_on, cut, skip_over, no_length, some_length, all_blanks, skip_all, blanks_parts, blanks_push}
+use Rattle.text_grammar.proofs.ChainParts.{errs_then}
+use Rattle.text_grammar.proofs.Closings.{Instead, instead, like_instead, skip_instead, misplaced}
+use Rattle.text_grammar.proofs.Operands.{Rules}
 use Rattle.version_range.proofs.Factors.{AfterRange, after_instead, factor_unblank, inside_rules, range_rules, range_fault, wider_inside, wider_terms}
+use Rattle.text_grammar.proofs.TextKind.{starts}
+use Rattle.version_range.proofs.RangeKind.{on_number, blank_off, decimals, range_kind}
 
 -- what is read of a range is the text where only blanks are left
 abbrev pub to_end : Spec → Range × List ℕ → Result Range Cause
@@ -41,56 +46,9 @@ to_end_err spec p e = rw e refl
 blank_is_any : (spec : Spec) (n : ℕ) (text : List ℕ) → (length (skip_blanks text) == 0) ≡ true → text_at spec n text ≡ Ok Any
 blank_is_any spec n text e = rw e refl
 
-no_length : (text : List ℕ) → (length text == 0) ≡ true → text ≡ []
-no_length [] h = refl
-no_length (b ∷ bs) h = absurd (omega (arith, eqb-true (length (b ∷ bs)) 0 h))
-
-some_length : (text : List ℕ) → text ≢ [] → (length text == 0) ≡ false
-some_length [] some = absurd (some refl)
-some_length (b ∷ bs) some = by (length (b ∷ bs) == 0) refl
-  where
-    by : (t : Bool) → (length (b ∷ bs) == 0) ≡ t → (length (b ∷ bs) == 0) ≡ false
-    by true q = absurd (some (no_length (b ∷ bs) q))
-    by false q = q
-
-all_blanks : (text : List ℕ) → skip_blanks text ≡ [] → Blanks text
-all_blanks text h = let c = cut text in subst Blanks (sym (c.whole ∙ ap (λ t. c.blanks ++ t) h ∙ append-nil c.blanks)) c.all
-
-skip_all : (text : List ℕ) → Blanks text → skip_blanks text ≡ []
-skip_all text are = ap skip_blanks (sym (append-nil text)) ∙ skip_over text [] are refl
-
-blanks_parts : (xs ys : List ℕ) → Blanks (xs ++ ys) → Blanks xs × Blanks ys
-blanks_parts [] ys h = (refl, h)
-blanks_parts (x ∷ xs) ys h =
-    let p = and_parts (is_blank x) (list_all is_blank (xs ++ ys)) h in
-    let q = blanks_parts xs ys p.1 in
-    (and_from (is_blank x) (list_all is_blank xs) p.0 q.0, q.1)
-
-blanks_push : (xs : List ℕ) (b : ℕ) → Blanks xs → is_blank b ≡ true → Blanks (xs ++ b ∷ [])
-blanks_push [] b h q = and_from (is_blank b) true q refl
-blanks_push (x ∷ xs) b h q = let p = and_parts (is_blank x) (list_all is_blank xs) h in and_from (is_blank x) (list_all is_blank (xs ++ b ∷ [])) p.0 (blanks_push xs b p.1 q)
-
 -- a text that isn't blanks alone
 abbrev NotBlank : List ℕ → Type 0
 NotBlank text = skip_blanks text ≢ []
-
--- a reader that is stuck is so with every text that goes on by the same byte
-why_dead : {A B : Type 0} (spec : Spec) (L L' : List ℕ → A → Type 0) (P P' : List ℕ → Result B Cause) (front rest : List ℕ) {cause : Cause} → Why spec L L' P P' front rest cause
-    → (again : List ℕ) → head_of again ≡ head_of rest → errs (P (front ++ again)) ≡ false → errs (P' (front ++ again)) ≡ false → ⊥
-why_dead spec L L' P P' front rest (new_form form dead) again same h k = false≢true (sym k ∙ dead again same)
-why_dead spec L L' P P' front rest (number_due form last others x goes dead) again same h k = false≢true (sym k ∙ dead again same)
-why_dead spec L L' P P' front rest (digit_more form last digit dead) again same h k = false≢true (sym k ∙ dead again same)
-why_dead spec L L' P P' front rest (fronts.too_deep first none others x goes dead) again same h k = false≢true (sym h ∙ dead again same)
-why_dead spec L L' P P' front rest (behind_digit form last other dead) again same h k = false≢true (sym k ∙ dead again same)
-why_dead spec L L' P P' front rest (no_digit form last none dead) again same h k = false≢true (sym k ∙ dead again same)
-
-head_some : (again : List ℕ) (b : ℕ) (bs : List ℕ) → head_of again ≡ head_of (b ∷ bs) → again ≢ []
-head_some [] b bs same e = cc same
-head_some (c ∷ again) b bs same e = cc e
-
-digit_some : (again : List ℕ) → begins_with_digit again ≡ true → again ≢ []
-digit_some [] h e = false≢true h
-digit_some (b ∷ bs) h e = cc e
 
 module _ (spec : Spec) where
   module _ (n : ℕ) where
@@ -119,7 +77,7 @@ module _ (spec : Spec) where
     finds text r (empty blanks) = rw (ap (λ t. length t == 0) (skip_all text blanks)) refl
     finds text r (range front after c are) =
         at_range (front ++ after) (λ e. terms_not_blank front r c (blanks_parts front after (all_blanks (front ++ after) e)).0)
-        ∙ ap (λ o. o >>= to_end spec) (ranges-rules.reads front r after c (((λ d. ap goes_on_number (sym (append-nil after)) ∙ blanks_no_number after [] are refl), begins 38), begins 124))
+        ∙ ap (λ o. o >>= to_end spec) (ranges-rules.reads front r after c (((λ d. ap (starts on_number) (sym (append-nil after)) ∙ blanks_go_on decimals after [] are refl), begins 38), begins 124))
         ∙ rw (ap (λ t. length t == 0) (skip_all after are)) refl
       where
         begins : (byte : ℕ) → begins_with byte (skip_blanks after) ≡ false
@@ -130,12 +88,12 @@ module _ (spec : Spec) where
     wider_stands text r (range front after c are) = range front after (wider_terms spec (Inside spec n) (Inside spec (suc n)) (wider_inside spec n) front r c) are
 
   abbrev TextFault : ℕ → List ℕ → Cause → Type 0
-  TextFault n = Fault spec (Stands spec n) (Stands spec (suc n)) (text_at spec n) (text_at spec (suc n))
+  TextFault n = Fault (range_kind spec) (Stands spec n) (Stands spec (suc n)) (text_at spec n) (text_at spec (suc n))
 
   -- ---- a fault of the range
 
   -- behind blanks the fault is at no blank
-  stuck_behind_blanks : (n : ℕ) (text : List ℕ) (cause : Cause) (f : Fault spec (Terms spec (Inside spec n)) (Terms spec (Inside spec (suc n))) (range_in (inside n spec) spec) (range_in (inside (suc n) spec) spec) text cause)
+  stuck_behind_blanks : (n : ℕ) (text : List ℕ) (cause : Cause) (f : Fault (range_kind spec) (Terms spec (Inside spec n)) (Terms spec (Inside spec (suc n))) (range_in (inside n spec) spec) (range_in (inside (suc n) spec) spec) text cause)
       → Blanks f.front → starts is_blank f.rest ≡ false
   stuck_behind_blanks n text cause f are = by f.rest refl
     where
@@ -147,7 +105,7 @@ module _ (spec : Spec) where
 
       blank_no : (b : ℕ) (rest : List ℕ) → f.rest ≡ b ∷ rest → is_blank b ≡ true → ⊥
       blank_no b rest e blank =
-          why_dead spec (Terms spec (Inside spec n)) (Terms spec (Inside spec (suc n))) (range_in (inside n spec) spec) (range_in (inside (suc n) spec) spec) f.front f.rest f.why
+          why_dead (range_kind spec) (Terms spec (Inside spec n)) (Terms spec (Inside spec (suc n))) (range_in (inside n spec) spec) (range_in (inside (suc n) spec) spec) f.front f.rest f.why
           (b ∷ codes "-any") (ap head_of (sym e)) (any_read n b blank) (any_read (suc n) b blank)
 
       by : (rest : List ℕ) → f.rest ≡ rest → starts is_blank f.rest ≡ false
@@ -160,23 +118,23 @@ module _ (spec : Spec) where
 
   range_stuck : (n : ℕ) (text : List ℕ) (cause : Cause) → NotBlank text → range_in (inside n spec) spec text ≡ Err cause → TextFault n text cause
   range_stuck n text cause some h =
-      fault_up_like spec (Terms spec (Inside spec n)) (Terms spec (Inside spec (suc n))) (range_in (inside n spec) spec) (range_in (inside (suc n) spec) spec)
+      fault_up_like (range_kind spec) (Terms spec (Inside spec n)) (Terms spec (Inside spec (suc n))) (range_in (inside n spec) spec) (range_in (inside (suc n) spec) spec)
       (Stands spec n) (Stands spec (suc n)) (text_at spec n) (text_at spec (suc n)) []
       (λ t r c. ([], r, range t [] c refl)) (λ t r c. ([], r, range t [] c refl)) text cause f refl
       (λ again like e. ap errs (at_range n (f.front ++ again) (not_blank again like)) ∙ errs_then (range_in (inside n spec) spec (f.front ++ again)) (to_end spec) e)
       (λ again like e. ap errs (at_range (suc n) (f.front ++ again) (not_blank again like)) ∙ errs_then (range_in (inside (suc n) spec) spec (f.front ++ again)) (to_end spec) e)
     where
-      f : Fault spec (Terms spec (Inside spec n)) (Terms spec (Inside spec (suc n))) (range_in (inside n spec) spec) (range_in (inside (suc n) spec) spec) text cause
+      f : Fault (range_kind spec) (Terms spec (Inside spec n)) (Terms spec (Inside spec (suc n))) (range_in (inside n spec) spec) (range_in (inside (suc n) spec) spec) text cause
       f = range_fault spec n text cause h
 
-      behind_blanks : Blanks f.front → (again : List ℕ) → Like again f.rest → (rest : List ℕ) → f.rest ≡ rest → NotBlank (f.front ++ again)
+      behind_blanks : Blanks f.front → (again : List ℕ) → Like decimals again f.rest → (rest : List ℕ) → f.rest ≡ rest → NotBlank (f.front ++ again)
       behind_blanks are again like [] e empty' = some (ap skip_blanks (f.whole ∙ ap (λ t. f.front ++ t) e ∙ append-nil f.front) ∙ skip_all f.front are)
       behind_blanks are again (inl same) (b ∷ rest) e empty' =
           head_some again b rest (same ∙ ap head_of e) (sym (skip_over f.front again are (starts_same is_blank f.rest again same ∙ stuck_behind_blanks n text cause f are)) ∙ empty')
       behind_blanks are again (inr digit) (b ∷ rest) e empty' =
-          digit_some again digit (sym (skip_over f.front again are (starts_digit is_blank blanks_none again digit)) ∙ empty')
+          digit_some is_ascii_digit again digit (sym (skip_over f.front again are (starts_digit decimals is_blank (blanks_none decimals) again digit)) ∙ empty')
 
-      not_blank : (again : List ℕ) → Like again f.rest → NotBlank (f.front ++ again)
+      not_blank : (again : List ℕ) → Like decimals again f.rest → NotBlank (f.front ++ again)
       not_blank again like = by (list_all is_blank f.front) refl
         where
           by : (t : Bool) → list_all is_blank f.front ≡ t → NotBlank (f.front ++ again)
@@ -189,22 +147,22 @@ module _ (spec : Spec) where
     wide-c : Terms spec (Inside spec (suc n)) front r
     wide-c = wider_terms spec (Inside spec n) (Inside spec (suc n)) (wider_inside spec n) front r c
 
-    still_some : (again : List ℕ) → Like again (skip_blanks behind) → again ≢ []
-    still_some again (inr digit) = digit_some again digit
+    still_some : (again : List ℕ) → Like decimals again (skip_blanks behind) → again ≢ []
+    still_some again (inr digit) = digit_some is_ascii_digit again digit
     still_some again (inl same) = by (skip_blanks behind) some same
       where
         by : (rest : List ℕ) → rest ≢ [] → head_of again ≡ head_of rest → again ≢ []
         by [] some same = absurd (some refl)
         by (b ∷ bs) some same = head_some again b bs same
 
-    left_over : (again : List ℕ) → Instead front behind again → errs (text_at spec (suc n) (front ++ instead behind again)) ≡ true
+    left_over : (again : List ℕ) → Instead decimals front behind again → errs (text_at spec (suc n) (front ++ instead behind again)) ≡ true
     left_over again i =
         ap errs (at_range (suc n) (front ++ instead behind again) (λ e. terms_not_blank (suc n) front r wide-c (blanks_parts front (instead behind again) (all_blanks (front ++ instead behind again) e)).0))
         ∙ ap (λ o. errs (o >>= to_end spec)) ((range_rules spec (suc n)).reads front r (instead behind again) wide-c (after_instead front behind again after i))
-        ∙ rw (ap (λ t. length t == 0) (skip_instead i) ∙ some_length again (still_some again (like_instead i))) refl
+        ∙ rw (ap (λ t. length t == 0) (skip_instead decimals i) ∙ some_length again (still_some again (like_instead decimals i))) refl
 
     left_fault : TextFault n (front ++ behind) (cause_at spec BadRange (skip_blanks behind))
-    left_fault = misplaced spec (Stands spec n) (Stands spec (suc n)) (text_at spec n) (text_at spec (suc n)) front behind after.0.0
+    left_fault = misplaced (range_kind spec) (Stands spec n) (Stands spec (suc n)) (text_at spec n) (text_at spec (suc n)) front behind after.0.0
         [] r (range front (instead behind []) c (subst Blanks (sym (append-nil (cut behind).blanks)) (cut behind).all)) left_over
 
   -- ---- a text and its answer
@@ -251,33 +209,23 @@ module _ (spec : Spec) where
   -- ---- the first fault
 
   module _ (n : ℕ) where
-    not_stands : (front rest : List ℕ) {cause : Cause} → Why spec (Stands spec n) (Stands spec (suc n)) (text_at spec n) (text_at spec (suc n)) front rest cause
-        → (again : List ℕ) → head_of again ≡ head_of rest → (r : Range) → Stands spec n (front ++ again) r → ⊥
-    not_stands front rest why again same r s =
-        why_dead spec (Stands spec n) (Stands spec (suc n)) (text_at spec n) (text_at spec (suc n)) front rest why again same
-        (ap errs (finds n (front ++ again) r s)) (ap errs (finds (suc n) (front ++ again) r (wider_stands n (front ++ again) r s)))
+    abbrev At : List ℕ → List ℕ → Cause → Type 0
+    At = Why (range_kind spec) (Stands spec n) (Stands spec (suc n)) (text_at spec n) (text_at spec (suc n))
 
-    stuck_of : (front rest : List ℕ) {cause : Cause} → Why spec (Stands spec n) (Stands spec (suc n)) (text_at spec n) (text_at spec (suc n)) front rest cause → Stuck spec n front rest
-    stuck_of front [] why = λ r s. not_stands front [] why [] refl r (subst (λ t. Stands spec n t r) (sym (append-nil front)) s)
-    stuck_of front (b ∷ rest) why = λ v. not_stands front (b ∷ rest) why (b ∷ v.0) refl v.1 (subst (λ t. Stands spec n t v.1) (append_assoc front (b ∷ []) v.0) v.2)
+    read_whole : (m : ℕ) (text : List ℕ) (r : Range) → Stands spec m text r → errs (text_at spec m text) ≡ false
+    read_whole m text r s = ap errs (finds m text r s)
 
-    -- one byte more of a text that can be completed
-    viable_by : (m : ℕ) (front : List ℕ) (b : ℕ) (others : List ℕ) (r : Range) → Stands spec m (front ++ b ∷ others) r → Viable spec m (front ++ b ∷ [])
-    viable_by m front b others r s = (others, r, subst (λ t. Stands spec m t r) (sym (append_assoc front (b ∷ []) others)) s)
+    stuck : (front rest : List ℕ) {cause : Cause} → At front rest cause → Stuck (Stands spec n) front rest
+    stuck = stuck_of (range_kind spec) (Stands spec n) (Stands spec (suc n)) (text_at spec n) (text_at spec (suc n)) (read_whole n) (read_whole (suc n)) (wider_stands n)
 
-    -- where no digit is read, none can be
-    no_viable_digit : (front : List ℕ) → NoDigit (text_at spec (suc n)) front → (digit : ℕ) → is_ascii_digit digit ≡ true → Viable spec n (front ++ digit ∷ []) → ⊥
-    no_viable_digit front none digit d v =
-        let s = wider_stands n (front ++ digit ∷ v.0) v.1 (subst (λ t. Stands spec n t v.1) (append_assoc front (digit ∷ []) v.0) v.2) in
-        false≢true (sym (ap errs (finds (suc n) (front ++ digit ∷ v.0) v.1 s)) ∙ none digit v.0 d)
+    no_digit_here : (front : List ℕ) → NoDigit decimals (text_at spec (suc n)) front → (digit : ℕ) → is_ascii_digit digit ≡ true → Viable spec n (front ++ digit ∷ []) → ⊥
+    no_digit_here = no_viable_digit (range_kind spec) (Stands spec n) (Stands spec (suc n)) (text_at spec n) (text_at spec (suc n)) (read_whole n) (read_whole (suc n)) (wider_stands n)
 
     not_deeper : (front rest : List ℕ) → Dead (text_at spec (suc n)) front rest → OpensTooMany spec n front rest → ⊥
     not_deeper front [] dead o = false≢true o.0
     not_deeper front (b ∷ rest) dead o =
-        let v = o.1 in
-        let s = subst (λ t. Stands spec (suc n) t v.1) (append_assoc front (codes "(") v.0) v.2 in
-        let same : head_of (40 ∷ v.0) ≡ head_of (b ∷ rest) = ap Some (sym (eqb-true b 40 o.0)) in
-        false≢true (sym (ap errs (finds (suc n) (front ++ 40 ∷ v.0) v.1 s)) ∙ dead (40 ∷ v.0) same)
+        not_wider (range_kind spec) (Stands spec n) (Stands spec (suc n)) (text_at spec n) (text_at spec (suc n)) (read_whole n) (read_whole (suc n)) (wider_stands n)
+        front b rest dead (subst (λ c. Viable spec (suc n) (front ++ c ∷ [])) (sym (eqb-true b 40 o.0)) o.1)
 
     not_new : (rest : List ℕ) → begins_with 40 rest ≡ true → IsNewForm spec rest → ⊥
     not_new [] h form = false≢true h
@@ -290,20 +238,33 @@ module _ (spec : Spec) where
     not_digit_open [] h d = false≢true h
     not_digit_open (b ∷ rest) h d = false≢true (ap is_ascii_digit (sym (eqb-true b 40 h)) ∙ d)
 
-    cause_of : (front rest : List ℕ) {cause : Cause} → Why spec (Stands spec n) (Stands spec (suc n)) (text_at spec n) (text_at spec (suc n)) front rest cause → CauseAt spec n front rest cause
+    cause_of : (front rest : List ℕ) {cause : Cause} → At front rest cause → CauseAt spec n front rest cause
     cause_of front rest (new_form form dead) = needs_version form
-    cause_of front rest (number_due form last others r s dead) = bad_version form (inl (last, (48, refl, viable_by n front 48 others r s)))
+    cause_of front rest (digit_due form last digit is others r s dead) = bad_version form (inl (last, (digit, is, viable_by (Stands spec n) front digit others r s)))
     cause_of front rest (digit_more form last digit dead) = bad_version form (inr (last, digit))
-    cause_of front rest (fronts.too_deep first none others r s dead) =
-        too_deep (not_new rest first)
-        (λ due. elim due [ inl p ↦ no_viable_digit front none p.1.0 p.1.1 p.1.2 | inr p ↦ not_digit_open rest first p.1 ])
-        (first, viable_by (suc n) front 40 others r s)
+    cause_of front rest (wider b bs {cause = cause} first names none others r s dead) = opens (b == 40) refl
+      where
+        opens : (t : Bool) → (b == 40) ≡ t → CauseAt spec n front rest cause
+        opens false q = absurd (cc (names, q, by_test q))
+          where
+            by_test : (b == 40) ≡ false → (range_kind spec).wide b ≡ None
+            by_test q = rw q refl
+        opens true q =
+            let at : begins_with 40 rest ≡ true = ap (begins_with 40) first ∙ q in
+            let same : TooDeep ≡ cause = cc (names, by_test q) in
+            subst (CauseAt spec n front rest) same
+            (too_deep (not_new rest at)
+            (λ due. elim due [ inl p ↦ no_digit_here front none p.1.0 p.1.1 p.1.2 | inr p ↦ not_digit_open rest at p.1 ])
+            (at, subst (λ c. Viable spec (suc n) (front ++ c ∷ [])) (eqb-true b 40 q) (viable_by (Stands spec (suc n)) front b others r s)))
+          where
+            by_test : (b == 40) ≡ true → (range_kind spec).wide b ≡ Some TooDeep
+            by_test q = rw q refl
     cause_of front rest (behind_digit form last other dead) =
         bad_range form (λ due. elim due [ inl p ↦ false≢true (sym p.0 ∙ last) | inr p ↦ false≢true (sym other ∙ p.1) ]) (not_deeper front rest dead)
     cause_of front rest (no_digit form last none dead) =
-        bad_range form (λ due. elim due [ inl p ↦ no_viable_digit front none p.1.0 p.1.1 p.1.2 | inr p ↦ false≢true (sym last ∙ p.0) ]) (not_deeper front rest dead)
+        bad_range form (λ due. elim due [ inl p ↦ no_digit_here front none p.1.0 p.1.1 p.1.2 | inr p ↦ false≢true (sym last ∙ p.0) ]) (not_deeper front rest dead)
 
   pub first_fault : (n : ℕ) (text : List ℕ) (cause : Cause) → text_at spec n text ≡ Err cause → FirstFault spec n text cause
   first_fault n text cause h =
       let f = text_fault n text cause h in
-      record { front = f.front; rest = f.rest; whole = f.whole; goes_on = (f.more, f.value, f.goes_on); stops = stuck_of n f.front f.rest f.why; is = cause_of n f.front f.rest f.why }
+      record { front = f.front; rest = f.rest; whole = f.whole; goes_on = (f.more, f.value, f.goes_on); stops = stuck n f.front f.rest f.why; is = cause_of n f.front f.rest f.why }

@@ -6,7 +6,8 @@ use Rattle.plan_types.specs.declared.range.Spec.TheVariants.{V2_4}
 use Rattle.version_range.specs.declared.operator.Operator.TheVariants as operator
 use Rattle.version_range.specs.Version.{version_text}
 use Rattle.version_range.specs.Print.{most_open}
-use Rattle.version_range.specs.Grammar.{led, behind, one, more, compared, any, version, atom, Stands, range, Viable, IsNewForm, ends_with_digit}
+use Rattle.version_range.specs.Grammar.{compared, any, version, atom, Stands, range, Viable, IsNewForm, ends_with_digit}
+use Rattle.text_grammar.specs.Parts.{led, behind, one, more}
 
 one_and_a_zero : version_text (1 ∷ 0 ∷ 12 ∷ []) ≡ codes "1.0.12"
 unfolding digits

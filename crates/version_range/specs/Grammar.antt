@@ -7,27 +7,24 @@ use Rattle.plan_types.specs.declared.range.Range.TheVariants.{Any, Nothing, Pref
 use Rattle.plan_types.specs.declared.range.Range.TheVariants as ranges
 use Rattle.plan_types.specs.declared.range.Spec.{Spec}
 use Rattle.plan_types.specs.declared.range.Spec.TheVariants.{V2_4, V3_0}
+use Rattle.plan_types.specs.Bytes.{Blanks, begins_with}
 use Rattle.plan_types.specs.declared.version.Version.{Version}
 use Rattle.plan_types.specs.declared.refusal.Cause.{Cause}
 use Rattle.plan_types.specs.declared.refusal.Cause.TheVariants.{BadVersion, BadRange, NeedsVersion, TooDeep}
+use Rattle.text_grammar.specs.Parts.{Led, Behind, Chain}
+use Rattle.text_grammar.specs.FirstFault as first
 use Rattle.version_range.specs.declared.operator.Operator.{Operator}
 use Rattle.version_range.specs.declared.operator.Operator.TheVariants.{Equal, AtLeast, Above, AtMost, Below, Major}
 use Rattle.version_range.specs.Version.{is_version, version_text, begins_with_digit}
 
+-- the texts of 3.0 and later may stand in it
+abbrev pub from_3 : Spec → Bool
+from_3 V2_4 = false
+from_3 V3_0 = true
+
 abbrev pub is_old : Spec → Bool
 is_old V2_4 = true
 is_old V3_0 = false
-
-abbrev pub begins_with : ℕ → List ℕ → Bool
-begins_with byte [] = false
-begins_with byte (b ∷ bs) = b == byte
-
--- spaces and tabs
-abbrev pub is_blank : ℕ → Bool
-is_blank b = b == 32 || b == 9
-
-abbrev pub Blanks : List ℕ → Type 0
-Blanks text = list_all is_blank text ≡ true
 
 abbrev pub operator_text : Operator → List ℕ
 operator_text Equal = codes "=="
@@ -48,22 +45,12 @@ of_version Major v = ranges.Major v
 
 -- a set may stand behind it
 abbrev pub has_sets : Operator → Spec → Bool
-has_sets Equal V3_0 = true
-has_sets Major V3_0 = true
-has_sets op spec = false
-
--- blanks, and then what has this
-pub data Led {A : Type 0} (Part : List ℕ → A → Type 0) : List ℕ → A → Type 0 where
-  led : (blanks : List ℕ) {text : List ℕ} {x : A} → Blanks blanks → Part text x → Led Part (blanks ++ text) x
-
--- blanks and a mark, and then what has this
-pub data Behind {A : Type 0} (mark : List ℕ) (Part : List ℕ → A → Type 0) : List ℕ → A → Type 0 where
-  behind : (blanks : List ℕ) {text : List ℕ} {x : A} → Blanks blanks → Part text x → Behind mark Part (blanks ++ mark ++ text) x
-
--- parts, each joined to all before it, so that they group from the left
-pub data Chain {A B : Type 0} (join : A → B → A) (First : List ℕ → A → Type 0) (Next : List ℕ → B → Type 0) : List ℕ → A → Type 0 where
-  one : {text : List ℕ} {x : A} → First text x → Chain join First Next text x
-  more : {text next : List ℕ} {left : A} {right : B} → Chain join First Next text left → Next next right → Chain join First Next (text ++ next) (join left right)
+has_sets Equal spec = from_3 spec
+has_sets AtLeast spec = false
+has_sets Above spec = false
+has_sets AtMost spec = false
+has_sets Below spec = false
+has_sets Major spec = from_3 spec
 
 -- a version, compared so
 pub data Compared (op : Operator) : List ℕ → Range → Type 0 where
@@ -104,12 +91,7 @@ pub data Stands (spec : Spec) (deepest : ℕ) : List ℕ → Range → Type 0 wh
 
 -- some bytes complete the text
 abbrev pub Viable : Spec → ℕ → List ℕ → Type 0
-Viable spec deepest front = (more : List ℕ) × (r : Range) × Stands spec deepest (front ++ more) r
-
--- no reading goes on at the first byte of the rest, or at the end of the text
-abbrev pub Stuck : Spec → ℕ → List ℕ → List ℕ → Type 0
-Stuck spec deepest front [] = (r : Range) → Stands spec deepest front r → ⊥
-Stuck spec deepest front (b ∷ rest) = Viable spec deepest (front ++ b ∷ []) → ⊥
+Viable spec deepest = first.Viable (Stands spec deepest)
 
 abbrev pub ends_with_digit : List ℕ → Bool
 ends_with_digit [] = false
@@ -138,10 +120,5 @@ pub data CauseAt (spec : Spec) (deepest : ℕ) (front rest : List ℕ) : Cause �
   bad_range : (IsNewForm spec rest → ⊥) → (IsNumberDue spec deepest front rest → ⊥) → (OpensTooMany spec deepest front rest → ⊥) → CauseAt spec deepest front rest BadRange
 
 -- the text is read up to here, no reading goes on, and this is the cause
-pub record FirstFault (spec : Spec) (deepest : ℕ) (text : List ℕ) (cause : Cause) : Type 0 where
-  pub front : List ℕ
-  pub rest : List ℕ
-  pub whole : text ≡ front ++ rest
-  pub goes_on : Viable spec deepest front
-  pub stops : Stuck spec deepest front rest
-  pub is : CauseAt spec deepest front rest cause
+abbrev pub FirstFault : Spec → ℕ → List ℕ → Cause → Type 0
+FirstFault spec deepest = first.FirstFault (Stands spec deepest) (CauseAt spec deepest)

@@ -7,36 +7,13 @@ use Rattle.plan_types.specs.declared.range.Spec.{Spec}
 use Rattle.plan_types.specs.declared.version.Version.{Version}
 use Rattle.plan_types.specs.declared.refusal.Cause.{Cause}
 use Rattle.plan_types.specs.declared.refusal.Cause.TheVariants.{BadVersion, BadRange, NeedsVersion, TooDeep}
-use Rattle.plan_types.specs.declared.refusal.TextFault.{TextFault}
-use Rattle.plan_types.specs.declared.refusal.TextFault.TheVariants.{NoMemory, Bad}
+use Rattle.plan_types.specs.Bytes.{begins_with}
+use Rattle.text_grammar.specs.Reading.{◌>>=◌, skip_blanks, byte_after, chained}
+use Rattle.text_grammar.specs.Reading as reading
 use Rattle.version_range.specs.declared.operator.Operator.{Operator}
 use Rattle.version_range.specs.declared.operator.Operator.TheVariants.{Equal, AtLeast, Above, AtMost, Below, Major}
 use Rattle.version_range.specs.Version.{number_after}
-use Rattle.version_range.specs.Grammar.{is_old, begins_with, of_version, has_sets}
-
-infixl 10 ◌>>=◌
-abbrev pub ◌>>=◌ : {A B : Type 0} → Result A Cause → (A → Result B Cause) → Result B Cause
-(Ok x) >>= f = f x
-(Err cause) >>= f = Err cause
-
--- what a call answered is what reading gives, unless memory was wanting
-abbrev pub Fails : {B : Type 0} → TextFault → Result B Cause → Type 0
-Fails NoMemory read = Unit {0}
-Fails (Bad cause) read = read ≡ Err cause
-
-abbrev pub Gives : {A B : Type 0} → (A → B) → Result A TextFault → Result B Cause → Type 0
-Gives view (Ok x) read = read ≡ Ok (view x)
-Gives view (Err fault) read = Fails fault read
-
--- without the spaces and tabs at the front
-abbrev pub skip_blanks : List ℕ → List ℕ
-skip_blanks [] = []
-skip_blanks (b ∷ bs) = if b == 32 || b == 9 then skip_blanks bs else b ∷ bs
-
--- what follows the byte, where it is the first
-abbrev pub byte_after : ℕ → List ℕ → Option (List ℕ)
-byte_after byte [] = None
-byte_after byte (b ∷ bs) = if b == byte then Some bs else None
+use Rattle.version_range.specs.Grammar.{is_old, of_version, has_sets}
 
 -- the cause at the byte that comes first in what is left
 abbrev pub cause_at : Spec → Cause → List ℕ → Cause
@@ -58,14 +35,6 @@ number_at spec text =
     if is_number (take (digits_in text) text) then Ok (number_after 0 (take (digits_in text) text), drop (digits_in text) text)
     else Err (cause_at spec BadVersion text)
 
--- Parts, each joined to those before it, up to where none follows. Each takes bytes, so there are at most n.
-unfoldable pub chain : {A B : Type 0} → (A → B → A) → (List ℕ → Result (Option (B × List ℕ)) Cause) → ℕ → A → List ℕ → Result (A × List ℕ) Cause
-chain join next zero left rest = Ok (left, rest)
-chain join next (suc n) left rest = next rest >>= λ found. elim found [ None ↦ Ok (left, rest) | Some p ↦ chain join next n (join left p.0) p.1 ]
-
-abbrev pub chained : {A B : Type 0} → (A → B → A) → (List ℕ → Result (Option (B × List ℕ)) Cause) → A × List ℕ → Result (A × List ℕ) Cause
-chained join next first = chain join next (length first.1 + 1) first.0 first.1
-
 abbrev pub followed : List ℕ → ℕ → List ℕ
 followed numbers number = numbers ++ number ∷ []
 
@@ -83,8 +52,12 @@ version_at star spec text = do
   all ← chained followed (next_number star spec) (first.0 ∷ [], first.1)
   Ok (record { parts = all.0 }, all.1)
 
+-- the cause where another byte is due, which is no digit
+abbrev pub missing : Spec → List ℕ → Cause
+missing spec = cause_at spec BadRange
+
 abbrev pub byte_due : Spec → ℕ → List ℕ → Result (List ℕ) Cause
-byte_due spec byte text = elim (byte_after byte text) [ None ↦ Err (cause_at spec BadRange text) | Some rest ↦ Ok rest ]
+byte_due spec = reading.byte_due (missing spec)
 
 -- where a second byte makes another operator
 abbrev pub either_at : Operator → Operator → List ℕ → Operator × List ℕ
@@ -162,10 +135,10 @@ factor_at inside spec text =
 
 -- what stands behind `&&` or `||`, where its first byte is there
 abbrev pub behind : Spec → ℕ → List ℕ → Result (Option (List ℕ)) Cause
-behind spec byte text = elim (byte_after byte (skip_blanks text)) [ None ↦ Ok None | Some more ↦ byte_due spec byte more >>= λ rest. Ok (Some rest) ]
+behind spec = reading.behind_twice (missing spec)
 
 abbrev pub next_at : (List ℕ → Result (Range × List ℕ) Cause) → Spec → ℕ → List ℕ → Result (Option (Range × List ℕ)) Cause
-next_at operand spec byte text = behind spec byte text >>= λ found. elim found [ None ↦ Ok None | Some rest ↦ operand rest >>= λ p. Ok (Some p) ]
+next_at operand spec = reading.next_at operand (missing spec)
 
 unfoldable pub term_at : (List ℕ → Result (Range × List ℕ) Cause) → Spec → List ℕ → Result (Range × List ℕ) Cause
 term_at inside spec text = factor_at inside spec (skip_blanks text) >>= chained ranges.Both (next_at (λ t. factor_at inside spec (skip_blanks t)) spec 38)

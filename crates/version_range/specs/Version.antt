@@ -5,9 +5,6 @@ use Rattle.std.specs.Fmt.{decimal}
 use Rattle.plan_types.specs.declared.range.Range.{Range}
 use Rattle.plan_types.specs.declared.range.Range.TheOpen.{Range-F, Any, Nothing, Equal, Prefix, AtLeast, Above, AtMost, Below, Major, Both, Either}
 use Rattle.plan_types.specs.declared.range.Range.TheFolds.{fold-Range}
-use Rattle.plan_types.specs.declared.refusal.Cause.{Cause}
-use Rattle.plan_types.specs.declared.refusal.TextFault.{TextFault}
-use Rattle.plan_types.specs.declared.refusal.TextFault.TheVariants.{NoMemory, Bad}
 
 -- what fits nine digits
 abbrev pub IsNumber : ℕ → Type 0
@@ -38,11 +35,6 @@ begins_with_digit (b ∷ bs) = is_ascii_digit b
 abbrev pub number_after : ℕ → List ℕ → ℕ
 number_after n [] = n
 number_after n (b ∷ bs) = number_after (10 * n + (b - 48)) bs
-
--- what is known where a text is refused; where memory is wanting, nothing
-abbrev pub Refuses : (Cause → Type 0) → TextFault → Type 0
-Refuses P NoMemory = Unit {0}
-Refuses P (Bad cause) = P cause
 
 -- the same as a test
 abbrev pub is_version : List ℕ → Bool

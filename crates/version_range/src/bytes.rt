@@ -1,47 +1,10 @@
-ghost use Rattle.std.specs.Prelude.{◌≡◌, ◌≢◌, ◌∷◌, ◌<◌, ◌≤◌, ℕ, List, length, drop, take, IfOk, IfSome, IfNone};
-ghost use Rattle.std.specs.Option.{option_copied};
+ghost use Rattle.std.specs.Prelude.{◌≡◌, ◌<◌, length, IfOk};
 ghost use Rattle.plan_types.specs.declared.refusal.TextFault.TheVariants.{Bad};
-ghost use Rattle.version_range.specs.Grammar.{begins_with};
-ghost use Rattle.version_range.specs.Read.{Gives, skip_blanks, byte_after, byte_due, cause_at};
+ghost use Rattle.text_grammar.specs.Reading.{Gives};
+ghost use Rattle.version_range.specs.Read.{byte_due, cause_at};
 
 use plan_types::{Cause, Spec, TextFault};
-
-/// Without the spaces and tabs at the front.
-pub fn skip_blanks(text: &[u8]) -> &[u8]
-    ensures rest { result.now ≡ skip_blanks text.now }
-    ensures within { length result.now ≤ length text.now }
-{
-    let mut rest = text;
-    while let [first, more @ ..] = rest {
-        if *first != b' ' && *first != b'\t' {
-            return rest;
-        }
-        rest = more;
-    }
-    rest
-}
-
-/// What follows the byte, where it is the first.
-pub fn byte_after(text: &[u8], byte: u8) -> Option<&[u8]>
-    ensures value { option_copied result ≡ byte_after byte text.now }
-    ensures some { IfSome result (λ rest. text.now ≡ byte ∷ rest.now) }
-    ensures none { IfNone result ((rest : List ℕ) → text.now ≢ byte ∷ rest) }
-    ensures within { IfSome result (λ rest. length rest.now < length text.now) }
-{
-    match text {
-        [first, rest @ ..] if *first == byte => Some(rest),
-        _ => None,
-    }
-}
-
-pub fn begins_with(text: &[u8], byte: u8) -> bool
-    ensures { result ≡ begins_with byte text.now }
-{
-    match text {
-        [first, ..] => *first == byte,
-        [] => false,
-    }
-}
+use text_grammar::{begins_with, byte_after};
 
 /// The fault at the first byte of what is left. A text of 2.4 has no braces.
 pub fn fault_at(spec: Spec, cause: Cause, rest: &[u8]) -> TextFault

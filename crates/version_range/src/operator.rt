@@ -1,5 +1,5 @@
 ghost use Rattle.std.specs.Prelude.{◌≡◌};
-ghost use Rattle.version_range.specs.Grammar.{of_version, has_sets};
+ghost use Rattle.version_range.specs.Grammar.{of_version, has_sets, from_3};
 
 use plan_types::{Range, Spec, Version};
 
@@ -32,10 +32,23 @@ impl Operator {
     pub fn has_sets(self, spec: Spec) -> bool
         ensures { result ≡ has_sets self spec }
     {
-        match (self, spec) {
-            (Operator::Equal, Spec::V3_0) => true,
-            (Operator::Major, Spec::V3_0) => true,
-            _ => false,
+        match self {
+            Operator::Equal => from_3(spec),
+            Operator::AtLeast => false,
+            Operator::Above => false,
+            Operator::AtMost => false,
+            Operator::Below => false,
+            Operator::Major => from_3(spec),
         }
+    }
+}
+
+// Whether the texts of 3.0 and later may stand in it.
+fn from_3(spec: Spec) -> bool
+    ensures { result ≡ from_3 spec }
+{
+    match spec {
+        Spec::V2_4 => false,
+        Spec::V3_0 => true,
     }
 }

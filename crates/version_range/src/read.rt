@@ -3,15 +3,18 @@ ghost use Rattle.std.specs.Prelude.{◌≡◌, ◌<◌, ◌≤◌, ◌∷◌, []
 ghost use Rattle.std.specs.Option.{option_map};
 ghost use Rattle.plan_types.specs.declared.range.Range.{Range};
 ghost use Rattle.plan_types.specs.declared.refusal.Cause.{Cause};
-ghost use Rattle.version_range.specs.Version.{Refuses, has_versions};
+ghost use Rattle.version_range.specs.Version.{has_versions};
+ghost use Rattle.plan_types.specs.Refusal.{Refuses};
 ghost use Rattle.version_range.specs.Grammar.{Stands, FirstFault};
-ghost use Rattle.version_range.specs.Read.{Gives, chained, followed, number_at, next_number, version_at, next_member, set_at, equal_at, compared_at, operand_at, word_at, operator_at, either_at, factor_at, behind, next_at, term_at, range_in, inside, range_of, skip_blanks};
+ghost use Rattle.version_range.specs.Read.{followed, number_at, next_number, version_at, next_member, set_at, equal_at, compared_at, operand_at, word_at, operator_at, either_at, factor_at, behind, next_at, term_at, range_in, inside, range_of};
+ghost use Rattle.text_grammar.specs.Reading.{Gives, chained, skip_blanks};
 
-use crate::bytes::{begins_with, byte_after, byte_due, fault_at, skip_blanks};
+use crate::bytes::{byte_due, fault_at};
 use crate::number::number_at;
 use crate::operator::Operator;
 use plan_types::{Boxed, Cause, List, NoMemory, Range, Spec, TextFault, Version};
 use std::alloc::Global;
+use text_grammar::{begins_with, byte_after, skip_blanks};
 
 fn number_due(spec: Spec, text: &[u8]) -> Result<(u32, &[u8]), TextFault>
     ensures gives { Gives (λ p. (p.0, p.1.now)) result (number_at spec text.now) }

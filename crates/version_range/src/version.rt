@@ -1,12 +1,13 @@
 ghost use Rattle.std.specs.Prelude.{◌≡◌, ◌≢◌, ℕ, ◌++◌, List, IsTrue, IfOk, IfErr, OnOk};
 ghost use Rattle.std.specs.Fmt.{decimal};
 ghost use Rattle.plan_types.specs.declared.refusal.Cause.TheVariants.{BadVersion};
-ghost use Rattle.version_range.specs.Version.{is_version, version_text, led_by_points, Refuses};
+ghost use Rattle.version_range.specs.Version.{is_version, version_text, led_by_points};
+ghost use Rattle.plan_types.specs.Refusal.{Refuses};
 
-use crate::bytes::byte_after;
 use crate::number::number_at;
 use plan_types::{Cause, List, NoMemory, Text, TextFault, Version};
 use std::alloc::Global;
+use text_grammar::byte_after;
 
 /// Reads a version: numbers joined by points, each of one to nine digits and with no leading zero
 /// unless it is `0`. Nothing may stand around it.

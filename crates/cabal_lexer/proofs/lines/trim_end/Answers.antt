@@ -1,6 +1,7 @@
 use Rattle.std.proofs.Common.{◌-◌, length, take, sym, ◌∙◌, ap, subst, reverse, arith}
 use Rattle.std.specs.Str.{IsCharBoundary}
-use Rattle.cabal_lexer.specs.Lines.{is_blank, indent}
+use Rattle.cabal_lexer.specs.Lines.{indent}
+use Rattle.plan_types.specs.Bytes.{is_blank}
 use Rattle.cabal_lexer.proofs.Texts.{boundary_end, is_blank-ascii, trailing-le, trim_end-take}
 use Rattle.cabal_lexer.proofs.lines.trim_end.Goals as goal
 

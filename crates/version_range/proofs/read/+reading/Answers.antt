@@ -2,8 +2,9 @@ use Rattle.std.proofs.Common.{◌+◌, ◌<◌, Ok, length, ap, ◌∙◌, subst
 use Rattle.std.specs.Option.{option_map, IfSome}
 use Rattle.std.proofs.lemmas.Result.{err_from_is_err_and}
 use Rattle.plan_types.specs.declared.range.Range.TheVariants.{Both, Either}
-use Rattle.version_range.specs.Read.{chain, factor_at, term_at, inside, next_at, skip_blanks}
-use Rattle.version_range.proofs.Chains.{goes_on, ends, is_done}
+use Rattle.version_range.specs.Read.{factor_at, term_at, inside, next_at}
+use Rattle.text_grammar.specs.Reading.{chain, skip_blanks}
+use Rattle.text_grammar.proofs.Chains.{goes_on, ends, is_done}
 use Rattle.version_range.proofs.read.+reading.Goals as goal
 
 pub factors_after-returns-in_err-right-clause-gives : goal.factors_after-returns-in_err-right-clause-gives

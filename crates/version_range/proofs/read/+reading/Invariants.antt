@@ -1,7 +1,8 @@
 use Rattle.std.proofs.Common.{◌≤◌, ◌+◌, ◌*◌, length}
 use Rattle.plan_types.specs.declared.range.Range.TheVariants.{Both, Either}
-use Rattle.version_range.specs.Read.{factor_at, term_at, inside, next_at, skip_blanks, chain}
-use Rattle.version_range.proofs.Chains.{Goes}
+use Rattle.version_range.specs.Read.{factor_at, term_at, inside, next_at}
+use Rattle.text_grammar.specs.Reading.{skip_blanks, chain}
+use Rattle.text_grammar.proofs.Chains.{Goes}
 use Rattle.version_range.proofs.read.+reading.Given as goal
 
 abbrev pub decreases-inside : goal.decreases-inside

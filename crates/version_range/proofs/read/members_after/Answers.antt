@@ -1,8 +1,9 @@
 use Rattle.std.proofs.Common.{◌+◌, ◌<◌, Ok, length, ap, ◌∙◌, subst, arith}
 use Rattle.std.specs.Option.{option_map, IfSome}
 use Rattle.std.proofs.lemmas.Result.{err_from_is_err_and}
-use Rattle.version_range.specs.Read.{chain, next_member}
-use Rattle.version_range.proofs.Chains.{goes_on, ends, is_done}
+use Rattle.version_range.specs.Read.{next_member}
+use Rattle.text_grammar.specs.Reading.{chain}
+use Rattle.text_grammar.proofs.Chains.{goes_on, ends, is_done}
 use Rattle.plan_types.specs.declared.range.Range.TheVariants.{Either}
 use Rattle.version_range.proofs.read.members_after.Goals as goal
 

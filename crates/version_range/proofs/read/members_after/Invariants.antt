@@ -1,7 +1,8 @@
 use Rattle.std.proofs.Common.{◌≤◌, ◌+◌, length}
 use Rattle.plan_types.specs.declared.range.Range.TheVariants.{Either}
-use Rattle.version_range.specs.Read.{next_member, chain}
-use Rattle.version_range.proofs.Chains.{Goes}
+use Rattle.version_range.specs.Read.{next_member}
+use Rattle.text_grammar.specs.Reading.{chain}
+use Rattle.text_grammar.proofs.Chains.{Goes}
 use Rattle.version_range.proofs.read.members_after.Given as goal
 
 -- the members so far go on to the whole

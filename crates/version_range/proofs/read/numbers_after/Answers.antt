@@ -1,8 +1,9 @@
 use Rattle.std.proofs.Common.{◌+◌, ◌<◌, Ok, length, ap, ◌∙◌, subst, arith}
 use Rattle.std.specs.Option.{option_map, IfSome}
 use Rattle.std.proofs.lemmas.Result.{err_from_is_err_and}
-use Rattle.version_range.specs.Read.{chain, followed, next_number}
-use Rattle.version_range.proofs.Chains.{goes_on, ends, is_done}
+use Rattle.version_range.specs.Read.{followed, next_number}
+use Rattle.text_grammar.specs.Reading.{chain}
+use Rattle.text_grammar.proofs.Chains.{goes_on, ends, is_done}
 use Rattle.version_range.proofs.read.numbers_after.Goals as goal
 
 pub returns-in_err-number-clause-gives : goal.returns-in_err-number-clause-gives

@@ -1,6 +1,7 @@
 use Rattle.std.proofs.Common.{◌≤◌, ◌+◌, length}
-use Rattle.version_range.specs.Read.{followed, next_number, chain}
-use Rattle.version_range.proofs.Chains.{Goes}
+use Rattle.version_range.specs.Read.{followed, next_number}
+use Rattle.text_grammar.specs.Reading.{chain}
+use Rattle.text_grammar.proofs.Chains.{Goes}
 use Rattle.version_range.proofs.read.numbers_after.Given as goal
 
 -- the numbers so far go on to the whole

@@ -1,12 +1,12 @@
 -- Parts read one after the other, against the language of their chains.
 use Rattle.std.proofs.Common.{◌≡◌, ◌≢◌, ℕ, zero, suc, ◌+◌, ◌<◌, true, List, [], ◌∷◌, ◌++◌, length, Option, Some, None, Result, Ok, Err, refl, sym, ap, ◌∙◌, subst, append_assoc, append-nil, length-append, arith}
-use Rattle.plan_types.specs.declared.range.Spec.{Spec}
 use Rattle.plan_types.specs.declared.refusal.Cause.{Cause}
 use Rattle.plan_types.specs.declared.refusal.TextFault.TheVariants.{Bad}
-use Rattle.version_range.specs.Read.{◌>>=◌, chain, chained}
-use Rattle.version_range.specs.Grammar.{Chain, one, more}
-use Rattle.version_range.proofs.Chains.{Goes, begun, goes_on, is_done, ends, step, stop, broken}
-use Rattle.version_range.proofs.Fronts.{Reader, errs, ends_some, Read, Fault, fault_up}
+use Rattle.text_grammar.specs.Reading.{◌>>=◌, chain, chained}
+use Rattle.text_grammar.specs.Parts.{Chain, one, more}
+use Rattle.text_grammar.proofs.TextKind.{Kind}
+use Rattle.text_grammar.proofs.Chains.{Goes, begun, goes_on, is_done, ends, step, stop, broken}
+use Rattle.text_grammar.proofs.Fronts.{Reader, errs, ends_some, Read, Fault, fault_up}
 
 -- a reader of what comes next, if anything does
 abbrev pub Option-Reader : Type 0 → Type 0
@@ -124,7 +124,7 @@ map_chain join First First' Next Next' f g {text} {x} (one h) = one (f text x h)
 map_chain join First First' Next Next' f g (more {next = front} {right = right} c n) = more (map_chain join First First' Next Next' f g c) (g front right n)
 
 -- The same with one more parenthesis: the faults of the whole are those of its parts.
-module _ {A B : Type 0} (spec : Spec) (join : A → B → A) (First First' : List ℕ → A → Type 0) (Next Next' : List ℕ → B → Type 0) (E : List ℕ → List ℕ → Type 0)
+module _ {A B : Type 0} (kind : Kind) (join : A → B → A) (First First' : List ℕ → A → Type 0) (Next Next' : List ℕ → B → Type 0) (E : List ℕ → List ℕ → Type 0)
     (first first' : Reader A) (next next' : Option-Reader B) (rules : Parts First Next E first next) (rules' : Parts First' Next' E first' next')
     (wider : (text : List ℕ) (x : A) → First text x → First' text x) (wider-next : (text : List ℕ) (y : B) → Next text y → Next' text y) where
   pub wide : {text : List ℕ} {x : A} → Chain join First Next text x → Chain join First' Next' text x
@@ -132,7 +132,7 @@ module _ {A B : Type 0} (spec : Spec) (join : A → B → A) (First First' : Lis
 
   -- the next part fails behind its first byte
   pub record NextFault (text : List ℕ) (cause : Cause) : Type 0 where
-    pub fault : Fault spec Next Next' next next' text cause
+    pub fault : Fault kind Next Next' next next' text cause
     pub begun : fault.front ≢ []
     pub opens : (text again : List ℕ) → E text (fault.front ++ again)
 
@@ -140,19 +140,19 @@ module _ {A B : Type 0} (spec : Spec) (join : A → B → A) (First First' : Lis
   ends_with join next left rest whole g h = let e = err_of (next rest) h in ap errs (ends join next (Bad e.0) left rest whole g e.1)
 
   fault_next : (text : List ℕ) (left : A) → Chain join First Next text left → (behind : List ℕ) (cause : Cause) → NextFault behind cause
-      → Fault spec (Chain join First Next) (Chain join First' Next') (all_of join first next) (all_of join first' next') (text ++ behind) cause
+      → Fault kind (Chain join First Next) (Chain join First' Next') (all_of join first next) (all_of join first' next') (text ++ behind) cause
   fault_next text left c behind cause n =
       let f = n.fault in
-      fault_up spec Next Next' next next' (Chain join First Next) (Chain join First' Next') (all_of join first next) (all_of join first' next') text
+      fault_up kind Next Next' next next' (Chain join First Next) (Chain join First' Next') (all_of join first next) (all_of join first' next') text
       (λ t y k. ([], join left y, subst (λ t'. Chain join First Next (text ++ t') (join left y)) (sym (append-nil t)) (more c k)))
       (λ t y k. ([], join left y, subst (λ t'. Chain join First' Next' (text ++ t') (join left y)) (sym (append-nil t)) (more (wide c) k)))
-      behind cause f (ends_some text f.front n.begun)
+      behind cause f (ends_some kind.digits.digit text f.front n.begun)
       (λ again h. ends_with join next left (f.front ++ again) (all_of join first next (text ++ (f.front ++ again))) (reach join First Next E first next rules c (f.front ++ again) (n.opens text again)) h)
       (λ again h. ends_with join next' left (f.front ++ again) (all_of join first' next' (text ++ (f.front ++ again))) (reach join First' Next' E first' next' rules' (wide c) (f.front ++ again) (n.opens text again)) h)
 
   abbrev FailsOn : ℕ → Type 0
   FailsOn n = (text : List ℕ) (left : A) (c : Chain join First Next text left) (behind : List ℕ) (cause : Cause) → E text behind → length behind < n → chain join next n left behind ≡ Err cause
-      → Fault spec (Chain join First Next) (Chain join First' Next') (all_of join first next) (all_of join first' next') (text ++ behind) cause
+      → Fault kind (Chain join First Next) (Chain join First' Next') (all_of join first next) (all_of join first' next') (text ++ behind) cause
 
   module _ (next_fault : (text : List ℕ) (cause : Cause) → next text ≡ Err cause → NextFault text cause) where
     fail_on : (n : ℕ) → FailsOn n
@@ -160,7 +160,7 @@ module _ {A B : Type 0} (spec : Spec) (join : A → B → A) (First First' : Lis
     fail_on (suc n) text left c behind cause e enough h = by (fail_on n) (next behind) refl
       where
         by : FailsOn n → (o : Result (Option (B × List ℕ)) Cause) → next behind ≡ o
-            → Fault spec (Chain join First Next) (Chain join First' Next') (all_of join first next) (all_of join first' next') (text ++ behind) cause
+            → Fault kind (Chain join First Next) (Chain join First' Next') (all_of join first next) (all_of join first' next') (text ++ behind) cause
         by on (Err why) q =
             let same : why ≡ cause = cc (h, broken join next n left behind why q) in
             fault_next text left c behind cause (subst (NextFault behind) same (next_fault behind why q))
@@ -169,17 +169,17 @@ module _ {A B : Type 0} (spec : Spec) (join : A → B → A) (First First' : Lis
             let r = rules.next_read behind p.0 p.1 q in
             let less : length p.1 < length behind = subst (λ t. length p.1 < length t) (sym r.whole) (longer r.front p.1 (not_empty join First Next E first next rules r.front p.0 r.is)) in
             let f = on (text ++ r.front) (join left p.0) (more c r.is) p.1 cause (rules.behind text r.front p.1 p.0 r.is r.apart) (omega (arith, less, enough)) (sym (step join next n left behind p.0 p.1 q) ∙ h) in
-            subst (λ t. Fault spec (Chain join First Next) (Chain join First' Next') (all_of join first next) (all_of join first' next') t cause) (append_assoc text r.front p.1 ∙ ap (λ t. text ++ t) (sym r.whole)) f
+            subst (λ t. Fault kind (Chain join First Next) (Chain join First' Next') (all_of join first next) (all_of join first' next') t cause) (append_assoc text r.front p.1 ∙ ap (λ t. text ++ t) (sym r.whole)) f
 
-    pub fault_all : (first_fault : (text : List ℕ) (cause : Cause) → first text ≡ Err cause → Fault spec First First' first first' text cause)
+    pub fault_all : (first_fault : (text : List ℕ) (cause : Cause) → first text ≡ Err cause → Fault kind First First' first first' text cause)
         → (text : List ℕ) (cause : Cause) → all_of join first next text ≡ Err cause
-        → Fault spec (Chain join First Next) (Chain join First' Next') (all_of join first next) (all_of join first' next') text cause
+        → Fault kind (Chain join First Next) (Chain join First' Next') (all_of join first next) (all_of join first' next') text cause
     fault_all first_fault text cause h = by (first text) refl
       where
-        by : (o : Result (A × List ℕ) Cause) → first text ≡ o → Fault spec (Chain join First Next) (Chain join First' Next') (all_of join first next) (all_of join first' next') text cause
+        by : (o : Result (A × List ℕ) Cause) → first text ≡ o → Fault kind (Chain join First Next) (Chain join First' Next') (all_of join first next) (all_of join first' next') text cause
         by (Err why) q =
             let same : why ≡ cause = cc (h, ap (λ r. r >>= chained join next) q) in
-            fault_up spec First First' first first' (Chain join First Next) (Chain join First' Next') (all_of join first next) (all_of join first' next') []
+            fault_up kind First First' first first' (Chain join First Next) (Chain join First' Next') (all_of join first next) (all_of join first' next') []
             (λ t x k. ([], x, subst (λ t'. Chain join First Next t' x) (sym (append-nil t)) (one k)))
             (λ t x k. ([], x, subst (λ t'. Chain join First' Next' t' x) (sym (append-nil t)) (one k)))
             text cause (first_fault text cause (q ∙ ap Err same)) refl
@@ -187,5 +187,5 @@ module _ {A B : Type 0} (spec : Spec) (join : A → B → A) (First First' : Lis
             (λ again e. errs_then (first' _) (chained join next') e)
         by (Ok p) q =
             let r = rules.first_read text p.0 p.1 q in
-            subst (λ t. Fault spec (Chain join First Next) (Chain join First' Next') (all_of join first next) (all_of join first' next') t cause) (sym r.whole)
+            subst (λ t. Fault kind (Chain join First Next) (Chain join First' Next') (all_of join first next) (all_of join first' next') t cause) (sym r.whole)
             (fail_on (length p.1 + 1) r.front p.0 (one r.is) p.1 cause r.apart (omega arith) (sym (ap (λ r. r >>= chained join next) q) ∙ h))

@@ -3,7 +3,7 @@ use Rattle.std.proofs.Common.{◌≡◌, ℕ, zero, suc, ◌+◌, ◌<◌, List,
 use Rattle.plan_types.specs.declared.refusal.Cause.{Cause}
 use Rattle.plan_types.specs.declared.refusal.TextFault.{TextFault}
 use Rattle.plan_types.specs.declared.refusal.TextFault.TheVariants.{NoMemory, Bad}
-use Rattle.version_range.specs.Read.{◌>>=◌, Fails, chain}
+use Rattle.text_grammar.specs.Reading.{◌>>=◌, Fails, chain}
 
 module _ {A B : Type 0} (join : A → B → A) (next : List ℕ → Result (Option (B × List ℕ)) Cause) where
   -- what is left is read to the end that the whole has
