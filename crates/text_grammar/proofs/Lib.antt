@@ -8,3 +8,5 @@ pub mod Operands
 pub mod Closings
 pub mod Steps
 pub mod Exactly
+pub mod TwoChains
+pub mod Letters

@@ -1,5 +1,6 @@
 -- Texts made of parts. A language tells which text stands for which value.
-use Rattle.std.specs.Prelude.{ℕ, List, ◌++◌}
+use Rattle.std.specs.Prelude.{◌≡◌, ℕ, List, ◌++◌, codes}
+use Rattle.std.specs.Str.{str_to_ascii_lowercase}
 use Rattle.plan_types.specs.Bytes.{Blanks}
 
 -- blanks, and then what has this
@@ -14,3 +15,15 @@ pub data Behind {A : Type 0} (mark : List ℕ) (Part : List ℕ → A → Type 0
 pub data Chain {A B : Type 0} (join : A → B → A) (First : List ℕ → A → Type 0) (Next : List ℕ → B → Type 0) : List ℕ → A → Type 0 where
   one : {text : List ℕ} {x : A} → First text x → Chain join First Next text x
   more : {text next : List ℕ} {left : A} {right : B} → Chain join First Next text left → Next next right → Chain join First Next (text ++ next) (join left right)
+
+-- factors joined by `&&`
+abbrev pub Term : {A : Type 0} → (A → A → A) → (List ℕ → A → Type 0) → List ℕ → A → Type 0
+Term both Factor = Chain both (Led Factor) (Behind (codes "&&") (Led Factor))
+
+-- terms joined by `||`
+abbrev pub Terms : {A : Type 0} → (A → A → A) → (A → A → A) → (List ℕ → A → Type 0) → List ℕ → A → Type 0
+Terms both either Factor = Chain either (Term both Factor) (Behind (codes "||") (Term both Factor))
+
+-- the letters of a word in any case, and then what has this
+pub data Worded {A : Type 0} (word : List ℕ) (Part : List ℕ → A → Type 0) : List ℕ → A → Type 0 where
+  worded : (letters : List ℕ) {text : List ℕ} {x : A} → str_to_ascii_lowercase letters ≡ word → Part text x → Worded word Part (letters ++ text) x

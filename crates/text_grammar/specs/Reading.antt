@@ -1,5 +1,6 @@
 -- How texts are read from left to right. What a text stands for and which fault is the first is told without this.
-use Rattle.std.specs.Prelude.{◌≡◌, ◌+◌, ℕ, zero, suc, ◌==◌, ◌||◌, if◌then◌else◌, List, [], ◌∷◌, length, Option, Some, None, Result, Ok, Err}
+use Rattle.std.specs.Prelude.{◌≡◌, ◌+◌, ℕ, zero, suc, Bool, ◌==◌, ◌||◌, if◌then◌else◌, List, [], ◌∷◌, length, Option, Some, None, Result, Ok, Err}
+use Rattle.std.specs.Char.{to_ascii_lowercase}
 use Rattle.plan_types.specs.declared.refusal.Cause.{Cause}
 use Rattle.plan_types.specs.declared.refusal.TextFault.{TextFault}
 use Rattle.plan_types.specs.declared.refusal.TextFault.TheVariants.{NoMemory, Bad}
@@ -47,3 +48,26 @@ behind_twice missing byte text = elim (byte_after byte (skip_blanks text)) [ Non
 -- an operand behind them
 abbrev pub next_at : {A : Type 0} → (List ℕ → Result (A × List ℕ) Cause) → (List ℕ → Cause) → ℕ → List ℕ → Result (Option (A × List ℕ)) Cause
 next_at operand missing byte text = behind_twice missing byte text >>= λ found. elim found [ None ↦ Ok None | Some rest ↦ operand rest >>= λ p. Ok (Some p) ]
+
+abbrev pub term_at : {A : Type 0} → (A → A → A) → (List ℕ → Cause) → (List ℕ → Result (A × List ℕ) Cause) → List ℕ → Result (A × List ℕ) Cause
+term_at both missing factor text = factor (skip_blanks text) >>= chained both (next_at (λ t. factor (skip_blanks t)) missing 38)
+
+abbrev pub terms_at : {A : Type 0} → (A → A → A) → (A → A → A) → (List ℕ → Cause) → (List ℕ → Result (A × List ℕ) Cause) → List ℕ → Result (A × List ℕ) Cause
+terms_at both either missing factor text = term_at both missing factor text >>= chained either (next_at (term_at both missing factor) missing 124)
+
+-- what follows the first byte, where it passes a test
+abbrev pub pass_after : (ℕ → Bool) → List ℕ → Option (List ℕ)
+pass_after test [] = None
+pass_after test (b ∷ bs) = if test b then Some bs else None
+
+-- a letter in any case; the letter itself is in lower case
+abbrev pub is_letter : ℕ → ℕ → Bool
+is_letter letter b = to_ascii_lowercase b == letter
+
+abbrev pub letter_after : ℕ → List ℕ → Option (List ℕ)
+letter_after letter = pass_after (is_letter letter)
+
+-- the letters of a word, which must stand here, in any case
+abbrev pub word_due : (List ℕ → Cause) → List ℕ → List ℕ → Result (List ℕ) Cause
+word_due missing [] text = Ok text
+word_due missing (letter ∷ letters) text = elim (letter_after letter text) [ None ↦ Err (missing text) | Some rest ↦ word_due missing letters rest ]
