@@ -1,6 +1,6 @@
 ghost use Rattle.std.specs.Prelude.{◌≡◌, ◌++◌, [], refl, IfOk, OnOk, OnErr, Some, nat_eq, length};
 ghost use Rattle.std.specs.Hash as fed;
-ghost use Rattle.std.specs.Str.{IsAscii};
+ghost use Rattle.std.specs.Str.{IsAscii, str_to_ascii_lowercase};
 ghost use Rattle.std.specs.Ordering.{nat_cmp};
 ghost use Rattle.std.specs.Cmp.{partial_equiv_from_equiv};
 ghost use Rattle.std.specs.Cmp.Lexicographic.{pointwise, slice_cmp, nat_list_eq_equiv, nat_list_cmp_total, texts_po, texts_ties};
@@ -56,6 +56,13 @@ impl Text {
     {
         let text = ascii_str(bytes);
         Text::from_str(alloc, text)
+    }
+
+    /// Puts ASCII letters in lower case.
+    pub fn make_ascii_lowercase(&mut self)
+        ensures { self.new ≡ str_to_ascii_lowercase self.old }
+    {
+        self.string.make_ascii_lowercase();
     }
 
     pub fn from_string(string: String) -> Text

@@ -8,12 +8,12 @@ use Rattle.plan_types.specs.Refusal.{Refuses}
 use Rattle.text_grammar.specs.FirstFault.{Viable, Stuck, FirstFault}
 
 -- of two fronts of a text one goes on from the other
-data Order (xs ys zs ws : List ℕ) : Type 0 where
+pub data Order (xs ys zs ws : List ℕ) : Type 0 where
   shorter : (b : ℕ) (between : List ℕ) → zs ≡ xs ++ b ∷ between → ys ≡ b ∷ (between ++ ws) → Order xs ys zs ws
   same : xs ≡ zs → ys ≡ ws → Order xs ys zs ws
   longer : (b : ℕ) (between : List ℕ) → xs ≡ zs ++ b ∷ between → ws ≡ b ∷ (between ++ ys) → Order xs ys zs ws
 
-order : (xs ys zs ws : List ℕ) → xs ++ ys ≡ zs ++ ws → Order xs ys zs ws
+pub order : (xs ys zs ws : List ℕ) → xs ++ ys ≡ zs ++ ws → Order xs ys zs ws
 order [] ys [] ws e = same refl e
 order [] ys (z ∷ zs) ws e = shorter z zs refl e
 order (x ∷ xs) ys [] ws e = longer x xs refl (sym e)

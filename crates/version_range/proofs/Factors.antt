@@ -48,7 +48,7 @@ or_follows : (text blanks again : List ℕ) → Blanks blanks → AfterTerm text
 or_follows text blanks again all = ((λ d. blanks_go_on decimals blanks (124 ∷ again) all refl), ap (begins_with 38) (skip_over blanks (124 ∷ again) all refl))
 
 -- a closing parenthesis
-close_follows : (text blanks again : List ℕ) → Blanks blanks → AfterRange text (blanks ++ (41 ∷ again))
+pub close_follows : (text blanks again : List ℕ) → Blanks blanks → AfterRange text (blanks ++ (41 ∷ again))
 close_follows text blanks again all =
     let over = skip_over blanks (41 ∷ again) all refl in
     (((λ d. blanks_go_on decimals blanks (41 ∷ again) all refl), ap (begins_with 38) over), ap (begins_with 124) over)
@@ -69,7 +69,7 @@ at_atom I spec text other = ap (λ (o : Option (List ℕ)). elim o [ Some rest �
 opened : {spec : Spec} {L : List ℕ → Range → Type 0} {text : List ℕ} {r : Range} → Closed 41 L text r → Factor spec L (40 ∷ text) r
 opened {spec = spec} {L = L} {r = r} (closed text after is all) = subst (λ t. Factor spec L (40 ∷ t) r) (append_assoc text after (41 ∷ [])) (enclosed text after is all)
 
-never_factor : (spec : Spec) (L : List ℕ → Range → Type 0) (test : ℕ → Bool) → test 40 ≡ false → Never test (Atom spec) → Never test (Factor spec L)
+pub never_factor : (spec : Spec) (L : List ℕ → Range → Type 0) (test : ℕ → Bool) → test 40 ≡ false → Never test (Atom spec) → Never test (Factor spec L)
 never_factor spec L test open' never text r (atom a) = never text r a
 never_factor spec L test open' never text r (enclosed front blanks is all) = (40, (front ++ blanks) ++ codes ")", refl, open')
 

@@ -14,3 +14,4 @@ pub mod Sets
 pub mod Atoms
 pub mod Exact
 pub mod Forms
+pub mod NoBraces

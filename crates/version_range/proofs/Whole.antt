@@ -83,7 +83,7 @@ module _ (spec : Spec) where
         begins : (byte : ℕ) → begins_with byte (skip_blanks after) ≡ false
         begins byte = ap (begins_with byte) (skip_all after are)
 
-    wider_stands : (text : List ℕ) (r : Range) → Stands spec n text r → Stands spec (suc n) text r
+    pub wider_stands : (text : List ℕ) (r : Range) → Stands spec n text r → Stands spec (suc n) text r
     wider_stands text r (empty blanks) = empty blanks
     wider_stands text r (range front after c are) = range front after (wider_terms spec (Inside spec n) (Inside spec (suc n)) (wider_inside spec n) front r c) are
 

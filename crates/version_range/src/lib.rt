@@ -17,7 +17,7 @@ mod version;
 pub use cuts::Cuts;
 pub use laws::{one_fault, one_range, range_or_fault, reads_back};
 pub use print::print_range;
-pub use read::read_range;
+pub use read::{range_at_front, read_range};
 pub use version::{print_version, read_version};
 
 #[cfg(test)]

@@ -391,6 +391,15 @@ pub fn read_range(alloc: Global, text: &[u8], spec: Spec) -> Result<Range, TextF
     whole(alloc, text, spec)
 }
 
+/// Reads the range at the front of a text in which more follows, and gives what follows. The range isn't
+/// empty, and blanks may stand before it.
+pub fn range_at_front(alloc: Global, text: &[u8], spec: Spec) -> Result<(Range, &[u8]), TextFault>
+    ensures gives { Gives (λ p. (p.0, p.1.now)) result (range_in (inside 64 spec) spec text.now) }
+    ensures within { IfOk result (λ p. length p.1.now < length text.now) }
+{
+    range_in(alloc, spec, 64, text)
+}
+
 #[tactic(auto, unfolding(crate::specs::Read::range_of))]
 fn whole(alloc: Global, text: &[u8], spec: Spec) -> Result<Range, TextFault>
     ensures { Gives (λ r. r) result (range_of spec text.now) }

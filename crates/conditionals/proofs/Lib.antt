@@ -1,0 +1,3 @@
+pub mod Tails
+pub mod CondKind
+pub mod CondTails
