@@ -16,6 +16,9 @@ no_bytes = record { digit = λ b. false; on = λ b. false; digit_on = λ b h. re
 abbrev pub is_opener : ℕ → Bool
 is_opener b = b == 40 || b == 33
 
+abbrev pub is_open : ℕ → Bool
+is_open b = b == 40
+
 -- the bytes that only the wider grammar reads
 abbrev pub wide_cause : Spec → ℕ → Option Cause
 wide_cause spec b = if is_opener b then Some TooDeep else if is_old spec && b == 123 then Some NeedsVersion else None

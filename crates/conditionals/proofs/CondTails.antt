@@ -19,18 +19,11 @@ use Rattle.version_range.proofs.RangeKind.{decimals, range_kind}
 use Rattle.version_range.proofs.NoBraces.{is_plain, Plain, plain_append, plain_parts, stands_plain}
 use Rattle.version_range.proofs.Whole.{wider_stands}
 use Rattle.conditionals.specs.Grammar.{Versions, versions, WiderVersions, deeper, broken}
-use Rattle.conditionals.specs.Reading.{cond_cause}
+use Rattle.conditionals.specs.Reading.{cond_cause, told, tail_at, cond_tail}
 use Rattle.conditionals.proofs.CondKind.{no_bytes, cond_kind, ends_none, apart, no_digit_stands}
-use Rattle.conditionals.proofs.Tails.{tail_at, tail_reads, tail_read, tail_fault}
+use Rattle.conditionals.proofs.Tails.{tail_reads, tail_read, tail_fault}
 
 -- ---- readers
-
-abbrev pub told : {A : Type 0} → Result A Cause → Result A Cause
-told (Ok x) = Ok x
-told (Err cause) = Err (cond_cause cause)
-
-abbrev pub cond_tail : Spec → ℕ → Reader Range
-cond_tail spec n text = told (tail_at spec n text)
 
 abbrev breaks : {A : Type 0} → Result A Cause → Bool
 breaks (Ok x) = false

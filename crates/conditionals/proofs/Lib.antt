@@ -1,3 +1,6 @@
 pub mod Tails
 pub mod CondKind
 pub mod CondTails
+pub mod Names
+pub mod Compilers
+pub mod Atoms

@@ -23,13 +23,10 @@ use Rattle.version_range.proofs.RangeKind.{decimals, range_kind}
 use Rattle.version_range.proofs.Atoms.{never_atom}
 use Rattle.version_range.proofs.Factors.{AfterRange, close_follows, after_instead, never_factor, range_rules, range_fault, wider_inside, wider_terms}
 use Rattle.conditionals.specs.Grammar.{Versions, versions}
+use Rattle.conditionals.specs.Reading.{tail_at}
 
 abbrev pub ranges : Spec → ℕ → Reader Range
 ranges spec n = closing (missing spec) 41 (range_in (inside n spec) spec)
-
--- an empty text, or a range; and then the parenthesis
-abbrev pub tail_at : Spec → ℕ → Reader Range
-tail_at spec n text = elim (byte_after 41 (skip_blanks text)) [ Some rest ↦ Ok (Any, rest) | None ↦ ranges spec n text ]
 
 module _ (spec : Spec) (n : ℕ) where
   at_close : (text rest : List ℕ) → skip_blanks text ≡ 41 ∷ rest → tail_at spec n text ≡ Ok (Any, rest)

@@ -34,7 +34,15 @@ closed r = byte_due bad 41 (skip_blanks r.1) >>= λ rest. Ok (r.0, rest)
 
 -- blanks, a `(`, blanks, and what stands in the parenthesis
 abbrev pub argument : {A : Type 0} → (List ℕ → Result (A × List ℕ) Cause) → List ℕ → Result (A × List ℕ) Cause
-argument read text = byte_due bad 40 (skip_blanks text) >>= λ rest. read (skip_blanks rest)
+argument read text = elim (byte_after 40 (skip_blanks text)) [ None ↦ Err BadCond | Some rest ↦ read (skip_blanks rest) ]
+
+-- a name in parentheses
+abbrev pub named_at : (ℕ → Bool) → (ℕ → Bool) → List ℕ → Result (List ℕ × List ℕ) Cause
+named_at first part = argument (λ text. name_at first part text >>= closed)
+
+-- a byte that may begin the name of a flag
+abbrev pub begins_flag : ℕ → Bool
+begins_flag b = not (b == 45)
 
 -- what is refused of a range is refused of a condition
 abbrev pub cond_cause : Cause → Cause
@@ -53,3 +61,60 @@ cond_cause NoPackages = BadCond
 cond_cause TooLarge = BadCond
 cond_cause TooMany = BadCond
 cond_cause Unbuilt = BadCond
+
+abbrev pub told : {A : Type 0} → Result A Cause → Result A Cause
+told (Ok x) = Ok x
+told (Err cause) = Err (cond_cause cause)
+
+-- an empty text, or a range; and then the parenthesis that ends the test
+abbrev pub tail_at : Spec → ℕ → List ℕ → Result (Range × List ℕ) Cause
+tail_at spec n text =
+    elim (byte_after 41 (skip_blanks text)) [
+      | Some rest ↦ Ok (Any, rest)
+      | None ↦ range_in (inside n spec) spec text >>= λ r. byte_due (missing spec) 41 (skip_blanks r.1) >>= λ rest. Ok (r.0, rest)
+    ]
+
+abbrev pub cond_tail : Spec → ℕ → List ℕ → Result (Range × List ℕ) Cause
+cond_tail spec n text = told (tail_at spec n text)
+
+-- a compiler and its versions
+abbrev pub compiler_at : (List ℕ → Result (Range × List ℕ) Cause) → List ℕ → Result ((List ℕ × Range) × List ℕ) Cause
+compiler_at tail text = name_at is_letter_or_digit is_letter_or_digit text >>= λ p. tail p.1 >>= λ q. Ok ((str_to_ascii_lowercase p.0, q.0), q.1)
+
+-- what is read, as another value
+abbrev pub as_value : {A B : Type 0} → (A → B) → Result (A × List ℕ) Cause → Result (B × List ℕ) Cause
+as_value f (Ok p) = Ok (f p.0, p.1)
+as_value f (Err cause) = Err cause
+
+abbrev pub flag_at : List ℕ → Result (Cond × List ℕ) Cause
+flag_at text = as_value (λ x. Flag (str_to_ascii_lowercase x)) (named_at begins_flag is_component_byte text)
+
+abbrev pub os_at : List ℕ → Result (Cond × List ℕ) Cause
+os_at text = as_value (λ x. Os (system_of (str_to_ascii_lowercase x))) (named_at is_component_byte is_component_byte text)
+
+abbrev pub arch_at : List ℕ → Result (Cond × List ℕ) Cause
+arch_at text = as_value (λ x. Arch (str_to_ascii_lowercase x)) (named_at is_component_byte is_component_byte text)
+
+abbrev pub impl_at : (List ℕ → Result (Range × List ℕ) Cause) → List ℕ → Result (Cond × List ℕ) Cause
+impl_at tail text = as_value (λ c. Impl c.0 c.1) (argument (compiler_at tail) text)
+
+-- the letters of a word, and what stands behind it
+abbrev pub word_at : List ℕ → (List ℕ → Result (Cond × List ℕ) Cause) → List ℕ → Result (Cond × List ℕ) Cause
+word_at word read text = word_due bad word text >>= read
+
+-- `arch` or `impl`
+abbrev pub from_a : (List ℕ → Result (Range × List ℕ) Cause) → List ℕ → Result (Cond × List ℕ) Cause
+from_a tail text = elim (letter_after 97 text) [ None ↦ word_at (codes "impl") (impl_at tail) text | Some rest ↦ word_at (codes "rch") arch_at rest ]
+
+abbrev pub from_o : (List ℕ → Result (Range × List ℕ) Cause) → List ℕ → Result (Cond × List ℕ) Cause
+from_o tail text = elim (letter_after 111 text) [ None ↦ from_a tail text | Some rest ↦ word_at (codes "s") os_at rest ]
+
+-- behind the first letter of `false` or `flag`
+abbrev pub after_f : List ℕ → Result (Cond × List ℕ) Cause
+after_f text = elim (letter_after 97 text) [ None ↦ word_at (codes "lag") flag_at text | Some rest ↦ word_at (codes "lse") (λ t. Ok (Never, t)) rest ]
+
+abbrev pub from_f : (List ℕ → Result (Range × List ℕ) Cause) → List ℕ → Result (Cond × List ℕ) Cause
+from_f tail text = elim (letter_after 102 text) [ None ↦ from_o tail text | Some rest ↦ after_f rest ]
+
+unfoldable pub atom_at : (List ℕ → Result (Range × List ℕ) Cause) → List ℕ → Result (Cond × List ℕ) Cause
+atom_at tail text = elim (letter_after 116 text) [ None ↦ from_f tail text | Some rest ↦ word_at (codes "rue") (λ t. Ok (Always, t)) rest ]
