@@ -4,3 +4,5 @@ pub mod CondTails
 pub mod Names
 pub mod Compilers
 pub mod Atoms
+pub mod Factors
+pub mod Whole

@@ -118,3 +118,29 @@ from_f tail text = elim (letter_after 102 text) [ None ↦ from_o tail text | So
 
 unfoldable pub atom_at : (List ℕ → Result (Range × List ℕ) Cause) → List ℕ → Result (Cond × List ℕ) Cause
 atom_at tail text = elim (letter_after 116 text) [ None ↦ from_f tail text | Some rest ↦ word_at (codes "rue") (λ t. Ok (Always, t)) rest ]
+
+-- `!` and a factor, or a condition in parentheses, of which opened reads what they are made of; else an atom
+unfoldable pub factor_at : (List ℕ → Result (Range × List ℕ) Cause) → (List ℕ → Result (Cond × List ℕ) Cause) → List ℕ → Result (Cond × List ℕ) Cause
+factor_at tail opened text =
+    elim (byte_after 40 text) [
+      | Some rest ↦ terms_at And Or bad opened rest >>= closed
+      | None ↦ elim (byte_after 33 text) [ Some rest ↦ as_value Not (opened (skip_blanks rest)) | None ↦ atom_at tail text ]
+    ]
+
+-- where so many may still be opened
+unfoldable pub opened_at : (List ℕ → Result (Range × List ℕ) Cause) → ℕ → List ℕ → Result (Cond × List ℕ) Cause
+opened_at tail zero text = Err TooDeep
+opened_at tail (suc n) text = factor_at tail (opened_at tail n) text
+
+abbrev pub condition_at : (List ℕ → Result (Range × List ℕ) Cause) → ℕ → List ℕ → Result (Cond × List ℕ) Cause
+condition_at tail n = terms_at And Or bad (factor_at tail (opened_at tail n))
+
+-- what is read is the text where only blanks are left
+abbrev pub ended : Cond × List ℕ → Result Cond Cause
+ended r = if length (skip_blanks r.1) == 0 then Ok r.0 else Err BadCond
+
+abbrev pub whole_at : (List ℕ → Result (Range × List ℕ) Cause) → ℕ → List ℕ → Result Cond Cause
+whole_at tail n text = condition_at tail n text >>= ended
+
+unfoldable pub cond_of : Spec → List ℕ → Result Cond Cause
+cond_of spec text = whole_at (cond_tail spec 64) 64 text
