@@ -1,20 +1,28 @@
 -- Names in parentheses, as they are read.
-use Rattle.std.proofs.Common.{◌≡◌, ◌≢◌, inl, inr, ℕ, Bool, true, false, ◌&&◌, List, [], ◌∷◌, ◌++◌, codes, Option, Some, None, Result, Ok, Err, refl, sym, ap, ◌∙◌, subst, append_assoc, append-nil}
+use Rattle.std.proofs.Common.{◌≡◌, ◌≢◌, inl, inr, ℕ, suc, ◌+◌, ◌<◌, Bool, true, false, ◌&&◌, List, [], ◌∷◌, ◌++◌, codes, Option, Some, None, Result, Ok, Err, refl, sym, ap, ◌∙◌, subst, append_assoc, append-nil, length, take, drop, arith, length-append}
 use Rattle.std.specs.Prelude.{◌==◌}
-use Rattle.std.specs.List.{list_all}
+use Rattle.std.specs.List.{list_all, prefix_len}
+use Rattle.std.specs.Str.{IsAscii}
+use Rattle.std.proofs.lemmas.Str.Ascii.{IsAscii-nil, IsAscii-cons}
+use Rattle.std.proofs.lemmas.Bool.Decides.{nat_tests}
 use Rattle.std.proofs.lemmas.Bool.{false≢true, and_parts, and_from, eqb-true}
 use Rattle.plan_types.specs.declared.refusal.Cause.{Cause}
 use Rattle.plan_types.specs.declared.refusal.Cause.TheVariants.{BadCond}
 use Rattle.plan_types.specs.declared.range.Spec.{Spec}
 use Rattle.plan_types.specs.Bytes.{is_blank, Blanks}
 use Rattle.text_grammar.specs.Parts.{Led, led}
-use Rattle.text_grammar.specs.Reading.{◌>>=◌, skip_blanks}
+use Rattle.std.specs.Result.{IfOk}
+use Rattle.plan_types.specs.declared.refusal.TextFault.{TextFault}
+use Rattle.text_grammar.specs.Reading.{◌>>=◌, Gives, skip_blanks}
 use Rattle.text_grammar.proofs.TextKind.{miss, starts}
 use Rattle.text_grammar.proofs.Fronts.{Reader, head_of, errs, Apart, Read, Dead, Fault, no_digit}
 use Rattle.text_grammar.proofs.Spaces.{Never, starts_same, cut}
 use Rattle.text_grammar.proofs.Closings.{Instead, instead, Closed, closed, closing, closed_reads, closed_read, closed_fault}
 use Rattle.text_grammar.proofs.Letters.{Reads, Pair, Passing, passing, pair_due, pair_led}
 use Rattle.text_grammar.proofs.Marks.{led_at}
+use Rattle.conditionals.specs.declared.name.Form.{Form}
+use Rattle.conditionals.specs.declared.name.Form.TheVariants.{Flag, Part, Compiler}
+use Rattle.conditionals.specs.Forms.{first_of, part_of}
 use Rattle.conditionals.specs.Reading.{bad, split, name_at, named_at}
 use Rattle.conditionals.proofs.CondKind.{no_bytes, cond_kind, is_open, ends_none, apart, no_digit_stands}
 
@@ -182,3 +190,56 @@ module _ (first part : ℕ → Bool) where
         let opens = pair_due (cond_kind spec) is_open (λ b h. refl) (Led (Closed 41 (Run first part))) (Led (Closed 41 (Run first part))) (led_at closed-name) (led_at closed-name) inner 40 refl
         ([] ++ ((sample ∷ []) ++ ([] ++ 41 ∷ []))) (sample ∷ []) (led [] refl (closed (sample ∷ []) [] (run sample [] sampled refl) refl)) in
         pair_led (cond_kind spec) (Passing is_open (Led (Closed 41 (Run first part)))) (Passing is_open (Led (Closed 41 (Run first part)))) _ _ opens (never_open (Led (Closed 41 (Run first part)))) (never_open (Led (Closed 41 (Run first part))))
+
+-- ---- what a name takes
+
+module _ (first part : ℕ → Bool) where
+  pub run_shorter : (text x rest : List ℕ) → name_at first part text ≡ Ok (x, rest) → length rest < length text
+  run_shorter text x rest h = let got = run_read first part text x rest h in by got.is got.whole
+    where
+      by : {front y : List ℕ} → Run first part front y → text ≡ front ++ rest → length rest < length text
+      by (run b bs p q) e = subst (λ t. length rest < length t) (sym e) (omega (arith, length-append bs rest))
+
+  pub run_all : (text x rest : List ℕ) → name_at first part text ≡ Ok (x, rest) → list_all part x ≡ true
+  run_all text x rest h = let got = run_read first part text x rest h in by got.is
+    where
+      by : {front y : List ℕ} → Run first part front y → list_all part y ≡ true
+      by (run b bs p q) = and_from (part b) (list_all part bs) (and_parts (first b) (part b) p).1 q
+
+pub split_prefix : (test : ℕ → Bool) (text : List ℕ) → split test text ≡ (take (prefix_len test text) text, drop (prefix_len test text) text)
+split_prefix test [] = refl
+split_prefix test (b ∷ bs) = by (test b) refl (split_prefix test bs)
+  where
+    by : (t : Bool) → test b ≡ t → split test bs ≡ (take (prefix_len test bs) bs, drop (prefix_len test bs) bs) → split test (b ∷ bs) ≡ (take (prefix_len test (b ∷ bs)) (b ∷ bs), drop (prefix_len test (b ∷ bs)) (b ∷ bs))
+    by true q e =
+        let n : prefix_len test (b ∷ bs) ≡ suc (prefix_len test bs) = more q in
+        let front : split test (b ∷ bs) ≡ (b ∷ (split test bs).0, (split test bs).1) = rw q refl in
+        front ∙ ap (λ r. (b ∷ r.0, r.1)) e ∙ sym (ap (λ m. (take m (b ∷ bs), drop m (b ∷ bs))) n)
+      where
+        add : (m : ℕ) → 1 + m ≡ suc m
+        add m = omega arith
+
+        more : test b ≡ true → prefix_len test (b ∷ bs) ≡ suc (prefix_len test bs)
+        more q = rw q (add (prefix_len test bs))
+    by false q e = rw q refl
+
+pub ascii_all : (test : ℕ → Bool) → ((b : ℕ) → test b ≡ true → b < 128) → (bs : List ℕ) → list_all test bs ≡ true → IsAscii bs
+ascii_all test small [] h = IsAscii-nil
+ascii_all test small (b ∷ bs) h = let p = and_parts (test b) (list_all test bs) h in IsAscii-cons b bs (small b p.0) (ascii_all test small bs p.1)
+
+part_small : (form : Form) (b : ℕ) → part_of form b ≡ true → b < 128
+part_small Flag b h = grind (arith, nat_tests)
+part_small Part b h = grind (arith, nat_tests)
+part_small Compiler b h = grind (arith, nat_tests)
+
+pub name_ascii : (form : Form) (text x rest : List ℕ) → name_at (first_of form) (part_of form) text ≡ Ok (x, rest) → IsAscii x
+name_ascii form text x rest h = ascii_all (part_of form) (part_small form) x (run_all (first_of form) (part_of form) text x rest h)
+
+module _ {A : Type 0} (view : A → List ℕ × List ℕ) (form : Form) (text : List ℕ) where
+  pub name_within : (r : Result A TextFault) → Gives view r (name_at (first_of form) (part_of form) text) → IfOk r (λ p. length (view p).1 < length text)
+  name_within (Ok p) h = run_shorter (first_of form) (part_of form) text (view p).0 (view p).1 h
+  name_within (Err fault) h = tt
+
+  pub name_is_ascii : (r : Result A TextFault) → Gives view r (name_at (first_of form) (part_of form) text) → IfOk r (λ p. IsAscii (view p).0)
+  name_is_ascii (Ok p) h = name_ascii form text (view p).0 (view p).1 h
+  name_is_ascii (Err fault) h = tt

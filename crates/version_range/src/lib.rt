@@ -14,6 +14,7 @@ mod print;
 mod read;
 mod version;
 
+pub use bytes::byte_due;
 pub use cuts::Cuts;
 pub use laws::{one_fault, one_range, range_or_fault, reads_back};
 pub use print::print_range;
