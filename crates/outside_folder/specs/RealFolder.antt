@@ -1,5 +1,5 @@
 -- A folder of the system: its paths, what its entries and errors tell, and what its names are made of.
-use Rattle.std.specs.Prelude.{◌≡◌, ◌≢◌, ℕ, ◌<◌, ◌⊎◌, Bool, List, [], ◌∷◌, ◌++◌, length, map, fold, codes, Any, IsErr, Result, Ok}
+use Rattle.std.specs.Prelude.{◌≡◌, ◌≢◌, ℕ, ◌<◌, ◌⊎◌, Bool, List, [], ◌∷◌, ◌++◌, length, fold, codes, Any, IsErr, Result}
 use Rattle.std.specs.BTreeMap.{insert_entry}
 use Rattle.std.specs.Cmp.Lexicographic.{slice_cmp}
 use Rattle.std.specs.Ordering.{nat_cmp}
@@ -36,10 +36,6 @@ with_name names name = insert_entry (slice_cmp nat_cmp) names name.text name.fol
 -- the names in byte order, each once
 abbrev pub by_text : List Name → List (Bytes × Bool)
 by_text names = fold with_name [] names
-
--- the entries were these names, and no error
-abbrev pub AreNames : List (Result Name Error) → List Name → Type 0
-AreNames entries names = entries ≡ map Ok names
 
 -- the entries are more than can be listed, or one of them is an error
 abbrev pub HaveFault : List (Result Name Error) → Type 0

@@ -1,12 +1,13 @@
 // What a real folder holds isn't told, so that the calls of the system are trusted as to content. What is made of
 // their answers is proved over any entries and any reader.
-ghost use Rattle.std.specs.Prelude.{◌≡◌, ◌≢◌, ◌≤◌, ◌<◌, ◌^◌, ◌-◌, ◌↔◌, [], None, length, map, Ok, Err, Result, IfOk, IfSome, IsSome, OnOk, IsErrOf, IsErrAnd, IsTrue};
+ghost use Rattle.std.specs.Prelude.{◌≡◌, ◌≢◌, ◌≤◌, ◌<◌, ◌+◌, ◌^◌, ◌-◌, ◌↔◌, [], None, length, map, Ok, Err, Result, false, IfOk, IfErr, IfSome, IsSome, OnOk, IsOkAnd, IsErrOf, IsErrAnd, IsTrue};
 ghost use Rattle.std.specs.Iterator.{Drains, IsFinite, Yields};
 ghost use Rattle.outside_folder.specs.Files.{as_names};
 ghost use Rattle.outside_folder.specs.Folder.{Lists, Reads, IsInOrder, IsWithinLimit, within_limit};
 ghost use Rattle.outside_folder.specs.Faults.{Rose};
 ghost use Rattle.outside_folder.specs.RealFolder.{name_limit, system_path, IsFaultOf, IsMissing, with_name, by_text, HaveFault};
 ghost use Rattle.std.specs.declared.io.Error.{Error};
+ghost use Rattle.std.specs.Fs.{IsDir, dir_entry_name, file_type};
 ghost use Rattle.std.specs.IoError.{error_kind};
 
 use crate::folder::as_names;
@@ -153,6 +154,7 @@ fn listed<I: Iterator<Item = io::Result<Name>> + Drop>(
     requires can { I.can_next entries }
     requires finite { IsFinite (I.remaining entries) }
     ensures whole { IfOk result (λ listed. (names : List Name) × Drains I.next_gives entries (map Ok names) × (listed ≡ as_names (by_text names))) }
+    ensures failed { IsErrOf result FolderFault.Failed → (given : List (Result Name Error)) × (rest : I) × Yields I.next_gives entries given rest × HaveFault given }
     ensures order { IfOk result IsInOrder }
     ensures never_too_large { IsErrOf result FolderFault.TooLarge → ⊥ }
 {
@@ -167,6 +169,7 @@ fn names_of<I: Iterator<Item = io::Result<Name>> + Drop>(
     requires can { I.can_next entries }
     requires finite { IsFinite (I.remaining entries) }
     ensures whole { IfOk result (λ found. (names : List Name) × Drains I.next_gives entries (map Ok names) × (found.entries ≡ by_text names)) }
+    ensures failed { IsErrOf result FolderFault.Failed → (given : List (Result Name Error)) × (rest : I) × Yields I.next_gives entries given rest × HaveFault given }
     ensures never_too_large { IsErrOf result FolderFault.TooLarge → ⊥ }
 {
     let mut names = BTreeMap::new(alloc);
@@ -183,6 +186,7 @@ fn names_of<I: Iterator<Item = io::Result<Name>> + Drop>(
 fn add_name(names: &mut BTreeMap<Text, bool>, name: Name) -> Result<(), FolderFault>
     ensures ok { OnOk result (names.new.entries ≡ with_name names.old.entries name) }
     ensures few { OnOk result (length names.old.entries < name_limit) }
+    ensures one_more { OnOk result (length names.new.entries ≤ length names.old.entries + 1) }
     ensures failed { IsErrOf result FolderFault.Failed → name_limit ≤ length names.old.entries }
     ensures never_too_large { IsErrOf result FolderFault.TooLarge → ⊥ }
 {
@@ -200,7 +204,10 @@ fn name_of<R: Files + AllocGlobal + Clone + Drop>(
     rt: &R,
     alloc: Global,
     entry: io::Result<DirEntry<R, Global>>,
-) -> io::Result<Name> {
+) -> io::Result<Name>
+    ensures text { IfOk entry (λ entry. IfOk result (λ name. name.text ≡ dir_entry_name entry)) }
+    ensures err { IfErr entry (λ error. result ≡ Err error) }
+{
     let entry = entry?;
     let text = Text::from_str(alloc, entry.file_name()).map_err(|_| io::Error::from(
         ErrorKind::OutOfMemory,
@@ -210,7 +217,11 @@ fn name_of<R: Files + AllocGlobal + Clone + Drop>(
 }
 
 // A link that leads nowhere is no folder.
-fn is_folder(metadata: io::Result<Metadata>) -> io::Result<bool> {
+fn is_folder(metadata: io::Result<Metadata>) -> io::Result<bool>
+    ensures there { IfOk metadata (λ found. IsOkAnd result (λ folder. IsTrue folder ↔ IsDir (file_type found))) }
+    ensures missing { IfErr metadata (λ error. IsMissing error → result ≡ Ok false) }
+    ensures err { IfErr metadata (λ error. (IsMissing error → ⊥) → result ≡ Err error) }
+{
     match metadata {
         Ok(metadata) => Ok(metadata.is_dir()),
         Err(error) if is_missing(&error) => Ok(false),
