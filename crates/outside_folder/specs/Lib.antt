@@ -5,4 +5,5 @@ pub mod MemFile
 pub mod MemFolder
 pub mod MemSink
 pub mod RealFolder
+pub mod RealFolderExamples
 pub mod Sink
