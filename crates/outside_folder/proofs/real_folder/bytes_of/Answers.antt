@@ -10,7 +10,6 @@ returns-clause-whole g c =
     let given = g.R.Read.remaining in
     let read = c.read_to_end.new.buf.items in
     let from_reader = subst (λ r. IfSome (option_map (take c.take.result.limit) (given r)) (λ bytes. read ≡ c.new-bytes.result.items ++ bytes)) c.take.ensures.inner c.in_ok-read_to_end.ensures.bytes in
-    let to_limit = subst (λ n. IfSome (option_map (take n) (given c.args.reader)) (λ bytes. read ≡ c.new-bytes.result.items ++ bytes)) c.take.ensures.limit from_reader in
-    let alone = subst (λ front. IfSome (option_map (take 1048577) (given c.args.reader)) (λ bytes. read ≡ front ++ bytes)) c.new-bytes.ensures.items to_limit in
+    let alone = subst (λ front. IfSome (option_map (take c.take.result.limit) (given c.args.reader)) (λ bytes. read ≡ front ++ bytes)) c.new-bytes.ensures.items from_reader in
     subst (λ all. IfSome (given c.args.reader) (λ bytes. Some all ≡ within_limit bytes)) (sym c.from_vec.ensures)
-    (whole_read (given c.args.reader) read alone (omega arith))
+    (whole_read (given c.args.reader) c.take.result.limit read c.take.ensures.limit alone (omega arith))
