@@ -3,7 +3,7 @@
 ghost use Rattle.std.specs.Prelude.{◌≡◌, ◌≢◌, ◌≤◌, ◌<◌, ◌+◌, ◌^◌, ◌-◌, ◌↔◌, [], None, length, map, Ok, Err, Result, false, IfOk, IfErr, IfSome, IsSome, OnOk, IsOkAnd, IsErrOf, IsErrAnd, IsTrue};
 ghost use Rattle.std.specs.Iterator.{Drains, IsFinite, Yields};
 ghost use Rattle.outside_folder.specs.Files.{as_names};
-ghost use Rattle.outside_folder.specs.Folder.{Lists, Reads, IsInOrder, IsWithinLimit, within_limit};
+ghost use Rattle.outside_folder.specs.Folder.{IsInOrder, IsWithinLimit, within_limit};
 ghost use Rattle.outside_folder.specs.Faults.{Rose};
 ghost use Rattle.outside_folder.specs.RealFolder.{name_limit, system_path, IsFaultOf, IsMissing, with_name, by_text, HaveFault};
 ghost use Rattle.std.specs.declared.io.Error.{Error};
