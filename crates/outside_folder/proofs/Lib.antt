@@ -1,3 +1,4 @@
 pub mod Appending
 pub mod Orders
 pub mod Prefixes
+pub mod Whole

@@ -1,13 +1,16 @@
 -- What a folder answers, where it tells its files.
-use Rattle.std.specs.Prelude.{◌≡◌, ◌<◌, ◌≤◌, List, length, map, Option, Some, None, Result, Ok, Err, IfSome, IsSomeAnd}
+use Rattle.std.specs.Prelude.{◌≡◌, ℕ, ◌<◌, ◌≤◌, nat_lt, List, length, map, Option, Some, None, Result, Ok, Err, IfSome, IsSomeAnd, if◌then◌else◌}
 use Rattle.std.specs.Cmp.Lexicographic.{slice_cmp}
 use Rattle.std.specs.List.Sorted.{IsStrictlySortedBy}
 use Rattle.std.specs.Ordering.{nat_cmp}
 use Rattle.outside_folder.specs.declared.folder.Name.{Name}
 use Rattle.outside_folder.specs.declared.folder.FolderFault.{FolderFault}
 use Rattle.outside_folder.specs.declared.folder.FolderFault.TheVariants.{Failed, TooLarge, NoMemory}
-use Rattle.outside_folder.specs.declared.folder.TheConstants.{FILE_LIMIT}
 use Rattle.outside_folder.specs.Files.{Files, Bytes, file_at, listing}
+
+-- how many bytes the largest file that is read has
+abbrev pub file_limit : ℕ
+file_limit = 1048576
 
 -- the names in the directory
 abbrev pub Lists : Option Files → Bytes → Result (Option (List Name)) FolderFault → Type 0
@@ -23,10 +26,14 @@ IsInOrder names = IsStrictlySortedBy (slice_cmp nat_cmp) (map (λ name. name.tex
 abbrev pub Reads : Option Files → Bytes → Result (Option Bytes) FolderFault → Type 0
 Reads None path answer = Unit {0}
 Reads (Some files) path (Ok bytes) = bytes ≡ file_at files path
-Reads (Some files) path (Err TooLarge) = IsSomeAnd (file_at files path) (λ bytes. FILE_LIMIT < length bytes)
+Reads (Some files) path (Err TooLarge) = IsSomeAnd (file_at files path) (λ bytes. file_limit < length bytes)
 Reads (Some files) path (Err Failed) = Unit {0}
 Reads (Some files) path (Err NoMemory) = Unit {0}
 
 -- a file that is read isn't too large
 abbrev pub IsWithinLimit : Option Bytes → Type 0
-IsWithinLimit bytes = IfSome bytes (λ bytes. length bytes ≤ FILE_LIMIT)
+IsWithinLimit bytes = IfSome bytes (λ bytes. length bytes ≤ file_limit)
+
+-- the bytes of a file, unless they are too many
+abbrev pub within_limit : Bytes → Option Bytes
+within_limit bytes = if nat_lt file_limit (length bytes) then None else Some bytes

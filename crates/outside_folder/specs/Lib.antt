@@ -4,4 +4,6 @@ pub mod Folder
 pub mod MemFile
 pub mod MemFolder
 pub mod MemSink
+pub mod RealFolder
+pub mod RealFolderExamples
 pub mod Sink

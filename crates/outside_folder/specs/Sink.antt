@@ -1,6 +1,10 @@
 -- What a write does to the bytes of a sink.
-use Rattle.std.specs.Prelude.{◌≡◌, ℕ, ◌≤◌, ◌<◌, List, ◌++◌, length, take, Option}
+use Rattle.std.specs.Prelude.{◌≡◌, ℕ, ◌≤◌, ◌<◌, List, ◌++◌, length, take, Option, None}
 use Rattle.std.specs.Option.{option_map}
+
+-- the bytes of a sink that doesn't tell them
+abbrev pub untold : Option (List ℕ)
+untold = None
 
 -- where the sink tells, these bytes came behind the others
 abbrev pub Appends : Option (List ℕ) → Option (List ℕ) → List ℕ → Type 0

@@ -48,7 +48,7 @@ pub trait Folder {
     /// What the count of faults never passes.
     ghost ceiling: { Self → ℕ };
 
-    /// How often the outside has failed so far: it rises where a call answers `Failed`, and in no other.
+    /// How often the outside has failed so far: it rises where a call answers `Failed`, and never falls.
     ghost faults: { Self → ℕ };
 
     /// The names in a directory, in byte order, each once; `None` where there is no such directory. The root is
@@ -60,7 +60,6 @@ pub trait Folder {
         ensures never_too_large { IsErrOf result FolderFault.TooLarge → ⊥ }
 
         ensures failed { IsErrOf result FolderFault.Failed → Rose (faults self.old) (faults self.new) }
-        ensures still { (IsErrOf result FolderFault.Failed → ⊥) → faults self.new ≡ faults self.old }
         ensures later { faults self.old ≤ faults self.new }
         ensures bounded { faults self.new ≤ ceiling self.new }
         ensures capped { ceiling self.new ≤ 2 ^ 64 - 1 }
@@ -75,7 +74,6 @@ pub trait Folder {
         ensures within { IfOk result IsWithinLimit }
 
         ensures failed { IsErrOf result FolderFault.Failed → Rose (faults self.old) (faults self.new) }
-        ensures still { (IsErrOf result FolderFault.Failed → ⊥) → faults self.new ≡ faults self.old }
         ensures later { faults self.old ≤ faults self.new }
         ensures bounded { faults self.new ≤ ceiling self.new }
         ensures capped { ceiling self.new ≤ 2 ^ 64 - 1 }

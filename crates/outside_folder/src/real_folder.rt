@@ -1,6 +1,14 @@
-// What a real folder holds isn't told, so that these lines are trusted as to content.
-ghost use Rattle.std.specs.Prelude.{◌≡◌, ◌≢◌, ◌<◌, ◌^◌, ◌-◌, [], None, IfOk, IfSome, IsSome, IsErrOf};
-ghost use Rattle.outside_folder.specs.Folder.{IsInOrder, IsWithinLimit};
+// What a real folder holds isn't told, so that the calls of the system are trusted as to content. What is made of
+// their answers is proved over any entries and any reader.
+ghost use Rattle.std.specs.Prelude.{◌≡◌, ◌≢◌, ◌≤◌, ◌<◌, ◌+◌, ◌^◌, ◌-◌, ◌↔◌, [], None, length, map, Ok, Err, Result, false, IfOk, IfErr, IfSome, IsSome, OnOk, IsOkAnd, IsErrOf, IsErrAnd, IsTrue};
+ghost use Rattle.std.specs.Iterator.{Drains, IsFinite, Yields};
+ghost use Rattle.outside_folder.specs.Files.{as_names};
+ghost use Rattle.outside_folder.specs.Folder.{IsInOrder, IsWithinLimit, within_limit};
+ghost use Rattle.outside_folder.specs.Faults.{Rose};
+ghost use Rattle.outside_folder.specs.RealFolder.{name_limit, system_path, IsFaultOf, IsMissing, with_name, by_text, HaveFault};
+ghost use Rattle.std.specs.declared.io.Error.{Error};
+ghost use Rattle.std.specs.Fs.{IsDir, dir_entry_name, file_type};
+ghost use Rattle.std.specs.IoError.{error_kind};
 
 use crate::folder::as_names;
 use crate::{FILE_LIMIT, Folder, FolderFault, Name};
@@ -42,7 +50,18 @@ impl<R: Files + AllocGlobal + Clone + Drop> Folder for RealFolder<'_, R> {
 
     ghost faults = { λ folder. folder.faults };
 
-    fn list(&mut self, alloc: Global, dir: &str) -> Result<Option<List<Name>>, FolderFault> {
+    fn list(&mut self, alloc: Global, dir: &str) -> Result<Option<List<Name>>, FolderFault>
+        ensures order { IfOk result (λ names. IfSome names IsInOrder) }
+        ensures root { dir.now ≡ [] → IfOk result IsSome }
+        ensures never_too_large { IsErrOf result FolderFault.TooLarge → ⊥ }
+
+        // No other call than one that answers `Failed` changes the count.
+        ensures failed { IsErrOf result FolderFault.Failed → Rose self.old.faults self.new.faults }
+        ensures still { (IsErrOf result FolderFault.Failed → ⊥) → self.new.faults ≡ self.old.faults }
+        ensures later { self.old.faults ≤ self.new.faults }
+        ensures bounded { self.new.faults ≤ 2 ^ 64 - 1 }
+        ensures capped { 2 ^ 64 - 1 ≤ 2 ^ 64 - 1 }
+    {
         let listed = list_at(self.rt, alloc, self.root.as_str(), dir);
         if let Err(FolderFault::Failed) = listed {
             self.faults = self.faults.saturating_add(1);
@@ -50,7 +69,15 @@ impl<R: Files + AllocGlobal + Clone + Drop> Folder for RealFolder<'_, R> {
         listed
     }
 
-    fn read(&mut self, alloc: Global, path: &str) -> Result<Option<List<u8>>, FolderFault> {
+    fn read(&mut self, alloc: Global, path: &str) -> Result<Option<List<u8>>, FolderFault>
+        ensures within { IfOk result IsWithinLimit }
+
+        ensures failed { IsErrOf result FolderFault.Failed → Rose self.old.faults self.new.faults }
+        ensures still { (IsErrOf result FolderFault.Failed → ⊥) → self.new.faults ≡ self.old.faults }
+        ensures later { self.old.faults ≤ self.new.faults }
+        ensures bounded { self.new.faults ≤ 2 ^ 64 - 1 }
+        ensures capped { 2 ^ 64 - 1 ≤ 2 ^ 64 - 1 }
+    {
         let read = read_at(self.rt, alloc, self.root.as_str(), path);
         if let Err(FolderFault::Failed) = read {
             self.faults = self.faults.saturating_add(1);
@@ -60,7 +87,7 @@ impl<R: Files + AllocGlobal + Clone + Drop> Folder for RealFolder<'_, R> {
 }
 
 fn fault_of(error: &io::Error) -> FolderFault
-    ensures { result ≢ FolderFault.TooLarge }
+    ensures { IsFaultOf error.now result }
 {
     if error.kind() == ErrorKind::OutOfMemory {
         FolderFault::NoMemory
@@ -69,11 +96,15 @@ fn fault_of(error: &io::Error) -> FolderFault
     }
 }
 
-fn is_missing(error: &io::Error) -> bool {
+fn is_missing(error: &io::Error) -> bool
+    ensures { IsTrue result ↔ IsMissing error.now }
+{
     matches!(error.kind(), ErrorKind::NotFound | ErrorKind::NotADirectory)
 }
 
-fn system_path(alloc: Global, root: &str, path: &str) -> Result<Text, NoMemory> {
+fn system_path(alloc: Global, root: &str, path: &str) -> Result<Text, NoMemory>
+    ensures { IfOk result (λ whole. whole ≡ system_path root.now path.now) }
+{
     let mut whole = Text::from_str(alloc, root)?;
     if !path.is_empty() {
         whole.push_str("/")?;
@@ -82,7 +113,6 @@ fn system_path(alloc: Global, root: &str, path: &str) -> Result<Text, NoMemory> 
     Ok(whole)
 }
 
-// The names in a directory. The root is never missing: where it can't be listed, that is a fault.
 fn list_at<R: Files + AllocGlobal + Clone + Drop>(
     rt: &R,
     alloc: Global,
@@ -94,52 +124,111 @@ fn list_at<R: Files + AllocGlobal + Clone + Drop>(
     ensures never_too_large { IsErrOf result FolderFault.TooLarge → ⊥ }
 {
     let path = system_path(alloc, root, dir)?;
-    let entries = match fs::read_dir(rt, path.as_str()) {
-        Ok(entries) => entries,
-        Err(error) if is_missing(&error) && !dir.is_empty() => return Ok(None),
-        Err(error) => return Err(fault_of(&error)),
-    };
+    match fs::read_dir(rt, path.as_str()) {
+        Ok(entries) => {
+            let names = entries.map(|entry| name_of(rt, alloc, entry));
+            Ok(Some(listed(alloc, names)?))
+        }
+        Err(error) => unlisted(dir, &error),
+    }
+}
+
+// What is told of a directory that can't be listed. The root is never missing.
+fn unlisted(dir: &str, error: &io::Error) -> Result<Option<List<Name>>, FolderFault>
+    ensures missing { IsMissing error.now → dir.now ≢ [] → result ≡ Ok None }
+    ensures there { (IsMissing error.now → ⊥) → IsErrAnd result (IsFaultOf error.now) }
+    ensures root { dir.now ≡ [] → IsErrAnd result (IsFaultOf error.now) }
+{
+    if is_missing(error) && !dir.is_empty() {
+        Ok(None)
+    } else {
+        Err(fault_of(error))
+    }
+}
+
+// All names that a directory's entries give, in byte order.
+fn listed<I: Iterator<Item = io::Result<Name>> + Drop>(
+    alloc: Global,
+    entries: I,
+) -> Result<List<Name>, FolderFault>
+    requires can { I.can_next entries }
+    requires finite { IsFinite (I.remaining entries) }
+    ensures whole { IfOk result (λ listed. (names : List Name) × Drains I.next_gives entries (map Ok names) × (listed ≡ as_names (by_text names))) }
+    ensures failed { IsErrOf result FolderFault.Failed → (given : List (Result Name Error)) × (rest : I) × Yields I.next_gives entries given rest × HaveFault given }
+    ensures order { IfOk result IsInOrder }
+    ensures never_too_large { IsErrOf result FolderFault.TooLarge → ⊥ }
+{
+    let names = names_of(alloc, entries)?;
+    Ok(as_names(alloc, names)?)
+}
+
+fn names_of<I: Iterator<Item = io::Result<Name>> + Drop>(
+    alloc: Global,
+    entries: I,
+) -> Result<BTreeMap<Text, bool>, FolderFault>
+    requires can { I.can_next entries }
+    requires finite { IsFinite (I.remaining entries) }
+    ensures whole { IfOk result (λ found. (names : List Name) × Drains I.next_gives entries (map Ok names) × (found.entries ≡ by_text names)) }
+    ensures failed { IsErrOf result FolderFault.Failed → (given : List (Result Name Error)) × (rest : I) × Yields I.next_gives entries given rest × HaveFault given }
+    ensures never_too_large { IsErrOf result FolderFault.TooLarge → ⊥ }
+{
     let mut names = BTreeMap::new(alloc);
     for entry in entries {
-        if names.len() == NAME_LIMIT {
-            return Err(FolderFault::Failed);
+        match entry {
+            Ok(name) => add_name(&mut names, name)?,
+            Err(error) => return Err(fault_of(&error)),
         }
-        let Name { text, folder } = name_of(rt, alloc, entry)?;
-        names
-            .insert(text, folder)
-            .map_err(|_| FolderFault::NoMemory)?;
     }
-    Ok(Some(as_names(alloc, names)?))
+    Ok(names)
+}
+
+// Takes one name more; where there are as many as can be listed, that is a fault.
+fn add_name(names: &mut BTreeMap<Text, bool>, name: Name) -> Result<(), FolderFault>
+    ensures ok { OnOk result (names.new.entries ≡ with_name names.old.entries name) }
+    ensures few { OnOk result (length names.old.entries < name_limit) }
+    ensures one_more { OnOk result (length names.new.entries ≤ length names.old.entries + 1) }
+    ensures failed { IsErrOf result FolderFault.Failed → name_limit ≤ length names.old.entries }
+    ensures never_too_large { IsErrOf result FolderFault.TooLarge → ⊥ }
+{
+    if names.len() >= NAME_LIMIT {
+        return Err(FolderFault::Failed);
+    }
+    let Name { text, folder } = name;
+    names
+        .insert(text, folder)
+        .map_err(|_| FolderFault::NoMemory)?;
+    Ok(())
 }
 
 fn name_of<R: Files + AllocGlobal + Clone + Drop>(
     rt: &R,
     alloc: Global,
     entry: io::Result<DirEntry<R, Global>>,
-) -> Result<Name, FolderFault>
-    ensures { IsErrOf result FolderFault.TooLarge → ⊥ }
+) -> io::Result<Name>
+    ensures text { IfOk entry (λ entry. IfOk result (λ name. name.text ≡ dir_entry_name entry)) }
+    ensures err { IfErr entry (λ error. result ≡ Err error) }
 {
-    let entry = match entry {
-        Ok(entry) => entry,
-        Err(error) => return Err(fault_of(&error)),
-    };
-    let text = Text::from_str(alloc, entry.file_name())?;
+    let entry = entry?;
+    let text = Text::from_str(alloc, entry.file_name()).map_err(|_| io::Error::from(
+        ErrorKind::OutOfMemory,
+    ))?;
     let folder = is_folder(fs::metadata(rt, entry.path()))?;
     Ok(Name { text, folder })
 }
 
 // A link that leads nowhere is no folder.
-fn is_folder(metadata: io::Result<Metadata>) -> Result<bool, FolderFault>
-    ensures { IsErrOf result FolderFault.TooLarge → ⊥ }
+fn is_folder(metadata: io::Result<Metadata>) -> io::Result<bool>
+    ensures there { IfOk metadata (λ found. IsOkAnd result (λ folder. IsTrue folder ↔ IsDir (file_type found))) }
+    ensures missing { IfErr metadata (λ error. IsMissing error → result ≡ Ok false) }
+    ensures err { IfErr metadata (λ error. (IsMissing error → ⊥) → result ≡ Err error) }
 {
     match metadata {
         Ok(metadata) => Ok(metadata.is_dir()),
         Err(error) if is_missing(&error) => Ok(false),
-        Err(error) => Err(fault_of(&error)),
+        Err(error) => Err(error),
     }
 }
 
-// The bytes of a file, of which one more than the limit is asked for.
 fn read_at<R: Files>(
     rt: &R,
     alloc: Global,
@@ -151,17 +240,37 @@ fn read_at<R: Files>(
     let path = system_path(alloc, root, path)?;
     let file = match fs::open(rt, path.as_str()) {
         Ok(file) => file,
-        Err(error) if is_missing(&error) => return Ok(None),
-        Err(error) => return Err(fault_of(&error)),
+        Err(error) => return unread(&error),
     };
-    let mut bytes = Vec::new(alloc);
-    match file.take(FILE_LIMIT as u64 + 1).read_to_end(&mut bytes) {
-        Ok(_) => {}
-        Err(error) if error.kind() == ErrorKind::IsADirectory => return Ok(None),
-        Err(error) => return Err(fault_of(&error)),
+    match bytes_of(alloc, file) {
+        Ok(Some(bytes)) => Ok(Some(bytes)),
+        Ok(None) => Err(FolderFault::TooLarge),
+        Err(error) => unread(&error),
     }
+}
+
+// What is told of a file that can't be read. A directory is no file.
+fn unread(error: &io::Error) -> Result<Option<List<u8>>, FolderFault>
+    ensures missing { IsMissing error.now → result ≡ Ok None }
+    ensures directory { error_kind error.now ≡ ErrorKind.IsADirectory → result ≡ Ok None }
+    ensures file { (IsMissing error.now → ⊥) → error_kind error.now ≢ ErrorKind.IsADirectory → IsErrAnd result (IsFaultOf error.now) }
+{
+    if is_missing(error) || error.kind() == ErrorKind::IsADirectory {
+        Ok(None)
+    } else {
+        Err(fault_of(error))
+    }
+}
+
+// All bytes that a reader gives; `None` where they are too many. One byte more than the limit is asked for.
+fn bytes_of<R: Read + Drop>(alloc: Global, reader: R) -> io::Result<Option<List<u8>>>
+    ensures whole { IfSome (R.remaining reader) (λ bytes. IfOk result (λ read. read ≡ within_limit bytes)) }
+    ensures within { IfOk result IsWithinLimit }
+{
+    let mut bytes = Vec::new(alloc);
+    reader.take(FILE_LIMIT as u64 + 1).read_to_end(&mut bytes)?;
     if bytes.len() > FILE_LIMIT {
-        return Err(FolderFault::TooLarge);
+        return Ok(None);
     }
     Ok(Some(List::from_vec(bytes)))
 }

@@ -1,7 +1,11 @@
 // What standard output received isn't told, so that these lines are trusted as to content.
-ghost use Rattle.std.specs.Prelude.{◌≡◌, ◌<◌, ◌^◌, None};
+ghost use Rattle.std.specs.Prelude.{◌≡◌, ◌≤◌, ◌<◌, ◌^◌, ◌-◌, take, IfOk, OnOk, OnErr};
+ghost use Rattle.std.specs.Io.KnownBytes as known;
+ghost use Rattle.outside_folder.specs.Sink.{Appends, IsCount, untold};
+ghost use Rattle.outside_folder.specs.Faults.{Rose};
 
 use crate::{Sink, SinkFault};
+use std::io::{self, Write};
 
 /// Standard output, with a count of its faults that stays at 2^64 - 1.
 #[derive(Drop)]
@@ -20,19 +24,38 @@ impl<'a, R: Print> RealSink<'a, R> {
 }
 
 impl<R: Print> Sink for RealSink<'_, R> {
-    ghost bytes = { λ _. None };
+    ghost bytes = { λ _. untold };
 
     ghost faults = { λ sink. sink.faults };
 
-    // Standard output that takes nothing of a piece has failed.
-    fn write(&mut self, piece: &[u8]) -> Result<usize, SinkFault> {
-        match self.rt.write_some(piece) {
-            Ok(taken) if 0 < taken || piece.is_empty() => Ok(taken),
-            _ => {
-                self.faults = self.faults.saturating_add(1);
-                Err(SinkFault::Failed)
-            }
+    fn write(&mut self, piece: &[u8]) -> Result<usize, SinkFault>
+        ensures count { IfOk result (IsCount piece.now) }
+        ensures ok { IfOk result (λ n. Appends untold untold (take n piece.now)) }
+        ensures err { OnErr result (untold ≡ untold) }
+
+        // No other write than one that answers `Failed` changes the count.
+        ensures failed { OnErr result (Rose self.old.faults self.new.faults) }
+        ensures still { OnOk result (self.new.faults ≡ self.old.faults) }
+        ensures later { self.old.faults ≤ self.new.faults }
+        ensures bounded { self.new.faults ≤ 2 ^ 64 - 1 }
+    {
+        let taken = write_some(&mut io::writer(self.rt), piece);
+        if taken.is_err() {
+            self.faults = self.faults.saturating_add(1);
         }
+        taken
+    }
+}
+
+// Writes some bytes from the front of a piece, and says how many. A writer that takes nothing of one has failed.
+fn write_some<W: Write>(writer: &mut W, piece: &[u8]) -> Result<usize, SinkFault>
+    ensures count { IfOk result (IsCount piece.now) }
+    ensures ok { IfOk result (λ n. known.Appends (W.contents writer.old) (W.contents writer.new) (take n piece.now)) }
+    ensures err { OnErr result (known.Keeps (W.contents writer.old) (W.contents writer.new)) }
+{
+    match writer.write(piece) {
+        Ok(taken) if 0 < taken || piece.is_empty() => Ok(taken),
+        _ => Err(SinkFault::Failed),
     }
 }
 

@@ -17,7 +17,7 @@ pub trait Sink {
     /// The bytes so far, where the sink tells them.
     ghost bytes: { Self → Option (List ℕ) };
 
-    /// How often the outside has failed so far: it rises where a write answers `Failed`, and in no other.
+    /// How often the outside has failed so far: it rises where a write answers `Failed`, and never falls.
     ghost faults: { Self → ℕ };
 
     /// Takes some bytes from the front of a piece, at least one where there are any, and says how many.
@@ -27,7 +27,6 @@ pub trait Sink {
         ensures err { OnErr result (bytes self.new ≡ bytes self.old) }
 
         ensures failed { OnErr result (Rose (faults self.old) (faults self.new)) }
-        ensures still { OnOk result (faults self.new ≡ faults self.old) }
         ensures later { faults self.old ≤ faults self.new }
         ensures bounded { faults self.new ≤ 2 ^ 64 - 1 };
 }
@@ -38,7 +37,6 @@ pub fn write_all<S: Sink>(sink: &mut S, text: &[u8]) -> Result<(), SinkFault>
     ensures err { OnErr result (AppendsPrefix (S.bytes sink.old) (S.bytes sink.new) text.now) }
 
     ensures failed { OnErr result (Rose (S.faults sink.old) (S.faults sink.new)) }
-    ensures still { OnOk result (S.faults sink.new ≡ S.faults sink.old) }
     ensures later { S.faults sink.old ≤ S.faults sink.new }
 {
     let mut written = 0;

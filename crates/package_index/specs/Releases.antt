@@ -1,18 +1,17 @@
 -- What is read of a name: the files under it in the index, and what they say.
-use Rattle.std.specs.Prelude.{◌≡◌, ℕ, ◌+◌, Bool, true, false, nat_lt, List, [], ◌∷◌, ◌++◌, length, map, filter, flat_map, fold, sum_by, codes, is_some, Option, Some, None, unwrap_or, Result, Ok, Err, if◌then◌else◌}
+use Rattle.std.specs.Prelude.{◌≡◌, ℕ, ◌+◌, Bool, true, false, List, [], ◌∷◌, ◌++◌, length, map, filter, flat_map, fold, sum_by, codes, is_some, Option, Some, None, unwrap_or, Result, Ok, Err}
 use Rattle.std.specs.Option.{option_map}
 use Rattle.std.specs.Ordering.{nat_cmp}
 use Rattle.std.specs.Cmp.Lexicographic.{slice_cmp}
 use Rattle.std.specs.BTreeMap.{insert_entry}
 use Rattle.plan_types.specs.declared.refusal.Cause.TheVariants.{TooLarge}
-use Rattle.plan_types.specs.declared.refusal.Fault.{Fault}
-use Rattle.plan_types.specs.declared.refusal.Fault.TheVariants.{NoMemory, At}
 use Rattle.outside_folder.specs.declared.folder.Name.{Name}
-use Rattle.outside_folder.specs.declared.folder.TheConstants.{FILE_LIMIT}
 use Rattle.outside_folder.specs.Files.{Bytes, Files, file_at, listing}
+use Rattle.outside_folder.specs.Folder.{within_limit}
 use Rattle.plain_file.specs.declared.file.PlainFile.{PlainFile}
 use Rattle.plain_file.specs.declared.need.Need.{Need}
 use Rattle.plain_file.specs.File.{plain_file}
+use Rattle.plain_file.specs.Line.{LineFault}
 use Rattle.plain_file.specs.Version.{version_of}
 use Rattle.package_index.specs.declared.releases.IndexFault.{IndexFault}
 use Rattle.package_index.specs.declared.releases.Releases.{Releases}
@@ -35,10 +34,6 @@ pub record IndexRead : Type 0 where
 
 abbrev pub read_of : Bytes → Bytes → Bytes → Option Bytes → IndexRead
 read_of name version path bytes = record { path = path; name = name; version = version; bytes = bytes }
-
--- the bytes of a file, unless they are too many
-abbrev pub within_limit : Bytes → Option Bytes
-within_limit bytes = if nat_lt FILE_LIMIT (length bytes) then None else Some bytes
 
 -- the names that read as a version, in their order
 abbrev pub versions_among : List Name → List Bytes
@@ -66,26 +61,22 @@ abbrev pub bytes_of : List IndexRead → ℕ
 bytes_of reads = sum_by (λ read. length (unwrap_or read.bytes [])) reads
 
 -- what a file is read as: it must state the name and the version of its path
-abbrev pub read_bytes : Bytes → Bytes → Option Bytes → Result PlainFile Fault
-read_bytes name version None = Err (At 0 TooLarge)
+abbrev pub read_bytes : Bytes → Bytes → Option Bytes → Result PlainFile LineFault
+read_bytes name version None = Err (0, TooLarge)
 read_bytes name version (Some bytes) = plain_file (Some (name, version)) bytes
 
-abbrev pub read_as : IndexRead → Result PlainFile Fault
+abbrev pub read_as : IndexRead → Result PlainFile LineFault
 read_as read = read_bytes read.name read.version read.bytes
 
--- the file, where it is read without a fault; want of memory is none
-abbrev pub file_in : Result PlainFile Fault → List PlainFile
+-- the file, where it is read without a fault
+abbrev pub file_in : Result PlainFile LineFault → List PlainFile
 file_in (Ok file) = file ∷ []
 file_in (Err fault) = []
 
-abbrev pub fault_at : Bytes → Fault → List IndexFault
-fault_at path NoMemory = []
-fault_at path (At line cause) = record { path = path; line = line; cause = cause } ∷ []
-
 -- the fault, where it is read with one
-abbrev pub fault_in : Bytes → Result PlainFile Fault → List IndexFault
+abbrev pub fault_in : Bytes → Result PlainFile LineFault → List IndexFault
 fault_in path (Ok file) = []
-fault_in path (Err fault) = fault_at path fault
+fault_in path (Err fault) = record { path = path; line = fault.0; cause = fault.1 } ∷ []
 
 abbrev pub plain_files : List IndexRead → List PlainFile
 plain_files reads = flat_map (λ read. file_in (read_as read)) reads

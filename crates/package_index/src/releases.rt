@@ -6,8 +6,9 @@ ghost use Rattle.std.specs.BTreeMap.{insert_entry};
 ghost use Rattle.std.specs.Option.{option_map};
 ghost use Rattle.outside_folder.specs.Faults.{Rose};
 ghost use Rattle.outside_folder.specs.Files.{file_at};
+ghost use Rattle.outside_folder.specs.Folder.{within_limit};
 ghost use Rattle.plain_file.specs.Line.{Gives};
-ghost use Rattle.package_index.specs.Releases.{name_dir, release_path, within_limit, versions_among, versions_in, reads_at, reads_of, read_of, read_bytes, found, names_of, by_numbers, ReadsMore, Takes, TakesName};
+ghost use Rattle.package_index.specs.Releases.{name_dir, release_path, versions_among, versions_in, reads_at, reads_of, read_of, read_bytes, found, names_of, by_numbers, ReadsMore, Takes, TakesName};
 
 use crate::totals::Totals;
 use crate::trouble::Trouble;

@@ -1,9 +1,8 @@
 -- The plain file of a package, and the first line of a text that isn't as in one.
 use Rattle.std.specs.Prelude.{Bool, ◌&&◌, List, [], codes, Result, Ok, Option, Some, None, if◌then◌else◌}
-use Rattle.plan_types.specs.declared.refusal.Fault.{Fault}
 use Rattle.plain_file.specs.declared.need.Need.{Need}
 use Rattle.plain_file.specs.declared.file.PlainFile.{PlainFile}
-use Rattle.plain_file.specs.Line.{Bytes, ◌>>=◌, is_text, is_empty, unbuilt_at, line_after, line_with, nothing_at}
+use Rattle.plain_file.specs.Line.{Bytes, LineFault, ◌>>=◌, is_text, is_empty, unbuilt_at, line_after, line_with, nothing_at}
 use Rattle.plain_file.specs.Need.{is_name, as_version, needs_of}
 use Rattle.plain_file.specs.Version.{is_version, numbers_of}
 
@@ -19,12 +18,12 @@ abbrev pub is_version_at : Place → Bytes → Bool
 is_version_at None version = is_version version
 is_version_at (Some place) version = is_version version && is_text version place.1
 
-abbrev pub these_needs : Option (List Need) → Result (List Need) Fault
+abbrev pub these_needs : Option (List Need) → Result (List Need) LineFault
 these_needs None = unbuilt_at 5
 these_needs (Some needs) = Ok needs
 
 -- the fifth line, where there is one, names what the package asks for
-unfoldable pub needs_at : Bytes → Bytes → Result (List Need) Fault
+unfoldable pub needs_at : Bytes → Bytes → Result (List Need) LineFault
 needs_at own text =
     if is_empty text then Ok [] else (do
       read ← line_after 5 (codes "  build-depends:") text
@@ -33,7 +32,7 @@ needs_at own text =
       Ok needs)
 
 -- the plain file that a text is, or the fault at the first line that isn't as in one
-unfoldable pub plain_file : Place → Bytes → Result PlainFile Fault
+unfoldable pub plain_file : Place → Bytes → Result PlainFile LineFault
 plain_file place text = do
   head ← line_with is_empty 1 (codes "cabal-version: 2.4") text
   name ← line_with (is_name_at place) 2 (codes "name: ") head.1

@@ -1,4 +1,5 @@
 pub mod File
+pub mod FileExamples
 pub mod Line
 pub mod Need
 pub mod Version

@@ -2,6 +2,7 @@
 use Rattle.std.specs.Prelude.{◌≡◌, ℕ, ◌+◌, Bool, false, ◌==◌, nat_eq, List, length, take, drop, position, Result, Ok, Err, Option, Some, None, if◌then◌else◌}
 use Rattle.std.specs.List.{starts_with}
 use Rattle.std.specs.Cmp.Lexicographic.{pointwise}
+use Rattle.plan_types.specs.declared.refusal.Cause.{Cause}
 use Rattle.plan_types.specs.declared.refusal.Cause.TheVariants.{Unbuilt}
 use Rattle.plan_types.specs.declared.refusal.Fault.{Fault}
 use Rattle.plan_types.specs.declared.refusal.Fault.TheVariants.{At, NoMemory}
@@ -13,23 +14,27 @@ Bytes = List ℕ
 abbrev pub is_text : Bytes → Bytes → Bool
 is_text one other = pointwise nat_eq one other
 
+-- a line that isn't as it must be, and why
+abbrev pub LineFault : Type 0
+LineFault = ℕ × Cause
+
 infixl 10 ◌>>=◌
-abbrev pub ◌>>=◌ : {A B : Type 0} → Result A Fault → (A → Result B Fault) → Result B Fault
+abbrev pub ◌>>=◌ : {A B : Type 0} → Result A LineFault → (A → Result B LineFault) → Result B LineFault
 (Ok x) >>= f = f x
 (Err fault) >>= f = Err fault
 
 -- what a call answered is what reading gives, unless memory was wanting
-abbrev pub Fails : {B : Type 0} → Fault → Result B Fault → Type 0
+abbrev pub Fails : {B : Type 0} → Fault → Result B LineFault → Type 0
 Fails NoMemory read = Unit {0}
-Fails (At l cause) read = read ≡ Err (At l cause)
+Fails (At l cause) read = read ≡ Err (l, cause)
 
-abbrev pub Gives : {A B : Type 0} → (A → B) → Result A Fault → Result B Fault → Type 0
+abbrev pub Gives : {A B : Type 0} → (A → B) → Result A Fault → Result B LineFault → Type 0
 Gives view (Ok x) read = read ≡ Ok (view x)
 Gives view (Err fault) read = Fails fault read
 
 -- the line with this number isn't as in a plain file
-abbrev pub unbuilt_at : {A : Type 0} → ℕ → Result A Fault
-unbuilt_at n = Err (At n Unbuilt)
+abbrev pub unbuilt_at : {A : Type 0} → ℕ → Result A LineFault
+unbuilt_at n = Err (n, Unbuilt)
 
 -- what stands before the first such byte, and what stands behind it
 abbrev pub parted : ℕ → Bytes → Option (Bytes × Bytes)
@@ -44,7 +49,7 @@ abbrev pub after : Bytes → Bytes → Option Bytes
 after front text = if starts_with nat_eq text front then Some (drop (length front) text) else None
 
 -- the line with this number begins with a text: what stands behind it, and what follows the line
-unfoldable pub line_after : ℕ → Bytes → Bytes → Result (Bytes × Bytes) Fault
+unfoldable pub line_after : ℕ → Bytes → Bytes → Result (Bytes × Bytes) LineFault
 line_after n front text =
     elim (first_line text) [
       | None ↦ unbuilt_at n
@@ -52,7 +57,7 @@ line_after n front text =
     ]
 
 -- the value of the line has a form
-unfoldable pub line_with : (Bytes → Bool) → ℕ → Bytes → Bytes → Result (Bytes × Bytes) Fault
+unfoldable pub line_with : (Bytes → Bool) → ℕ → Bytes → Bytes → Result (Bytes × Bytes) LineFault
 line_with form n front text = do
   read ← line_after n front text
   if form read.0 then Ok read else unbuilt_at n
@@ -61,5 +66,5 @@ abbrev pub is_empty : Bytes → Bool
 is_empty value = length value == 0
 
 -- nothing follows the last line
-abbrev pub nothing_at : ℕ → Bytes → Result Bool Fault
+abbrev pub nothing_at : ℕ → Bytes → Result Bool LineFault
 nothing_at n text = if is_empty text then Ok false else unbuilt_at n

@@ -1,8 +1,6 @@
 -- What an answer over a folder's files is: a refusal, or the plan of the packages that they make.
 use Rattle.std.proofs.Common.{◌≡◌, ◌⊎◌, false, List, Result, Ok, Err, Option, Some, None, refl, sym, ap, subst, ◌∙◌, inl, inr}
 use Rattle.std.specs.Option.{IfSome}
-use Rattle.plan_types.specs.declared.refusal.Fault.{Fault}
-use Rattle.plan_types.specs.declared.refusal.Fault.TheVariants as fault
 use Rattle.choice_problem.specs.declared.plain.Plain.{Plain}
 use Rattle.choice_problem.specs.declared.plain.Plain.TheVariants as plain
 use Rattle.choice_problem.specs.Plain.{Answers}
@@ -11,6 +9,7 @@ use Rattle.outside_folder.specs.Files.{Bytes, Files}
 use Rattle.outside_folder.specs.Sink.{Appends}
 use Rattle.plain_file.specs.declared.file.PlainFile.{PlainFile}
 use Rattle.plain_file.specs.File.{plain_file}
+use Rattle.plain_file.specs.Line.{LineFault}
 use Rattle.package_index.specs.declared.index.Package.{Package}
 use Rattle.package_index.specs.declared.index.Reading.{Reading}
 use Rattle.package_index.specs.declared.index.Reading.TheVariants.{Refused, Read}
@@ -48,10 +47,9 @@ module _ (files : Files) (answer : Answer) (root : unbuilt_name false (root_name
       inr (packages, record { path = path; bytes = bytes; local = local; root = root; named = named; read = read; plain = file; reading = is }, e)
 
   by_file : (path bytes : Bytes) → cabal_file (root_names files) ≡ Some path → read_of files path ≡ Some bytes
-      → (r : Result PlainFile Fault) → plain_file None bytes ≡ r → IsAnswerOfFile files path r answer → Outcome files answer
+      → (r : Result PlainFile LineFault) → plain_file None bytes ≡ r → IsAnswerOfFile files path r answer → Outcome files answer
   by_file path bytes named read (Ok local) file is = by_reading path bytes local named read file is.0 is.1 is.2
-  by_file path bytes named read (Err fault.NoMemory) file is = inl (ap status_of is)
-  by_file path bytes named read (Err (fault.At line cause)) file is = inl (ap status_of is)
+  by_file path bytes named read (Err fault) file is = inl (ap status_of is)
 
   by_bytes : (path : Bytes) → cabal_file (root_names files) ≡ Some path → (b : Option Bytes) → read_of files path ≡ b → IsAnswerOfBytes files path b answer → Outcome files answer
   by_bytes path named None read is = inl (ap status_of is)

@@ -2,8 +2,8 @@
 use Rattle.std.specs.Prelude.{ℕ, Bool, false, List, [], ◌∷◌, codes, Option, unwrap_or}
 use Rattle.plan_types.specs.declared.refusal.Cause.{Cause}
 use Rattle.outside_folder.specs.Files.{Bytes, Files, file_at}
+use Rattle.outside_folder.specs.Folder.{within_limit}
 use Rattle.plain_file.specs.Line.{is_text}
-use Rattle.package_index.specs.Releases.{within_limit}
 use Rattle.plan_command.specs.declared.answer.Answer.{Answer}
 use Rattle.plan_command.specs.declared.status.Status.{Status}
 use Rattle.plan_command.specs.declared.status.Status.TheVariants as status

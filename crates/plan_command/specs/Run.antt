@@ -1,8 +1,6 @@
 -- The answer of a folder, and what a run leaves in the sink.
 use Rattle.std.specs.Prelude.{◌≡◌, false, List, codes, Result, Ok, Err, Option, Some, None, MatchBool}
 use Rattle.plan_types.specs.declared.refusal.Cause.TheVariants.{NoPackages, TooLarge, Unbuilt}
-use Rattle.plan_types.specs.declared.refusal.Fault.{Fault}
-use Rattle.plan_types.specs.declared.refusal.Fault.TheVariants as fault
 use Rattle.choice_problem.specs.Assignment.{Assignment}
 use Rattle.choice_problem.specs.Trail.{trail_of}
 use Rattle.choice_problem.specs.Plain.{IsFirst, IsWholeValid}
@@ -10,6 +8,7 @@ use Rattle.outside_folder.specs.Files.{Bytes, Files}
 use Rattle.outside_folder.specs.Sink.{Appends, AppendsPrefix}
 use Rattle.plain_file.specs.declared.file.PlainFile.{PlainFile}
 use Rattle.plain_file.specs.File.{plain_file}
+use Rattle.plain_file.specs.Line.{LineFault}
 use Rattle.package_index.specs.declared.index.Package.{Package}
 use Rattle.package_index.specs.declared.index.Reading.{Reading}
 use Rattle.package_index.specs.declared.index.Reading.TheVariants.{Refused, Read}
@@ -32,11 +31,10 @@ IsAnswerOfReading (Read packages) answer = IsPlanOf packages answer
 abbrev pub IsAnswerOfIndex : Files → PlainFile → Answer → Type 0
 IsAnswerOfIndex files local answer = (reading : Reading) × IsReading files local reading × IsAnswerOfReading reading answer
 
--- the answer to what a local file was read as; want of memory is no such reading
-abbrev pub IsAnswerOfFile : Files → Bytes → Result PlainFile Fault → Answer → Type 0
+-- the answer to what a local file is read as
+abbrev pub IsAnswerOfFile : Files → Bytes → Result PlainFile LineFault → Answer → Type 0
 IsAnswerOfFile files path (Ok local) answer = IsAnswerOfIndex files local answer
-IsAnswerOfFile files path (Err fault.NoMemory) answer = answer ≡ refused path 0 Unbuilt
-IsAnswerOfFile files path (Err (fault.At line cause)) answer = answer ≡ refused path line cause
+IsAnswerOfFile files path (Err fault) answer = answer ≡ refused path fault.0 fault.1
 
 -- the answer to the bytes of a local file
 abbrev pub IsAnswerOfBytes : Files → Bytes → Option Bytes → Answer → Type 0

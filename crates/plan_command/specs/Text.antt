@@ -2,7 +2,7 @@
 use Rattle.std.specs.Prelude.{ℕ, ◌==◌, List, [], ◌∷◌, ◌++◌, length, slice_index_or, flat_map, codes, if◌then◌else◌}
 use Rattle.std.specs.Fmt.{decimal}
 use Rattle.plan_types.specs.declared.refusal.Cause.{Cause}
-use Rattle.plan_types.specs.declared.refusal.Cause.TheVariants.{NotUtf8, StrayBrace, UnclosedBrace, BadName, TooDeep, BadVersion, BadRange, NeedsVersion, NoPackages, TooLarge, TooMany, Unbuilt}
+use Rattle.plan_types.specs.declared.refusal.Cause.TheVariants.{NotUtf8, StrayBrace, UnclosedBrace, BadName, TooDeep, BadVersion, BadRange, NeedsVersion, BadCond, BadDepend, BadConstraint, NoPackages, TooLarge, TooMany, Unbuilt}
 use Rattle.plan_types.specs.declared.refusal.Refusal.{Refusal}
 use Rattle.choice_problem.specs.declared.problem.Choice.{Choice}
 use Rattle.outside_folder.specs.Files.{Bytes}
@@ -18,6 +18,9 @@ cause_name TooDeep = codes "TooDeep"
 cause_name BadVersion = codes "BadVersion"
 cause_name BadRange = codes "BadRange"
 cause_name NeedsVersion = codes "NeedsVersion"
+cause_name BadCond = codes "BadCond"
+cause_name BadDepend = codes "BadDepend"
+cause_name BadConstraint = codes "BadConstraint"
 cause_name NoPackages = codes "NoPackages"
 cause_name TooLarge = codes "TooLarge"
 cause_name TooMany = codes "TooMany"

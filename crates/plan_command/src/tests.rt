@@ -230,3 +230,37 @@ fn a_failed_write_leaves_a_prefix(rt: HostRuntime) -> Result<(), Fail> {
     assert_eq!(rt; out.bytes(), b"plan\nchoose main 1 l".as_slice());
     Ok(())
 }
+
+// A file with one byte more than is read is too large, whether it is the local one or in the index.
+#[test]
+fn a_file_one_byte_too_large_is_refused(rt: HostRuntime) -> Result<(), Fail> {
+    let alloc = rt.alloc();
+    let words = texts(alloc, &["plan"])?;
+    for (path, length, text) in [
+        ("main.cabal", 1_048_576, "refused main.cabal:1 Unbuilt\n"),
+        ("main.cabal", 1_048_577, "refused main.cabal TooLarge\n"),
+        (
+            "index/foo/1/foo.cabal",
+            1_048_577,
+            "refused index/foo/1/foo.cabal TooLarge\n",
+        ),
+    ] {
+        let mut files = List::new(alloc);
+        if path != "main.cabal" {
+            files.push(MemFile {
+                path: Text::from_str(alloc, "main.cabal")?,
+                bytes: List::from_vec(FOO.as_bytes().to_vec(alloc)?),
+            })?;
+        }
+        files.push(MemFile {
+            path: Text::from_str(alloc, path)?,
+            bytes: List::from_vec(vec![in alloc; b' '; length]?),
+        })?;
+        let mut folder = MemFolder::new(files, numbers(alloc, &[])?)?;
+        let mut out = MemSink::new(alloc, 1000, 1000, numbers(alloc, &[])?)?;
+        let status = run(alloc, words.as_slice(), &mut folder, &mut out);
+        assert_eq!(rt; status, Status::Refused);
+        assert_eq!(rt; out.bytes(), text.as_bytes());
+    }
+    Ok(())
+}

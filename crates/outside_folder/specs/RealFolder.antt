@@ -1,0 +1,42 @@
+-- A folder of the system: its paths, what its entries and errors tell, and what its names are made of.
+use Rattle.std.specs.Prelude.{◌≡◌, ◌≢◌, ℕ, ◌<◌, ◌⊎◌, Bool, List, [], ◌∷◌, ◌++◌, length, fold, codes, Any, IsErr, Result}
+use Rattle.std.specs.BTreeMap.{insert_entry}
+use Rattle.std.specs.Cmp.Lexicographic.{slice_cmp}
+use Rattle.std.specs.Ordering.{nat_cmp}
+use Rattle.std.specs.IoError.{error_kind}
+use Rattle.std.specs.declared.io.Error.{Error}
+use Rattle.std.specs.declared.io.ErrorKind.TheVariants as kind
+use Rattle.outside_folder.specs.declared.folder.Name.{Name}
+use Rattle.outside_folder.specs.declared.folder.FolderFault.{FolderFault}
+use Rattle.outside_folder.specs.declared.folder.FolderFault.TheVariants.{Failed, TooLarge, NoMemory}
+use Rattle.outside_folder.specs.Files.{Bytes}
+
+-- how many names a directory has at most
+abbrev pub name_limit : ℕ
+name_limit = 1048576
+
+-- the system's path of what stands at a path below the root
+abbrev pub system_path : Bytes → Bytes → Bytes
+system_path root [] = root
+system_path root (b ∷ bs) = root ++ codes "/" ++ b ∷ bs
+
+-- the fault that an error of the system is
+abbrev pub IsFaultOf : Error → FolderFault → Type 0
+IsFaultOf error NoMemory = error_kind error ≡ kind.OutOfMemory
+IsFaultOf error Failed = error_kind error ≢ kind.OutOfMemory
+IsFaultOf error TooLarge = ⊥
+
+-- the error says that there is nothing at the path
+abbrev pub IsMissing : Error → Type 0
+IsMissing error = (error_kind error ≡ kind.NotFound) ⊎ (error_kind error ≡ kind.NotADirectory)
+
+abbrev pub with_name : List (Bytes × Bool) → Name → List (Bytes × Bool)
+with_name names name = insert_entry (slice_cmp nat_cmp) names name.text name.folder
+
+-- the names in byte order, each once
+abbrev pub by_text : List Name → List (Bytes × Bool)
+by_text names = fold with_name [] names
+
+-- the entries are more than can be listed, or one of them is an error
+abbrev pub HaveFault : List (Result Name Error) → Type 0
+HaveFault entries = (name_limit < length entries) ⊎ Any IsErr entries
