@@ -1,5 +1,5 @@
 -- The order of versions, and lists of ends that rise.
-use Rattle.std.proofs.Common.{◌≡◌, ◌≢◌, ◌⊎◌, inl, inr, ℕ, ◌<◌, Bool, true, false, not, ◌||◌, List, [], ◌∷◌, ◌++◌, length, refl, sym, ap, ◌∙◌, subst, ⊎_elim, arith, append_assoc}
+use Rattle.std.proofs.Common.{◌≡◌, ◌≢◌, ◌⊎◌, inl, inr, ℕ, ◌<◌, Bool, true, false, not, ◌||◌, List, [], ◌∷◌, ◌++◌, length, get_or, drop, refl, sym, ap, ◌∙◌, subst, ⊎_elim, arith, append_assoc}
 use Rattle.std.specs.declared.cmp.Ordering.{Ordering}
 use Rattle.std.specs.declared.cmp.Ordering.TheVariants.{Less, Equal, Greater}
 use Rattle.std.specs.Ordering.{is_lt, ordering_reverse}
@@ -268,7 +268,7 @@ head_above : (x : Version) (l xs : List Version) → l ≡ x ∷ xs → rises l 
 head_above x l xs e h = (and_parts (all_above x xs) (rises xs) (ap rises (sym e) ∙ h)).0
 
 module _ (first second : List Version) (x : Version) (xs : List Version) (y : Version) (ys : List Version) (p : first ≡ x ∷ xs) (q : second ≡ y ∷ ys) (h : rises first ≡ true) (k : rises second ≡ true) where
-  pub first_least : R x y ≡ Less → IsStep first second x true xs false second
+  first_least : R x y ≡ Less → IsStep first second x true xs false second
   first_least o =
       let lower : is_below x y ≡ true = ap is_lt o in
       record {
@@ -280,7 +280,7 @@ module _ (first second : List Version) (x : Version) (xs : List Version) (y : Ve
         shorter = omega (arith, ap length p);
       }
 
-  pub second_least : R x y ≡ Greater → IsStep first second y false first true ys
+  second_least : R x y ≡ Greater → IsStep first second y false first true ys
   second_least o =
       let lower : is_below y x ≡ true = ap is_lt (total.antisymm y x ∙ ap ordering_reverse o) in
       record {
@@ -292,7 +292,7 @@ module _ (first second : List Version) (x : Version) (xs : List Version) (y : Ve
         shorter = omega (arith, ap length q);
       }
 
-  pub both_least : R x y ≡ Equal → IsStep first second x true xs true ys
+  both_least : R x y ≡ Equal → IsStep first second x true xs true ys
   both_least o =
       let same : x.parts ≡ y.parts = exact_bytes x.parts y.parts o in
       record {
@@ -303,6 +303,31 @@ module _ (first second : List Version) (x : Version) (xs : List Version) (y : Ve
         one = refl;
         shorter = omega (arith, ap length p, ap length q);
       }
+
+front : (l : List Version) (x : Version) → 0 < length l → x ≡ get_or l 0 x → l ≡ x ∷ drop 1 l
+front [] x n e = absurd (omega arith)
+front (z ∷ l) x n e = ap (λ w. w ∷ l) (sym e)
+
+-- a front that is seen, and then taken off
+module _ (l : List Version) (x e : Version) (xs : List Version) (n : 0 < length l) (seen : x ≡ get_or l 0 x) (taken : e ≡ get_or l 0 e) (rest : xs ≡ drop 1 l) where
+  left : l ≡ e ∷ xs
+  left = front l e n taken ∙ ap (λ r. e ∷ r) (sym rest)
+
+  same : x ≡ e
+  same = seen ∙ ap (λ m. get_or m 0 x) left
+
+module _ (first second : List Version) (x y : Version) (n : 0 < length first) (m : 0 < length second) (p : x ≡ get_or first 0 x) (q : y ≡ get_or second 0 y) (h : rises first ≡ true) (k : rises second ≡ true) (e : Version) (rest : List Version) where
+  pub first_taken : R x y ≡ Less → e ≡ get_or first 0 e → rest ≡ drop 1 first → IsStep first second e true rest false second
+  first_taken o t r =
+      first_least first second e rest y (drop 1 second) (left first x e rest n p t r) (front second y m q) h k (ap (λ z. R z y) (sym (same first x e rest n p t r)) ∙ o)
+
+  pub second_taken : R x y ≡ Greater → e ≡ get_or second 0 e → rest ≡ drop 1 second → IsStep first second e false first true rest
+  second_taken o t r =
+      second_least first second x (drop 1 first) e rest (front first x n p) (left second y e rest m q t r) h k (ap (R x) (sym (same second y e rest m q t r)) ∙ o)
+
+  pub both_taken : R x y ≡ Equal → e ≡ get_or first 0 e → rest ≡ drop 1 first → (other : List Version) → other ≡ drop 1 second → IsStep first second e true rest true other
+  both_taken o t r other u =
+      both_least first second e rest y other (left first x e rest n p t r) (front second y m q ∙ ap (λ l. y ∷ l) (sym u)) h k (ap (λ z. R z y) (sym (same first x e rest n p t r)) ∙ o)
 
 -- ---- emptiness
 

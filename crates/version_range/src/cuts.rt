@@ -8,6 +8,7 @@ use crate::interval::{above, any, at_least, at_most, below, equal, major, prefix
 use crate::merge::{Joint, flip, merged};
 use plan_types::{List, NoMemory, Range, Version};
 use std::alloc::Global;
+use std::collections::VecDeque;
 use std::marker::Model;
 
 /// A set of versions, as the sorted ends of half-open intervals.
@@ -78,21 +79,11 @@ impl Cuts {
         }
     }
 
-    fn copy(&self, alloc: Global) -> Result<Cuts, NoMemory>
-        ensures { IfOk result (λ c. c ≡ self.now) }
-    {
-        let mut ends = Vec::new(alloc);
-        for end in &self.ends {
-            ends.push(end.copy(alloc)?)?;
-        }
-        Ok(Cuts { ends })
-    }
-
-    fn merge(&self, alloc: Global, other: &Cuts, joint: Joint) -> Result<Cuts, NoMemory>
+    fn merge(self, alloc: Global, other: Cuts, joint: Joint) -> Result<Cuts, NoMemory>
         ensures { IfOk result (λ c. (v : Version)
-            → inside c v ≡ join joint (inside self.now v) (inside other.now v)) }
+            → inside c v ≡ join joint (inside self v) (inside other v)) }
     {
-        let ends = merged(alloc, self.ends.as_slice(), other.ends.as_slice(), joint)?;
+        let ends = merged(alloc, self.ends, other.ends, joint)?;
         Ok(Cuts::from_ends(ends))
     }
 
@@ -155,7 +146,7 @@ fn chain(alloc: Global, left: &Range, right: &Range, joint: Joint) -> Result<Cut
         rest = left;
     }
     operands.push(Cuts::of(alloc, rest)?)?;
-    combined(alloc, operands.as_slice(), joint)
+    combined(alloc, operands, joint)
 }
 
 // The two sides of a range that is joined so.
@@ -169,15 +160,16 @@ fn sides(range: &Range, joint: Joint) -> Option<(&Range, &Range)>
     }
 }
 
-fn combined(alloc: Global, operands: &[Cuts], joint: Joint) -> Result<Cuts, NoMemory>
-    requires { 0 < length operands.now }
-    ensures { IfOk result (λ c. (v : Version) → inside c v ≡ joined joint operands.now v) }
+// The first two are merged and wait behind the others, until one is left.
+fn combined(alloc: Global, operands: List<Cuts>, joint: Joint) -> Result<Cuts, NoMemory>
+    requires { 0 < length operands }
+    ensures { IfOk result (λ c. (v : Version) → inside c v ≡ joined joint operands v) }
 {
-    if operands.len() == 1 {
-        return operands[0].copy(alloc);
+    let mut waiting = VecDeque::from_vec(operands.into_vec());
+    let mut first = waiting.pop_front().unwrap();
+    while let Some(second) = waiting.pop_front() {
+        waiting.push_back(first.merge(alloc, second, joint)?)?;
+        first = waiting.pop_front().unwrap();
     }
-    let (front, back) = operands.split_at(operands.len() / 2);
-    let front = combined(alloc, front, joint)?;
-    let back = combined(alloc, back, joint)?;
-    front.merge(alloc, &back, joint)
+    Ok(first)
 }
