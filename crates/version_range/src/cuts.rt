@@ -5,7 +5,7 @@ ghost use Rattle.version_range.specs.Version.{has_versions};
 ghost use Rattle.version_range.specs.Cuts.{inside, are_ends, join, joined, HasNumbers, IsSplit, IsRelaxedAbove, IsRelaxedBelow};
 
 use crate::interval::{above, any, at_least, at_most, below, equal, major, prefix};
-use crate::merge::{Joint, flip, merged};
+use crate::merge::{Joint, merged};
 use plan_types::{List, NoMemory, Range, Version};
 use std::alloc::Global;
 use std::collections::VecDeque;
@@ -31,15 +31,15 @@ impl Model for Cuts {
 }
 
 impl Cuts {
-    /// Whether the version is a member.
+    /// Whether the version is a member: an odd number of ends isn't above it.
     pub fn has(&self, v: &Version) -> bool
         ensures { result ≡ inside self.now v.now }
     {
-        let mut is_inside = false;
-        for end in &self.ends {
-            is_inside = flip(v.compare(end).is_ge(), is_inside);
-        }
-        is_inside
+        let reached = self
+            .ends
+            .as_slice()
+            .partition_point(|end| v.compare(end).is_ge());
+        reached % 2 == 1
     }
 
     /// Whether no version is a member.

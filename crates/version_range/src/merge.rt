@@ -65,7 +65,7 @@ pub fn merged(
     Ok(ends)
 }
 
-pub fn flip(turns: bool, b: bool) -> bool
+fn flip(turns: bool, b: bool) -> bool
     ensures { result ≡ flip turns b }
 {
     if turns { !b } else { b }
