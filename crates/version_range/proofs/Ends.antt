@@ -68,6 +68,14 @@ not_below_back a b p = by (is_below b a) refl
     by false e = refl
     by true e = absurd (false≢true (sym (not_itself a) ∙ below_through a b a p e))
 
+pub compared : (a b : Version) → (is_below a b ≡ true) ⊎ ((a ≡ b) ⊎ (is_below b a ≡ true))
+compared a b = by (R a b) refl
+  where
+    by : (o : Ordering) → R a b ≡ o → (is_below a b ≡ true) ⊎ ((a ≡ b) ⊎ (is_below b a ≡ true))
+    by Less e = inl (ap is_lt e)
+    by Equal e = inr (inl (λ i. record { parts = exact_bytes a.parts b.parts e i }))
+    by Greater e = inr (inr (ap is_lt (total.antisymm b a ∙ ap ordering_reverse e)))
+
 -- ends above v hold nothing at v
 pub quiet : (v : Version) (xs : List Version) → all_above v xs ≡ true → inside xs v ≡ false
 quiet v [] h = refl

@@ -2,7 +2,7 @@ ghost use Rattle.std.specs.Prelude.{◌≡◌, ◌≢◌, ◌+◌, ◌<◌, ◌+
 ghost use Rattle.plan_types.specs.declared.version.Version.{Version};
 ghost use Rattle.plan_types.specs.Members.{members};
 ghost use Rattle.version_range.specs.Version.{has_versions};
-ghost use Rattle.version_range.specs.Cuts.{inside, are_ends, join, joined, HasNumbers, IsSplit, IsRelaxedAbove, IsRelaxedBelow};
+ghost use Rattle.version_range.specs.Cuts.{inside, are_ends, join, joined, HasNumbers, IsSplit, Relaxes};
 
 use crate::interval::{above, any, at_least, at_most, below, equal, major, prefix};
 use crate::merge::{Joint, merged};
@@ -87,19 +87,16 @@ impl Cuts {
         Ok(Cuts::from_ends(ends))
     }
 
-    /// Lets in what is above some member where no member is above it: the last interval loses its end.
+    /// Lets newer versions in: the last interval loses its end.
     pub fn relax_upper(&mut self)
-        ensures { (v : Version) → HasNumbers v
-            → IsTrue (inside self.new v) ↔ IsRelaxedAbove (inside self.old) v }
+        ensures { Relaxes true false (inside self.old) (inside self.new) }
     {
         without_stop(&mut self.ends);
     }
 
-    /// Lets in what is below some member where no member is below it: the first interval begins at
-    /// the least version.
+    /// Lets older versions in: the first interval begins at the least version.
     pub fn relax_lower(&mut self)
-        ensures { (v : Version) → HasNumbers v
-            → IsTrue (inside self.new v) ↔ IsRelaxedBelow (inside self.old) v }
+        ensures { Relaxes false true (inside self.old) (inside self.new) }
     {
         from_least(&mut self.ends);
     }
@@ -109,8 +106,7 @@ impl Cuts {
 fn without_stop(ends: &mut Vec<Version>)
     requires { are_ends ends.old.items ≡ true }
     ensures ends { are_ends ends.new.items ≡ true }
-    ensures relaxed { (v : Version) → HasNumbers v
-        → IsTrue (inside ends.new.items v) ↔ IsRelaxedAbove (inside ends.old.items) v }
+    ensures relaxed { Relaxes true false (inside ends.old.items) (inside ends.new.items) }
 {
     if ends.len() % 2 == 0 {
         ends.pop();
@@ -120,8 +116,7 @@ fn without_stop(ends: &mut Vec<Version>)
 fn from_least(ends: &mut Vec<Version>)
     requires { are_ends ends.old.items ≡ true }
     ensures ends { are_ends ends.new.items ≡ true }
-    ensures relaxed { (v : Version) → HasNumbers v
-        → IsTrue (inside ends.new.items v) ↔ IsRelaxedBelow (inside ends.old.items) v }
+    ensures relaxed { Relaxes false true (inside ends.old.items) (inside ends.new.items) }
 {
     if ends.is_empty() {
         return;

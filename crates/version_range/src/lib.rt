@@ -15,7 +15,7 @@ mod read;
 mod version;
 
 pub use cuts::Cuts;
-pub use laws::{one_fault, one_range, range_or_fault, reads_back};
+pub use laws::{one_fault, one_range, range_or_fault, reads_back, relaxed_twice};
 pub use print::print_range;
 pub use read::read_range;
 pub use version::{print_version, read_version};
