@@ -23,8 +23,7 @@ use Rattle.text_grammar.proofs.Steps.{Good, After, after, Choice, here, there, D
 use Rattle.text_grammar.proofs.Closings.{Closed, closed}
 use Rattle.version_range.proofs.Versions.{version_zero, EqualText, whole, front, equal_read, equal_reads, equal_fault}
 use Rattle.version_range.proofs.Sets.{compared_good, never_version, never_compared, set_good}
-use Rattle.text_grammar.proofs.TextKind.{starts}
-use Rattle.version_range.proofs.RangeKind.{on_number, blank_off, decimals, range_kind}
+use Rattle.version_range.proofs.RangeKind.{decimals, range_kind}
 use Rattle.version_range.specs.Read.{missing}
 
 -- a factor that begins with no parenthesis, as it is read

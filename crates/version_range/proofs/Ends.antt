@@ -1,8 +1,10 @@
 -- The order of versions, and lists of ends that rise.
-use Rattle.std.proofs.Common.{◌≡◌, ◌≢◌, ◌⊎◌, inl, inr, ℕ, ◌<◌, Bool, true, false, not, ◌||◌, List, [], ◌∷◌, ◌++◌, length, refl, sym, ap, ◌∙◌, subst, ⊎_elim, arith, append_assoc}
+use Rattle.std.proofs.Common.{◌≡◌, ◌≢◌, ◌⊎◌, inl, inr, ℕ, zero, suc, ◌%◌, ◌<◌, ◌≤◌, Bool, true, false, not, ◌||◌, List, [], ◌∷◌, ◌++◌, length, get_or, drop, refl, sym, ap, ◌∙◌, subst, ⊎_elim, arith, append_assoc, nat_eq}
 use Rattle.std.specs.declared.cmp.Ordering.{Ordering}
 use Rattle.std.specs.declared.cmp.Ordering.TheVariants.{Less, Equal, Greater}
-use Rattle.std.specs.Ordering.{is_lt, ordering_reverse}
+use Rattle.std.specs.Ordering.{is_lt, is_ge, ordering_reverse}
+use Rattle.std.specs.List.Sorted.{IsPartitionedBy, IsPartitionPoint}
+use Rattle.std.proofs.lemmas.Bool.Decides.{nat_tests}
 use Rattle.std.specs.Cmp.{IsTotalOrder}
 use Rattle.std.specs.Cmp.Lexicographic.{on_texts}
 use Rattle.std.proofs.lemmas.Cmp.{alike_right, tied_itself, tied_back}
@@ -65,6 +67,14 @@ not_below_back a b p = by (is_below b a) refl
     by : (t : Bool) → is_below b a ≡ t → t ≡ false
     by false e = refl
     by true e = absurd (false≢true (sym (not_itself a) ∙ below_through a b a p e))
+
+pub compared : (a b : Version) → (is_below a b ≡ true) ⊎ ((a ≡ b) ⊎ (is_below b a ≡ true))
+compared a b = by (R a b) refl
+  where
+    by : (o : Ordering) → R a b ≡ o → (is_below a b ≡ true) ⊎ ((a ≡ b) ⊎ (is_below b a ≡ true))
+    by Less e = inl (ap is_lt e)
+    by Equal e = inr (inl (λ i. record { parts = exact_bytes a.parts b.parts e i }))
+    by Greater e = inr (inr (ap is_lt (total.antisymm b a ∙ ap ordering_reverse e)))
 
 -- ends above v hold nothing at v
 pub quiet : (v : Version) (xs : List Version) → all_above v xs ≡ true → inside xs v ≡ false
@@ -268,7 +278,7 @@ head_above : (x : Version) (l xs : List Version) → l ≡ x ∷ xs → rises l 
 head_above x l xs e h = (and_parts (all_above x xs) (rises xs) (ap rises (sym e) ∙ h)).0
 
 module _ (first second : List Version) (x : Version) (xs : List Version) (y : Version) (ys : List Version) (p : first ≡ x ∷ xs) (q : second ≡ y ∷ ys) (h : rises first ≡ true) (k : rises second ≡ true) where
-  pub first_least : R x y ≡ Less → IsStep first second x true xs false second
+  first_least : R x y ≡ Less → IsStep first second x true xs false second
   first_least o =
       let lower : is_below x y ≡ true = ap is_lt o in
       record {
@@ -280,7 +290,7 @@ module _ (first second : List Version) (x : Version) (xs : List Version) (y : Ve
         shorter = omega (arith, ap length p);
       }
 
-  pub second_least : R x y ≡ Greater → IsStep first second y false first true ys
+  second_least : R x y ≡ Greater → IsStep first second y false first true ys
   second_least o =
       let lower : is_below y x ≡ true = ap is_lt (total.antisymm y x ∙ ap ordering_reverse o) in
       record {
@@ -292,7 +302,7 @@ module _ (first second : List Version) (x : Version) (xs : List Version) (y : Ve
         shorter = omega (arith, ap length q);
       }
 
-  pub both_least : R x y ≡ Equal → IsStep first second x true xs true ys
+  both_least : R x y ≡ Equal → IsStep first second x true xs true ys
   both_least o =
       let same : x.parts ≡ y.parts = exact_bytes x.parts y.parts o in
       record {
@@ -303,6 +313,81 @@ module _ (first second : List Version) (x : Version) (xs : List Version) (y : Ve
         one = refl;
         shorter = omega (arith, ap length p, ap length q);
       }
+
+front : (l : List Version) (x : Version) → 0 < length l → x ≡ get_or l 0 x → l ≡ x ∷ drop 1 l
+front [] x n e = absurd (omega arith)
+front (z ∷ l) x n e = ap (λ w. w ∷ l) (sym e)
+
+-- a front that is seen, and then taken off
+module _ (l : List Version) (x e : Version) (xs : List Version) (n : 0 < length l) (seen : x ≡ get_or l 0 x) (taken : e ≡ get_or l 0 e) (rest : xs ≡ drop 1 l) where
+  left : l ≡ e ∷ xs
+  left = front l e n taken ∙ ap (λ r. e ∷ r) (sym rest)
+
+  same : x ≡ e
+  same = seen ∙ ap (λ m. get_or m 0 x) left
+
+module _ (first second : List Version) (x y : Version) (n : 0 < length first) (m : 0 < length second) (p : x ≡ get_or first 0 x) (q : y ≡ get_or second 0 y) (h : rises first ≡ true) (k : rises second ≡ true) (e : Version) (rest : List Version) where
+  pub first_taken : R x y ≡ Less → e ≡ get_or first 0 e → rest ≡ drop 1 first → IsStep first second e true rest false second
+  first_taken o t r =
+      first_least first second e rest y (drop 1 second) (left first x e rest n p t r) (front second y m q) h k (ap (λ z. R z y) (sym (same first x e rest n p t r)) ∙ o)
+
+  pub second_taken : R x y ≡ Greater → e ≡ get_or second 0 e → rest ≡ drop 1 second → IsStep first second e false first true rest
+  second_taken o t r =
+      second_least first second x (drop 1 first) e rest (front first x n p) (left second y e rest m q t r) h k (ap (R x) (sym (same second y e rest m q t r)) ∙ o)
+
+  pub both_taken : R x y ≡ Equal → e ≡ get_or first 0 e → rest ≡ drop 1 first → (other : List Version) → other ≡ drop 1 second → IsStep first second e true rest true other
+  both_taken o t r other u =
+      both_least first second e rest y other (left first x e rest n p t r) (front second y m q ∙ ap (λ l. y ∷ l) (sym u)) h k (ap (λ z. R z y) (sym (same first x e rest n p t r)) ∙ o)
+
+-- ---- how many ends a version reaches
+
+abbrev reaches : Version → Version → Bool
+reaches v e = is_ge (R v e)
+
+ge_from : (o : Ordering) → is_lt o ≡ false → is_ge o ≡ true
+ge_from Less e = absurd (true≢false e)
+ge_from Equal e = refl
+ge_from Greater e = refl
+
+not_lt_from : (o : Ordering) → is_ge o ≡ true → is_lt o ≡ false
+not_lt_from Less e = absurd (false≢true e)
+not_lt_from Equal e = refl
+not_lt_from Greater e = refl
+
+lt_from : (o : Ordering) → is_ge o ≡ false → is_lt o ≡ true
+lt_from Less e = refl
+lt_from Equal e = absurd (true≢false e)
+lt_from Greater e = absurd (true≢false e)
+
+each_above : (x : Version) (xs : List Version) (k : ℕ) (d : Version) → all_above x xs ≡ true → k < length xs → is_below x (get_or xs k d) ≡ true
+each_above x [] k d h l = absurd (omega arith)
+each_above x (y ∷ ys) zero d h l = (and_parts (is_below x y) (all_above x ys) h).0
+each_above x (y ∷ ys) (suc k) d h l = each_above x ys k d (and_parts (is_below x y) (all_above x ys) h).1 (omega arith)
+
+pub reached_first : (v : Version) (ends : List Version) → rises ends ≡ true → IsPartitionedBy (reaches v) ends
+reached_first v [] h i j d le l r = absurd (omega arith)
+reached_first v (x ∷ xs) h zero zero d le l r = r
+reached_first v (x ∷ xs) h zero (suc j) d le l r =
+    let up = each_above x xs j d (and_parts (all_above x xs) (rises xs) h).0 (omega arith) in
+    let y = get_or xs j d in
+    ge_from (R v x) (not_below_back x v (below_up x y v up (not_lt_from (R v y) r)))
+reached_first v (x ∷ xs) h (suc i) zero d le l r = absurd (omega arith)
+reached_first v (x ∷ xs) h (suc i) (suc j) d le l r = reached_first v xs (and_parts (all_above x xs) (rises xs) h).1 i j d (omega arith) (omega arith) r
+
+odd_next : (i : ℕ) → nat_eq (suc i % 2) 1 ≡ not (nat_eq (i % 2) 1)
+odd_next i = grind (arith, nat_tests)
+
+pub inside_by_count : (v : Version) (ends : List Version) (i : ℕ) → i ≤ length ends → IsPartitionPoint (λ e. reaches v e ≡ true) (λ e. reaches v e ≡ false) ends i → nat_eq (i % 2) 1 ≡ inside ends v
+inside_by_count v [] zero l p = refl
+inside_by_count v [] (suc i) l p = absurd (omega arith)
+inside_by_count v (x ∷ xs) zero l p =
+    let under : is_below v x ≡ true = lt_from (R v x) (p.1 0 x (omega arith) (omega arith)) in
+    let rest = inside_by_count v xs zero (omega arith) (λ k d a b. absurd (omega arith), λ k d a b. p.1 (suc k) d (omega arith) (omega arith)) in
+    rw under rest
+inside_by_count v (x ∷ xs) (suc i) l p =
+    let over : is_below v x ≡ false = not_lt_from (R v x) (p.0 0 x (omega arith) (omega arith)) in
+    let rest = inside_by_count v xs i (omega arith) (λ k d a b. p.0 (suc k) d (omega arith) (omega arith), λ k d a b. p.1 (suc k) d (omega arith) (omega arith)) in
+    rw over (odd_next i ∙ ap not rest)
 
 -- ---- emptiness
 

@@ -20,8 +20,7 @@ use Rattle.text_grammar.proofs.Marks.{led_at, led_reads, led_read, led_fault}
 use Rattle.text_grammar.proofs.Closings.{Instead, instead, begins_instead, apart_instead, Closed, closed, closing, closed_reads, closed_read, closed_fault}
 use Rattle.version_range.proofs.Atoms.{atom_at, atom_read, atom_reads, atom_fault, never_atom}
 use Rattle.text_grammar.proofs.Operands.{Rules, Follow, wider_behind, joined_rules, joined_fault}
-use Rattle.text_grammar.proofs.TextKind.{starts}
-use Rattle.version_range.proofs.RangeKind.{on_number, blank_off, decimals, range_kind}
+use Rattle.version_range.proofs.RangeKind.{decimals, range_kind}
 use Rattle.version_range.specs.Read.{missing}
 
 -- ---- what may follow

@@ -60,6 +60,15 @@ join_back Either true false = refl
 join_back Either false true = refl
 join_back Either false false = refl
 
+-- the first two, merged, go behind the rest
+pub joined_behind : (j : Joint) (x y merged : List Version) (rest : List (List Version)) (v : Version) → inside merged v ≡ join j (inside x v) (inside y v) → joined j (rest ++ merged ∷ []) v ≡ joined j (x ∷ y ∷ rest) v
+joined_behind j x y merged rest v h =
+    joined_push j rest merged v
+    ∙ ap (join j (joined j rest v)) h
+    ∙ join_back j (joined j rest v) (join j (inside x v) (inside y v))
+    ∙ sym (ap (λ b. join j b (joined j rest v)) (joined_push j (x ∷ []) y v ∙ ap (λ b. join j b (inside y v)) (joined_one j x v)))
+    ∙ sym (joined_append j (x ∷ y ∷ []) rest v)
+
 -- Some operands of a chain are taken from its right end, and a range is left.
 pub record Takes_over (j : Joint) (left right : Range) (operands : List (List Version)) (rest : Range) : Type 0 where
   pub members_are : (v : Version) → HasNumbers v → join j (members rest v) (joined j operands v) ≡ join j (members left v) (members right v)

@@ -1,5 +1,5 @@
 -- Relaxed cuts.
-use Rattle.std.proofs.Common.{◌≡◌, ◌≢◌, inl, inr, ℕ, zero, suc, ◌%◌, ◌<◌, Bool, true, false, not, List, [], ◌∷◌, ◌++◌, length, set, get_or, cond, IsTrue, Option, Some, None, refl, sym, ap, ◌∙◌, subst, arith, length-append, ◌↔◌, IsSome}
+use Rattle.std.proofs.Common.{◌≡◌, ◌≢◌, ◌⊎◌, ◌||◌, inl, inr, ℕ, zero, suc, ◌%◌, ◌<◌, Bool, true, false, not, List, [], ◌∷◌, ◌++◌, length, set, get_or, cond, IsTrue, Option, Some, None, refl, sym, ap, ◌∙◌, subst, arith, length-append, ◌↔◌, IsSome}
 use Rattle.std.specs.Ordering.{is_lt}
 use Rattle.std.proofs.lemmas.Bool.Decides.{nat_tests}
 use Rattle.std.proofs.lemmas.Bool.{true≢false, false≢true, and_parts, and_from}
@@ -7,8 +7,38 @@ use Rattle.std.proofs.lemmas.List.{append-nil, nil_from_length}
 use Rattle.std.specs.Option.{option_to_list}
 use Rattle.plan_types.specs.declared.version.Version.{Version}
 use Rattle.plan_types.specs.Members.{order}
-use Rattle.version_range.specs.Cuts.{is_below, HasNumbers, inside, all_above, rises, are_ends, no_numbers, SomeAbove, IsRelaxedAbove, IsRelaxedBelow}
-use Rattle.version_range.proofs.Ends.{not_itself, below_through, below_up, below_down, not_below_back, quiet, above_down, above_to, all_above_append, has_numbers}
+use Rattle.version_range.specs.Cuts.{is_below, HasNumbers, inside, all_above, rises, are_ends, no_numbers, SomeAbove, IsNewer, IsOlder, IsRelaxed, Relaxes}
+use Rattle.version_range.proofs.Ends.{not_itself, compared, below_through, below_up, below_down, not_below_back, quiet, above_down, above_to, all_above_append, has_numbers}
+
+abbrev IsRelaxedAbove : (Version → Bool) → Version → Type 0
+IsRelaxedAbove has v = IsTrue (has v) ⊎ IsNewer has v
+
+abbrev IsRelaxedBelow : (Version → Bool) → Version → Type 0
+IsRelaxedBelow has v = IsTrue (has v) ⊎ IsOlder has v
+
+newer_alone : (has relaxed : Version → Bool) → ((v : Version) → HasNumbers v → IsTrue (relaxed v) ↔ IsRelaxedAbove has v) → Relaxes true false has relaxed
+newer_alone has relaxed h v n = (λ t. to ((h v n).0 t), λ r. (h v n).1 (from r))
+  where
+    to : IsRelaxedAbove has v → IsRelaxed true false has v
+    to (inl m) = inl m
+    to (inr r) = inr (inl (refl, r))
+
+    from : IsRelaxed true false has v → IsRelaxedAbove has v
+    from (inl m) = inl m
+    from (inr (inl r)) = inr r.1
+    from (inr (inr r)) = absurd (false≢true r.0)
+
+older_alone : (has relaxed : Version → Bool) → ((v : Version) → HasNumbers v → IsTrue (relaxed v) ↔ IsRelaxedBelow has v) → Relaxes false true has relaxed
+older_alone has relaxed h v n = (λ t. to ((h v n).0 t), λ r. (h v n).1 (from r))
+  where
+    to : IsRelaxedBelow has v → IsRelaxed false true has v
+    to (inl m) = inl m
+    to (inr r) = inr (inr (refl, r))
+
+    from : IsRelaxed false true has v → IsRelaxedBelow has v
+    from (inl m) = inl m
+    from (inr (inl r)) = absurd (false≢true r.0)
+    from (inr (inr r)) = inr r.1
 
 -- ---- below
 
@@ -217,12 +247,12 @@ lifted_none v = (λ h. inl h, by)
 -- ---- what the code does
 
 -- an even number of ends, of which the last is taken off
-pub lifted_by : (ends new : List Version) (o : Option Version) → are_ends ends ≡ true → length ends % 2 ≡ 0 → ends ≡ new ++ option_to_list o → (IsSome o ↔ (0 < length ends)) → (are_ends new ≡ true) × ((v : Version) → IsTrue (inside new v) ↔ IsRelaxedAbove (inside ends) v)
+pub lifted_by : (ends new : List Version) (o : Option Version) → are_ends ends ≡ true → length ends % 2 ≡ 0 → ends ≡ new ++ option_to_list o → (IsSome o ↔ (0 < length ends)) → (are_ends new ≡ true) × Relaxes true false (inside ends) (inside new)
 lifted_by ends new None are even e s =
     let none : ends ≡ [] = nil_from_length ends (by (length ends) refl) in
     let nothing : new ≡ [] = sym (e ∙ append-nil new) ∙ none in (
       ap are_ends nothing,
-      λ v. subst (λ n. IsTrue (inside n v) ↔ IsRelaxedAbove (inside ends) v) (sym nothing) (subst (λ n. IsTrue (inside [] v) ↔ IsRelaxedAbove (inside n) v) (sym none) (lifted_none v)),
+      newer_alone (inside ends) (inside new) (λ v n. subst (λ n. IsTrue (inside n v) ↔ IsRelaxedAbove (inside ends) v) (sym nothing) (subst (λ n. IsTrue (inside [] v) ↔ IsRelaxedAbove (inside n) v) (sym none) (lifted_none v))),
     )
   where
     by : (n : ℕ) → length ends ≡ n → n ≡ 0
@@ -231,33 +261,162 @@ lifted_by ends new None are even e s =
 lifted_by ends new (Some last) are even e s =
     let ok : are_ends (new ++ last ∷ []) ≡ true = ap are_ends (sym e) ∙ are in
     let odd : odd_many new ≡ true = by (odd_many new) refl in
-    (lifted_are new last ok, λ v. subst (λ n. IsTrue (inside new v) ↔ IsRelaxedAbove (inside n) v) (sym e) (lifted new last ok odd v))
+    (lifted_are new last ok, newer_alone (inside ends) (inside new) (λ v n. subst (λ n. IsTrue (inside new v) ↔ IsRelaxedAbove (inside n) v) (sym e) (lifted new last ok odd v)))
   where
     by : (t : Bool) → odd_many new ≡ t → t ≡ true
     by true q = refl
     by false q = absurd (omega (arith, (parity new).1 q, ap length e, length-append new (last ∷ [])))
 
 -- an odd number of ends
-pub kept_by : (ends : List Version) → are_ends ends ≡ true → length ends % 2 ≢ 0 → (v : Version) → IsTrue (inside ends v) ↔ IsRelaxedAbove (inside ends) v
-kept_by [] are odd v = absurd (odd refl)
-kept_by (x ∷ xs) are odd v =
+pub kept_by : (ends : List Version) → are_ends ends ≡ true → length ends % 2 ≢ 0 → Relaxes true false (inside ends) (inside ends)
+kept_by [] are odd = absurd (odd refl)
+kept_by (x ∷ xs) are odd =
     let s = last_of x xs in
     let e = s.2 in
     let even : odd_many s.0 ≡ false = by s.0 s.1 e (odd_many s.0) refl in
-    subst (λ n. IsTrue (inside n v) ↔ IsRelaxedAbove (inside n) v) (sym e) (kept s.0 s.1 (ap are_ends (sym e) ∙ are) even v)
+    newer_alone (inside (x ∷ xs)) (inside (x ∷ xs)) (λ v n. subst (λ n. IsTrue (inside n v) ↔ IsRelaxedAbove (inside n) v) (sym e) (kept s.0 s.1 (ap are_ends (sym e) ∙ are) even v))
   where
     by : (ys : List Version) (p : Version) → x ∷ xs ≡ ys ++ p ∷ [] → (t : Bool) → odd_many ys ≡ t → t ≡ false
     by ys p e false q = refl
     by ys p e true q = absurd (odd (omega (arith, (parity ys).0 q, ap length e, length-append ys (p ∷ []))))
 
 -- the first end with its numbers made least
-pub lowered_by : (ends new : List Version) (z : Version) → are_ends ends ≡ true → ends ≢ [] → new ≡ set ends 0 z → z.parts ≡ 0 ∷ [] → (are_ends new ≡ true) × ((v : Version) → HasNumbers v → IsTrue (inside new v) ↔ IsRelaxedBelow (inside ends) v)
+pub lowered_by : (ends new : List Version) (z : Version) → are_ends ends ≡ true → ends ≢ [] → new ≡ set ends 0 z → z.parts ≡ 0 ∷ [] → (are_ends new ≡ true) × Relaxes false true (inside ends) (inside new)
 lowered_by [] new z are some e l = absurd (some refl)
 lowered_by (f ∷ rest) new z are some e l = (
   ap are_ends e ∙ lowered_are z f rest l are,
-  λ v n. subst (λ m. IsTrue (inside m v) ↔ IsRelaxedBelow (inside (f ∷ rest)) v) (sym e) (lowered z f rest l are v n),
+  older_alone (inside (f ∷ rest)) (inside new) (λ v n. subst (λ m. IsTrue (inside m v) ↔ IsRelaxedBelow (inside (f ∷ rest)) v) (sym e) (lowered z f rest l are v n)),
 )
 
 pub first_numbers : (ends : List Version) (f : Version) → are_ends ends ≡ true → ends ≢ [] → f ≡ get_or ends 0 f → HasNumbers f
 first_numbers [] f are some e = absurd (some refl)
 first_numbers (x ∷ rest) f are some e = subst HasNumbers (sym e) (has_numbers x (and_parts (is_below no_numbers x) (all_above no_numbers rest) (and_parts (all_above no_numbers (x ∷ rest)) (rises (x ∷ rest)) are).0).0)
+
+-- ---- relaxed twice
+
+-- Newer and older are one thing, in an order and in its reverse.
+abbrev Some_to : (Version → Version → Type 0) → (Version → Bool) → Version → Type 0
+Some_to L has v = (w : Version) × HasNumbers w × IsTrue (has w) × L w v
+
+abbrev Past : (Version → Version → Type 0) → (Version → Bool) → Version → Type 0
+Past L has v = Some_to L has v × (Some_to (λ a b. L b a) has v → ⊥)
+
+module _ (L : Version → Version → Type 0) (through : (a b c : Version) → L a b → L b c → L a c) (cases : (a b : Version) → L a b ⊎ ((a ≡ b) ⊎ L b a)) (has once : Version → Bool) (p q : Bool) (enters : (v : Version) → HasNumbers v → IsTrue (has v) → IsTrue (once v)) (comes : (v : Version) → HasNumbers v → IsTrue (once v) → IsTrue (has v) ⊎ ((IsTrue p × Past L has v) ⊎ (IsTrue q × Past (λ a b. L b a) has v))) where
+  to_once : (v : Version) → Some_to L has v → Some_to L once v
+  to_once v s = (s.0, s.1, enters s.0 s.1 s.2, s.3)
+
+  back_to_once : (v : Version) → Some_to (λ a b. L b a) has v → Some_to (λ a b. L b a) once v
+  back_to_once v s = (s.0, s.1, enters s.0 s.1 s.2, s.3)
+
+  past_before : (v : Version) → Past L once v → IsTrue (has v) ⊎ Past L has v
+  past_before v r = by (comes w r.0.1 r.0.2)
+    where
+      w : Version
+      w = r.0.0
+
+      none : Some_to (λ a b. L b a) has v → ⊥
+      none s = r.1 (back_to_once v s)
+
+      at : (u : Version) → HasNumbers u → IsTrue (has u) → L u v ⊎ ((u ≡ v) ⊎ L v u) → IsTrue (has v) ⊎ Past L has v
+      at u n m (inl l) = inr ((u, n, m, l), none)
+      at u n m (inr (inl e)) = inl (subst (λ z. IsTrue (has z)) e m)
+      at u n m (inr (inr g)) = absurd (none (u, n, m, g))
+
+      by : IsTrue (has w) ⊎ ((IsTrue p × Past L has w) ⊎ (IsTrue q × Past (λ a b. L b a) has w)) → IsTrue (has v) ⊎ Past L has v
+      by (inl m) = inr ((w, r.0.1, m, r.0.3), none)
+      by (inr (inl t)) = let s = t.1.0 in inr ((s.0, s.1, s.2, through s.0 w v s.3 r.0.3), none)
+      by (inr (inr t)) = let s = t.1.0 in at s.0 s.1 s.2 (cases s.0 v)
+
+  past_after : p ≡ false → (v : Version) → Past L has v → Past L once v
+  past_after e v r = (to_once v r.0, λ s. by s (comes s.0 s.1 s.2))
+    where
+      by : (s : Some_to (λ a b. L b a) once v) → IsTrue (has s.0) ⊎ ((IsTrue p × Past L has s.0) ⊎ (IsTrue q × Past (λ a b. L b a) has s.0)) → ⊥
+      by s (inl m) = r.1 (s.0, s.1, m, s.3)
+      by s (inr (inl t)) = false≢true (sym e ∙ t.0)
+      by s (inr (inr t)) = let u = t.1.0 in r.1 (u.0, u.1, u.2, through v s.0 u.0 s.3 u.3)
+
+or_left : (a b : Bool) → IsTrue a → IsTrue (a || b)
+or_left true b t = refl
+or_left false b t = absurd (false≢true t)
+
+or_right : (a b : Bool) → IsTrue b → IsTrue (a || b)
+or_right true b t = refl
+or_right false b t = t
+
+abbrev Under : Version → Version → Type 0
+Under a b = IsTrue (is_below a b)
+
+abbrev Over : Version → Version → Type 0
+Over a b = IsTrue (is_below b a)
+
+over_through : (a b c : Version) → Over a b → Over b c → Over a c
+over_through a b c p q = below_through c b a q p
+
+compared_back : (a b : Version) → Over a b ⊎ ((a ≡ b) ⊎ Over b a)
+compared_back a b = by (compared b a)
+  where
+    by : Over a b ⊎ ((b ≡ a) ⊎ Over b a) → Over a b ⊎ ((a ≡ b) ⊎ Over b a)
+    by (inl t) = inl t
+    by (inr (inl e)) = inr (inl (sym e))
+    by (inr (inr t)) = inr (inr t)
+
+module _ (n o m k : Bool) (has once twice : Version → Bool) (first : Relaxes n o has once) (second : Relaxes m k once twice) where
+  enters : (v : Version) → HasNumbers v → IsTrue (has v) → IsTrue (once v)
+  enters v h t = (first v h).1 (inl t)
+
+  comes : (v : Version) → HasNumbers v → IsTrue (once v) → IsRelaxed n o has v
+  comes v h t = (first v h).0 t
+
+  comes_back : (v : Version) → HasNumbers v → IsTrue (once v) → IsTrue (has v) ⊎ ((IsTrue o × IsOlder has v) ⊎ (IsTrue n × IsNewer has v))
+  comes_back v h t = by ((first v h).0 t)
+    where
+      by : IsRelaxed n o has v → IsTrue (has v) ⊎ ((IsTrue o × IsOlder has v) ⊎ (IsTrue n × IsNewer has v))
+      by (inl t) = inl t
+      by (inr (inl r)) = inr (inr r)
+      by (inr (inr r)) = inr (inl r)
+
+  newer_before : (v : Version) → IsNewer once v → IsTrue (has v) ⊎ IsNewer has v
+  newer_before = past_before Under below_through compared has once n o enters comes
+
+  older_before : (v : Version) → IsOlder once v → IsTrue (has v) ⊎ IsOlder has v
+  older_before = past_before Over over_through compared_back has once o n enters comes_back
+
+  newer_after : n ≡ false → (v : Version) → IsNewer has v → IsNewer once v
+  newer_after = past_after Under below_through compared has once n o enters comes
+
+  older_after : o ≡ false → (v : Version) → IsOlder has v → IsOlder once v
+  older_after = past_after Over over_through compared_back has once o n enters comes_back
+
+  wider : (v : Version) → IsRelaxed n o has v → IsRelaxed (n || m) (o || k) has v
+  wider v (inl t) = inl t
+  wider v (inr (inl r)) = inr (inl (or_left n m r.0, r.1))
+  wider v (inr (inr r)) = inr (inr (or_left o k r.0, r.1))
+
+  after_both : (v : Version) → HasNumbers v → IsRelaxed m k once v → IsRelaxed (n || m) (o || k) has v
+  after_both v h (inl t) = wider v (comes v h t)
+  after_both v h (inr (inl r)) = by (newer_before v r.1)
+    where
+      by : IsTrue (has v) ⊎ IsNewer has v → IsRelaxed (n || m) (o || k) has v
+      by (inl t) = inl t
+      by (inr s) = inr (inl (or_right n m r.0, s))
+  after_both v h (inr (inr r)) = by (older_before v r.1)
+    where
+      by : IsTrue (has v) ⊎ IsOlder has v → IsRelaxed (n || m) (o || k) has v
+      by (inl t) = inl t
+      by (inr s) = inr (inr (or_right o k r.0, s))
+
+  before_both : (v : Version) → HasNumbers v → IsRelaxed (n || m) (o || k) has v → IsTrue (twice v)
+  before_both v h (inl t) = (second v h).1 (inl (enters v h t))
+  before_both v h (inr (inl r)) = by n refl
+    where
+      by : (t : Bool) → n ≡ t → IsTrue (twice v)
+      by true e = (second v h).1 (inl ((first v h).1 (inr (inl (e, r.1)))))
+      by false e = (second v h).1 (inr (inl (ap (λ t. t || m) (sym e) ∙ r.0, newer_after e v r.1)))
+  before_both v h (inr (inr r)) = by o refl
+    where
+      by : (t : Bool) → o ≡ t → IsTrue (twice v)
+      by true e = (second v h).1 (inl ((first v h).1 (inr (inr (e, r.1)))))
+      by false e = (second v h).1 (inr (inr (ap (λ t. t || k) (sym e) ∙ r.0, older_after e v r.1)))
+
+  pub relaxed_twice : Relaxes (n || m) (o || k) has twice
+  relaxed_twice v h = (λ t. after_both v h ((second v h).0 t), λ r. before_both v h r)

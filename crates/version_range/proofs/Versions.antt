@@ -26,8 +26,7 @@ use Rattle.text_grammar.proofs.Fronts.{Reader, errs, Apart, ends_behind, Read, D
 use Rattle.text_grammar.proofs.Spaces.{Begun, begun, byte_gone, no_digits, starts_digit, starts_same}
 use Rattle.text_grammar.proofs.ChainParts.{Option-Reader, all_of, Parts, errs_then, ok_parts, errs_err, reads, read_all, AllRead, NextFault, fault_all}
 use Rattle.text_grammar.proofs.TextKind.{starts}
-use Rattle.version_range.proofs.RangeKind.{on_number, blank_off, decimals, range_kind}
-use Rattle.version_range.specs.Read.{missing}
+use Rattle.version_range.proofs.RangeKind.{on_number, decimals, range_kind}
 
 -- ---- numbers
 

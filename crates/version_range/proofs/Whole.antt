@@ -3,7 +3,7 @@ use Rattle.std.proofs.Common.{◌≡◌, ◌≢◌, inl, inr, ℕ, suc, Bool, tr
 use Rattle.std.specs.Prelude.{◌==◌, if◌then◌else◌}
 use Rattle.std.specs.Char.{is_ascii_digit}
 use Rattle.std.specs.List.{list_all}
-use Rattle.std.proofs.lemmas.Bool.{false≢true, true≢false, and_parts, and_from, eqb-true}
+use Rattle.std.proofs.lemmas.Bool.{false≢true, true≢false, and_parts, eqb-true}
 use Rattle.plan_types.specs.declared.range.Spec.{Spec}
 use Rattle.plan_types.specs.declared.range.Range.{Range}
 use Rattle.plan_types.specs.declared.range.Range.TheVariants.{Any}
@@ -15,7 +15,7 @@ use Rattle.version_range.specs.Version.{begins_with_digit}
 use Rattle.version_range.specs.Grammar.{is_old, atom, any, Factor, Term, Terms, Inside, Stands, empty, range, Viable, IsNewForm, OpensTooMany, CauseAt, needs_version, bad_version, too_deep, bad_range, FirstFault}
 use Rattle.plan_types.specs.Bytes.{begins_with, is_blank, Blanks}
 use Rattle.text_grammar.specs.Parts.{Led, led, one, more}
-use Rattle.text_grammar.proofs.Fronts.{head_of, errs, Apart, ends_kept, Read, Dead, NoDigit, Like, Why, new_form, digit_due, digit_more, wider, behind_digit, no_digit, Fault, fault_up_like, why_dead, head_some, digit_some, viable_by, stuck_of, no_viable_digit, not_wider}
+use Rattle.text_grammar.proofs.Fronts.{head_of, errs, Dead, NoDigit, Like, Why, new_form, digit_due, digit_more, wider, behind_digit, no_digit, Fault, fault_up_like, why_dead, head_some, digit_some, viable_by, stuck_of, no_viable_digit, not_wider}
 use Rattle.text_grammar.specs.FirstFault.{Stuck}
 use Rattle.text_grammar.proofs.Spaces.{starts_same, starts_digit, blanks_none, blanks_go_on, cut, skip_over, no_length, some_length, all_blanks, skip_all, blanks_parts, blanks_push}
 use Rattle.text_grammar.proofs.ChainParts.{errs_then}
@@ -23,7 +23,7 @@ use Rattle.text_grammar.proofs.Closings.{Instead, instead, like_instead, skip_in
 use Rattle.text_grammar.proofs.Operands.{Rules}
 use Rattle.version_range.proofs.Factors.{AfterRange, after_instead, factor_unblank, inside_rules, range_rules, range_fault, wider_inside, wider_terms}
 use Rattle.text_grammar.proofs.TextKind.{starts}
-use Rattle.version_range.proofs.RangeKind.{on_number, blank_off, decimals, range_kind}
+use Rattle.version_range.proofs.RangeKind.{on_number, decimals, range_kind}
 
 -- what is read of a range is the text where only blanks are left
 abbrev pub to_end : Spec → Range × List ℕ → Result Range Cause

@@ -1,5 +1,5 @@
 -- Sorted cuts, and the relaxed range.
-use Rattle.std.specs.Prelude.{◌≡◌, ℕ, ◌+◌, ◌<◌, Bool, true, false, not, ◌&&◌, ◌||◌, if◌then◌else◌, ◌⊎◌, List, [], ◌∷◌, ◌++◌, length, IsTrue}
+use Rattle.std.specs.Prelude.{◌≡◌, ℕ, ◌+◌, ◌<◌, Bool, true, false, not, ◌&&◌, ◌||◌, if◌then◌else◌, ◌⊎◌, List, [], ◌∷◌, ◌++◌, length, IsTrue, ◌↔◌}
 use Rattle.std.specs.Ordering.{is_lt}
 use Rattle.plan_types.specs.declared.version.Version.{Version}
 use Rattle.plan_types.specs.declared.range.Range.{Range, size-Range}
@@ -87,13 +87,22 @@ SomeBelow has v = (w : Version) × HasNumbers w × IsTrue (has w) × IsTrue (is_
 abbrev pub SomeAbove : (Version → Bool) → Version → Type 0
 SomeAbove has v = (w : Version) × HasNumbers w × IsTrue (has w) × IsTrue (is_below v w)
 
--- The range relaxed above: its members, and what is above some member where no member is above it.
-abbrev pub IsRelaxedAbove : (Version → Bool) → Version → Type 0
-IsRelaxedAbove has v = IsTrue (has v) ⊎ (SomeBelow has v × (SomeAbove has v → ⊥))
+-- above some member, and no member is above it
+abbrev pub IsNewer : (Version → Bool) → Version → Type 0
+IsNewer has v = SomeBelow has v × (SomeAbove has v → ⊥)
 
--- The range relaxed below: its members, and what is below some member where no member is below it.
-abbrev pub IsRelaxedBelow : (Version → Bool) → Version → Type 0
-IsRelaxedBelow has v = IsTrue (has v) ⊎ (SomeAbove has v × (SomeBelow has v → ⊥))
+-- below some member, and no member is below it
+abbrev pub IsOlder : (Version → Bool) → Version → Type 0
+IsOlder has v = SomeAbove has v × (SomeBelow has v → ⊥)
+
+-- The relaxed range: its members, what is newer than these where newer versions are let in, and what is
+-- older where older ones are.
+abbrev pub IsRelaxed : Bool → Bool → (Version → Bool) → Version → Type 0
+IsRelaxed newer older has v = IsTrue (has v) ⊎ (IsTrue newer × IsNewer has v) ⊎ (IsTrue older × IsOlder has v)
+
+-- this set is that one relaxed so
+abbrev pub Relaxes : Bool → Bool → (Version → Bool) → (Version → Bool) → Type 0
+Relaxes newer older has relaxed = (v : Version) → HasNumbers v → IsTrue (relaxed v) ↔ IsRelaxed newer older has v
 
 -- the least list of numbers above all that begin with these
 abbrev pub raised : List ℕ → List ℕ

@@ -1,7 +1,6 @@
 -- Which range a text stands for, and the first byte at which no reading goes on.
-use Rattle.std.specs.Prelude.{◌≡◌, ◌⊎◌, ℕ, zero, suc, Bool, true, false, ◌&&◌, ◌||◌, ◌==◌, List, [], ◌∷◌, ◌++◌, codes}
+use Rattle.std.specs.Prelude.{◌≡◌, ◌⊎◌, ℕ, zero, suc, Bool, true, false, ◌&&◌, List, [], ◌∷◌, ◌++◌, codes}
 use Rattle.std.specs.Char.{is_ascii_digit}
-use Rattle.std.specs.List.{list_all}
 use Rattle.plan_types.specs.declared.range.Range.{Range}
 use Rattle.plan_types.specs.declared.range.Range.TheVariants.{Any, Nothing, Prefix, Both, Either}
 use Rattle.plan_types.specs.declared.range.Range.TheVariants as ranges

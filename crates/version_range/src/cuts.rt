@@ -2,12 +2,13 @@ ghost use Rattle.std.specs.Prelude.{◌≡◌, ◌≢◌, ◌+◌, ◌<◌, ◌+
 ghost use Rattle.plan_types.specs.declared.version.Version.{Version};
 ghost use Rattle.plan_types.specs.Members.{members};
 ghost use Rattle.version_range.specs.Version.{has_versions};
-ghost use Rattle.version_range.specs.Cuts.{inside, are_ends, join, joined, HasNumbers, IsSplit, IsRelaxedAbove, IsRelaxedBelow};
+ghost use Rattle.version_range.specs.Cuts.{inside, are_ends, join, joined, HasNumbers, IsSplit, Relaxes};
 
 use crate::interval::{above, any, at_least, at_most, below, equal, major, prefix};
-use crate::merge::{Joint, flip, merged};
+use crate::merge::{Joint, merged};
 use plan_types::{List, NoMemory, Range, Version};
 use std::alloc::Global;
+use std::collections::VecDeque;
 use std::marker::Model;
 
 /// A set of versions, as the sorted ends of half-open intervals.
@@ -30,15 +31,15 @@ impl Model for Cuts {
 }
 
 impl Cuts {
-    /// Whether the version is a member.
+    /// Whether the version is a member: an odd number of ends isn't above it.
     pub fn has(&self, v: &Version) -> bool
         ensures { result ≡ inside self.now v.now }
     {
-        let mut is_inside = false;
-        for end in &self.ends {
-            is_inside = flip(v.compare(end).is_ge(), is_inside);
-        }
-        is_inside
+        let reached = self
+            .ends
+            .as_slice()
+            .partition_point(|end| v.compare(end).is_ge());
+        reached % 2 == 1
     }
 
     /// Whether no version is a member.
@@ -78,37 +79,24 @@ impl Cuts {
         }
     }
 
-    fn copy(&self, alloc: Global) -> Result<Cuts, NoMemory>
-        ensures { IfOk result (λ c. c ≡ self.now) }
-    {
-        let mut ends = Vec::new(alloc);
-        for end in &self.ends {
-            ends.push(end.copy(alloc)?)?;
-        }
-        Ok(Cuts { ends })
-    }
-
-    fn merge(&self, alloc: Global, other: &Cuts, joint: Joint) -> Result<Cuts, NoMemory>
+    fn merge(self, alloc: Global, other: Cuts, joint: Joint) -> Result<Cuts, NoMemory>
         ensures { IfOk result (λ c. (v : Version)
-            → inside c v ≡ join joint (inside self.now v) (inside other.now v)) }
+            → inside c v ≡ join joint (inside self v) (inside other v)) }
     {
-        let ends = merged(alloc, self.ends.as_slice(), other.ends.as_slice(), joint)?;
+        let ends = merged(alloc, self.ends, other.ends, joint)?;
         Ok(Cuts::from_ends(ends))
     }
 
-    /// Lets in what is above some member where no member is above it: the last interval loses its end.
+    /// Lets newer versions in: the last interval loses its end.
     pub fn relax_upper(&mut self)
-        ensures { (v : Version) → HasNumbers v
-            → IsTrue (inside self.new v) ↔ IsRelaxedAbove (inside self.old) v }
+        ensures { Relaxes true false (inside self.old) (inside self.new) }
     {
         without_stop(&mut self.ends);
     }
 
-    /// Lets in what is below some member where no member is below it: the first interval begins at
-    /// the least version.
+    /// Lets older versions in: the first interval begins at the least version.
     pub fn relax_lower(&mut self)
-        ensures { (v : Version) → HasNumbers v
-            → IsTrue (inside self.new v) ↔ IsRelaxedBelow (inside self.old) v }
+        ensures { Relaxes false true (inside self.old) (inside self.new) }
     {
         from_least(&mut self.ends);
     }
@@ -118,8 +106,7 @@ impl Cuts {
 fn without_stop(ends: &mut Vec<Version>)
     requires { are_ends ends.old.items ≡ true }
     ensures ends { are_ends ends.new.items ≡ true }
-    ensures relaxed { (v : Version) → HasNumbers v
-        → IsTrue (inside ends.new.items v) ↔ IsRelaxedAbove (inside ends.old.items) v }
+    ensures relaxed { Relaxes true false (inside ends.old.items) (inside ends.new.items) }
 {
     if ends.len() % 2 == 0 {
         ends.pop();
@@ -129,8 +116,7 @@ fn without_stop(ends: &mut Vec<Version>)
 fn from_least(ends: &mut Vec<Version>)
     requires { are_ends ends.old.items ≡ true }
     ensures ends { are_ends ends.new.items ≡ true }
-    ensures relaxed { (v : Version) → HasNumbers v
-        → IsTrue (inside ends.new.items v) ↔ IsRelaxedBelow (inside ends.old.items) v }
+    ensures relaxed { Relaxes false true (inside ends.old.items) (inside ends.new.items) }
 {
     if ends.is_empty() {
         return;
@@ -155,7 +141,7 @@ fn chain(alloc: Global, left: &Range, right: &Range, joint: Joint) -> Result<Cut
         rest = left;
     }
     operands.push(Cuts::of(alloc, rest)?)?;
-    combined(alloc, operands.as_slice(), joint)
+    combined(alloc, operands, joint)
 }
 
 // The two sides of a range that is joined so.
@@ -169,15 +155,16 @@ fn sides(range: &Range, joint: Joint) -> Option<(&Range, &Range)>
     }
 }
 
-fn combined(alloc: Global, operands: &[Cuts], joint: Joint) -> Result<Cuts, NoMemory>
-    requires { 0 < length operands.now }
-    ensures { IfOk result (λ c. (v : Version) → inside c v ≡ joined joint operands.now v) }
+// The first two are merged and wait behind the others, until one is left.
+fn combined(alloc: Global, operands: List<Cuts>, joint: Joint) -> Result<Cuts, NoMemory>
+    requires { 0 < length operands }
+    ensures { IfOk result (λ c. (v : Version) → inside c v ≡ joined joint operands v) }
 {
-    if operands.len() == 1 {
-        return operands[0].copy(alloc);
+    let mut waiting = VecDeque::from_vec(operands.into_vec());
+    let mut first = waiting.pop_front().unwrap();
+    while let Some(second) = waiting.pop_front() {
+        waiting.push_back(first.merge(alloc, second, joint)?)?;
+        first = waiting.pop_front().unwrap();
     }
-    let (front, back) = operands.split_at(operands.len() / 2);
-    let front = combined(alloc, front, joint)?;
-    let back = combined(alloc, back, joint)?;
-    front.merge(alloc, &back, joint)
+    Ok(first)
 }

@@ -1,8 +1,10 @@
-ghost use Rattle.std.specs.Prelude.{◌≡◌, ◌≤◌, ℕ, List, true};
+ghost use Rattle.std.specs.Prelude.{◌≡◌, ◌≤◌, ◌||◌, ℕ, Bool, List, true, false};
 ghost use Rattle.plan_types.specs.declared.range.Range.{Range};
 ghost use Rattle.plan_types.specs.declared.range.Spec.{Spec};
 ghost use Rattle.plan_types.specs.declared.refusal.Cause.{Cause};
+ghost use Rattle.plan_types.specs.declared.version.Version.{Version};
 ghost use Rattle.version_range.specs.Version.{has_versions};
+ghost use Rattle.version_range.specs.Cuts.{HasNumbers, Relaxes};
 ghost use Rattle.version_range.specs.Print.{range_text, most_open};
 ghost use Rattle.version_range.specs.Grammar.{Stands, FirstFault};
 
@@ -25,4 +27,13 @@ pub fn range_or_fault()
 /// never has more than 64 parentheses open.
 pub fn reads_back()
     ensures { (spec : Spec) (r : Range) → has_versions r ≡ true → most_open 0 (range_text r) ≤ 64 → Stands spec 64 (range_text r) r }
+{}
+
+/// Relaxing twice lets in what either time does. So it is one whether newer versions are let in first and
+/// then older ones, or older ones first, and sets with the same members are relaxed alike.
+pub fn relaxed_twice()
+    ensures newer_first { (has once both : Version → Bool) → Relaxes true false has once → Relaxes false true once both → Relaxes true true has both }
+    ensures older_first { (has once both : Version → Bool) → Relaxes false true has once → Relaxes true false once both → Relaxes true true has both }
+    ensures twice { (newer older also_newer also_older : Bool) (has once twice : Version → Bool) → Relaxes newer older has once → Relaxes also_newer also_older once twice → Relaxes (newer || also_newer) (older || also_older) has twice }
+    ensures same { (has same : Version → Bool) → ((v : Version) → HasNumbers v → same v ≡ has v) → Relaxes false false has same }
 {}

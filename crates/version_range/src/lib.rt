@@ -16,7 +16,7 @@ mod version;
 
 pub use bytes::byte_due;
 pub use cuts::Cuts;
-pub use laws::{one_fault, one_range, range_or_fault, reads_back};
+pub use laws::{one_fault, one_range, range_or_fault, reads_back, relaxed_twice};
 pub use print::print_range;
 pub use read::{range_at_front, read_range};
 pub use version::{print_version, read_version};

@@ -5,6 +5,7 @@ ghost use Rattle.version_range.specs.Cuts.{inside, are_ends, rises, join, flip, 
 use plan_types::{List, NoMemory, Version};
 use std::alloc::Global;
 use std::cmp::Ordering;
+use std::collections::VecDeque;
 
 /// How the members of two sets make those of a third.
 #[derive(Clone, Copy)]
@@ -24,109 +25,97 @@ impl Joint {
     }
 }
 
-// The least end of two lists, and what is left of each.
-#[derive(Clone, Copy)]
-struct Least<'a> {
-    end: &'a Version,
+// The least end of two lists, taken off each that has it.
+struct Least {
+    end: Version,
     from_first: bool,
-    first: &'a [Version],
     from_second: bool,
-    second: &'a [Version],
 }
 
-/// The ends of what is in both sets, or in one of them.
+/// The ends of what is in both sets, or in one of them. They are moved there.
 pub fn merged(
     alloc: Global,
-    first: &[Version],
-    second: &[Version],
+    first: Vec<Version>,
+    second: Vec<Version>,
     joint: Joint,
 ) -> Result<List<Version>, NoMemory>
-    requires first_rises { are_ends first.now ≡ true }
-    requires second_rises { are_ends second.now ≡ true }
+    requires first_rises { are_ends first.items ≡ true }
+    requires second_rises { are_ends second.items ≡ true }
     ensures rises { IfOk result (λ ends. are_ends ends ≡ true) }
     ensures members { IfOk result (λ ends. (v : Version)
-        → inside ends v ≡ join joint (inside first.now v) (inside second.now v)) }
+        → inside ends v ≡ join joint (inside first.items v) (inside second.items v)) }
 {
     let mut ends = List::new(alloc);
     let mut in_first = false;
     let mut in_second = false;
-    let mut rest_first = first;
-    let mut rest_second = second;
-    while let Some(step) = next(rest_first, rest_second) {
+    let mut rest_first = VecDeque::from_vec(first);
+    let mut rest_second = VecDeque::from_vec(second);
+    while let Some(least) = take_least(&mut rest_first, &mut rest_second) {
+        let Least {
+            end,
+            from_first,
+            from_second,
+        } = least;
         let was = joint.join(in_first, in_second);
-        in_first = flip(step.from_first, in_first);
-        in_second = flip(step.from_second, in_second);
+        in_first = flip(from_first, in_first);
+        in_second = flip(from_second, in_second);
         let now = joint.join(in_first, in_second);
-        push_if(alloc, &mut ends, step.end, flip(was, now))?;
-        rest_first = step.first;
-        rest_second = step.second;
+        push_if(&mut ends, end, flip(was, now))?;
     }
     Ok(ends)
 }
 
-pub fn flip(turns: bool, b: bool) -> bool
+fn flip(turns: bool, b: bool) -> bool
     ensures { result ≡ flip turns b }
 {
     if turns { !b } else { b }
 }
 
-fn push_if(
-    alloc: Global,
-    ends: &mut List<Version>,
-    end: &Version,
-    wanted: bool,
-) -> Result<(), NoMemory>
-    ensures { OnOk result (ends.new ≡ pushed wanted ends.old end.now) }
+fn push_if(ends: &mut List<Version>, end: Version, wanted: bool) -> Result<(), NoMemory>
+    ensures { OnOk result (ends.new ≡ pushed wanted ends.old end) }
 {
     if wanted {
-        ends.push(end.copy(alloc)?)?;
+        ends.push(end)?;
     }
     Ok(())
 }
 
-fn next<'a>(first: &'a [Version], second: &'a [Version]) -> Option<Least<'a>>
-    requires first_rises { rises first.now ≡ true }
-    requires second_rises { rises second.now ≡ true }
-    ensures some { IfSome result (λ s. IsStep first.now second.now s.end.now s.from_first s.first.now s.from_second s.second.now) }
-    ensures none { IfNone result ((first.now ≡ []) × (second.now ≡ [])) }
+fn take_least(first: &mut VecDeque<Version>, second: &mut VecDeque<Version>) -> Option<Least>
+    requires first_rises { rises first.old.items ≡ true }
+    requires second_rises { rises second.old.items ≡ true }
+    ensures some { IfSome result (λ s. IsStep first.old.items second.old.items s.end s.from_first first.new.items s.from_second second.new.items) }
+    ensures none { IfNone result ((first.old.items ≡ []) × (second.old.items ≡ [])) }
 {
-    match (first.split_first(), second.split_first()) {
+    match (first.front(), second.front()) {
         (None, None) => None,
-        (Some((x, xs)), None) => Some(Least {
-            end: x,
+        (Some(_), None) => Some(Least {
+            end: first.pop_front()?,
             from_first: true,
-            first: xs,
             from_second: false,
-            second,
         }),
-        (None, Some((y, ys))) => Some(Least {
-            end: y,
+        (None, Some(_)) => Some(Least {
+            end: second.pop_front()?,
             from_first: false,
-            first,
             from_second: true,
-            second: ys,
         }),
-        (Some((x, xs)), Some((y, ys))) => match x.compare(y) {
+        (Some(x), Some(y)) => match x.compare(y) {
             Ordering::Less => Some(Least {
-                end: x,
+                end: first.pop_front()?,
                 from_first: true,
-                first: xs,
                 from_second: false,
-                second,
             }),
-            Ordering::Equal => Some(Least {
-                end: x,
-                from_first: true,
-                first: xs,
-                from_second: true,
-                second: ys,
-            }),
+            Ordering::Equal => {
+                second.pop_front();
+                Some(Least {
+                    end: first.pop_front()?,
+                    from_first: true,
+                    from_second: true,
+                })
+            }
             Ordering::Greater => Some(Least {
-                end: y,
+                end: second.pop_front()?,
                 from_first: false,
-                first,
                 from_second: true,
-                second: ys,
             }),
         },
     }

@@ -2,7 +2,7 @@ ghost use Rattle.std.specs.Prelude.{◌≡◌, true, IfOk};
 ghost use Rattle.version_range.specs.Version.{is_version, has_versions};
 
 use crate::{Cuts, print_range, print_version, read_range, read_version};
-use plan_types::{Cause, NoMemory, Range, Spec, Text, TextFault, Version};
+use plan_types::{Cause, List, NoMemory, Range, Spec, Text, TextFault, Version};
 use std::alloc::Global;
 use std::test::Fail;
 
@@ -240,23 +240,34 @@ fn sixty_four_parentheses(rt: HostRuntime) -> Result<(), Fail> {
     Ok(())
 }
 
-fn long_text(alloc: Global, count: u32) -> Result<Text, NoMemory> {
-    let mut text = Text::from_str(alloc, "==0.5")?;
-    for _ in 0..count {
-        text.push_str(" || ==7.3.*")?;
+fn number(alloc: Global, n: u32) -> Result<Version, NoMemory> {
+    let mut parts = List::new(alloc);
+    parts.push(n)?;
+    Ok(Version { parts })
+}
+
+fn one_of_the_first(alloc: Global, count: u32) -> Result<Text, NoMemory> {
+    let mut text = Text::from_str(alloc, "-none")?;
+    for n in 0..count {
+        text.push_str(" || ==")?;
+        text.push_str(print_version(alloc, &number(alloc, n)?)?.as_str())?;
     }
     Ok(text)
 }
 
-// A recursion for each operator would run out of stack at some length.
+// A recursion for each operator would run out of stack at some length, and a set that is asked from end
+// to end would take long.
 #[test]
 fn a_chain_of_ten_thousand(rt: HostRuntime) -> Result<(), Fail> {
     let alloc = rt.alloc();
-    let text = long_text(alloc, 10_000)?;
+    let text = one_of_the_first(alloc, 10_000)?;
     let range = range(alloc, text.as_str())?;
-    let v = version(alloc, "0.5")?;
-    assert!(rt; range.has(&v));
-    assert!(rt; Cuts::of(alloc, &range)?.has(&v));
+    assert!(rt; range.has(&number(alloc, 0)?));
+    let cuts = Cuts::of(alloc, &range)?;
+    for n in 0..10_000 {
+        assert!(rt; cuts.has(&number(alloc, n)?), "{n}");
+    }
+    assert!(rt; !cuts.has(&number(alloc, 10_000)?));
     assert_eq!(rt; print_range(alloc, &range)?.as_str(), text.as_str());
     Ok(())
 }

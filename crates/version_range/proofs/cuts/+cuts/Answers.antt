@@ -1,6 +1,5 @@
-use Rattle.std.proofs.Common.{ap, ◌∙◌}
+use Rattle.std.proofs.Common.{◌∙◌}
 use Rattle.std.proofs.lemmas.Result.{IfOk-weaker}
-use Rattle.version_range.specs.Cuts.{joined}
 use Rattle.version_range.proofs.Joined.{takes_next, takes_last}
 use Rattle.version_range.proofs.Operators.{version_Equal, version_Prefix, version_AtLeast, version_Above, version_AtMost, version_Below, version_Major}
 use Rattle.version_range.proofs.cuts.+cuts.Goals as goal
@@ -33,5 +32,5 @@ chain-loop-left-preserved t c =
 pub chain-returns : goal.chain-returns
 chain-returns t c =
     IfOk-weaker c.combined.result _ _
-    (λ cuts h v n. h v ∙ ap (λ l. joined c.args.joint l v) c.as_slice.ensures ∙ takes_last c.args.joint c.args.left.now c.args.right.now c.loop-left.operands c.push-2.new.self c.loop-left.rest.now c.in_ok-of-3.field-0 c.loop-left.invariant c.in_ok-push-3.ensures.ok c.in_ok-of-3.ensures v n)
+    (λ cuts h v n. h v ∙ takes_last c.args.joint c.args.left.now c.args.right.now c.loop-left.operands c.push-2.new.self c.loop-left.rest.now c.in_ok-of-3.field-0 c.loop-left.invariant c.in_ok-push-3.ensures.ok c.in_ok-of-3.ensures v n)
     c.combined.ensures

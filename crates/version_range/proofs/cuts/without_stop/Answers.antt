@@ -11,16 +11,16 @@ returns-then-len-eq0-clause-ends c =
     (lifted_by ends.items c.pop.new.self.items c.pop.result c.requires even c.pop.ensures.items variant).0
 
 pub returns-then-len-eq0-clause-relaxed : goal.returns-then-len-eq0-clause-relaxed
-returns-then-len-eq0-clause-relaxed c = λ v n.
+returns-then-len-eq0-clause-relaxed c =
     let ends = c.args.ends.now in
     let len : length ends.items ≡ c.len.result = sym (c.len.ensures ∙ ends.ok.0) in
     let even : length ends.items % 2 ≡ 0 = ap (λ n. n % 2) len ∙ c.if-len-eq0.true in
     let variant : IsSome c.pop.result ↔ (0 < length ends.items) = rw (← ends.ok.0) c.pop.ensures.variant in
-    (lifted_by ends.items c.pop.new.self.items c.pop.result c.requires even c.pop.ensures.items variant).1 v
+    (lifted_by ends.items c.pop.new.self.items c.pop.result c.requires even c.pop.ensures.items variant).1
 
 pub returns-else-len-eq0-clause-relaxed : goal.returns-else-len-eq0-clause-relaxed
-returns-else-len-eq0-clause-relaxed c = λ v n.
+returns-else-len-eq0-clause-relaxed c =
     let ends = c.args.ends.now in
     let len : length ends.items ≡ c.len.result = sym (c.len.ensures ∙ ends.ok.0) in
     let odd : length ends.items % 2 ≢ 0 = λ e. c.if-len-eq0.false (sym (ap (λ n. n % 2) len) ∙ e) in
-    kept_by ends.items c.requires odd v
+    kept_by ends.items c.requires odd
