@@ -1,3 +1,5 @@
 pub mod Name
 pub mod formers
 pub mod Members
+pub mod Range
+pub mod Condition
