@@ -1,0 +1,8 @@
+//! The values of conditions, and the paths on which they hold. In go a condition, what it asks besides
+//! flags, and the flags that are set; out comes its value, asked from left to right. Its paths are lists of
+//! flags to set: whatever is set, one of them holds exactly where the condition has the wanted value.
+#![tactic(auto)]
+
+mod value;
+
+pub use value::{Tri, eval};
