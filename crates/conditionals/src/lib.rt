@@ -3,6 +3,8 @@
 //! flags to set: whatever is set, one of them holds exactly where the condition has the wanted value.
 #![tactic(auto)]
 
+mod count;
 mod value;
 
+pub use count::count_paths;
 pub use value::{Tri, eval};
