@@ -1,2 +1,5 @@
 pub mod Layers
 pub mod Numbers
+pub mod Followed
+pub mod Finishing
+pub mod Cleaning

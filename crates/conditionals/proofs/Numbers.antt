@@ -1,5 +1,5 @@
 -- Numbers of paths, up to the greatest number.
-use Rattle.std.proofs.Common.{◌≡◌, ℕ, ◌+◌, ◌*◌, ◌-◌, ◌^◌, ◌≤◌, ◌<◌, ◌⊎◌, inl, inr, zero, suc, min, List, [], ◌∷◌, ◌++◌, map, length, length-append, refl, sym, ap, add_comm, ◌∙◌, true, false, arith, Bool}
+use Rattle.std.proofs.Common.{◌≡◌, ℕ, ◌+◌, ◌*◌, ◌-◌, ◌^◌, ◌≤◌, ◌⊎◌, inl, inr, suc, min, List, [], ◌∷◌, ◌++◌, map, length, length-append, refl, sym, ap, add_comm, ◌∙◌, true, false, arith, Bool}
 use Rattle.std.proofs.Math.Nat.{suc-mul}
 use Rattle.plan_types.specs.declared.condition.Cond.{Cond}
 use Rattle.plan_types.specs.declared.condition.Env.{Env}

@@ -1,2 +1,3 @@
 pub mod Value
 pub mod Paths
+pub mod Steps

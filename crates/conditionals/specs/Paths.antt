@@ -1,11 +1,13 @@
 -- The paths of a condition: lists of settings, of which one holds exactly where the condition has the wanted value.
-use Rattle.std.specs.Prelude.{◌≡◌, ℕ, Bool, true, false, not, ◌&&◌, ◌||◌, Option, None, Some, List, [], ◌∷◌, ◌++◌, map, filter}
-use Rattle.std.specs.List.{list_all}
+use Rattle.std.specs.Prelude.{ℕ, Bool, true, false, not, ◌&&◌, Option, None, Some, List, [], ◌∷◌, ◌++◌, map, filter, if◌then◌else◌}
+use Rattle.std.specs.List.{list_all, filter_map}
 use Rattle.plan_types.specs.declared.condition.Cond.{Cond}
 use Rattle.plan_types.specs.declared.condition.Cond.TheOpen.{Cond-F, Always, Never, Flag, Os, Arch, Impl, Not, And, Or}
 use Rattle.plan_types.specs.declared.condition.Cond.TheFolds.{fold-Cond}
 use Rattle.plan_types.specs.declared.condition.Env.{Env}
 use Rattle.plan_types.specs.declared.condition.FlagSet.{FlagSet}
+use Rattle.conditionals.specs.declared.value.Tri.{Tri}
+use Rattle.conditionals.specs.declared.value.Tri.TheVariants.{Yes, No, Unknown}
 use Rattle.conditionals.specs.Value.{Flags, same, is_compiler}
 
 abbrev pub Path : Type 0
@@ -43,3 +45,45 @@ paths_step env (Or left right) false = followed (left false) (right false)
 -- all paths of a condition, wanted true or false
 abbrev pub paths_of : Env → Cond → Bool → List Path
 paths_of env = fold-Cond (Bool → List Path) (paths_step env)
+
+abbrev pub is_same : Bool → Bool → Bool
+is_same true on = on
+is_same false on = not on
+
+-- they aren't of one flag, or say the same of it
+abbrev pub agree : FlagSet → FlagSet → Bool
+agree s t = if same s.name t.name then is_same s.on t.on else true
+
+-- no flag is set both ways
+abbrev pub is_consistent : Path → Bool
+is_consistent [] = true
+is_consistent (s ∷ path) = list_all (agree s) path && is_consistent path
+
+-- a flag that is set again is kept at its first place
+abbrev pub kept_once : Path → Path
+kept_once [] = []
+kept_once (s ∷ path) = s ∷ filter (λ t. not (same s.name t.name)) (kept_once path)
+
+abbrev pub clean_path : Path → Option Path
+clean_path path = if is_consistent path then Some (kept_once path) else None
+
+-- without the paths that set a flag both ways, and each setting once
+abbrev pub clean_paths : List Path → List Path
+clean_paths = filter_map clean_path
+
+abbrev pub says : Option Bool → Bool → Bool
+says None on = false
+says (Some is) on = is_same is on
+
+-- what is known of the flags sets each as the path does
+abbrev pub holds : Flags → Path → Bool
+holds flags = list_all (λ s. says (flags s.name) s.on)
+
+-- the value is Yes where true is wanted, No where false is
+abbrev pub is_wanted : Bool → Tri → Bool
+is_wanted true Yes = true
+is_wanted true No = false
+is_wanted true Unknown = false
+is_wanted false Yes = false
+is_wanted false No = true
+is_wanted false Unknown = false

@@ -3,8 +3,11 @@
 //! flags to set: whatever is set, one of them holds exactly where the condition has the wanted value.
 #![tactic(auto)]
 
+mod clean;
 mod count;
+mod path;
 mod value;
 
 pub use count::count_paths;
+pub use path::paths;
 pub use value::{Tri, eval};
