@@ -18,11 +18,11 @@ same-is a b e = (bytes_decides a b).0 e
 pub is-same : (a b : List ℕ) → a ≡ b → same a b ≡ true
 is-same a b e = (bytes_decides a b).1 e
 
-is_both : {a b : Bool} → (a && b) ≡ true → (a ≡ true) × (b ≡ true)
+pub is_both : {a b : Bool} → (a && b) ≡ true → (a ≡ true) × (b ≡ true)
 is_both {a = true} {b} e = (refl, e)
 is_both {a = false} {b} e = absurd (cc e)
 
-and_false : (b : Bool) → (b && false) ≡ false
+pub and_false : (b : Bool) → (b && false) ≡ false
 and_false true = refl
 and_false false = refl
 

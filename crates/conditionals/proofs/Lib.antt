@@ -3,3 +3,4 @@ pub mod Numbers
 pub mod Followed
 pub mod Finishing
 pub mod Cleaning
+pub mod Holding

@@ -5,9 +5,11 @@
 
 mod clean;
 mod count;
+mod laws;
 mod path;
 mod value;
 
 pub use count::count_paths;
+pub use laws::{no_two_paths_hold, some_path_holds};
 pub use path::paths;
 pub use value::{Tri, eval};
