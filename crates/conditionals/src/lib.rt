@@ -13,3 +13,6 @@ pub use count::count_paths;
 pub use laws::{no_two_paths_hold, some_path_holds};
 pub use path::paths;
 pub use value::{Tri, eval};
+
+#[cfg(test)]
+mod tests;
