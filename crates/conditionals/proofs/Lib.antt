@@ -6,3 +6,9 @@ pub mod Compilers
 pub mod Atoms
 pub mod Factors
 pub mod Whole
+pub mod Layers
+pub mod Numbers
+pub mod Followed
+pub mod Finishing
+pub mod Cleaning
+pub mod Holding

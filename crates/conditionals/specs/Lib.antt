@@ -1,3 +1,6 @@
 pub mod Grammar
 pub mod Reading
 pub mod Forms
+pub mod Value
+pub mod Paths
+pub mod Steps

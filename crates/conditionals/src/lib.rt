@@ -1,4 +1,7 @@
-//! Conditions of descriptions and projects.
+//! Conditions of descriptions and projects. In go texts, and what a condition asks besides flags; out come
+//! conditions, or the first fault of a text, exactly as the grammar says; their values, asked from left to
+//! right; and their paths: lists of flags to set, of which one holds exactly where the condition has the
+//! wanted value, whatever is set.
 #![tactic(auto)]
 
 mod name;
@@ -6,5 +9,18 @@ mod read;
 mod text_laws;
 mod words;
 
+mod clean;
+mod count;
+mod laws;
+mod path;
+mod value;
+
+pub use count::count_paths;
+pub use laws::{no_two_paths_hold, some_path_holds};
+pub use path::paths;
 pub use read::read_cond;
 pub use text_laws::{condition_or_fault, one_condition, one_condition_fault};
+pub use value::{Tri, eval};
+
+#[cfg(test)]
+mod tests;

@@ -3,3 +3,5 @@ pub mod formers
 pub mod Members
 pub mod Bytes
 pub mod Refusal
+pub mod Range
+pub mod Condition

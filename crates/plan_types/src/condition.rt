@@ -1,4 +1,9 @@
-use crate::{Boxed, Range, Text, Version};
+ghost use Rattle.std.specs.Prelude.{◌≡◌, [], IfOk};
+ghost use Rattle.plan_types.specs.declared.condition.Cond.TheVariants.{Impl, Not, And, Or};
+ghost use Rattle.plan_types.specs.Condition.{rebuilt};
+
+use crate::{Boxed, NoMemory, Range, Text, Version};
+use std::alloc::Global;
 
 /// A condition, as it is written. Names are in lower case, and operating systems as they are compared.
 #[derive(Debug)]
@@ -39,6 +44,102 @@ pub struct FlagSet {
     pub on: bool,
 }
 
+/// What stands round a condition.
+#[derive(Clone, Copy)]
+pub enum Around<'a> {
+    Not,
+    And(&'a Cond),
+    Or(&'a Cond),
+}
+
+impl Cond {
+    pub fn copy(&self, alloc: Global) -> Result<Cond, NoMemory>
+        ensures { IfOk result (λ copied. copied ≡ self.now) }
+    {
+        let mut waiting = Vec::new(alloc);
+        let mut copied = copy_first(alloc, &mut waiting, self)?;
+        while let Some(around) = waiting.pop() {
+            match around {
+                Around::Not => copied = not(alloc, copied)?,
+                Around::And(right) => {
+                    let right = right.copy(alloc)?;
+                    copied = and(alloc, copied, right)?;
+                }
+                Around::Or(right) => {
+                    let right = right.copy(alloc)?;
+                    copied = or(alloc, copied, right)?;
+                }
+            }
+        }
+        Ok(copied)
+    }
+}
+
+// The first test. The left side may be as deep as a file is long, so what stands round it is put aside.
+fn copy_first<'a>(
+    alloc: Global,
+    waiting: &mut Vec<Around<'a>>,
+    cond: &'a Cond,
+) -> Result<Cond, NoMemory>
+    requires { waiting.old.items ≡ [] }
+    ensures { IfOk result (λ copied. rebuilt waiting.new.items copied ≡ cond.now) }
+{
+    let mut left = cond;
+    loop {
+        match left {
+            Cond::Always => return Ok(Cond::Always),
+            Cond::Never => return Ok(Cond::Never),
+            Cond::Flag(name) => return Ok(Cond::Flag(name.copy()?)),
+            Cond::Os(name) => return Ok(Cond::Os(name.copy()?)),
+            Cond::Arch(name) => return Ok(Cond::Arch(name.copy()?)),
+            Cond::Impl(name, range) => return copy_impl(alloc, name, range),
+            Cond::Not(inner) => {
+                waiting.push(Around::Not)?;
+                left = inner.get();
+            }
+            Cond::And(l, r) => {
+                waiting.push(Around::And(r.get()))?;
+                left = l.get();
+            }
+            Cond::Or(l, r) => {
+                waiting.push(Around::Or(r.get()))?;
+                left = l.get();
+            }
+        }
+    }
+}
+
+fn copy_impl(alloc: Global, name: &Text, range: &Range) -> Result<Cond, NoMemory>
+    ensures { IfOk result (λ cond. cond ≡ Impl name.now range.now) }
+{
+    let name = name.copy()?;
+    let range = range.copy(alloc)?;
+    Ok(Cond::Impl(name, range))
+}
+
+fn not(alloc: Global, inner: Cond) -> Result<Cond, NoMemory>
+    ensures { IfOk result (λ cond. cond ≡ Not inner) }
+{
+    let inner = Boxed::new(alloc, inner)?;
+    Ok(Cond::Not(inner))
+}
+
+fn and(alloc: Global, left: Cond, right: Cond) -> Result<Cond, NoMemory>
+    ensures { IfOk result (λ cond. cond ≡ And left right) }
+{
+    let left = Boxed::new(alloc, left)?;
+    let right = Boxed::new(alloc, right)?;
+    Ok(Cond::And(left, right))
+}
+
+fn or(alloc: Global, left: Cond, right: Cond) -> Result<Cond, NoMemory>
+    ensures { IfOk result (λ cond. cond ≡ Or left right) }
+{
+    let left = Boxed::new(alloc, left)?;
+    let right = Boxed::new(alloc, right)?;
+    Ok(Cond::Or(left, right))
+}
+
 // Chains group from the left, so that the left side may be as deep as a file is long.
 impl Drop for Cond {
     fn drop(mut self) {
@@ -63,5 +164,29 @@ impl Drop for Cond {
                 }
             }
         }
+    }
+}
+
+#[cfg(test)]
+mod tests {
+    use super::*;
+    use std::test::Fail;
+
+    // Calls of itself for the left side would run out of stack.
+    #[test]
+    fn copies_and_gives_up_a_long_chain(rt: HostRuntime) -> Result<(), Fail> {
+        let mut cond = Cond::Flag(Text::from_str(rt.alloc(), "a")?);
+        for turn in 0..300_000u32 {
+            let right = Cond::Always;
+            cond = match turn % 3 {
+                0 => not(rt.alloc(), cond)?,
+                1 => and(rt.alloc(), cond, right)?,
+                _ => or(rt.alloc(), cond, right)?,
+            };
+        }
+        let copied = cond.copy(rt.alloc())?;
+        drop(cond);
+        drop(copied);
+        Ok(())
     }
 }

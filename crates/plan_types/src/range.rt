@@ -1,4 +1,9 @@
-use crate::{Boxed, Version};
+ghost use Rattle.std.specs.Prelude.{◌≡◌, [], IfOk};
+ghost use Rattle.plan_types.specs.declared.range.Range.TheVariants.{Both, Either};
+ghost use Rattle.plan_types.specs.Range.{rebuilt};
+
+use crate::{Boxed, NoMemory, Version};
+use std::alloc::Global;
 
 /// Which texts of ranges a file may hold: those of cabal-version 2.4 or of 3.0.
 #[derive(Clone, Copy, Debug, PartialEq, Eq)]
@@ -34,6 +39,84 @@ pub enum Range {
     Either(Boxed<Range>, Boxed<Range>),
 }
 
+/// What joins a right side to the left side before it.
+#[derive(Clone, Copy)]
+pub enum Joined<'a> {
+    Both(&'a Range),
+    Either(&'a Range),
+}
+
+impl Range {
+    pub fn copy(&self, alloc: Global) -> Result<Range, NoMemory>
+        ensures { IfOk result (λ copied. copied ≡ self.now) }
+    {
+        let mut waiting = Vec::new(alloc);
+        let mut copied = copy_first(alloc, &mut waiting, self)?;
+        while let Some(joined) = waiting.pop() {
+            match joined {
+                Joined::Both(right) => {
+                    let right = right.copy(alloc)?;
+                    copied = both(alloc, copied, right)?;
+                }
+                Joined::Either(right) => {
+                    let right = right.copy(alloc)?;
+                    copied = either(alloc, copied, right)?;
+                }
+            }
+        }
+        Ok(copied)
+    }
+}
+
+// The first operand. The left side may be as deep as a file is long, so what is joined to it is put aside.
+fn copy_first<'a>(
+    alloc: Global,
+    waiting: &mut Vec<Joined<'a>>,
+    range: &'a Range,
+) -> Result<Range, NoMemory>
+    requires { waiting.old.items ≡ [] }
+    ensures { IfOk result (λ copied. rebuilt waiting.new.items copied ≡ range.now) }
+{
+    let mut left = range;
+    loop {
+        match left {
+            Range::Any => return Ok(Range::Any),
+            Range::Nothing => return Ok(Range::Nothing),
+            Range::Equal(x) => return Ok(Range::Equal(x.copy(alloc)?)),
+            Range::Prefix(x) => return Ok(Range::Prefix(x.copy(alloc)?)),
+            Range::AtLeast(x) => return Ok(Range::AtLeast(x.copy(alloc)?)),
+            Range::Above(x) => return Ok(Range::Above(x.copy(alloc)?)),
+            Range::AtMost(x) => return Ok(Range::AtMost(x.copy(alloc)?)),
+            Range::Below(x) => return Ok(Range::Below(x.copy(alloc)?)),
+            Range::Major(x) => return Ok(Range::Major(x.copy(alloc)?)),
+            Range::Both(l, r) => {
+                waiting.push(Joined::Both(r.get()))?;
+                left = l.get();
+            }
+            Range::Either(l, r) => {
+                waiting.push(Joined::Either(r.get()))?;
+                left = l.get();
+            }
+        }
+    }
+}
+
+fn both(alloc: Global, left: Range, right: Range) -> Result<Range, NoMemory>
+    ensures { IfOk result (λ range. range ≡ Both left right) }
+{
+    let left = Boxed::new(alloc, left)?;
+    let right = Boxed::new(alloc, right)?;
+    Ok(Range::Both(left, right))
+}
+
+fn either(alloc: Global, left: Range, right: Range) -> Result<Range, NoMemory>
+    ensures { IfOk result (λ range. range ≡ Either left right) }
+{
+    let left = Boxed::new(alloc, left)?;
+    let right = Boxed::new(alloc, right)?;
+    Ok(Range::Either(left, right))
+}
+
 // Chains group from the left, so that the left side may be as deep as a file is long.
 impl Drop for Range {
     fn drop(mut self) {
@@ -66,22 +149,24 @@ impl Drop for Range {
 #[cfg(test)]
 mod tests {
     use super::*;
+    use crate::List;
     use std::test::Fail;
 
-    // A drop that called itself for the left side would run out of stack.
+    // Calls of itself for the left side would run out of stack.
     #[test]
-    fn drops_a_long_chain(rt: HostRuntime) -> Result<(), Fail> {
-        let mut range = Range::Nothing;
-        for turn in 0..300_000u32 {
-            let left = Boxed::new(rt.alloc(), range)?;
-            let right = Boxed::new(rt.alloc(), Range::Any)?;
-            range = if turn % 2 == 0 {
-                Range::Both(left, right)
-            } else {
-                Range::Either(left, right)
-            };
+    fn asks_copies_and_gives_up_a_long_chain(rt: HostRuntime) -> Result<(), Fail> {
+        let numbers = [1, 2].to_vec(rt.alloc())?;
+        let version = Version {
+            parts: List::from_vec(numbers),
+        };
+        let mut range = Range::AtLeast(version.copy(rt.alloc())?);
+        for _ in 0..300_000u32 {
+            range = both(rt.alloc(), range, Range::Any)?;
         }
+        let copied = range.copy(rt.alloc())?;
+        assert!(rt; range.has(&version));
         drop(range);
+        assert!(rt; copied.has(&version));
         Ok(())
     }
 

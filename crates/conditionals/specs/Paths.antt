@@ -1,0 +1,89 @@
+-- The paths of a condition: lists of settings, of which one holds exactly where the condition has the wanted value.
+use Rattle.std.specs.Prelude.{ℕ, Bool, true, false, not, ◌&&◌, Option, None, Some, List, [], ◌∷◌, ◌++◌, map, filter, if◌then◌else◌}
+use Rattle.std.specs.List.{list_all, filter_map}
+use Rattle.plan_types.specs.declared.condition.Cond.{Cond}
+use Rattle.plan_types.specs.declared.condition.Cond.TheOpen.{Cond-F, Always, Never, Flag, Os, Arch, Impl, Not, And, Or}
+use Rattle.plan_types.specs.declared.condition.Cond.TheFolds.{fold-Cond}
+use Rattle.plan_types.specs.declared.condition.Env.{Env}
+use Rattle.plan_types.specs.declared.condition.FlagSet.{FlagSet}
+use Rattle.conditionals.specs.declared.value.Tri.{Tri}
+use Rattle.conditionals.specs.declared.value.Tri.TheVariants.{Yes, No, Unknown}
+use Rattle.conditionals.specs.Value.{Flags, same, is_compiler}
+
+abbrev pub Path : Type 0
+Path = List FlagSet
+
+-- one empty path where this is wanted, else none
+abbrev pub fixed : Bool → Bool → List Path
+fixed true true = [] ∷ []
+fixed true false = []
+fixed false true = []
+fixed false false = [] ∷ []
+
+abbrev pub sets : List ℕ → Bool → FlagSet
+sets name on = record { name = name; on = on }
+
+-- each path of the first followed by each path of the second
+abbrev pub followed : List Path → List Path → List Path
+followed [] second = []
+followed (path ∷ first) second = map (λ next. path ++ next) second ++ followed first second
+
+-- one layer of a condition, with the paths of its parts, wanted true or false, in their place
+abbrev pub paths_step : Env → Cond-F (Bool → List Path) → Bool → List Path
+paths_step env Always want = fixed true want
+paths_step env Never want = fixed false want
+paths_step env (Flag name) want = (sets name want ∷ []) ∷ []
+paths_step env (Os name) want = fixed (same name env.os) want
+paths_step env (Arch name) want = fixed (same name env.arch) want
+paths_step env (Impl name range) want = fixed (is_compiler env name range) want
+paths_step env (Not inner) want = inner (not want)
+paths_step env (And left right) true = followed (left true) (right true)
+paths_step env (And left right) false = left false ++ followed (left true) (right false)
+paths_step env (Or left right) true = left true ++ followed (left false) (right true)
+paths_step env (Or left right) false = followed (left false) (right false)
+
+-- all paths of a condition, wanted true or false
+abbrev pub paths_of : Env → Cond → Bool → List Path
+paths_of env = fold-Cond (Bool → List Path) (paths_step env)
+
+abbrev pub is_same : Bool → Bool → Bool
+is_same true on = on
+is_same false on = not on
+
+-- they aren't of one flag, or say the same of it
+abbrev pub agree : FlagSet → FlagSet → Bool
+agree s t = if same s.name t.name then is_same s.on t.on else true
+
+-- no flag is set both ways
+abbrev pub is_consistent : Path → Bool
+is_consistent [] = true
+is_consistent (s ∷ path) = list_all (agree s) path && is_consistent path
+
+-- a flag that is set again is kept at its first place
+abbrev pub kept_once : Path → Path
+kept_once [] = []
+kept_once (s ∷ path) = s ∷ filter (λ t. not (same s.name t.name)) (kept_once path)
+
+abbrev pub clean_path : Path → Option Path
+clean_path path = if is_consistent path then Some (kept_once path) else None
+
+-- without the paths that set a flag both ways, and each setting once
+abbrev pub clean_paths : List Path → List Path
+clean_paths = filter_map clean_path
+
+abbrev pub says : Option Bool → Bool → Bool
+says None on = false
+says (Some is) on = is_same is on
+
+-- what is known of the flags sets each as the path does
+abbrev pub holds : Flags → Path → Bool
+holds flags = list_all (λ s. says (flags s.name) s.on)
+
+-- the value is Yes where true is wanted, No where false is
+abbrev pub is_wanted : Bool → Tri → Bool
+is_wanted true Yes = true
+is_wanted true No = false
+is_wanted true Unknown = false
+is_wanted false Yes = false
+is_wanted false No = true
+is_wanted false Unknown = false

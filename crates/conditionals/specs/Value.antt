@@ -1,0 +1,80 @@
+-- The value of a condition.
+use Rattle.std.specs.Prelude.{ℕ, Bool, true, false, ◌&&◌, if◌then◌else◌, Option, None, Some, is_none, nat_eq, List, [], ◌∷◌}
+use Rattle.std.specs.Cmp.Lexicographic.{pointwise}
+use Rattle.plan_types.specs.declared.condition.Cond.{Cond}
+use Rattle.plan_types.specs.declared.condition.Cond.TheOpen.{Cond-F, Always, Never, Flag, Os, Arch, Impl, Not, And, Or}
+use Rattle.plan_types.specs.declared.condition.Cond.TheFolds.{fold-Cond}
+use Rattle.plan_types.specs.declared.condition.Env.{Env}
+use Rattle.plan_types.specs.declared.condition.FlagSet.{FlagSet}
+use Rattle.plan_types.specs.declared.range.Range.{Range}
+use Rattle.plan_types.specs.Members.{members}
+use Rattle.conditionals.specs.declared.value.Tri.{Tri}
+use Rattle.conditionals.specs.declared.value.Tri.TheVariants.{Yes, No, Unknown}
+
+-- names are compared by their bytes
+abbrev pub same : List ℕ → List ℕ → Bool
+same = pointwise nat_eq
+
+-- what is known of some flags, by their names
+abbrev pub Flags : Type 0
+Flags = List ℕ → Option Bool
+
+-- the compiler has this name, and its version is in the range
+abbrev pub is_compiler : Env → List ℕ → Range → Bool
+is_compiler env name range = same name env.compiler && members range env.compiler_version
+
+abbrev pub tri_of : Bool → Tri
+tri_of true = Yes
+tri_of false = No
+
+abbrev pub flag_value : Option Bool → Tri
+flag_value None = Unknown
+flag_value (Some on) = tri_of on
+
+-- the value of what is Yes, No or Unknown where another value is
+abbrev pub answer : Tri → Tri → Tri → Tri
+answer if_yes if_no Yes = if_yes
+answer if_yes if_no No = if_no
+answer if_yes if_no Unknown = Unknown
+
+abbrev pub negated : Tri → Tri
+negated Yes = No
+negated No = Yes
+negated Unknown = Unknown
+
+-- The right side is asked only where the left side is Yes.
+abbrev pub and_then : Tri → Tri → Tri
+and_then Yes right = right
+and_then No right = No
+and_then Unknown right = Unknown
+
+-- The right side is asked only where the left side is No.
+abbrev pub or_else : Tri → Tri → Tri
+or_else Yes right = Yes
+or_else No right = right
+or_else Unknown right = Unknown
+
+-- one layer of a condition, with the values of its parts in their place
+abbrev pub value_step : Env → Flags → Cond-F Tri → Tri
+value_step env flags Always = Yes
+value_step env flags Never = No
+value_step env flags (Flag name) = flag_value (flags name)
+value_step env flags (Os name) = tri_of (same name env.os)
+value_step env flags (Arch name) = tri_of (same name env.arch)
+value_step env flags (Impl name range) = tri_of (is_compiler env name range)
+value_step env flags (Not inner) = negated inner
+value_step env flags (And left right) = and_then left right
+value_step env flags (Or left right) = or_else left right
+
+abbrev pub value : Env → Flags → Cond → Tri
+value env flags = fold-Cond Tri (value_step env flags)
+
+-- what a list of settings says of a flag
+abbrev pub flag_in : List FlagSet → Flags
+flag_in [] name = None
+flag_in (flag ∷ flags) name = if same flag.name name then Some flag.on else flag_in flags name
+
+-- no flag stands twice in the list
+abbrev pub each_once : List FlagSet → Bool
+each_once [] = true
+each_once (flag ∷ flags) = is_none (flag_in flags flag.name) && each_once flags

@@ -1,0 +1,100 @@
+ghost use Rattle.std.specs.Prelude.{◌≡◌, ◌+◌, ◌*◌, ◌^◌, ◌-◌, min, length, true, false};
+ghost use Rattle.conditionals.specs.Paths.{paths_of, fixed};
+
+use plan_types::{Cond, Env};
+
+/// How many paths of a condition there are, wanted true and wanted false, or factors of these numbers.
+#[derive(Clone, Copy)]
+pub struct Numbers {
+    pub yes: u64,
+    pub no: u64,
+}
+
+/// The number of paths of a condition, wanted true or false, or the greatest number if there are more.
+pub fn count_paths(cond: &Cond, env: &Env, want: bool) -> u64
+    ensures { result ≡ min (length (paths_of env.now cond.now want)) (2 ^ 64 - 1) }
+{
+    let numbers = numbers_of(cond, env);
+    if want { numbers.yes } else { numbers.no }
+}
+
+/// Both numbers at once: those of a right side count towards both numbers of the whole.
+pub fn numbers_of(cond: &Cond, env: &Env) -> Numbers
+    ensures yes { result.yes ≡ min (length (paths_of env.now cond.now true)) (2 ^ 64 - 1) }
+    ensures no { result.no ≡ min (length (paths_of env.now cond.now false)) (2 ^ 64 - 1) }
+{
+    // How often each path of the rest of the left side counts.
+    let mut for_yes = Numbers { yes: 1, no: 0 };
+    let mut for_no = Numbers { yes: 0, no: 1 };
+    let mut left = cond;
+    loop {
+        match left {
+            Cond::Always => return whole(for_yes, for_no, one(true)),
+            Cond::Never => return whole(for_yes, for_no, one(false)),
+            Cond::Flag(_) => return whole(for_yes, for_no, Numbers { yes: 1, no: 1 }),
+            Cond::Os(name) => return whole(for_yes, for_no, one(*name == env.os)),
+            Cond::Arch(name) => return whole(for_yes, for_no, one(*name == env.arch)),
+            Cond::Impl(name, range) => {
+                let holds = *name == env.compiler && range.has(&env.compiler_version);
+                return whole(for_yes, for_no, one(holds));
+            }
+            Cond::Not(inner) => {
+                for_yes = swapped(for_yes);
+                for_no = swapped(for_no);
+                left = inner.get();
+            }
+            Cond::And(l, r) => {
+                let right = numbers_of(r.get(), env);
+                for_yes.yes = weighed(for_yes, right);
+                for_no.yes = weighed(for_no, right);
+                left = l.get();
+            }
+            Cond::Or(l, r) => {
+                let right = numbers_of(r.get(), env);
+                for_yes.no = weighed(for_yes, right);
+                for_no.no = weighed(for_no, right);
+                left = l.get();
+            }
+        }
+    }
+}
+
+fn one(holds: bool) -> Numbers
+    ensures yes { result.yes ≡ length (fixed holds true) }
+    ensures no { result.no ≡ length (fixed holds false) }
+{
+    if holds {
+        Numbers { yes: 1, no: 0 }
+    } else {
+        Numbers { yes: 0, no: 1 }
+    }
+}
+
+fn swapped(numbers: Numbers) -> Numbers
+    ensures yes { result.yes ≡ numbers.no }
+    ensures no { result.no ≡ numbers.yes }
+{
+    Numbers {
+        yes: numbers.no,
+        no: numbers.yes,
+    }
+}
+
+fn whole(for_yes: Numbers, for_no: Numbers, numbers: Numbers) -> Numbers
+    ensures yes { result.yes
+        ≡ min (for_yes.yes * numbers.yes + for_yes.no * numbers.no) (2 ^ 64 - 1) }
+    ensures no { result.no ≡ min (for_no.yes * numbers.yes + for_no.no * numbers.no) (2 ^ 64 - 1) }
+{
+    Numbers {
+        yes: weighed(for_yes, numbers),
+        no: weighed(for_no, numbers),
+    }
+}
+
+fn weighed(factors: Numbers, numbers: Numbers) -> u64
+    ensures { result ≡ min (factors.yes * numbers.yes + factors.no * numbers.no) (2 ^ 64 - 1) }
+{
+    let yes = factors.yes.saturating_mul(numbers.yes);
+    let no = factors.no.saturating_mul(numbers.no);
+    yes.saturating_add(no)
+}

@@ -1,0 +1,322 @@
+ghost use Rattle.std.specs.Prelude.{◌≡◌, ◌≤◌, ◌++◌, ◌∷◌, [], length, map, nat_lt, true, false, IfOk, OnOk};
+ghost use Rattle.std.specs.List.{All};
+ghost use Rattle.conditionals.specs.Paths.{paths_of, fixed, followed, clean_paths, sets};
+ghost use Rattle.conditionals.specs.Steps.{lists_of, swap_lists, join_and, join_or, finish, needed, IsSmaller, left_of_and, left_of_or, asked};
+
+use crate::clean::clean;
+use crate::count::{Numbers, numbers_of};
+use plan_types::{Cond, Env, FlagSet, List, NoMemory, Text};
+use std::alloc::Global;
+
+/// The paths of a condition, wanted true and wanted false.
+#[derive(Drop)]
+pub struct Lists {
+    pub yes: List<List<FlagSet>>,
+    pub no: List<List<FlagSet>>,
+}
+
+/// Which paths are needed.
+#[derive(Clone, Copy)]
+pub struct Need {
+    pub yes: bool,
+    pub no: bool,
+}
+
+/// How the left side's paths become those of the whole: what is joined to it, and what is needed then.
+#[derive(Clone, Copy)]
+pub enum Step<'a> {
+    Not,
+    And(&'a Cond, Need),
+    Or(&'a Cond, Need),
+}
+
+/// The paths of a condition, wanted true or false. A path that sets a flag both ways is left out, and a
+/// setting stands in a path once.
+pub fn paths(
+    alloc: Global,
+    cond: &Cond,
+    env: &Env,
+    want: bool,
+) -> Result<List<List<FlagSet>>, NoMemory>
+    requires { length (paths_of env.now cond.now want) ≤ 256 }
+    ensures { IfOk result (λ paths. paths ≡ clean_paths (paths_of env.now cond.now want)) }
+{
+    let need = Need {
+        yes: want,
+        no: !want,
+    };
+    let lists = build(alloc, cond, env, need)?;
+    if want {
+        clean(alloc, lists.yes)
+    } else {
+        clean(alloc, lists.no)
+    }
+}
+
+fn build(alloc: Global, cond: &Cond, env: &Env, need: Need) -> Result<Lists, NoMemory>
+    ensures { IfOk result (λ lists. lists ≡ lists_of env.now cond.now need) }
+{
+    let mut steps = Vec::new(alloc);
+    let mut lists = first(alloc, &mut steps, cond, env, need)?;
+    while let Some(step) = steps.pop() {
+        match step {
+            Step::Not => lists = swapped(lists),
+            Step::And(right, need) => {
+                let right = build(alloc, right, env, asked(need, &lists.yes))?;
+                lists = and(alloc, lists, right, need)?;
+            }
+            Step::Or(right, need) => {
+                let right = build(alloc, right, env, asked(need, &lists.no))?;
+                lists = or(alloc, lists, right, need)?;
+            }
+        }
+    }
+    Ok(lists)
+}
+
+// The lists of the first test. The left side may be as deep as a file is long, so the steps that follow
+// are put aside. A list that is joined to none isn't needed: it may be longer than any that is.
+fn first<'a>(
+    alloc: Global,
+    steps: &mut Vec<Step<'a>>,
+    cond: &'a Cond,
+    env: &Env,
+    need: Need,
+) -> Result<Lists, NoMemory>
+    requires { steps.old.items ≡ [] }
+    ensures lists { IfOk result (λ lists.
+        finish env.now steps.new.items lists ≡ lists_of env.now cond.now need) }
+    ensures smaller { OnOk result (All (IsSmaller cond.now) steps.new.items) }
+{
+    let mut left = cond;
+    let mut need = need;
+    loop {
+        match left {
+            Cond::Always => return test(alloc, true, need),
+            Cond::Never => return test(alloc, false, need),
+            Cond::Flag(name) => return flag(alloc, name, need),
+            Cond::Os(name) => return test(alloc, *name == env.os, need),
+            Cond::Arch(name) => return test(alloc, *name == env.arch, need),
+            Cond::Impl(name, range) => {
+                let holds = *name == env.compiler && range.has(&env.compiler_version);
+                return test(alloc, holds, need);
+            }
+            Cond::Not(inner) => {
+                steps.push(Step::Not)?;
+                need = Need {
+                    yes: need.no,
+                    no: need.yes,
+                };
+                left = inner.get();
+            }
+            Cond::And(l, r) => {
+                steps.push(Step::And(r.get(), need))?;
+                need = left_of_and(need, numbers_of(r.get(), env));
+                left = l.get();
+            }
+            Cond::Or(l, r) => {
+                steps.push(Step::Or(r.get(), need))?;
+                need = left_of_or(need, numbers_of(r.get(), env));
+                left = l.get();
+            }
+        }
+    }
+}
+
+fn left_of_and(need: Need, right: Numbers) -> Need
+    ensures { result ≡ left_of_and need (nat_lt 0 right.yes) (nat_lt 0 right.no) }
+{
+    Need {
+        yes: (need.yes && 0 < right.yes) || (need.no && 0 < right.no),
+        no: need.no,
+    }
+}
+
+fn left_of_or(need: Need, right: Numbers) -> Need
+    ensures { result ≡ left_of_or need (nat_lt 0 right.yes) (nat_lt 0 right.no) }
+{
+    Need {
+        yes: need.yes,
+        no: (need.yes && 0 < right.yes) || (need.no && 0 < right.no),
+    }
+}
+
+fn asked(need: Need, left: &List<List<FlagSet>>) -> Need
+    ensures { result ≡ asked need left.now }
+{
+    match left.as_slice() {
+        [] => Need {
+            yes: false,
+            no: false,
+        },
+        [_, ..] => need,
+    }
+}
+
+fn test(alloc: Global, is_true: bool, need: Need) -> Result<Lists, NoMemory>
+    ensures { IfOk result (λ lists. lists ≡ record {
+      yes = needed need.yes (fixed is_true true);
+      no = needed need.no (fixed is_true false);
+    }) }
+{
+    let mut yes = List::new(alloc);
+    let mut no = List::new(alloc);
+    if need.yes && is_true {
+        yes.push(List::new(alloc))?;
+    }
+    if need.no && !is_true {
+        no.push(List::new(alloc))?;
+    }
+    Ok(Lists { yes, no })
+}
+
+fn flag(alloc: Global, name: &Text, need: Need) -> Result<Lists, NoMemory>
+    ensures { IfOk result (λ lists. lists ≡ record {
+      yes = needed need.yes ((sets name.now true ∷ []) ∷ []);
+      no = needed need.no ((sets name.now false ∷ []) ∷ []);
+    }) }
+{
+    let yes = setting(alloc, name, true, need.yes)?;
+    let no = setting(alloc, name, false, need.no)?;
+    Ok(Lists { yes, no })
+}
+
+fn setting(
+    alloc: Global,
+    name: &Text,
+    on: bool,
+    is_needed: bool,
+) -> Result<List<List<FlagSet>>, NoMemory>
+    ensures { IfOk result (λ paths. paths ≡ needed is_needed ((sets name.now on ∷ []) ∷ [])) }
+{
+    let mut paths = List::new(alloc);
+    if is_needed {
+        let mut path = List::new(alloc);
+        let name = name.copy()?;
+        path.push(FlagSet { name, on })?;
+        paths.push(path)?;
+    }
+    Ok(paths)
+}
+
+fn swapped(lists: Lists) -> Lists
+    ensures { result ≡ swap_lists lists }
+{
+    let Lists { yes, no } = lists;
+    Lists { yes: no, no: yes }
+}
+
+fn and(alloc: Global, left: Lists, right: Lists, need: Need) -> Result<Lists, NoMemory>
+    ensures { IfOk result (λ lists. lists ≡ join_and need left right) }
+{
+    let Lists { yes, no } = left;
+    let no = if need.no {
+        joined(alloc, no, &yes, &right.no)?
+    } else {
+        List::new(alloc)
+    };
+    let yes = if need.yes {
+        followed(alloc, yes, &right.yes)?
+    } else {
+        List::new(alloc)
+    };
+    Ok(Lists { yes, no })
+}
+
+fn or(alloc: Global, left: Lists, right: Lists, need: Need) -> Result<Lists, NoMemory>
+    ensures { IfOk result (λ lists. lists ≡ join_or need left right) }
+{
+    let Lists { yes, no } = left;
+    let yes = if need.yes {
+        joined(alloc, yes, &no, &right.yes)?
+    } else {
+        List::new(alloc)
+    };
+    let no = if need.no {
+        followed(alloc, no, &right.no)?
+    } else {
+        List::new(alloc)
+    };
+    Ok(Lists { yes, no })
+}
+
+// Each path of the first followed by each of the second. A path is copied only where it is followed by
+// more than one: the paths of a long chain grow at their ends.
+fn followed(
+    alloc: Global,
+    first: List<List<FlagSet>>,
+    second: &List<List<FlagSet>>,
+) -> Result<List<List<FlagSet>>, NoMemory>
+    ensures { IfOk result (λ paths. paths ≡ followed first second.now) }
+{
+    let mut paths = List::new(alloc);
+    for path in first.into_vec() {
+        push_followed(alloc, &mut paths, path, second.as_slice())?;
+    }
+    Ok(paths)
+}
+
+fn push_followed(
+    alloc: Global,
+    paths: &mut List<List<FlagSet>>,
+    path: List<FlagSet>,
+    nexts: &[List<FlagSet>],
+) -> Result<(), NoMemory>
+    ensures { OnOk result (paths.new ≡ paths.old ++ map (λ next. path ++ next) nexts.now) }
+{
+    let mut path = path;
+    match nexts.split_last() {
+        None => Ok(()),
+        Some((last, front)) => {
+            push_copies(alloc, paths, &path, front)?;
+            push_settings(&mut path, last)?;
+            paths.push(path)
+        }
+    }
+}
+
+// These paths, and then each of the first followed by each of the second.
+fn joined(
+    alloc: Global,
+    paths: List<List<FlagSet>>,
+    first: &List<List<FlagSet>>,
+    second: &List<List<FlagSet>>,
+) -> Result<List<List<FlagSet>>, NoMemory>
+    ensures { IfOk result (λ joined. joined ≡ paths ++ followed first.now second.now) }
+{
+    let mut paths = paths;
+    for path in first.as_slice() {
+        push_copies(alloc, &mut paths, path, second.as_slice())?;
+    }
+    Ok(paths)
+}
+
+fn push_copies(
+    alloc: Global,
+    paths: &mut List<List<FlagSet>>,
+    path: &List<FlagSet>,
+    nexts: &[List<FlagSet>],
+) -> Result<(), NoMemory>
+    ensures { OnOk result (paths.new ≡ paths.old ++ map (λ next. path.now ++ next) nexts.now) }
+{
+    for next in nexts {
+        let mut longer = List::new(alloc);
+        push_settings(&mut longer, path)?;
+        push_settings(&mut longer, next)?;
+        paths.push(longer)?;
+    }
+    Ok(())
+}
+
+fn push_settings(path: &mut List<FlagSet>, next: &List<FlagSet>) -> Result<(), NoMemory>
+    ensures { OnOk result (path.new ≡ path.old ++ next.now) }
+{
+    for setting in next.as_slice() {
+        let name = setting.name.copy()?;
+        path.push(FlagSet {
+            name,
+            on: setting.on,
+        })?;
+    }
+    Ok(())
+}
