@@ -1,3 +1,5 @@
 pub mod Value
 pub mod Paths
 pub mod Steps
+pub mod Layers
+pub mod Examples
