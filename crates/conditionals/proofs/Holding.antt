@@ -1,5 +1,5 @@
 -- How many of the paths of a condition hold.
-use Rattle.std.proofs.Common.{◌≡◌, ℕ, zero, suc, ◌+◌, ◌*◌, ◌≤◌, ◌<◌, Bool, true, false, not, ◌&&◌, ◌||◌, cond, Option, Some, None, List, [], ◌∷◌, ◌++◌, map, refl, sym, ap, ◌∙◌, subst, zero-add, arith}
+use Rattle.std.proofs.Common.{◌≡◌, ℕ, zero, suc, ◌+◌, ◌*◌, ◌≤◌, Bool, true, false, not, ◌&&◌, ◌||◌, cond, Option, Some, None, List, [], ◌∷◌, ◌++◌, map, refl, sym, ap, ◌∙◌, subst, zero-add, arith}
 use Rattle.std.specs.Prelude.{filter, slice_get}
 use Rattle.std.specs.List.{list_all, list_any, count_by, cons_option}
 use Rattle.std.proofs.lemmas.List.Sums.{sum_by-append}
@@ -12,7 +12,7 @@ use Rattle.plan_types.specs.declared.condition.FlagSet.{FlagSet}
 use Rattle.conditionals.specs.declared.value.Tri.{Tri}
 use Rattle.conditionals.specs.declared.value.Tri.TheVariants.{Yes, No, Unknown}
 use Rattle.conditionals.specs.Value.{Flags, same, value, value_step, tri_of, flag_value, negated, and_then, or_else}
-use Rattle.conditionals.specs.Paths.{Path, paths_of, paths_step, followed, fixed, sets, is_same, agree, is_consistent, kept_once, clean_path, clean_paths, says, holds, is_wanted}
+use Rattle.conditionals.specs.Paths.{Path, paths_of, paths_step, followed, fixed, is_same, agree, is_consistent, kept_once, clean_paths, says, holds, is_wanted}
 use Rattle.conditionals.proofs.Cleaning.{same-is, is_both, and_false}
 
 abbrev one : Bool → ℕ

@@ -4,3 +4,5 @@ pub mod Forms
 pub mod Value
 pub mod Paths
 pub mod Steps
+pub mod Layers
+pub mod Examples
