@@ -4,16 +4,15 @@
 //! wanted value, whatever is set.
 #![tactic(auto)]
 
-mod name;
-mod read;
-mod text_laws;
-mod words;
-
 mod clean;
 mod count;
 mod laws;
+mod name;
 mod path;
+mod read;
+mod text_laws;
 mod value;
+mod words;
 
 pub use count::count_paths;
 pub use laws::{no_two_paths_hold, some_path_holds};

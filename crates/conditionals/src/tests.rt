@@ -1,147 +1,191 @@
 ghost use Rattle.std.specs.Prelude.{◌≡◌, true, IfOk};
 ghost use Rattle.conditionals.specs.Value.{each_once};
 
-use crate::{Tri, count_paths, eval, paths};
-use plan_types::{Boxed, Cond, Env, FlagSet, List, NoMemory, Range, Text, Version};
+use crate::{Tri, count_paths, eval, paths, read_cond};
+use plan_types::{Cause, Cond, Env, FlagSet, List, NoMemory, Spec, Text, TextFault, Version};
 use std::alloc::Global;
 use std::test::Fail;
+use version_range::print_range;
 
-// A condition with its operators behind their operands; what is known of the flags `a` and `b`; the value,
-// and the number of paths and the paths that are left, wanted true and wanted false.
+// The specification and a text; what it is read as.
+const TEXTS: &str = "\
+2.4\ttrue\ttrue\n\
+3.0\tFALSE\tfalse\n\
+2.4\t ( True ) \ttrue\n\
+2.4\tflag( X_1)\tflag(x_1)\n\
+2.4\tFlag (0d )\tflag(0d)\n\
+2.4\tflag(-a)\tfault BadCond\n\
+2.4\tflag()\tfault BadCond\n\
+2.4\tflag({\tfault BadCond\n\
+2.4\tos( Win32 )\tos(windows)\n\
+2.4\tos(mingw32)\tos(windows)\n\
+2.4\tOS(darwin)\tos(osx)\n\
+2.4\tos(linux-gnu)\tos(linux-gnu)\n\
+2.4\tos(a b)\tfault BadCond\n\
+2.4\tarch(X86_64)\tarch(x86_64)\n\
+2.4\tarch(\tfault BadCond\n\
+2.4\timpl(GHC)\timpl(ghc,-any)\n\
+2.4\timpl( ghc-any )\timpl(ghc,-any)\n\
+2.4\timpl(ghc >=9.2 && (<10 || ==11.*))\timpl(ghc,>=9.2 && (<10 || ==11.*))\n\
+2.4\timpl(9>=9)\timpl(9,>=9)\n\
+3.0\timpl(ghc =={9,10})\timpl(ghc,==9 || ==10)\n\
+2.4\timpl(ghc =={9,10})\tfault NeedsVersion\n\
+2.4\timpl(ghc{\tfault NeedsVersion\n\
+2.4\timpl(ghc >=9 {9})\tfault NeedsVersion\n\
+2.4\timpl({\tfault BadCond\n\
+2.4\timpl(ghc) {\tfault BadCond\n\
+3.0\timpl(ghc{\tfault BadCond\n\
+2.4\timpl(ghc >=01)\tfault BadCond\n\
+2.4\timpl(ghc >=9\tfault BadCond\n\
+2.4\timpl(g-h)\tfault BadCond\n\
+2.4\ttrue || false && true || false\tor(or(true,and(false,true)),false)\n\
+2.4\ttrue&&(false||true)\tand(true,or(false,true))\n\
+2.4\t!true && ! ! false\tand(not(true),not(not(false)))\n\
+2.4\ttrue &&\tfault BadCond\n\
+2.4\ttrue & false\tfault BadCond\n\
+2.4\ttrue false\tfault BadCond\n\
+2.4\ttruefalse\tfault BadCond\n\
+2.4\tfla\tfault BadCond\n\
+2.4\ttrue)\tfault BadCond\n\
+2.4\t()\tfault BadCond\n\
+2.4\t\tfault BadCond\n\
+2.4\t!\tfault BadCond\n\
+2.4\ttrue && \u{e9}\tfault BadCond\n\
+2.4\t!!!!!!!!!!!!!!!!!!!!!!!!!!!!!!!!!!!!!!!!!!!!!!!!!!!!!!!!!!!!!!!!true\tnot(not(not(not(not(not(not(not(not(not(not(not(not(not(not(not(not(not(not(not(not(not(not(not(not(not(not(not(not(not(not(not(not(not(not(not(not(not(not(not(not(not(not(not(not(not(not(not(not(not(not(not(not(not(not(not(not(not(not(not(not(not(not(not(true))))))))))))))))))))))))))))))))))))))))))))))))))))))))))))))))\n\
+2.4\t!!!!!!!!!!!!!!!!!!!!!!!!!!!!!!!!!!!!!!!!!!!!!!!!!!!!!!!!!!!!!!!!!true\tfault TooDeep\n\
+2.4\t(!(!(!(!(!(!(!(!(!(!(!(!(!(!(!(!(!(!(!(!(!(!(!(!(!(!(!(!(!(!(!(!true))))))))))))))))))))))))))))))))\tnot(not(not(not(not(not(not(not(not(not(not(not(not(not(not(not(not(not(not(not(not(not(not(not(not(not(not(not(not(not(not(not(true))))))))))))))))))))))))))))))))\n\
+2.4\t((((((((((((((((((((((((((((((((((((((((((((((((((((((((((((((((!true\tfault TooDeep\n\
+2.4\t((((((((((((((((((((((((((((((((((((((((((((((((((((((((((((((((true (\tfault BadCond\n\
+2.4\t((((((((((((((((((((((((((((((((((((((((((((((((((((((((((((((((impl(ghc ((((((((((((((((((((((((((((((((((((((((((((((((((((((((((((((((>=9)))))))))))))))))))))))))))))))))))))))))))))))))))))))))))))))))))))))))))))))))))))))))))))))))))))))))))))))))))))))))))))))))\timpl(ghc,>=9)\n\
+2.4\timpl(ghc (((((((((((((((((((((((((((((((((((((((((((((((((((((((((((((((((\tfault TooDeep\n";
+
+// A condition; what is known of the flags `a` and `b`; the value, and the number of paths and the paths that
+// are left, wanted true and wanted false.
 const CASES: &str = "\
-a !\t+?\tNo | yes 1 [a-] | no 1 [a+]\n\
-a !\t-?\tYes | yes 1 [a-] | no 1 [a+]\n\
-a !\t??\tUnknown | yes 1 [a-] | no 1 [a+]\n\
-a b &\t++\tYes | yes 1 [a+ b+] | no 2 [a-] [a+ b-]\n\
-a b &\t+-\tNo | yes 1 [a+ b+] | no 2 [a-] [a+ b-]\n\
-a b &\t+?\tUnknown | yes 1 [a+ b+] | no 2 [a-] [a+ b-]\n\
-a b &\t-+\tNo | yes 1 [a+ b+] | no 2 [a-] [a+ b-]\n\
-a b &\t--\tNo | yes 1 [a+ b+] | no 2 [a-] [a+ b-]\n\
-a b &\t-?\tNo | yes 1 [a+ b+] | no 2 [a-] [a+ b-]\n\
-a b &\t?+\tUnknown | yes 1 [a+ b+] | no 2 [a-] [a+ b-]\n\
-a b &\t?-\tUnknown | yes 1 [a+ b+] | no 2 [a-] [a+ b-]\n\
-a b &\t??\tUnknown | yes 1 [a+ b+] | no 2 [a-] [a+ b-]\n\
-a b |\t++\tYes | yes 2 [a+] [a- b+] | no 1 [a- b-]\n\
-a b |\t+-\tYes | yes 2 [a+] [a- b+] | no 1 [a- b-]\n\
-a b |\t+?\tYes | yes 2 [a+] [a- b+] | no 1 [a- b-]\n\
-a b |\t-+\tYes | yes 2 [a+] [a- b+] | no 1 [a- b-]\n\
-a b |\t--\tNo | yes 2 [a+] [a- b+] | no 1 [a- b-]\n\
-a b |\t-?\tUnknown | yes 2 [a+] [a- b+] | no 1 [a- b-]\n\
-a b |\t?+\tUnknown | yes 2 [a+] [a- b+] | no 1 [a- b-]\n\
-a b |\t?-\tUnknown | yes 2 [a+] [a- b+] | no 1 [a- b-]\n\
-a b |\t??\tUnknown | yes 2 [a+] [a- b+] | no 1 [a- b-]\n\
+!flag(a)\t+?\tNo | yes 1 [a-] | no 1 [a+]\n\
+!flag(a)\t-?\tYes | yes 1 [a-] | no 1 [a+]\n\
+!flag(a)\t??\tUnknown | yes 1 [a-] | no 1 [a+]\n\
+flag(a) && flag(b)\t++\tYes | yes 1 [a+ b+] | no 2 [a-] [a+ b-]\n\
+flag(a) && flag(b)\t+-\tNo | yes 1 [a+ b+] | no 2 [a-] [a+ b-]\n\
+flag(a) && flag(b)\t+?\tUnknown | yes 1 [a+ b+] | no 2 [a-] [a+ b-]\n\
+flag(a) && flag(b)\t-+\tNo | yes 1 [a+ b+] | no 2 [a-] [a+ b-]\n\
+flag(a) && flag(b)\t--\tNo | yes 1 [a+ b+] | no 2 [a-] [a+ b-]\n\
+flag(a) && flag(b)\t-?\tNo | yes 1 [a+ b+] | no 2 [a-] [a+ b-]\n\
+flag(a) && flag(b)\t?+\tUnknown | yes 1 [a+ b+] | no 2 [a-] [a+ b-]\n\
+flag(a) && flag(b)\t?-\tUnknown | yes 1 [a+ b+] | no 2 [a-] [a+ b-]\n\
+flag(a) && flag(b)\t??\tUnknown | yes 1 [a+ b+] | no 2 [a-] [a+ b-]\n\
+flag(a) || flag(b)\t++\tYes | yes 2 [a+] [a- b+] | no 1 [a- b-]\n\
+flag(a) || flag(b)\t+-\tYes | yes 2 [a+] [a- b+] | no 1 [a- b-]\n\
+flag(a) || flag(b)\t+?\tYes | yes 2 [a+] [a- b+] | no 1 [a- b-]\n\
+flag(a) || flag(b)\t-+\tYes | yes 2 [a+] [a- b+] | no 1 [a- b-]\n\
+flag(a) || flag(b)\t--\tNo | yes 2 [a+] [a- b+] | no 1 [a- b-]\n\
+flag(a) || flag(b)\t-?\tUnknown | yes 2 [a+] [a- b+] | no 1 [a- b-]\n\
+flag(a) || flag(b)\t?+\tUnknown | yes 2 [a+] [a- b+] | no 1 [a- b-]\n\
+flag(a) || flag(b)\t?-\tUnknown | yes 2 [a+] [a- b+] | no 1 [a- b-]\n\
+flag(a) || flag(b)\t??\tUnknown | yes 2 [a+] [a- b+] | no 1 [a- b-]\n\
 true\t??\tYes | yes 1 [] | no 0 -\n\
 false\t??\tNo | yes 0 - | no 1 []\n\
-os=linux\t??\tYes | yes 1 [] | no 0 -\n\
-os=windows\t??\tNo | yes 0 - | no 1 []\n\
-arch=x86_64\t??\tYes | yes 1 [] | no 0 -\n\
-arch=i386\t??\tNo | yes 0 - | no 1 []\n\
-impl=ghc\t??\tYes | yes 1 [] | no 0 -\n\
-impl=ghcjs\t??\tNo | yes 0 - | no 1 []\n\
-impl=ghc>=9\t??\tYes | yes 1 [] | no 0 -\n\
-impl=ghc>=10\t??\tNo | yes 0 - | no 1 []\n\
-impl=ghcjs>=9\t??\tNo | yes 0 - | no 1 []\n\
-a\t??\tUnknown | yes 1 [a+] | no 1 [a-]\n\
-a b & !\t??\tUnknown | yes 2 [a-] [a+ b-] | no 1 [a+ b+]\n\
-a b | !\t??\tUnknown | yes 1 [a- b-] | no 2 [a+] [a- b+]\n\
-a b c ! | &\t??\tUnknown | yes 2 [a+ b+] [a+ b- c-] | no 2 [a-] [a+ b- c+]\n\
-a b c & |\t??\tUnknown | yes 2 [a+] [a- b+ c+] | no 2 [a- b-] [a- b+ c-]\n\
-a b | c |\t??\tUnknown | yes 3 [a+] [a- b+] [a- b- c+] | no 1 [a- b- c-]\n\
-a b & c &\t??\tUnknown | yes 1 [a+ b+ c+] | no 3 [a-] [a+ b-] [a+ b+ c-]\n\
-a a &\t??\tUnknown | yes 1 [a+] | no 2 [a-]\n\
-a a ! &\t??\tUnknown | yes 1 - | no 2 [a-] [a+]\n\
-a a ! |\t??\tUnknown | yes 2 [a+] [a-] | no 1 -\n\
-a b & a ! b & |\t??\tUnknown | yes 3 [a+ b+] [a- b+] | no 4 [a- b-] [a+ b-]\n\
-a b | b a | &\t??\tUnknown | yes 4 [a+ b+] [a+ b-] [a- b+] | no 3 [a- b-]\n\
-a false &\t??\tUnknown | yes 0 - | no 2 [a-] [a+]\n\
-false a &\t??\tNo | yes 0 - | no 1 []\n\
-true a |\t??\tYes | yes 1 [] | no 0 -\n\
-a true |\t??\tUnknown | yes 2 [a+] [a-] | no 0 -\n\
-os=linux a &\t??\tUnknown | yes 1 [a+] | no 1 [a-]\n\
-a impl=ghc>=9 |\t??\tUnknown | yes 2 [a+] [a-] | no 0 -\n\
-a b | c & b ! &\t??\tUnknown | yes 2 [a+ c+ b-] | no 5 [a- b-] [a+ c-] [a- b+ c-] [a+ c+ b+] [a- b+ c+]\n\
-a b a | ! & !\t??\tUnknown | yes 3 [a-] [a+ b+] [a+ b-] | no 1 -\n\
-false a a b | & a b | & a b | & a b | & a b | & a b | & a b | & a b | & a b | & a b | & a b | & a b | & &\t??\tNo | yes 0 - | no 1 []\n\
-a a b | & a b | & a b | & a b | & a b | & a b | & a b | & a b | & a b | & a b | & a b | & a b | & false &\t??\tUnknown | yes 0 - | no 8192 ...\n\
-a a b | & a b | & a b | & a b | & a b | & a b | & a b | & a b | & a b | & a b | & a b | & a b | &\t??\tUnknown | yes 4096 ... | no 4096 ...\n";
-
-fn version(alloc: Global, first: &[u32]) -> Result<Version, NoMemory> {
-    let parts = first.to_vec(alloc)?;
-    Ok(Version {
-        parts: List::from_vec(parts),
-    })
-}
+os(linux)\t??\tYes | yes 1 [] | no 0 -\n\
+os(windows)\t??\tNo | yes 0 - | no 1 []\n\
+arch(x86_64)\t??\tYes | yes 1 [] | no 0 -\n\
+arch(i386)\t??\tNo | yes 0 - | no 1 []\n\
+impl(ghc)\t??\tYes | yes 1 [] | no 0 -\n\
+impl(ghcjs)\t??\tNo | yes 0 - | no 1 []\n\
+impl(ghc >=9)\t??\tYes | yes 1 [] | no 0 -\n\
+impl(ghc >=10)\t??\tNo | yes 0 - | no 1 []\n\
+impl(ghcjs >=9)\t??\tNo | yes 0 - | no 1 []\n\
+flag(a)\t??\tUnknown | yes 1 [a+] | no 1 [a-]\n\
+!(flag(a) && flag(b))\t??\tUnknown | yes 2 [a-] [a+ b-] | no 1 [a+ b+]\n\
+!(flag(a) || flag(b))\t??\tUnknown | yes 1 [a- b-] | no 2 [a+] [a- b+]\n\
+flag(a) && (flag(b) || !flag(c))\t??\tUnknown | yes 2 [a+ b+] [a+ b- c-] | no 2 [a-] [a+ b- c+]\n\
+flag(a) || flag(b) && flag(c)\t??\tUnknown | yes 2 [a+] [a- b+ c+] | no 2 [a- b-] [a- b+ c-]\n\
+flag(a) || flag(b) || flag(c)\t??\tUnknown | yes 3 [a+] [a- b+] [a- b- c+] | no 1 [a- b- c-]\n\
+flag(a) && flag(b) && flag(c)\t??\tUnknown | yes 1 [a+ b+ c+] | no 3 [a-] [a+ b-] [a+ b+ c-]\n\
+flag(a) && flag(a)\t??\tUnknown | yes 1 [a+] | no 2 [a-]\n\
+flag(a) && !flag(a)\t??\tUnknown | yes 1 - | no 2 [a-] [a+]\n\
+flag(a) || !flag(a)\t??\tUnknown | yes 2 [a+] [a-] | no 1 -\n\
+flag(a) && flag(b) || !flag(a) && flag(b)\t??\tUnknown | yes 3 [a+ b+] [a- b+] | no 4 [a- b-] [a+ b-]\n\
+(flag(a) || flag(b)) && (flag(b) || flag(a))\t??\tUnknown | yes 4 [a+ b+] [a+ b-] [a- b+] | no 3 [a- b-]\n\
+flag(a) && false\t??\tUnknown | yes 0 - | no 2 [a-] [a+]\n\
+false && flag(a)\t??\tNo | yes 0 - | no 1 []\n\
+true || flag(a)\t??\tYes | yes 1 [] | no 0 -\n\
+flag(a) || true\t??\tUnknown | yes 2 [a+] [a-] | no 0 -\n\
+os(linux) && flag(a)\t??\tUnknown | yes 1 [a+] | no 1 [a-]\n\
+flag(a) || impl(ghc >=9)\t??\tUnknown | yes 2 [a+] [a-] | no 0 -\n\
+(flag(a) || flag(b)) && flag(c) && !flag(b)\t??\tUnknown | yes 2 [a+ c+ b-] | no 5 [a- b-] [a+ c-] [a- b+ c-] [a+ c+ b+] [a- b+ c+]\n\
+!(flag(a) && !(flag(b) || flag(a)))\t??\tUnknown | yes 3 [a-] [a+ b+] [a+ b-] | no 1 -\n\
+false && (flag(a) && (flag(a) || flag(b)) && (flag(a) || flag(b)) && (flag(a) || flag(b)) && (flag(a) || flag(b)) && (flag(a) || flag(b)) && (flag(a) || flag(b)) && (flag(a) || flag(b)) && (flag(a) || flag(b)) && (flag(a) || flag(b)) && (flag(a) || flag(b)) && (flag(a) || flag(b)) && (flag(a) || flag(b)))\t??\tNo | yes 0 - | no 1 []\n\
+flag(a) && (flag(a) || flag(b)) && (flag(a) || flag(b)) && (flag(a) || flag(b)) && (flag(a) || flag(b)) && (flag(a) || flag(b)) && (flag(a) || flag(b)) && (flag(a) || flag(b)) && (flag(a) || flag(b)) && (flag(a) || flag(b)) && (flag(a) || flag(b)) && (flag(a) || flag(b)) && (flag(a) || flag(b)) && false\t??\tUnknown | yes 0 - | no 8192 ...\n\
+flag(a) && (flag(a) || flag(b)) && (flag(a) || flag(b)) && (flag(a) || flag(b)) && (flag(a) || flag(b)) && (flag(a) || flag(b)) && (flag(a) || flag(b)) && (flag(a) || flag(b)) && (flag(a) || flag(b)) && (flag(a) || flag(b)) && (flag(a) || flag(b)) && (flag(a) || flag(b)) && (flag(a) || flag(b))\t??\tUnknown | yes 4096 ... | no 4096 ...\n";
 
 fn environment(alloc: Global) -> Result<Env, NoMemory> {
+    let parts = [9, 4, 7].to_vec(alloc)?;
     Ok(Env {
         os: Text::from_str(alloc, "linux")?,
         arch: Text::from_str(alloc, "x86_64")?,
         compiler: Text::from_str(alloc, "ghc")?,
-        compiler_version: version(alloc, &[9, 4, 7])?,
+        compiler_version: Version {
+            parts: List::from_vec(parts),
+        },
     })
 }
 
-fn implementation(alloc: Global, text: &str) -> Result<Cond, NoMemory> {
-    let Some((name, least)) = text.split_once(">=") else {
-        return Ok(Cond::Impl(Text::from_str(alloc, text)?, Range::Any));
-    };
-    let least = least.parse::<u32>().unwrap_or(0);
-    let range = Range::AtLeast(version(alloc, &[least])?);
-    Ok(Cond::Impl(Text::from_str(alloc, name)?, range))
+fn push_test(text: &mut Text, word: &str, name: &str) -> Result<(), NoMemory> {
+    text.push_str(word)?;
+    text.push_str("(")?;
+    text.push_str(name)?;
+    text.push_str(")")
 }
 
-fn test(alloc: Global, word: &str) -> Result<Cond, NoMemory> {
-    if word == "true" {
-        return Ok(Cond::Always);
-    }
-    if word == "false" {
-        return Ok(Cond::Never);
-    }
-    if let Some(name) = word.strip_prefix("os=") {
-        return Ok(Cond::Os(Text::from_str(alloc, name)?));
-    }
-    if let Some(name) = word.strip_prefix("arch=") {
-        return Ok(Cond::Arch(Text::from_str(alloc, name)?));
-    }
-    if let Some(text) = word.strip_prefix("impl=") {
-        return implementation(alloc, text);
-    }
-    Ok(Cond::Flag(Text::from_str(alloc, word)?))
+fn push_pair(
+    alloc: Global,
+    text: &mut Text,
+    word: &str,
+    left: &Cond,
+    right: &Cond,
+) -> Result<(), NoMemory> {
+    let left = shown(alloc, left)?;
+    let right = shown(alloc, right)?;
+    push_test(
+        text,
+        word,
+        format!(in alloc; "{},{}", left.as_str(), right.as_str())?.as_str(),
+    )
 }
 
-fn taken(parts: &mut Vec<Cond>) -> Cond {
-    parts.pop().unwrap_or(Cond::Never)
+fn shown(alloc: Global, cond: &Cond) -> Result<Text, NoMemory> {
+    let mut text = Text::new(alloc);
+    match cond {
+        Cond::Always => text.push_str("true")?,
+        Cond::Never => text.push_str("false")?,
+        Cond::Flag(name) => push_test(&mut text, "flag", name.as_str())?,
+        Cond::Os(name) => push_test(&mut text, "os", name.as_str())?,
+        Cond::Arch(name) => push_test(&mut text, "arch", name.as_str())?,
+        Cond::Impl(name, range) => {
+            let range = print_range(alloc, range)?;
+            let name = format!(in alloc; "{},{}", name.as_str(), range.as_str())?;
+            push_test(&mut text, "impl", name.as_str())?;
+        }
+        Cond::Not(inner) => push_test(&mut text, "not", shown(alloc, inner.get())?.as_str())?,
+        Cond::And(left, right) => push_pair(alloc, &mut text, "and", left.get(), right.get())?,
+        Cond::Or(left, right) => push_pair(alloc, &mut text, "or", left.get(), right.get())?,
+    }
+    Ok(text)
 }
 
-fn not(alloc: Global, inner: Cond) -> Result<Cond, NoMemory> {
-    Ok(Cond::Not(Boxed::new(alloc, inner)?))
-}
-
-fn joined(alloc: Global, left: Cond, right: Cond, is_and: bool) -> Result<Cond, NoMemory> {
-    let left = Boxed::new(alloc, left)?;
-    let right = Boxed::new(alloc, right)?;
-    if is_and {
-        Ok(Cond::And(left, right))
+fn answer(alloc: Global, spec: &str, text: &str) -> Result<Text, NoMemory> {
+    let spec = if spec == "2.4" {
+        Spec::V2_4
     } else {
-        Ok(Cond::Or(left, right))
+        Spec::V3_0
+    };
+    match read_cond(alloc, text.as_bytes(), spec) {
+        Ok(cond) => shown(alloc, &cond),
+        Err(TextFault::NoMemory) => Err(NoMemory),
+        Err(TextFault::Bad(Cause::BadCond)) => Text::from_str(alloc, "fault BadCond"),
+        Err(TextFault::Bad(Cause::TooDeep)) => Text::from_str(alloc, "fault TooDeep"),
+        Err(TextFault::Bad(_)) => Text::from_str(alloc, "fault NeedsVersion"),
     }
-}
-
-fn condition(alloc: Global, text: &str) -> Result<Cond, NoMemory> {
-    let mut parts = Vec::new(alloc);
-    for word in text.split(' ') {
-        let part = if word == "!" {
-            not(alloc, taken(&mut parts))?
-        } else if word == "&" || word == "|" {
-            let right = taken(&mut parts);
-            let left = taken(&mut parts);
-            joined(alloc, left, right, word == "&")?
-        } else {
-            test(alloc, word)?
-        };
-        parts.push(part)?;
-    }
-    Ok(taken(&mut parts))
 }
 
 fn setting(alloc: Global, name: &str, on: bool) -> Result<FlagSet, NoMemory>
@@ -220,6 +264,23 @@ fn printed(alloc: Global, cond: &Cond, env: &Env, flags: &List<FlagSet>) -> Resu
 }
 
 #[test]
+fn texts(rt: HostRuntime) -> Result<(), Fail> {
+    let alloc = rt.alloc();
+    for line in TEXTS.lines() {
+        let Some((spec, rest)) = line.split_once('\t') else {
+            assert!(rt; false, "{line}");
+            continue;
+        };
+        let Some((text, wanted)) = rest.split_once('\t') else {
+            assert!(rt; false, "{line}");
+            continue;
+        };
+        assert_eq!(rt; answer(alloc, spec, text)?.as_str(), wanted, "{text}");
+    }
+    Ok(())
+}
+
+#[test]
 fn values_and_paths(rt: HostRuntime) -> Result<(), Fail> {
     let alloc = rt.alloc();
     let env = environment(alloc)?;
@@ -232,7 +293,10 @@ fn values_and_paths(rt: HostRuntime) -> Result<(), Fail> {
             assert!(rt; false, "{line}");
             continue;
         };
-        let cond = condition(alloc, text)?;
+        let Ok(cond) = read_cond(alloc, text.as_bytes(), Spec::V3_0) else {
+            assert!(rt; false, "{text}");
+            continue;
+        };
         let flags = known(alloc, flags)?;
         assert_eq!(rt;
             printed(alloc, &cond, &env, &flags)?.as_str(),
@@ -243,32 +307,26 @@ fn values_and_paths(rt: HostRuntime) -> Result<(), Fail> {
     Ok(())
 }
 
-// A chain of the flag `a`, with `true` or `false` in between.
-fn chain(alloc: Global, count: u32, is_and: bool) -> Result<Cond, NoMemory> {
-    let mut cond = Cond::Flag(Text::from_str(alloc, "a")?);
-    for turn in 0..count {
-        let right = if turn % 2 == 0 {
-            Cond::Flag(Text::from_str(alloc, "a")?)
-        } else {
-            Cond::Os(Text::from_str(alloc, if is_and { "linux" } else { "windows" })?)
-        };
-        cond = joined(alloc, cond, right, is_and)?;
-    }
-    Ok(cond)
-}
-
 // Calls of itself for the left side would run out of stack, and paths that are copied at each step out of time.
 #[test]
 fn chains_of_a_hundred_thousand(rt: HostRuntime) -> Result<(), Fail> {
     let alloc = rt.alloc();
     let env = environment(alloc)?;
     let flags = known(alloc, "+?")?;
-    for (is_and, wanted) in [
-        (true, "Yes | yes 1 [a+] | no 50001 ..."),
-        (false, "Yes | yes 50001 ... | no 1 [a-]"),
+    for (link, wanted) in [
+        ("&&flag(a)", "Yes | yes 1 [a+] | no 100001 ..."),
+        ("||flag(a)", "Yes | yes 100001 ... | no 1 [a-]"),
     ] {
-        let cond = chain(alloc, 100_000, is_and)?;
-        assert_eq!(rt; printed(alloc, &cond, &env, &flags)?.as_str(), wanted);
+        let mut text = Text::from_str(alloc, "flag(a)")?;
+        for _ in 0..100_000u32 {
+            text.push_str(link)?;
+        }
+        let Ok(cond) = read_cond(alloc, text.as_bytes(), Spec::V2_4) else {
+            assert!(rt; false, "{link}");
+            continue;
+        };
+        let copied = cond.copy(alloc)?;
+        assert_eq!(rt; printed(alloc, &copied, &env, &flags)?.as_str(), wanted);
     }
     Ok(())
 }
