@@ -1,0 +1,6 @@
+pub mod Cuts
+pub mod Found
+pub mod Ascii
+pub mod Only
+pub mod OneLibrary
+pub mod Fits
