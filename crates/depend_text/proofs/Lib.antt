@@ -4,3 +4,6 @@ pub mod Ascii
 pub mod Only
 pub mod OneLibrary
 pub mod Fits
+pub mod OneNamed
+pub mod Project
+pub mod Filtered

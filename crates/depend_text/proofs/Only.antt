@@ -6,7 +6,7 @@ use Rattle.plan_types.specs.declared.refusal.Cause.{Cause}
 use Rattle.plan_types.specs.declared.refusal.TextFault.{TextFault}
 use Rattle.plan_types.specs.declared.refusal.TextFault.TheVariants.{NoMemory, Bad}
 use Rattle.plan_types.specs.Refusal.{Refuses}
-use Rattle.depend_text.specs.Entries.{depth_behind, left_open, commas_inside, Pieces, last, joined, entries, Each, none, more, First, here, later, Lists, Faulty}
+use Rattle.depend_text.specs.Entries.{depth_behind, left_open, commas_inside, Pieces, last, joined, entries, Each, none, more, First, here, later, Lists, Faulty, BadAsNone}
 
 -- ---- a text has its pieces
 
@@ -109,3 +109,11 @@ pub only_fault : {A : Type 0} (Reads : A → Type 0) (Fails : Cause → Type 0) 
 only_fault Reads Fails one apart (Ok found) h k c r = apart found c h r
 only_fault Reads Fails one apart (Err NoMemory) h k c r = tt
 only_fault Reads Fails one apart (Err (Bad d)) h k c r = one d c k r
+
+-- an entry of a project that stands for nothing has the one fault that there is
+pub project_row : {A : Type 0} (Part : List ℕ → A → Type 0) → ((part : List ℕ) (x y : A) → Part part x → Part part y → x ≡ y) → Row Part (BadAsNone Part)
+project_row Part one = record {
+  one = one;
+  one_fault = λ part c d f g. f.is ∙ sym g.is;
+  not_both = λ part x c p f. f.stands_for_none x p;
+}

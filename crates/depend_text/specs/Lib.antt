@@ -1,3 +1,4 @@
 pub mod Entries
 pub mod Words
 pub mod Depends
+pub mod Named

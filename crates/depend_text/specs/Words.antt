@@ -1,5 +1,5 @@
 -- Parts of an entry.
-use Rattle.std.specs.Prelude.{ℕ, Bool, not, ◌||◌, ◌==◌, List, [], ◌∷◌, take, drop, filter}
+use Rattle.std.specs.Prelude.{ℕ, Bool, not, ◌||◌, ◌==◌, List, [], ◌∷◌, length, take, drop, filter}
 use Rattle.std.specs.List.{prefix_len, slice_split}
 use Rattle.plan_types.specs.Bytes.{is_blank}
 use Rattle.plan_types.specs.Name.{is_letter_or_digit}
@@ -24,3 +24,10 @@ behind_name text = behind is_name_byte (behind is_blank text)
 
 abbrev pub is_in_braces : ℕ → Bool
 is_in_braces b = not (b == 125)
+
+abbrev pub is_word : List ℕ → Bool
+is_word part = not (length part == 0)
+
+-- what stands between blanks
+abbrev pub words : List ℕ → List (List ℕ)
+words text = filter is_word (slice_split is_blank text)
