@@ -7,3 +7,4 @@ pub mod Fits
 pub mod OneNamed
 pub mod Project
 pub mod Filtered
+pub mod OneConstraint

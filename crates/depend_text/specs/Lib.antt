@@ -2,3 +2,4 @@ pub mod Entries
 pub mod Words
 pub mod Depends
 pub mod Named
+pub mod Constraints

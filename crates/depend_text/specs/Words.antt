@@ -1,5 +1,6 @@
 -- Parts of an entry.
-use Rattle.std.specs.Prelude.{ℕ, Bool, not, ◌||◌, ◌==◌, List, [], ◌∷◌, length, take, drop, filter}
+use Rattle.std.specs.Prelude.{ℕ, Bool, not, ◌||◌, ◌==◌, nat_eq, List, [], ◌∷◌, length, take, drop, filter}
+use Rattle.std.specs.Cmp.Lexicographic.{pointwise}
 use Rattle.std.specs.List.{prefix_len, slice_split}
 use Rattle.plan_types.specs.Bytes.{is_blank}
 use Rattle.plan_types.specs.Name.{is_letter_or_digit}
@@ -31,3 +32,6 @@ is_word part = not (length part == 0)
 -- what stands between blanks
 abbrev pub words : List ℕ → List (List ℕ)
 words text = filter is_word (slice_split is_blank text)
+
+unfoldable pub is_text : List ℕ → List ℕ → Bool
+is_text part text = pointwise nat_eq part text

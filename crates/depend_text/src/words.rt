@@ -2,7 +2,7 @@
 ghost use Rattle.std.specs.Prelude.{◌≡◌, map, filter, IfOk};
 ghost use Rattle.std.specs.List.{slice_split};
 ghost use Rattle.plan_types.specs.Bytes.{is_blank};
-ghost use Rattle.depend_text.specs.Words.{is_word, words};
+ghost use Rattle.depend_text.specs.Words.{is_text, is_word, words};
 
 use crate::name::is_blank;
 use plan_types::NoMemory;
@@ -38,4 +38,11 @@ fn is_word(part: &[u8]) -> bool
     ensures { result ≡ is_word part.now }
 {
     !part.is_empty()
+}
+
+#[tactic(auto, unfolding(crate::specs::Words::is_text))]
+pub fn is_text(part: &[u8], text: &[u8]) -> bool
+    ensures { result ≡ is_text part.now text.now }
+{
+    part == text
 }
