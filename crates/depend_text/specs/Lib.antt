@@ -3,3 +3,4 @@ pub mod Words
 pub mod Depends
 pub mod Named
 pub mod Constraints
+pub mod Examples

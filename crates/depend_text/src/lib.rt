@@ -14,3 +14,6 @@ pub use constraints::read_constraints;
 pub use depends::{read_depends, read_tools};
 pub use laws::{one_fault, one_reading, reading_or_fault};
 pub use named::read_named;
+
+#[cfg(test)]
+mod tests;
