@@ -1,0 +1,6 @@
+pub mod Entries
+pub mod Words
+pub mod Depends
+pub mod Named
+pub mod Constraints
+pub mod Examples
