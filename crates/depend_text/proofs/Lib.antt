@@ -8,3 +8,5 @@ pub mod OneNamed
 pub mod Project
 pub mod Filtered
 pub mod OneConstraint
+pub mod Dashes
+pub mod OneRelax

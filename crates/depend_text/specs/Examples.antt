@@ -8,6 +8,7 @@ use Rattle.depend_text.specs.Entries.{commas_inside, left_open, Pieces, last, jo
 use Rattle.depend_text.specs.Words.{is_text, name_of, behind_name, words}
 use Rattle.depend_text.specs.Depends.{library, old_cause}
 use Rattle.depend_text.specs.Constraints.{scope_of, asked_by}
+use Rattle.depend_text.specs.Relaxes.{relaxing_word}
 
 a_comma_inside : commas_inside 0 (codes "a:{b,c}") ≡ true
 a_comma_inside = refl
@@ -59,3 +60,9 @@ no_scope = refl
 the_tests : asked_by (codes "test") ≡ Some Tests
 unfolding is_text
 the_tests = refl
+
+everything_in_any_case : relaxing_word (codes "ALL") ≡ Some true
+everything_in_any_case = refl
+
+a_dependency_is_no_word : relaxing_word (codes "all:a") ≡ None
+a_dependency_is_no_word = refl

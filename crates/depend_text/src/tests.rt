@@ -1,8 +1,10 @@
-use crate::{read_constraints, read_depends, read_named, read_tools};
-use plan_types::{Constraint, Dep, DepKind, LibName, Named, Scope, Spec, TextFault, What};
+use crate::{read_constraints, read_depends, read_named, read_relax, read_tools};
+use plan_types::{
+    Constraint, Dep, DepKind, LibName, Named, Relax, RelaxOwner, Scope, Spec, TextFault, What,
+};
 use std::alloc::{AllocError, Global};
 use std::test::Fail;
-use version_range::print_range;
+use version_range::{print_range, print_version};
 
 // The call, the text, and what it stands for or its fault.
 const CASES: &str = "new\t\t\n\
@@ -42,7 +44,14 @@ constraints\tx -any && >=1\ttop x -any && >=1;\n\
 constraints\tx Installed\tBadConstraint\n\
 constraints\ta:setup\tBadConstraint\n\
 constraints\tfoo.x\tBadConstraint\n\
-constraints\tx +f+g\tBadConstraint\n";
+constraints\tx +f+g\tBadConstraint\n\
+relax\tall, *, True, none, FALSE\tany *;any *;any *;\n\
+relax\ta, *:b, all:b\tany a;any b;all b;\n\
+relax\ta-1.2:b-c, a-b:*\ta 1.2 b-c;a-b *;\n\
+relax\t*:*\tBadConstraint\n\
+relax\ta-1:*\tBadConstraint\n\
+relax\ta :b\tBadConstraint\n\
+relax\ta:b:c\tBadConstraint\n";
 
 fn dependency(alloc: Global, to: &mut String, dep: &Dep) -> Result<(), TextFault> {
     put(to, dep.package.as_str())?;
@@ -114,6 +123,25 @@ fn what(alloc: Global, to: &mut String, what: &What) -> Result<(), TextFault> {
     }
 }
 
+fn relax(alloc: Global, to: &mut String, relax: &Relax) -> Result<(), TextFault> {
+    match &relax.owner {
+        RelaxOwner::Any => put(to, "any")?,
+        RelaxOwner::Package(name) => put(to, name.as_str())?,
+        RelaxOwner::Release(name, version) => {
+            put(to, name.as_str())?;
+            put(to, " ")?;
+            let version = print_version(alloc, version)?;
+            put(to, version.as_str())?;
+        }
+    }
+    put(to, " ")?;
+    match &relax.dep {
+        None => put(to, "*")?,
+        Some(name) => put(to, name.as_str())?,
+    }
+    put(to, ";")
+}
+
 fn put(to: &mut String, text: &str) -> Result<(), TextFault> {
     to.push_str(text).map_err(|_| TextFault::NoMemory)
 }
@@ -128,6 +156,12 @@ fn read(alloc: Global, call: &str, text: &[u8], to: &mut String) -> Result<(), T
     if call == "constraints" {
         for one in read_constraints(alloc, text)?.as_slice() {
             constraint(alloc, to, one)?;
+        }
+        return Ok(());
+    }
+    if call == "relax" {
+        for one in read_relax(alloc, text)?.as_slice() {
+            relax(alloc, to, one)?;
         }
         return Ok(());
     }

@@ -6,6 +6,8 @@ use Rattle.depend_text.proofs.Only as proof
 use Rattle.depend_text.proofs.OneLibrary.{library_row, tool_row}
 use Rattle.depend_text.proofs.OneNamed.{named_row}
 use Rattle.depend_text.proofs.OneConstraint.{constraint_row}
+use Rattle.depend_text.proofs.OneRelax.{relax_row, given_reading, no_fault}
+use Rattle.depend_text.specs.Relaxes.{RelaxEntry}
 use Rattle.depend_text.proofs.laws.one_reading.Goals as goal
 
 pub returns-clause-depends : goal.returns-clause-depends
@@ -19,3 +21,6 @@ returns-clause-named c = proof.one_reading NamedEntry named_row.one
 
 pub returns-clause-constraints : goal.returns-clause-constraints
 returns-clause-constraints c = proof.one_reading ConstraintEntry constraint_row.one
+
+pub returns-clause-relaxes : goal.returns-clause-relaxes
+returns-clause-relaxes c text a b r s = given_reading text r.each a r.entries r.is b s

@@ -6,6 +6,8 @@ use Rattle.depend_text.proofs.Only as proof
 use Rattle.depend_text.proofs.OneLibrary.{library_row, tool_row}
 use Rattle.depend_text.proofs.OneNamed.{named_row}
 use Rattle.depend_text.proofs.OneConstraint.{constraint_row}
+use Rattle.depend_text.proofs.OneRelax.{relax_row, given_reading, no_fault}
+use Rattle.depend_text.specs.Relaxes.{RelaxEntry}
 use Rattle.depend_text.proofs.laws.reading_or_fault.Goals as goal
 
 pub returns-clause-depends : goal.returns-clause-depends
@@ -19,3 +21,6 @@ returns-clause-named c = proof.reading_or_fault NamedEntry (BadAsNone NamedEntry
 
 pub returns-clause-constraints : goal.returns-clause-constraints
 returns-clause-constraints c = proof.reading_or_fault ConstraintEntry (BadAsNone ConstraintEntry) constraint_row.not_both
+
+pub returns-clause-relaxes : goal.returns-clause-relaxes
+returns-clause-relaxes c text a cause r f = no_fault text r.each r.entries cause f

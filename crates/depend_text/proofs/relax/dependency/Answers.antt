@@ -1,0 +1,43 @@
+use Rattle.std.proofs.Common.{◌≡◌, true, Err, ap, ◌∙◌, sym, subst, refl, ◌∷◌, []}
+use Rattle.std.proofs.lemmas.Result.{err_from_is_err_and}
+use Rattle.plan_types.specs.Name.{is_package_name}
+use Rattle.plan_types.specs.declared.dependency.RelaxOwner.TheVariants as owners
+use Rattle.std.specs.Prelude.{None}
+use Rattle.depend_text.specs.Relaxes.{Owner, Dependency, RelaxedBy}
+use Rattle.depend_text.proofs.Cuts.{texts}
+use Rattle.depend_text.proofs.Found.{err_so, refuses_so}
+use Rattle.depend_text.proofs.Fits.{ok_so, fault_so}
+use Rattle.depend_text.proofs.OneRelax.{star_text, not_star, all_text, bad_owner, bad_relaxed, never_all, never_of, one_text, word_same, refused_reading, refused_fault, given_reading, no_fault}
+use Rattle.depend_text.proofs.relax.dependency.Goals as goal
+
+pub returns-then-is_text-clause-found : goal.returns-then-is_text-clause-found
+returns-then-is_text-clause-found c =
+    let run = c.owner_run.ensures in
+    ok_so _ _ c.all_of.result
+    (λ relax is. Dependency.all (sym run.rest ∙ all_text _ (sym c.is_text.ensures ∙ c.if-is_text.true)) (subst (λ n. is_package_name n ≡ true) run.front is.0)
+    (is.1 ∙ (λ i. record { owner = owners.Package (run.front i); dep = None })))
+    c.all_of.ensures.found
+
+pub returns-then-is_text-clause-fault : goal.returns-then-is_text-clause-fault
+returns-then-is_text-clause-fault c =
+    let run = c.owner_run.ensures in
+    fault_so _ _ c.all_of.result
+    (λ cause bad. record { is = bad.0; stands_for_none = never_all c.args.word.now (sym run.rest ∙ all_text _ (sym c.is_text.ensures ∙ c.if-is_text.true)) (sym (ap is_package_name run.front) ∙ bad.1) })
+    c.all_of.ensures.fault
+
+pub returns-in-Some-clause-found : goal.returns-in-Some-clause-found
+returns-in-Some-clause-found c =
+    let run = c.owner_run.ensures in
+    ok_so _ _ c.one_of.result
+    (λ relax is. Dependency.of relax.owner c.in-Some.name.now (sym run.rest ∙ c.in-Some.ensures.some) (subst (λ t. Owner t relax.owner) run.front is.0) is.1 (λ i. record { owner = relax.owner; dep = is.2 i }))
+    c.one_of.ensures.found
+
+pub returns-in-Some-clause-fault : goal.returns-in-Some-clause-fault
+returns-in-Some-clause-fault c =
+    let run = c.owner_run.ensures in
+    fault_so _ _ c.one_of.result
+    (λ cause never. record {
+      is = never.0;
+      stands_for_none = never_of c.args.word.now _ c.in-Some.name.now run.rest c.in-Some.ensures.some (sym c.is_text.ensures ∙ c.if-is_text.false) (λ o w h. never.1 o (subst (λ t. Owner t o) (sym run.front) w) h);
+    })
+    c.one_of.ensures.fault

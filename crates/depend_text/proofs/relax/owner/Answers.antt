@@ -1,0 +1,24 @@
+use Rattle.std.proofs.Common.{◌≡◌, true, Err, ap, ◌∙◌, sym, subst, refl, ◌∷◌, []}
+use Rattle.std.proofs.lemmas.Result.{err_from_is_err_and}
+use Rattle.plan_types.specs.Name.{is_package_name}
+use Rattle.plan_types.specs.declared.dependency.RelaxOwner.TheVariants as owners
+use Rattle.std.specs.Prelude.{None}
+use Rattle.depend_text.specs.Relaxes.{Owner, Dependency, RelaxedBy}
+use Rattle.depend_text.proofs.Cuts.{texts}
+use Rattle.depend_text.proofs.Found.{err_so, refuses_so}
+use Rattle.depend_text.proofs.Fits.{ok_so, fault_so}
+use Rattle.depend_text.proofs.OneRelax.{star_text, not_star, all_text, bad_owner, bad_relaxed, never_all, never_of, one_text, word_same, refused_reading, refused_fault, given_reading, no_fault}
+use Rattle.depend_text.proofs.relax.owner.Goals as goal
+
+pub returns-then-is_text-clause-found : goal.returns-then-is_text-clause-found
+returns-then-is_text-clause-found c = Owner.any (star_text c.args.text.now (sym c.is_text.ensures ∙ c.if-is_text.true)) refl
+
+pub returns-then-not-is_package_name-clause-found : goal.returns-then-not-is_package_name-clause-found
+returns-then-not-is_package_name-clause-found c =
+    ok_so _ _ c.release.result (λ o is. Owner.release is.0 is.1 (sym c.is_package_name.ensures ∙ c.if-not-is_package_name.true) is.2 is.3) c.release.ensures.found
+
+pub returns-then-not-is_package_name-clause-fault : goal.returns-then-not-is_package_name-clause-fault
+returns-then-not-is_package_name-clause-fault c =
+    fault_so _ _ c.release.result
+    (bad_owner c.args.text.now (not_star c.args.text.now (sym c.is_text.ensures ∙ c.if-is_text.false)) (sym c.is_package_name.ensures ∙ c.if-not-is_package_name.true))
+    c.release.ensures.fault

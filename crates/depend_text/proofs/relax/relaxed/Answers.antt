@@ -1,0 +1,21 @@
+use Rattle.std.proofs.Common.{◌≡◌, true, Err, ap, ◌∙◌, sym, subst, refl, ◌∷◌, []}
+use Rattle.std.proofs.lemmas.Result.{err_from_is_err_and}
+use Rattle.plan_types.specs.Name.{is_package_name}
+use Rattle.plan_types.specs.declared.dependency.RelaxOwner.TheVariants as owners
+use Rattle.std.specs.Prelude.{None}
+use Rattle.depend_text.specs.Relaxes.{Owner, Dependency, RelaxedBy}
+use Rattle.depend_text.proofs.Cuts.{texts}
+use Rattle.depend_text.proofs.Found.{err_so, refuses_so}
+use Rattle.depend_text.proofs.Fits.{ok_so, fault_so}
+use Rattle.depend_text.proofs.OneRelax.{star_text, not_star, all_text, bad_owner, bad_relaxed, never_all, never_of, one_text, word_same, refused_reading, refused_fault, given_reading, no_fault}
+use Rattle.depend_text.proofs.relax.relaxed.Goals as goal
+
+pub returns-in-len1-clause-found : goal.returns-in-len1-clause-found
+returns-in-len1-clause-found c =
+    ok_so _ _ c.relaxed_by.result (λ x r. (_, one_text c.args.words.now _ c.in-len1.len_at_least c.in-len1.len_below, r)) c.relaxed_by.ensures.found
+
+pub returns-in-len1-clause-fault : goal.returns-in-len1-clause-fault
+returns-in-len1-clause-fault c =
+    fault_so _ _ c.relaxed_by.result
+    (λ cause f. (f.is, λ w x e r. f.stands_for_none x (subst (λ v. RelaxedBy v x) (word_same (texts c.args.words.now) w _ e (one_text c.args.words.now _ c.in-len1.len_at_least c.in-len1.len_below)) r)))
+    c.relaxed_by.ensures.fault
