@@ -1,6 +1,5 @@
 -- A compiler and its versions in parentheses, as they are read.
-use Rattle.std.proofs.Common.{◌≡◌, ◌≢◌, inl, inr, ℕ, suc, Bool, true, false, ◌&&◌, ◌||◌, List, [], ◌∷◌, ◌++◌, codes, Option, Some, None, Result, Ok, Err, refl, sym, ap, ◌∙◌, subst, append_assoc, append-nil, arith}
-use Rattle.std.specs.Prelude.{◌==◌}
+use Rattle.std.proofs.Common.{◌≡◌, ◌≢◌, ℕ, suc, Bool, true, false, List, [], ◌∷◌, ◌++◌, codes, Result, Ok, Err, refl, sym, ap, ◌∙◌, subst, append_assoc, append-nil, arith}
 use Rattle.std.specs.List.{list_all}
 use Rattle.std.specs.Str.{str_to_ascii_lowercase}
 use Rattle.std.proofs.lemmas.Bool.{false≢true, and_parts, and_from, eqb-true}
@@ -14,15 +13,15 @@ use Rattle.plan_types.specs.Name.{is_letter_or_digit}
 use Rattle.text_grammar.specs.Parts.{Led, led}
 use Rattle.text_grammar.specs.Reading.{◌>>=◌}
 use Rattle.text_grammar.proofs.TextKind.{starts}
-use Rattle.text_grammar.proofs.Fronts.{Reader, head_of, errs, Apart, Read, Like, Fault, fault_up_like}
+use Rattle.text_grammar.proofs.Fronts.{Reader, errs, Apart, Read, Like, Fault, fault_up_like}
 use Rattle.text_grammar.proofs.Spaces.{Never, never_starts, starts_like}
 use Rattle.text_grammar.proofs.ChainParts.{ok_parts, errs_then}
 use Rattle.text_grammar.proofs.Letters.{Reads, Pair, Passing, passing, pair_due, pair_led}
-use Rattle.version_range.specs.Grammar.{is_old, Stands, Viable, empty, range}
+use Rattle.version_range.specs.Grammar.{empty, range}
 use Rattle.conditionals.specs.Grammar.{is_compiler_name, Versions, versions, WiderVersions, deeper, broken}
 use Rattle.conditionals.specs.Reading.{name_at, compiler_at, cond_tail, argument}
 use Rattle.conditionals.proofs.CondKind.{no_bytes, cond_kind, is_open, ends_none, apart}
-use Rattle.conditionals.proofs.Tails.{Starts, terms_start}
+use Rattle.conditionals.proofs.Tails.{terms_start}
 use Rattle.conditionals.proofs.CondTails.{wide_tail, tail_pair}
 use Rattle.conditionals.proofs.Names.{Run, run, run_reads, run_read, name_fault}
 

@@ -1,15 +1,15 @@
 -- The range of a test, as a condition reads it; and as the wider grammar does, in which a `{` may end it.
-use Rattle.std.proofs.Common.{◌≡◌, ◌≢◌, inl, inr, ℕ, suc, Bool, true, false, ◌&&◌, ◌||◌, List, [], ◌∷◌, ◌++◌, codes, Option, Some, None, Result, Ok, Err, refl, sym, ap, ◌∙◌, subst, append_assoc, append-nil}
+use Rattle.std.proofs.Common.{◌≡◌, ◌≢◌, ℕ, suc, Bool, true, false, ◌&&◌, List, [], ◌∷◌, ◌++◌, codes, Some, None, Result, Ok, Err, refl, sym, ap, ◌∙◌, subst, append_assoc, append-nil}
 use Rattle.std.specs.Prelude.{◌==◌, if◌then◌else◌}
 use Rattle.std.specs.List.{list_all}
-use Rattle.std.proofs.lemmas.Bool.{false≢true, true≢false, and_parts, and_from, eqb-true}
+use Rattle.std.proofs.lemmas.Bool.{false≢true, and_parts, and_from, eqb-true}
 use Rattle.plan_types.specs.declared.refusal.Cause.{Cause}
-use Rattle.plan_types.specs.declared.refusal.Cause.TheVariants.{BadVersion, BadRange, NeedsVersion, TooDeep, BadCond}
+use Rattle.plan_types.specs.declared.refusal.Cause.TheVariants.{NeedsVersion, TooDeep, BadCond}
 use Rattle.plan_types.specs.declared.range.Spec.{Spec}
 use Rattle.plan_types.specs.declared.range.Range.{Range}
 use Rattle.plan_types.specs.declared.range.Range.TheVariants.{Any}
 use Rattle.plan_types.specs.Bytes.{begins_with}
-use Rattle.text_grammar.proofs.TextKind.{Kind, IsNewer, starts}
+use Rattle.text_grammar.proofs.TextKind.{IsNewer}
 use Rattle.text_grammar.proofs.Fronts.{Reader, head_of, errs, Apart, Read, Dead, Why, new_form, digit_due, digit_more, wider, behind_digit, no_digit, Fault, why_dead}
 use Rattle.text_grammar.proofs.ChainParts.{ok_parts}
 use Rattle.text_grammar.proofs.Exactly.{Order, shorter, same, longer, order}

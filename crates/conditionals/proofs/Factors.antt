@@ -1,20 +1,18 @@
 -- Factors, and conditions made of them, as they are read.
-use Rattle.std.proofs.Common.{◌≡◌, ◌≢◌, inl, inr, ℕ, zero, suc, Bool, true, false, ◌||◌, List, [], ◌∷◌, ◌++◌, codes, Option, Some, None, Result, Ok, Err, refl, sym, ap, ◌∙◌, subst, append_assoc, append-nil}
+use Rattle.std.proofs.Common.{◌≡◌, inl, inr, ℕ, zero, suc, Bool, true, false, List, [], ◌∷◌, ◌++◌, codes, Option, Some, None, Result, Ok, Err, refl, sym, ap, ◌∙◌, subst, append_assoc, append-nil}
 use Rattle.std.specs.Prelude.{◌==◌}
-use Rattle.std.proofs.lemmas.Bool.{false≢true}
 use Rattle.plan_types.specs.declared.refusal.Cause.{Cause}
 use Rattle.plan_types.specs.declared.refusal.Cause.TheVariants.{TooDeep}
 use Rattle.plan_types.specs.declared.range.Spec.{Spec}
 use Rattle.plan_types.specs.declared.range.Range.{Range}
 use Rattle.plan_types.specs.declared.condition.Cond.{Cond}
 use Rattle.plan_types.specs.declared.condition.Cond.TheVariants.{Always, Not, And, Or}
-use Rattle.plan_types.specs.Bytes.{is_blank, Blanks, begins_with}
+use Rattle.plan_types.specs.Bytes.{is_blank, begins_with}
 use Rattle.text_grammar.specs.Parts.{Led, led, Terms, one}
-use Rattle.text_grammar.specs.Reading.{◌>>=◌, skip_blanks, byte_after, terms_at}
+use Rattle.text_grammar.specs.Reading.{skip_blanks, byte_after, terms_at}
 use Rattle.text_grammar.proofs.TextKind.{miss}
-use Rattle.text_grammar.proofs.Fronts.{Reader, head_of, errs, Apart, Read, Dead, Like, Fault, wider, fault_up, fault_up_like}
-use Rattle.text_grammar.proofs.Spaces.{Never, never_starts, starts_like, no_digits, begins_like, byte_gone, Begun, begun, skip_over, cut}
-use Rattle.text_grammar.proofs.ChainParts.{ok_parts, errs_then}
+use Rattle.text_grammar.proofs.Fronts.{Reader, errs, Apart, Read, Dead, Like, Fault, wider, fault_up, fault_up_like}
+use Rattle.text_grammar.proofs.Spaces.{Never, never_starts, begins_like, byte_gone, Begun, begun, skip_over, cut}
 use Rattle.text_grammar.proofs.Marks.{led_at, led_fault}
 use Rattle.text_grammar.proofs.Closings.{Closed, closed, closing, closed_reads, closed_read, closed_fault}
 use Rattle.text_grammar.proofs.Operands.{Rules}
@@ -22,7 +20,7 @@ use Rattle.text_grammar.proofs.TwoChains.{AfterTerms, close_follows, after_inste
 use Rattle.text_grammar.proofs.Letters.{Reads, Pair}
 use Rattle.conditionals.specs.Grammar.{Versions, WiderVersions, Atom, always, Factor, atom, negated, opened, Opened}
 use Rattle.conditionals.specs.Reading.{as_value, atom_at, factor_at, opened_at, cond_tail, condition_at}
-use Rattle.conditionals.proofs.CondKind.{no_bytes, cond_kind, is_open, is_opener, ends_none, apart, no_digit_stands}
+use Rattle.conditionals.proofs.CondKind.{no_bytes, cond_kind, ends_none, apart, no_digit_stands}
 use Rattle.conditionals.proofs.CondTails.{wide_tail}
 use Rattle.conditionals.proofs.Atoms.{no_atom, atom_pair}
 

@@ -1,6 +1,5 @@
 -- Names in parentheses, as they are read.
-use Rattle.std.proofs.Common.{◌≡◌, ◌≢◌, inl, inr, ℕ, suc, ◌+◌, ◌<◌, Bool, true, false, ◌&&◌, List, [], ◌∷◌, ◌++◌, codes, Option, Some, None, Result, Ok, Err, refl, sym, ap, ◌∙◌, subst, append_assoc, append-nil, length, take, drop, arith, length-append}
-use Rattle.std.specs.Prelude.{◌==◌}
+use Rattle.std.proofs.Common.{◌≡◌, ◌≢◌, inl, inr, ℕ, suc, ◌+◌, ◌<◌, Bool, true, false, ◌&&◌, List, [], ◌∷◌, ◌++◌, Result, Ok, Err, refl, sym, ap, ◌∙◌, subst, length, take, drop, arith, length-append}
 use Rattle.std.specs.List.{list_all, prefix_len}
 use Rattle.std.specs.Str.{IsAscii}
 use Rattle.std.proofs.lemmas.Str.Ascii.{IsAscii-nil, IsAscii-cons}
@@ -13,9 +12,9 @@ use Rattle.plan_types.specs.Bytes.{is_blank, Blanks}
 use Rattle.text_grammar.specs.Parts.{Led, led}
 use Rattle.std.specs.Result.{IfOk}
 use Rattle.plan_types.specs.declared.refusal.TextFault.{TextFault}
-use Rattle.text_grammar.specs.Reading.{◌>>=◌, Gives, skip_blanks}
+use Rattle.text_grammar.specs.Reading.{Gives, skip_blanks}
 use Rattle.text_grammar.proofs.TextKind.{miss, starts}
-use Rattle.text_grammar.proofs.Fronts.{Reader, head_of, errs, Apart, Read, Dead, Fault, no_digit}
+use Rattle.text_grammar.proofs.Fronts.{Reader, head_of, errs, Read, Fault, no_digit}
 use Rattle.text_grammar.proofs.Spaces.{Never, starts_same, cut}
 use Rattle.text_grammar.proofs.Closings.{Instead, instead, Closed, closed, closing, closed_reads, closed_read, closed_fault}
 use Rattle.text_grammar.proofs.Letters.{Reads, Pair, Passing, passing, pair_due, pair_led}
@@ -23,8 +22,8 @@ use Rattle.text_grammar.proofs.Marks.{led_at}
 use Rattle.conditionals.specs.declared.name.Form.{Form}
 use Rattle.conditionals.specs.declared.name.Form.TheVariants.{Flag, Part, Compiler}
 use Rattle.conditionals.specs.Forms.{first_of, part_of}
-use Rattle.conditionals.specs.Reading.{bad, split, name_at, named_at}
-use Rattle.conditionals.proofs.CondKind.{no_bytes, cond_kind, is_open, ends_none, apart, no_digit_stands}
+use Rattle.conditionals.specs.Reading.{split, name_at, named_at}
+use Rattle.conditionals.proofs.CondKind.{no_bytes, cond_kind, is_open, apart, no_digit_stands}
 
 -- ---- the longest run
 

@@ -1,24 +1,22 @@
 -- A range up to the parenthesis that ends a test, as it is read.
-use Rattle.std.proofs.Common.{◌≡◌, ◌≢◌, inl, inr, ℕ, suc, Bool, true, false, ◌&&◌, ◌||◌, List, [], ◌∷◌, ◌++◌, codes, Option, Some, None, Result, Ok, Err, refl, sym, ap, ◌∙◌, subst, append_assoc, append-nil}
+use Rattle.std.proofs.Common.{◌≡◌, ◌≢◌, inl, inr, ℕ, suc, Bool, true, false, ◌&&◌, ◌||◌, List, [], ◌∷◌, ◌++◌, codes, Option, Some, None, Ok, Err, refl, sym, ap, ◌∙◌, subst, append_assoc, append-nil}
 use Rattle.std.specs.Prelude.{◌==◌}
 use Rattle.std.specs.List.{list_all}
-use Rattle.std.specs.Char.{is_ascii_digit}
 use Rattle.std.proofs.lemmas.Bool.{false≢true, true≢false, or_parts}
 use Rattle.plan_types.specs.declared.refusal.Cause.{Cause}
 use Rattle.plan_types.specs.declared.range.Spec.{Spec}
 use Rattle.plan_types.specs.declared.range.Range.{Range}
-use Rattle.plan_types.specs.declared.range.Range.TheVariants.{Any, Both, Either}
+use Rattle.plan_types.specs.declared.range.Range.TheVariants.{Any}
 use Rattle.plan_types.specs.Bytes.{is_blank, Blanks, begins_with}
-use Rattle.text_grammar.specs.Parts.{Led, led, Behind, Chain, one, more}
-use Rattle.text_grammar.specs.Reading.{◌>>=◌, skip_blanks, byte_after}
+use Rattle.text_grammar.specs.Parts.{Led, led, one, more}
+use Rattle.text_grammar.specs.Reading.{skip_blanks, byte_after}
 use Rattle.text_grammar.proofs.TextKind.{starts}
 use Rattle.text_grammar.proofs.Fronts.{Reader, head_of, errs, Apart, Read, Fault, Like, why_dead, fault_up_like}
-use Rattle.text_grammar.proofs.Spaces.{Never, starts_same, starts_like, starts_digit, blanks_none, Begun, begun, byte_here, byte_gone, cut, skip_over, skip_all, no_digits, blanks_parts, blanks_push, all_blanks}
+use Rattle.text_grammar.proofs.Spaces.{starts_like, blanks_none, Begun, begun, byte_here, byte_gone, cut, skip_over, no_digits, blanks_push}
 use Rattle.text_grammar.proofs.Closings.{Closed, closed, closing, closed_reads, closed_read, closed_fault}
 use Rattle.text_grammar.proofs.ChainParts.{ok_parts}
-use Rattle.text_grammar.proofs.Operands.{Rules}
 use Rattle.version_range.specs.Read.{missing, range_in, inside}
-use Rattle.version_range.specs.Grammar.{Atom, any, Factor, Term, Terms, Inside, Stands, empty, range, atom}
+use Rattle.version_range.specs.Grammar.{any, Factor, Term, Terms, Inside, empty, range, atom}
 use Rattle.version_range.proofs.RangeKind.{decimals, range_kind}
 use Rattle.version_range.proofs.Atoms.{never_atom}
 use Rattle.version_range.proofs.Factors.{AfterRange, close_follows, after_instead, never_factor, range_rules, range_fault, wider_inside, wider_terms}

@@ -1,5 +1,5 @@
 -- A whole text: what it stands for, its first fault, and that it has one of both.
-use Rattle.std.proofs.Common.{◌≡◌, ◌≢◌, inl, inr, ℕ, suc, Bool, true, false, ◌&&◌, ◌||◌, List, [], ◌∷◌, ◌++◌, codes, length, Option, Some, None, Result, Ok, Err, refl, sym, ap, ◌∙◌, subst, append_assoc, append-nil}
+use Rattle.std.proofs.Common.{◌≡◌, ◌≢◌, inl, inr, ℕ, suc, Bool, true, false, ◌&&◌, List, [], ◌∷◌, ◌++◌, length, Some, None, Result, Ok, Err, refl, sym, ap, ◌∙◌, subst, append-nil}
 use Rattle.std.specs.Prelude.{◌==◌, if◌then◌else◌}
 use Rattle.std.specs.Result.{IfOk, IfErr, MatchResult}
 use Rattle.std.proofs.lemmas.Bool.{false≢true, true≢false, and_parts, eqb-true}
@@ -12,15 +12,15 @@ use Rattle.plan_types.specs.declared.range.Spec.{Spec}
 use Rattle.plan_types.specs.declared.range.Range.{Range}
 use Rattle.plan_types.specs.declared.condition.Cond.{Cond}
 use Rattle.plan_types.specs.declared.condition.Cond.TheVariants.{And, Or}
-use Rattle.plan_types.specs.Bytes.{is_blank, Blanks, begins_with}
+use Rattle.plan_types.specs.Bytes.{Blanks, begins_with}
 use Rattle.text_grammar.specs.Parts.{Terms}
 use Rattle.text_grammar.specs.FirstFault.{Viable, Stuck}
 use Rattle.text_grammar.specs.Reading.{◌>>=◌, Gives, skip_blanks}
-use Rattle.text_grammar.proofs.TextKind.{miss, starts}
-use Rattle.text_grammar.proofs.Fronts.{Reader, head_of, errs, Apart, Read, Dead, Why, new_form, digit_due, digit_more, wider, behind_digit, no_digit, Fault, fault_up_like, head_some, viable_by, stuck_of, not_wider}
+use Rattle.text_grammar.proofs.TextKind.{starts}
+use Rattle.text_grammar.proofs.Fronts.{Reader, head_of, errs, Dead, Why, new_form, digit_due, digit_more, wider, behind_digit, no_digit, Fault, fault_up_like, head_some, viable_by, stuck_of, not_wider}
 use Rattle.text_grammar.proofs.Spaces.{cut, no_length, some_length, all_blanks, skip_all}
 use Rattle.text_grammar.proofs.ChainParts.{errs_then}
-use Rattle.text_grammar.proofs.Closings.{Instead, instead, like_instead, skip_instead, misplaced}
+use Rattle.text_grammar.proofs.Closings.{Instead, instead, skip_instead, misplaced}
 use Rattle.text_grammar.proofs.Operands.{Rules}
 use Rattle.text_grammar.proofs.Exactly as exactly
 use Rattle.text_grammar.proofs.TwoChains.{AfterTerms, after_instead}

@@ -1,5 +1,5 @@
 // A condition is read from left to right; the first byte at which no reading goes on is the fault.
-ghost use Rattle.std.specs.Prelude.{◌≡◌, ◌<◌, ◌≤◌, ℕ, length, IfOk, IfErr, IfSome, MatchResult};
+ghost use Rattle.std.specs.Prelude.{◌≡◌, ◌<◌, ◌≤◌, length, IfOk, IfErr, IfSome, MatchResult};
 ghost use Rattle.std.specs.Option.{option_map};
 ghost use Rattle.plan_types.specs.Refusal.{Refuses};
 ghost use Rattle.plan_types.specs.declared.condition.Cond.{Cond};

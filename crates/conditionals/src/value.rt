@@ -1,5 +1,5 @@
 ghost use Rattle.std.specs.Prelude.{◌≡◌, true};
-ghost use Rattle.conditionals.specs.Value.{value, and_then, tri_of, flag_in, flag_value, answer, each_once};
+ghost use Rattle.conditionals.specs.Value.{value, tri_of, flag_in, flag_value, answer, each_once};
 
 use plan_types::{Cond, Env, FlagSet, List, Text};
 

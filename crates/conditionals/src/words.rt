@@ -1,12 +1,10 @@
 // The words and tests of a condition.
-ghost use Rattle.std.specs.Prelude.{◌≡◌, ◌≤◌, ◌<◌, ℕ, length, IfOk, IfSome, OnOk};
+ghost use Rattle.std.specs.Prelude.{◌≡◌, ◌≤◌, ◌<◌, length, IfOk, IfSome};
 ghost use Rattle.std.specs.Option.{option_copied};
-ghost use Rattle.std.specs.Str.{IsAscii, str_to_ascii_lowercase};
 ghost use Rattle.plan_types.specs.declared.condition.Cond.{Cond};
 ghost use Rattle.plan_types.specs.declared.range.Range.{Range};
 ghost use Rattle.text_grammar.specs.Reading.{Gives, skip_blanks, byte_due, letter_after, word_due};
-ghost use Rattle.version_range.specs.Read.{range_in, inside, missing};
-ghost use Rattle.conditionals.specs.Reading.{bad, cond_cause, tail_at, cond_tail, compiler_at, argument, flag_at, os_at, arch_at, impl_at, word_at, from_a, from_o, after_f, from_f, atom_at};
+ghost use Rattle.conditionals.specs.Reading.{bad, cond_cause, tail_at, cond_tail, compiler_at, flag_at, os_at, arch_at, impl_at, from_a, from_o, after_f, from_f, atom_at};
 
 use crate::name::{Form, bad_cond, lowered, name_at, named_at, system_of};
 use plan_types::{Cause, Cond, Range, Spec, Text, TextFault};

@@ -3,7 +3,7 @@ use Rattle.std.proofs.Common.{◌≡◌, ℕ, ◌+◌, ◌<◌, ◌≤◌, Bool,
 use Rattle.std.specs.Prelude.{◌&&◌, ◌==◌, not, MatchOption}
 use Rattle.std.specs.List.{list_all}
 use Rattle.std.proofs.lemmas.Bool.{eqb-true, and_from, and_parts, true≢false}
-use Rattle.std.proofs.lemmas.List.{take_more, take_all, drop_all, length-take-le, drop-append-le}
+use Rattle.std.proofs.lemmas.List.{take_more, drop_all, length-take-le, drop-append-le}
 use Rattle.std.proofs.lemmas.List.Folds.{list_all-append}
 use Rattle.depend_text.specs.Relaxes.{is_no_dash}
 

@@ -1,8 +1,7 @@
 -- What the calls answer is what the definitions of the entries say.
-use Rattle.std.proofs.Common.{◌≡◌, ℕ, Bool, true, false, List, [], ◌∷◌, Result, Ok, Err, refl, sym, ap, ◌∙◌, subst}
+use Rattle.std.proofs.Common.{◌≡◌, ℕ, true, false, List, [], Result, Ok, Err, sym, ◌∙◌, subst}
 use Rattle.std.specs.Prelude.{IfOk, IfErr}
 use Rattle.plan_types.specs.Name.{is_package_name}
-use Rattle.plan_types.specs.declared.dependency.Dep.{Dep}
 use Rattle.plan_types.specs.declared.dependency.DepKind.{DepKind}
 use Rattle.plan_types.specs.declared.dependency.DepKind.TheVariants.{Tool}
 use Rattle.plan_types.specs.declared.dependency.LibName.{LibName}
@@ -13,7 +12,6 @@ use Rattle.plan_types.specs.declared.refusal.Cause.TheVariants.{BadDepend}
 use Rattle.plan_types.specs.declared.refusal.TextFault.{TextFault}
 use Rattle.plan_types.specs.declared.refusal.TextFault.TheVariants.{NoMemory, Bad}
 use Rattle.plan_types.specs.Refusal.{Refuses}
-
 use Rattle.version_range.specs.Grammar.{Stands, FirstFault}
 use Rattle.depend_text.specs.Entries.{Pieces, Each, First, here, later}
 use Rattle.depend_text.specs.Words.{name_of, behind_name}

@@ -1,5 +1,5 @@
 -- An entry of a project's constraints has one reading.
-use Rattle.std.proofs.Common.{◌≡◌, ℕ, Bool, true, false, List, [], ◌∷◌, ◌++◌, Option, Some, None, refl, sym, ap, ◌∙◌, subst}
+use Rattle.std.proofs.Common.{◌≡◌, ℕ, true, false, List, ◌∷◌, ◌++◌, Option, Some, None, refl, sym, ap, ◌∙◌, subst}
 use Rattle.std.specs.Prelude.{codes, map}
 use Rattle.std.specs.Char.{to_ascii_lowercase}
 use Rattle.std.proofs.lemmas.Bool.{true≢false, false≢true}
@@ -7,7 +7,6 @@ use Rattle.plan_types.specs.Bytes.{begins_with}
 use Rattle.plan_types.specs.declared.condition.FlagSet.{FlagSet}
 use Rattle.plan_types.specs.declared.constraint.Constraint.{Constraint}
 use Rattle.plan_types.specs.declared.constraint.Scope.{Scope}
-use Rattle.plan_types.specs.declared.constraint.Scope.TheVariants as scopes
 use Rattle.plan_types.specs.declared.constraint.What.{What}
 use Rattle.plan_types.specs.declared.constraint.What.TheVariants as what
 use Rattle.plan_types.specs.declared.range.Spec.TheVariants.{V3_0}
@@ -19,8 +18,8 @@ use Rattle.version_range.specs.Grammar.{Stands}
 use Rattle.version_range.proofs.Exact.{one_range}
 use Rattle.depend_text.specs.Entries.{Each, BadAsNone, First, here, later}
 use Rattle.depend_text.specs.Entries as entries
-use Rattle.depend_text.specs.Words.{run, behind, is_name_byte, is_text, name_of, behind_name, words}
-use Rattle.depend_text.specs.Constraints.{scope_of, Target, asked_by, asked_alone, Flag, on, off, Asked, alone, flags, Asks, range, other, ConstraintEntry}
+use Rattle.depend_text.specs.Words.{run, behind, is_name_byte, is_text, behind_name, words}
+use Rattle.depend_text.specs.Constraints.{Target, asked_by, asked_alone, Flag, on, off, Asked, alone, flags, Asks, range, other, ConstraintEntry}
 use Rattle.depend_text.proofs.Only.{Row, project_row, one_each, each_or_first}
 
 tails : {a b : ℕ} {as' bs : List ℕ} → a ∷ as' ≡ b ∷ bs → as' ≡ bs

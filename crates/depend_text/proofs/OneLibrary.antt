@@ -1,5 +1,5 @@
 -- An entry of a description has one reading or one fault.
-use Rattle.std.proofs.Common.{◌≡◌, ℕ, Bool, true, false, List, [], ◌∷◌, refl, sym, ap, ◌∙◌, subst}
+use Rattle.std.proofs.Common.{◌≡◌, ℕ, Bool, true, false, List, [], ◌∷◌, sym, ap, ◌∙◌, subst}
 use Rattle.std.proofs.lemmas.Bool.{true≢false, false≢true}
 use Rattle.plan_types.specs.Bytes.{begins_with}
 use Rattle.plan_types.specs.Name.{is_component_byte, is_component_name}
@@ -7,7 +7,6 @@ use Rattle.plan_types.specs.declared.dependency.Dep.{Dep}
 use Rattle.plan_types.specs.declared.dependency.DepKind.{DepKind}
 use Rattle.plan_types.specs.declared.dependency.DepKind.TheVariants.{Tool}
 use Rattle.plan_types.specs.declared.dependency.LibName.{LibName}
-use Rattle.plan_types.specs.declared.range.Range.{Range}
 use Rattle.plan_types.specs.declared.range.Spec.{Spec}
 use Rattle.plan_types.specs.declared.range.Spec.TheVariants.{V2_4, V3_0}
 use Rattle.plan_types.specs.declared.refusal.Cause.{Cause}
@@ -15,7 +14,7 @@ use Rattle.version_range.specs.Grammar.{Stands, FirstFault}
 use Rattle.version_range.proofs.Exact.{one_range, one_fault, range_or_fault}
 use Rattle.depend_text.specs.Entries.{Pieces, Each}
 use Rattle.depend_text.specs.Words.{run, behind, is_in_braces, name_of, behind_name}
-use Rattle.depend_text.specs.Depends.{Library, library, NamedLibraries, one, several, Libraries, main, named, LibrariesFault, old, broken, LibraryEntry, LibraryFault, Executable, ToolEntry, ToolFault, old_cause}
+use Rattle.depend_text.specs.Depends.{Library, NamedLibraries, one, several, Libraries, main, named, LibrariesFault, old, broken, LibraryEntry, LibraryFault, Executable, ToolEntry, ToolFault, old_cause}
 use Rattle.depend_text.proofs.Only.{Row, one_cut, one_each}
 
 rest_same : {a b : ℕ} {as' bs : List ℕ} → a ∷ as' ≡ b ∷ bs → as' ≡ bs

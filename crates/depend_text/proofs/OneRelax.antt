@@ -15,9 +15,9 @@ use Rattle.plan_types.specs.declared.version.Version.{Version}
 use Rattle.version_range.specs.Version.{is_version, version_text}
 use Rattle.version_range.proofs.Numbers.{one_version, version_from}
 use Rattle.depend_text.specs.Entries.{BadAsNone}
-use Rattle.depend_text.specs.Words.{run, behind, words}
+use Rattle.depend_text.specs.Words.{run, behind}
 use Rattle.depend_text.specs.Relaxes.{relaxing_word, is_no_colon, is_no_dash, Release, Owner, Dependency, RelaxedBy, RelaxEntry}
-use Rattle.std.proofs.Common.{◌<◌, ◌≤◌, length, Bor, get_or, Result, Ok, Err, arith}
+use Rattle.std.proofs.Common.{◌<◌, ◌≤◌, length, Bor, get_or, Result, Err, arith}
 use Rattle.std.specs.Prelude.{◌&&◌, nat_eq, MatchResult}
 use Rattle.std.specs.Cmp.Lexicographic.{pointwise}
 use Rattle.std.specs.List.{filter_map}

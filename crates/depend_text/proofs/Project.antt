@@ -1,12 +1,10 @@
 -- What the calls of projects answer is what the definitions of the entries say.
-use Rattle.std.proofs.Common.{◌≡◌, ℕ, Bool, true, false, List, [], ◌∷◌, Result, Ok, Err, refl, sym, ap, ◌∙◌, subst}
-use Rattle.std.proofs.lemmas.Bool.{true≢false}
+use Rattle.std.proofs.Common.{◌≡◌, ℕ, true, List, sym, ◌∙◌, subst}
 use Rattle.plan_types.specs.Name.{is_package_name}
 use Rattle.plan_types.specs.declared.dependency.Named.{Named}
 use Rattle.plan_types.specs.declared.range.Range.{Range}
 use Rattle.plan_types.specs.declared.range.Spec.TheVariants.{V3_0}
 use Rattle.plan_types.specs.declared.refusal.Cause.{Cause}
-use Rattle.plan_types.specs.declared.refusal.Cause.TheVariants.{BadConstraint}
 use Rattle.version_range.specs.Grammar.{Stands, FirstFault}
 use Rattle.version_range.proofs.Exact.{range_or_fault}
 use Rattle.depend_text.specs.Entries.{BadAsNone}

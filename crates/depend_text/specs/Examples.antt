@@ -1,5 +1,5 @@
 -- What the definitions give on small texts.
-use Rattle.std.specs.Prelude.{◌≡◌, [], ◌∷◌, true, false, refl, codes, Some, None}
+use Rattle.std.specs.Prelude.{◌≡◌, [], ◌∷◌, true, refl, codes, Some, None}
 use Rattle.plan_types.specs.declared.constraint.Scope.TheVariants.{Setup}
 use Rattle.plan_types.specs.declared.constraint.What.TheVariants.{Tests}
 use Rattle.plan_types.specs.declared.dependency.LibName.TheVariants.{Main, Named}

@@ -1,4 +1,4 @@
-ghost use Rattle.std.specs.Prelude.{◌≡◌, ◌∷◌, [], ℕ, List, ◌≢◌, ◌++◌, map, codes, true, false, IfOk, IfErr, IfSome, IfNone, MatchResult};
+ghost use Rattle.std.specs.Prelude.{◌≡◌, ℕ, List, ◌≢◌, ◌++◌, map, codes, true, false, IfOk, IfErr, IfSome, IfNone, MatchResult};
 ghost use Rattle.std.specs.Char.{to_ascii_lowercase};
 ghost use Rattle.plan_types.specs.declared.constraint.Constraint.{Constraint};
 ghost use Rattle.plan_types.specs.declared.constraint.Scope.{Scope};

@@ -1,5 +1,5 @@
 // What may stand between the name of a package and its range.
-ghost use Rattle.std.specs.Prelude.{◌≡◌, ◌∷◌, [], ℕ, List, IfOk, IfErr, IfSome, IfNone, true, false};
+ghost use Rattle.std.specs.Prelude.{◌≡◌, ◌∷◌, [], ℕ, List, IfOk, IfErr, true, false};
 ghost use Rattle.plan_types.specs.Refusal.{Refuses};
 ghost use Rattle.plan_types.specs.Name.{is_component_byte, is_component_name, is_package_name};
 ghost use Rattle.plan_types.specs.declared.dependency.LibName.{LibName};

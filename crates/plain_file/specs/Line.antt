@@ -5,7 +5,7 @@ use Rattle.std.specs.Cmp.Lexicographic.{pointwise}
 use Rattle.plan_types.specs.declared.refusal.Cause.{Cause}
 use Rattle.plan_types.specs.declared.refusal.Cause.TheVariants.{Unbuilt}
 use Rattle.plan_types.specs.declared.refusal.Fault.{Fault}
-use Rattle.plan_types.specs.declared.refusal.Fault.TheVariants.{At, NoMemory}
+use Rattle.plan_types.specs.Refusal.{RefusesAt}
 
 -- the bytes of a text
 abbrev pub Bytes : Type 0
@@ -25,8 +25,7 @@ abbrev pub ◌>>=◌ : {A B : Type 0} → Result A LineFault → (A → Result B
 
 -- what a call answered is what reading gives, unless memory was wanting
 abbrev pub Fails : {B : Type 0} → Fault → Result B LineFault → Type 0
-Fails NoMemory read = Unit {0}
-Fails (At l cause) read = read ≡ Err (l, cause)
+Fails fault read = RefusesAt (λ l cause. read ≡ Err (l, cause)) fault
 
 abbrev pub Gives : {A B : Type 0} → (A → B) → Result A Fault → Result B LineFault → Type 0
 Gives view (Ok x) read = read ≡ Ok (view x)

@@ -6,7 +6,7 @@ ghost use Rattle.plain_file.specs.Line.{Gives, is_empty, line_with};
 ghost use Rattle.plain_file.specs.Version.{is_version};
 ghost use Rattle.plain_file.specs.File.{is_name_at, is_version_at, needs_at, plain_file};
 
-use crate::line::{ascii_text, line_after, nothing_at, unbuilt_at};
+use crate::line::{line_after, nothing_at, unbuilt_at};
 use crate::need::{Need, is_name, needs_of};
 use crate::version::{is_version, numbers_of};
 use plan_types::{Fault, List, Text, Version};
@@ -39,8 +39,8 @@ pub fn plain_file(
     let (_, rest) = plain_line(rest, 4, b"library")?;
     let needs = needs_at(alloc, name, rest)?;
     Ok(PlainFile {
-        name: ascii_text(alloc, name)?,
-        version: ascii_text(alloc, version)?,
+        name: Text::from_ascii(alloc, name)?,
+        version: Text::from_ascii(alloc, version)?,
         numbers: numbers_of(alloc, version)?,
         needs,
     })

@@ -2,11 +2,9 @@
 ghost use Rattle.std.specs.Prelude.{◌≡◌, ◌==◌, ◌<◌, ◌≤◌, ◌+◌, [], ◌∷◌, IfOk, IfSome, MatchOption, length, position};
 ghost use Rattle.std.specs.List.{slice_split};
 ghost use Rattle.std.specs.Option.{option_copied, option_map};
-ghost use Rattle.std.specs.Str.{IsAscii};
 ghost use Rattle.plain_file.specs.Line.{Gives, after, parted, first_line, line_after, nothing_at};
 
-use plan_types::{Cause, Fault, NoMemory, Text};
-use std::alloc::Global;
+use plan_types::{Cause, Fault};
 
 pub(crate) fn unbuilt_at(number: u32) -> Fault
     ensures { result ≡ Fault.At number Cause.Unbuilt }
@@ -91,19 +89,4 @@ pub(crate) fn after<'a>(front: &[u8], line: &'a [u8]) -> Option<&'a [u8]>
     } else {
         None
     }
-}
-
-pub(crate) fn ascii_text(alloc: Global, bytes: &[u8]) -> Result<Text, NoMemory>
-    requires { IsAscii bytes.now }
-    ensures { IfOk result (λ text. text ≡ bytes.now) }
-{
-    let text = ascii_str(bytes);
-    Text::from_str(alloc, text)
-}
-
-fn ascii_str(bytes: &[u8]) -> &str
-    requires { IsAscii bytes.now }
-    ensures { result.now ≡ bytes.now }
-{
-    str::from_utf8(bytes).unwrap()
 }

@@ -4,7 +4,7 @@ ghost use Rattle.std.specs.Str.{IsAscii};
 ghost use Rattle.plain_file.specs.Need.{is_name, is_boot_name, is_other_name, bound_by, bound_of, need_by, entry_of, need_of, needs_of};
 ghost use Rattle.plain_file.specs.declared.need.Bound.TheVariants.{Any, Equal, AtLeast, Below};
 
-use crate::line::{after, ascii_text, cut, place_of};
+use crate::line::{after, cut, place_of};
 use crate::version::version_of;
 use plan_types::{List, NoMemory, Text, Version, is_package_name};
 use std::alloc::Global;
@@ -82,7 +82,7 @@ fn need_by(alloc: Global, own: &[u8], name: &[u8], bound: Bound) -> Result<Optio
     if !is_other_name(own, name) {
         return Ok(None);
     }
-    let name = ascii_text(alloc, name)?;
+    let name = Text::from_ascii(alloc, name)?;
     Ok(Some(Need { name, bound }))
 }
 

@@ -3,7 +3,7 @@ use Rattle.std.specs.Prelude.{◌≡◌, ◌+◌, ℕ, zero, suc, Bool, ◌==◌
 use Rattle.std.specs.Char.{to_ascii_lowercase}
 use Rattle.plan_types.specs.declared.refusal.Cause.{Cause}
 use Rattle.plan_types.specs.declared.refusal.TextFault.{TextFault}
-use Rattle.plan_types.specs.declared.refusal.TextFault.TheVariants.{NoMemory, Bad}
+use Rattle.plan_types.specs.Refusal.{Refuses}
 
 infixl 10 ◌>>=◌
 abbrev pub ◌>>=◌ : {A B : Type 0} → Result A Cause → (A → Result B Cause) → Result B Cause
@@ -12,8 +12,7 @@ abbrev pub ◌>>=◌ : {A B : Type 0} → Result A Cause → (A → Result B Cau
 
 -- what a call answered is what reading gives, unless memory was wanting
 abbrev pub Fails : {B : Type 0} → TextFault → Result B Cause → Type 0
-Fails NoMemory read = Unit {0}
-Fails (Bad cause) read = read ≡ Err cause
+Fails fault read = Refuses (λ cause. read ≡ Err cause) fault
 
 abbrev pub Gives : {A B : Type 0} → (A → B) → Result A TextFault → Result B Cause → Type 0
 Gives view (Ok x) read = read ≡ Ok (view x)

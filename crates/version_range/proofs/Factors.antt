@@ -8,52 +8,37 @@ use Rattle.plan_types.specs.declared.range.Range.{Range}
 use Rattle.plan_types.specs.declared.range.Range.TheVariants.{Any, Both, Either}
 use Rattle.plan_types.specs.declared.refusal.Cause.{Cause}
 use Rattle.version_range.specs.Read.{factor_at, term_at, range_in, inside}
-use Rattle.text_grammar.specs.Reading.{skip_blanks}
 use Rattle.version_range.specs.Version.{begins_with_digit}
-use Rattle.version_range.specs.Grammar.{Atom, any, Factor, atom, enclosed, Term, Terms, Inside}
+use Rattle.version_range.specs.Grammar.{Atom, any, Factor, atom, enclosed, Terms, Inside}
 use Rattle.plan_types.specs.Bytes.{begins_with, is_blank, Blanks}
-use Rattle.text_grammar.specs.Parts.{Led, led, Behind, one}
-use Rattle.text_grammar.proofs.Fronts.{Reader, errs, Apart, ends_kept, apart_before, apart_longer, apart_shorter, some_append, Read, Dead, NoDigit, Like, wider, Fault, fault_up, fault_up_like}
-use Rattle.text_grammar.proofs.Spaces.{Never, never_starts, never_empty, no_digits, begins_like, byte_gone, Begun, begun, blanks_go_on, skip_over}
-use Rattle.text_grammar.proofs.ChainParts.{map_chain}
-use Rattle.text_grammar.proofs.Marks.{led_at, led_reads, led_read, led_fault}
-use Rattle.text_grammar.proofs.Closings.{Instead, instead, begins_instead, apart_instead, Closed, closed, closing, closed_reads, closed_read, closed_fault}
+use Rattle.text_grammar.specs.Parts.{led, one}
+use Rattle.text_grammar.proofs.Fronts.{Reader, errs, Apart, ends_kept, apart_before, Read, Dead, NoDigit, Like, wider, Fault, fault_up, fault_up_like}
+use Rattle.text_grammar.proofs.Spaces.{Never, never_starts, no_digits, begins_like, byte_gone, Begun, begun}
+use Rattle.text_grammar.proofs.Closings.{Instead, instead, Closed, closed, closing, closed_reads, closed_read, closed_fault}
 use Rattle.version_range.proofs.Atoms.{atom_at, atom_read, atom_reads, atom_fault, never_atom}
-use Rattle.text_grammar.proofs.Operands.{Rules, Follow, wider_behind, joined_rules, joined_fault}
+use Rattle.text_grammar.proofs.Operands.{Rules}
 use Rattle.version_range.proofs.RangeKind.{decimals, range_kind}
 use Rattle.version_range.specs.Read.{missing}
+use Rattle.plan_types.specs.declared.range.Spec.TheVariants.{V3_0}
+use Rattle.text_grammar.proofs.TextKind.{Kind}
+use Rattle.text_grammar.proofs.TwoChains.{AfterTerms}
+use Rattle.text_grammar.proofs.TwoChains as two
 
 -- ---- what may follow
 
-abbrev pub AfterTerm : List ℕ → List ℕ → Type 0
-AfterTerm front rest = Apart decimals front rest × (begins_with 38 (skip_blanks rest) ≡ false)
+-- the texts of both specifications have the same digits
+abbrev numbers : Kind
+numbers = range_kind V3_0
 
 abbrev pub AfterRange : List ℕ → List ℕ → Type 0
-AfterRange front rest = AfterTerm front rest × (begins_with 124 (skip_blanks rest) ≡ false)
-
-follow_apart : Follow (Apart decimals)
-follow_apart = record { onto = apart_longer decimals; from = apart_shorter decimals }
-
-follow_term : Follow AfterTerm
-follow_term = record {
-  onto = λ pre text rest some e. (apart_longer decimals pre text rest some e.0, e.1);
-  from = λ pre text rest some e. (apart_shorter decimals pre text rest some e.0, e.1);
-}
-
-and_follows : (text blanks again : List ℕ) → Blanks blanks → Apart decimals text (blanks ++ (38 ∷ again))
-and_follows text blanks again all d = blanks_go_on decimals blanks (38 ∷ again) all refl
-
-or_follows : (text blanks again : List ℕ) → Blanks blanks → AfterTerm text (blanks ++ (124 ∷ again))
-or_follows text blanks again all = ((λ d. blanks_go_on decimals blanks (124 ∷ again) all refl), ap (begins_with 38) (skip_over blanks (124 ∷ again) all refl))
+AfterRange = AfterTerms numbers refl refl refl
 
 -- a closing parenthesis
 pub close_follows : (text blanks again : List ℕ) → Blanks blanks → AfterRange text (blanks ++ (41 ∷ again))
-close_follows text blanks again all =
-    let over = skip_over blanks (41 ∷ again) all refl in
-    (((λ d. blanks_go_on decimals blanks (41 ∷ again) all refl), ap (begins_with 38) over), ap (begins_with 124) over)
+close_follows = two.close_follows numbers refl refl refl
 
 pub after_instead : (front rest again : List ℕ) → AfterRange front rest → Instead decimals front rest again → AfterRange front (instead rest again)
-after_instead front rest again e i = ((apart_instead decimals i e.0.0, begins_instead decimals 38 refl i e.0.1), begins_instead decimals 124 refl i e.1)
+after_instead = two.after_instead numbers refl refl refl
 
 -- ---- a factor, over what stands in a parenthesis
 
@@ -100,23 +85,9 @@ module _ (spec : Spec) (L : List ℕ → Range → Type 0) (I : Reader Range) (r
   pub factor_unblank : Never is_blank (Factor spec L)
   factor_unblank = never_factor spec L is_blank refl (never_atom spec is_blank refl refl refl refl refl)
 
-  led_rules : Rules (Led (Factor spec L)) (Apart decimals) (led_at (factor_at I spec))
-  led_rules = record {
-    reads = λ text r rest. led_reads decimals (Factor spec L) (factor_at I spec) factor_unblank factor_reads text r rest;
-    read = λ text r rest. led_read decimals (Factor spec L) (factor_at I spec) factor_read text r rest;
-    some = some;
-  }
-    where
-      some : (text : List ℕ) (r : Range) → Led (Factor spec L) text r → text ≢ []
-      some text r (led blanks {text = part} are is) = some_append blanks part (never_empty is_blank (Factor spec L) factor_unblank part r is)
-
-  term_rules : Rules (Term spec L) AfterTerm (term_at I spec)
-  unfolding term_at
-  term_rules = joined_rules (range_kind spec) 38 refl refl (Led (Factor spec L)) (Apart decimals) (led_at (factor_at I spec)) led_rules follow_apart and_follows Both
-
   terms_rules : Rules (Terms spec L) AfterRange (range_in I spec)
-  unfolding range_in
-  terms_rules = joined_rules (range_kind spec) 124 refl refl (Term spec L) AfterTerm (term_at I spec) term_rules follow_term or_follows Either
+  unfolding range_in term_at
+  terms_rules = two.terms_rules (range_kind spec) refl refl refl Both Either (Factor spec L) (factor_at I spec) factor_unblank factor_reads factor_read
 
 pub inside_rules : (spec : Spec) (n : ℕ) → Rules (Inside spec n) AfterRange (inside n spec)
 unfolding Inside inside
@@ -134,16 +105,8 @@ module _ (spec : Spec) (L L' : List ℕ → Range → Type 0) (wider : (text : L
   wider_factor text r (atom a) = atom a
   wider_factor text r (enclosed front blanks is are) = enclosed front blanks (wider front r is) are
 
-  wider_led : (text : List ℕ) (r : Range) → Led (Factor spec L) text r → Led (Factor spec L') text r
-  wider_led text r (led blanks {text = part} are is) = led blanks are (wider_factor part r is)
-
-  wider_term : (text : List ℕ) (r : Range) → Term spec L text r → Term spec L' text r
-  wider_term text r c = map_chain Both (Led (Factor spec L)) (Led (Factor spec L')) (Behind (codes "&&") (Led (Factor spec L))) (Behind (codes "&&") (Led (Factor spec L'))) wider_led
-      (wider_behind (codes "&&") (Led (Factor spec L)) (Led (Factor spec L')) wider_led) c
-
   pub wider_terms : (text : List ℕ) (r : Range) → Terms spec L text r → Terms spec L' text r
-  wider_terms text r c = map_chain Either (Term spec L) (Term spec L') (Behind (codes "||") (Term spec L)) (Behind (codes "||") (Term spec L')) wider_term
-      (wider_behind (codes "||") (Term spec L) (Term spec L') wider_term) c
+  wider_terms = two.wider_terms (range_kind spec) refl refl refl Both Either (Factor spec L) (Factor spec L') wider_factor
 
 pub wider_inside : (spec : Spec) (n : ℕ) (text : List ℕ) (r : Range) → Inside spec n text r → Inside spec (suc n) text r
 unfolding Inside
@@ -175,18 +138,11 @@ module _ (spec : Spec) (L L' : List ℕ → Range → Type 0) (I I' : Reader Ran
         by (inr other) = atom_fails text cause other (sym (at_atom I spec text other) ∙ h)
         by (inl p) = subst (λ t. FactorFault t cause) (sym p.1) (opened_fault p.0 cause (sym (at_open I spec p.0) ∙ sym (ap (factor_at I spec) p.1) ∙ h))
 
-    led_fails : (text : List ℕ) (cause : Cause) → led_at (factor_at I spec) text ≡ Err cause → Fault (range_kind spec) (Led (Factor spec L)) (Led (Factor spec L')) (led_at (factor_at I spec)) (led_at (factor_at I' spec)) text cause
-    led_fails = led_fault (range_kind spec) (Factor spec L) (Factor spec L') (factor_at I spec) (factor_at I' spec) factor_fault
-
-    term_fault : (text : List ℕ) (cause : Cause) → term_at I spec text ≡ Err cause → Fault (range_kind spec) (Term spec L) (Term spec L') (term_at I spec) (term_at I' spec) text cause
-    unfolding term_at
-    term_fault = joined_fault (range_kind spec) 38 refl refl Both (Led (Factor spec L)) (Led (Factor spec L')) (Apart decimals) (led_at (factor_at I spec)) (led_at (factor_at I' spec))
-        (led_rules spec L I rules) (led_rules spec L' I' rules') follow_apart and_follows (wider_led spec L L' wider) (codes "-any") Any (led [] refl (atom any)) led_fails
-
     terms_fault : (text : List ℕ) (cause : Cause) → range_in I spec text ≡ Err cause → Fault (range_kind spec) (Terms spec L) (Terms spec L') (range_in I spec) (range_in I' spec) text cause
-    unfolding range_in
-    terms_fault = joined_fault (range_kind spec) 124 refl refl Either (Term spec L) (Term spec L') AfterTerm (term_at I spec) (term_at I' spec)
-        (term_rules spec L I rules) (term_rules spec L' I' rules') follow_term or_follows (wider_term spec L L' wider) (codes "-any") Any (one (led [] refl (atom any))) term_fault
+    unfolding range_in term_at
+    terms_fault = two.terms_fault (range_kind spec) refl refl refl Both Either (Factor spec L) (Factor spec L') (wider_factor spec L L' wider) (factor_at I spec) (factor_at I' spec)
+        (factor_unblank spec L I rules) (factor_unblank spec L' I' rules') (factor_reads spec L I rules) (factor_read spec L I rules) (factor_reads spec L' I' rules') (factor_read spec L' I' rules')
+        (codes "-any") Any (atom any) factor_fault
 
 -- ---- at each depth
 

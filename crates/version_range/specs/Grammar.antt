@@ -11,6 +11,7 @@ use Rattle.plan_types.specs.declared.version.Version.{Version}
 use Rattle.plan_types.specs.declared.refusal.Cause.{Cause}
 use Rattle.plan_types.specs.declared.refusal.Cause.TheVariants.{BadVersion, BadRange, NeedsVersion, TooDeep}
 use Rattle.text_grammar.specs.Parts.{Led, Behind, Chain}
+use Rattle.text_grammar.specs.Parts as parts
 use Rattle.text_grammar.specs.FirstFault as first
 use Rattle.version_range.specs.declared.operator.Operator.{Operator}
 use Rattle.version_range.specs.declared.operator.Operator.TheVariants.{Equal, AtLeast, Above, AtMost, Below, Major}
@@ -73,10 +74,10 @@ pub data Factor (spec : Spec) (Inside : List ℕ → Range → Type 0) : List �
   enclosed : (text after : List ℕ) {r : Range} → Inside text r → Blanks after → Factor spec Inside (codes "(" ++ text ++ after ++ codes ")") r
 
 abbrev pub Term : Spec → (List ℕ → Range → Type 0) → List ℕ → Range → Type 0
-Term spec Inside = Chain Both (Led (Factor spec Inside)) (Behind (codes "&&") (Led (Factor spec Inside)))
+Term spec Inside = parts.Term Both (Factor spec Inside)
 
 abbrev pub Terms : Spec → (List ℕ → Range → Type 0) → List ℕ → Range → Type 0
-Terms spec Inside = Chain Either (Term spec Inside) (Behind (codes "||") (Term spec Inside))
+Terms spec Inside = parts.Terms Both Either (Factor spec Inside)
 
 -- what may stand in a parenthesis, where so many may be open in all
 unfoldable pub Inside : Spec → ℕ → List ℕ → Range → Type 0

@@ -1,4 +1,4 @@
-ghost use Rattle.std.specs.Prelude.{◌≡◌, ◌≢◌, ◌+◌, ◌<◌, ◌++◌, ◌∷◌, [], ◌↔◌, ℕ, IsTrue, IfOk, OnOk, OnErr, IfSome, IfNone, if◌then◌else◌, true, false, length};
+ghost use Rattle.std.specs.Prelude.{◌≡◌, ◌<◌, ◌↔◌, IsTrue, IfOk, IfSome, true, false, length};
 ghost use Rattle.plan_types.specs.declared.version.Version.{Version};
 ghost use Rattle.plan_types.specs.Members.{members};
 ghost use Rattle.version_range.specs.Version.{has_versions};

@@ -1,6 +1,6 @@
-ghost use Rattle.std.specs.Prelude.{◌≡◌, ◌++◌, ◌∷◌, [], ℕ, IsTrue, IfOk, OnOk, IfSome, IfNone, true};
+ghost use Rattle.std.specs.Prelude.{◌≡◌, [], IfOk, OnOk, IfSome, IfNone, true};
 ghost use Rattle.plan_types.specs.declared.version.Version.{Version};
-ghost use Rattle.version_range.specs.Cuts.{inside, are_ends, rises, join, flip, not_same, pushed, IsStep};
+ghost use Rattle.version_range.specs.Cuts.{inside, are_ends, rises, join, flip, pushed, IsStep};
 
 use plan_types::{List, NoMemory, Version};
 use std::alloc::Global;

@@ -1,5 +1,4 @@
-use Rattle.std.proofs.Common.{List, ap, sym, ◌∙◌, take, drop}
-use Rattle.std.specs.List.{prefix_len}
+use Rattle.std.proofs.Common.{ap, sym, ◌∙◌, take, drop}
 use Rattle.conditionals.specs.Forms.{part_of}
 use Rattle.conditionals.proofs.Names.{split_prefix}
 use Rattle.conditionals.proofs.name.split.Goals as goal

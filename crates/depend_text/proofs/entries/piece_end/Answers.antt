@@ -1,4 +1,4 @@
-use Rattle.std.proofs.Common.{◌≡◌, sym, ◌∙◌, arith}
+use Rattle.std.proofs.Common.{sym, ◌∙◌, arith}
 use Rattle.depend_text.proofs.Cuts.{one_more}
 use Rattle.depend_text.proofs.entries.piece_end.Goals as goal
 

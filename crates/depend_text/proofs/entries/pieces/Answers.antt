@@ -1,4 +1,4 @@
-use Rattle.std.proofs.Common.{◌≡◌, ◌∷◌, ◌++◌, [], List, ℕ, map, Bor, sym, ap, ◌∙◌, append-nil, subst}
+use Rattle.std.proofs.Common.{◌∷◌, ◌++◌, [], sym, ap, ◌∙◌, append-nil, subst}
 use Rattle.depend_text.specs.Entries.{Pieces, last}
 use Rattle.depend_text.proofs.Cuts.{texts, joined_to, push_text}
 use Rattle.depend_text.proofs.entries.pieces.Goals as goal

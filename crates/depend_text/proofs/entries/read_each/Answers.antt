@@ -1,4 +1,4 @@
-use Rattle.std.proofs.Common.{◌≡◌, Err, ap, ◌∙◌, subst, sym, ◌∷◌, [], ◌++◌}
+use Rattle.std.proofs.Common.{Err, ap, ◌∙◌, subst, sym, ◌++◌}
 use Rattle.std.proofs.lemmas.Result.{err_from_is_err_and}
 use Rattle.depend_text.specs.Entries.{Each}
 use Rattle.depend_text.proofs.Cuts.{texts}

@@ -1,4 +1,4 @@
-use Rattle.std.proofs.Common.{ℕ, List, ◌++◌, length, drop, map}
+use Rattle.std.proofs.Common.{List, ◌++◌, drop}
 use Rattle.plan_types.specs.declared.refusal.Cause.{Cause}
 use Rattle.depend_text.specs.Entries.{Each, First}
 use Rattle.depend_text.proofs.Cuts.{texts}

@@ -6,7 +6,7 @@ use Rattle.depend_text.proofs.Only as proof
 use Rattle.depend_text.proofs.OneLibrary.{library_row, tool_row}
 use Rattle.depend_text.proofs.OneNamed.{named_row}
 use Rattle.depend_text.proofs.OneConstraint.{constraint_row}
-use Rattle.depend_text.proofs.OneRelax.{relax_row, given_reading, no_fault}
+use Rattle.depend_text.proofs.OneRelax.{relax_row}
 use Rattle.depend_text.specs.Relaxes.{RelaxEntry}
 use Rattle.depend_text.proofs.laws.one_fault.Goals as goal
 

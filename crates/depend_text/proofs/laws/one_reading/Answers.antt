@@ -1,13 +1,11 @@
-use Rattle.depend_text.specs.Entries.{BadAsNone}
-use Rattle.depend_text.specs.Depends.{LibraryEntry, LibraryFault, ToolEntry, ToolFault}
+use Rattle.depend_text.specs.Depends.{LibraryEntry, ToolEntry}
 use Rattle.depend_text.specs.Named.{NamedEntry}
 use Rattle.depend_text.specs.Constraints.{ConstraintEntry}
 use Rattle.depend_text.proofs.Only as proof
 use Rattle.depend_text.proofs.OneLibrary.{library_row, tool_row}
 use Rattle.depend_text.proofs.OneNamed.{named_row}
 use Rattle.depend_text.proofs.OneConstraint.{constraint_row}
-use Rattle.depend_text.proofs.OneRelax.{relax_row, given_reading, no_fault}
-use Rattle.depend_text.specs.Relaxes.{RelaxEntry}
+use Rattle.depend_text.proofs.OneRelax.{given_reading}
 use Rattle.depend_text.proofs.laws.one_reading.Goals as goal
 
 pub returns-clause-depends : goal.returns-clause-depends

@@ -1,4 +1,4 @@
-use Rattle.depend_text.specs.Depends.{Libraries, NamedLibraries, named, old, broken}
+use Rattle.depend_text.specs.Depends.{named, old, broken}
 use Rattle.depend_text.proofs.Fits.{ok_so, fault_so}
 use Rattle.depend_text.proofs.part.libraries.Goals as goal
 

@@ -1,4 +1,4 @@
-use Rattle.std.proofs.Common.{◌≡◌, ◌+◌, sym, subst}
+use Rattle.std.proofs.Common.{◌+◌, sym, subst}
 use Rattle.depend_text.proofs.Dashes.{LastDash, here_dash, other_byte, not_eq}
 use Rattle.depend_text.proofs.relax.last_dash.Goals as goal
 use Rattle.depend_text.proofs.relax.last_dash.Goals.{then-byte-eq45, else-byte-eq45}

@@ -1,13 +1,8 @@
-use Rattle.std.proofs.Common.{◌≡◌, true, Err, ap, ◌∙◌, sym, subst, refl, ◌∷◌, []}
-use Rattle.std.proofs.lemmas.Result.{err_from_is_err_and}
+use Rattle.std.proofs.Common.{true, ◌∙◌, sym, refl}
 use Rattle.plan_types.specs.Name.{is_package_name}
-use Rattle.plan_types.specs.declared.dependency.RelaxOwner.TheVariants as owners
-use Rattle.std.specs.Prelude.{None}
-use Rattle.depend_text.specs.Relaxes.{Owner, Dependency, RelaxedBy}
-use Rattle.depend_text.proofs.Cuts.{texts}
-use Rattle.depend_text.proofs.Found.{err_so, refuses_so}
+use Rattle.depend_text.specs.Relaxes.{Owner}
 use Rattle.depend_text.proofs.Fits.{ok_so, fault_so}
-use Rattle.depend_text.proofs.OneRelax.{star_text, not_star, all_text, bad_owner, bad_relaxed, never_all, never_of, one_text, word_same, refused_reading, refused_fault, given_reading, no_fault}
+use Rattle.depend_text.proofs.OneRelax.{star_text, not_star, bad_owner}
 use Rattle.depend_text.proofs.relax.owner.Goals as goal
 
 pub returns-then-is_text-clause-found : goal.returns-then-is_text-clause-found

@@ -1,4 +1,4 @@
-use Rattle.std.proofs.Common.{◌≡◌, Err, ap, ◌∙◌, sym, refl, inl, inr}
+use Rattle.std.proofs.Common.{Err, ap, ◌∙◌, sym, refl, inl, inr}
 use Rattle.std.proofs.lemmas.Result.{err_from_is_err_and}
 use Rattle.depend_text.proofs.Found.{err_so, refuses_so}
 use Rattle.depend_text.proofs.OneRelax.{bad_release}

@@ -1,4 +1,4 @@
-use Rattle.std.proofs.Common.{◌≡◌, ap, sym, ◌∙◌}
+use Rattle.std.proofs.Common.{ap, sym, ◌∙◌}
 use Rattle.depend_text.proofs.Cuts.{texts}
 use Rattle.depend_text.proofs.Filtered.{word_kept, word_dropped}
 use Rattle.depend_text.proofs.words.only_words.Goals as goal
