@@ -137,38 +137,69 @@ fn push_test(text: &mut Text, word: &str, name: &str) -> Result<(), NoMemory> {
     text.push_str(")")
 }
 
-fn push_pair(
+// What is still to be shown of a condition, the next one last.
+#[derive(Drop)]
+enum Rest<'a> {
+    Cond(&'a Cond),
+    Text(&'static str),
+}
+
+fn push_pair<'a>(
+    rests: &mut Vec<Rest<'a>>,
+    left: &'a Cond,
+    right: &'a Cond,
+) -> Result<(), NoMemory> {
+    rests.push(Rest::Text(")"))?;
+    rests.push(Rest::Cond(right))?;
+    rests.push(Rest::Text(","))?;
+    rests.push(Rest::Cond(left))?;
+    Ok(())
+}
+
+fn push_cond<'a>(
     alloc: Global,
     text: &mut Text,
-    word: &str,
-    left: &Cond,
-    right: &Cond,
+    rests: &mut Vec<Rest<'a>>,
+    cond: &'a Cond,
 ) -> Result<(), NoMemory> {
-    let left = shown(alloc, left)?;
-    let right = shown(alloc, right)?;
-    push_test(
-        text,
-        word,
-        format!(in alloc; "{},{}", left.as_str(), right.as_str())?.as_str(),
-    )
+    match cond {
+        Cond::Always => text.push_str("true"),
+        Cond::Never => text.push_str("false"),
+        Cond::Flag(name) => push_test(text, "flag", name.as_str()),
+        Cond::Os(name) => push_test(text, "os", name.as_str()),
+        Cond::Arch(name) => push_test(text, "arch", name.as_str()),
+        Cond::Impl(name, range) => {
+            let range = print_range(alloc, range)?;
+            let name = format!(in alloc; "{},{}", name.as_str(), range.as_str())?;
+            push_test(text, "impl", name.as_str())
+        }
+        Cond::Not(inner) => {
+            text.push_str("not(")?;
+            rests.push(Rest::Text(")"))?;
+            rests.push(Rest::Cond(inner.get()))?;
+            Ok(())
+        }
+        Cond::And(left, right) => {
+            text.push_str("and(")?;
+            push_pair(rests, left.get(), right.get())
+        }
+        Cond::Or(left, right) => {
+            text.push_str("or(")?;
+            push_pair(rests, left.get(), right.get())
+        }
+    }
 }
 
 fn shown(alloc: Global, cond: &Cond) -> Result<Text, NoMemory> {
     let mut text = Text::new(alloc);
-    match cond {
-        Cond::Always => text.push_str("true")?,
-        Cond::Never => text.push_str("false")?,
-        Cond::Flag(name) => push_test(&mut text, "flag", name.as_str())?,
-        Cond::Os(name) => push_test(&mut text, "os", name.as_str())?,
-        Cond::Arch(name) => push_test(&mut text, "arch", name.as_str())?,
-        Cond::Impl(name, range) => {
-            let range = print_range(alloc, range)?;
-            let name = format!(in alloc; "{},{}", name.as_str(), range.as_str())?;
-            push_test(&mut text, "impl", name.as_str())?;
+    let mut rests = Vec::new(alloc);
+    rests.push(Rest::Cond(cond))?;
+    for _ in 0..10_000 {
+        match rests.pop() {
+            None => break,
+            Some(Rest::Text(part)) => text.push_str(part)?,
+            Some(Rest::Cond(cond)) => push_cond(alloc, &mut text, &mut rests, cond)?,
         }
-        Cond::Not(inner) => push_test(&mut text, "not", shown(alloc, inner.get())?.as_str())?,
-        Cond::And(left, right) => push_pair(alloc, &mut text, "and", left.get(), right.get())?,
-        Cond::Or(left, right) => push_pair(alloc, &mut text, "or", left.get(), right.get())?,
     }
     Ok(text)
 }
