@@ -144,15 +144,11 @@ enum Rest<'a> {
     Text(&'static str),
 }
 
-fn push_pair<'a>(
-    rests: &mut Vec<Rest<'a>>,
-    left: &'a Cond,
-    right: &'a Cond,
-) -> Result<(), NoMemory> {
-    rests.push(Rest::Text(")"))?;
-    rests.push(Rest::Cond(right))?;
-    rests.push(Rest::Text(","))?;
-    rests.push(Rest::Cond(left))?;
+fn push_pair<'a>(to: &mut Vec<Rest<'a>>, left: &'a Cond, right: &'a Cond) -> Result<(), NoMemory> {
+    to.push(Rest::Text(")"))?;
+    to.push(Rest::Cond(right))?;
+    to.push(Rest::Text(","))?;
+    to.push(Rest::Cond(left))?;
     Ok(())
 }
 
