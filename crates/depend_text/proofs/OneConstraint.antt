@@ -20,7 +20,7 @@ use Rattle.depend_text.specs.Entries.{Each, BadAsNone, First, here, later}
 use Rattle.depend_text.specs.Entries as entries
 use Rattle.depend_text.specs.Words.{run, behind, is_name_byte, is_text, behind_name, words}
 use Rattle.depend_text.specs.Constraints.{Target, asked_by, asked_alone, Flag, on, off, Asked, alone, flags, Asks, range, other, ConstraintEntry}
-use Rattle.depend_text.proofs.Only.{Row, project_row, one_each, each_or_first}
+use Rattle.depend_text.proofs.Only.{Settled, project_settled, one_each, each_or_first}
 
 tails : {a b : ℕ} {as' bs : List ℕ} → a ∷ as' ≡ b ∷ bs → as' ≡ bs
 tails e = cc
@@ -92,8 +92,8 @@ one_entry text x y e f =
     let asks = one_asks f.rest x.what y.what (subst (λ r. Asks r x.what) t.2 e.asks) f.asks in
     λ i. record { scope = t.0 i; «package» = t.1 i; what = asks i }
 
-pub constraint_row : Row ConstraintEntry (BadAsNone ConstraintEntry)
-constraint_row = project_row ConstraintEntry one_entry
+pub constraint_settled : Settled ConstraintEntry (BadAsNone ConstraintEntry)
+constraint_settled = project_settled ConstraintEntry one_entry
 
 first_bad : {A : Type 0} (Part : List ℕ → A → Type 0) (parts : List (List ℕ)) (cause : Cause) → First Part (BadAsNone Part) parts cause → cause ≡ BadConstraint
 first_bad Part parts cause (here fault) = fault.is

@@ -15,7 +15,7 @@ use Rattle.version_range.proofs.Exact.{one_range, one_fault, range_or_fault}
 use Rattle.depend_text.specs.Entries.{Pieces, Each}
 use Rattle.depend_text.specs.Words.{run, behind, is_in_braces, name_of, behind_name}
 use Rattle.depend_text.specs.Depends.{Library, NamedLibraries, one, several, Libraries, main, named, LibrariesFault, old, broken, LibraryEntry, LibraryFault, Executable, ToolEntry, ToolFault, old_cause}
-use Rattle.depend_text.proofs.Only.{Row, one_cut, one_each}
+use Rattle.depend_text.proofs.Only.{Settled, one_cut, one_each}
 
 rest_same : {a b : ℕ} {as' bs : List ℕ} → a ∷ as' ≡ b ∷ bs → as' ≡ bs
 rest_same e = cc
@@ -93,8 +93,8 @@ module _ (spec : Spec) (kind : DepKind) (line : ℕ) where
       let p = one_libraries spec (name_of text) (behind_name text) e.libs ls e.range_text r e.part l in
       range_or_fault spec 64 r e.range c (subst (λ t. Stands spec 64 t e.range) p.1 e.versions) f
 
-  pub library_row : Row (LibraryEntry spec kind line) (LibraryFault spec)
-  library_row = record { one = one_entry; one_fault = one_entry_fault; not_both = entry_or_fault }
+  pub library_settled : Settled (LibraryEntry spec kind line) (LibraryFault spec)
+  library_settled = record { one = one_entry; one_fault = one_entry_fault; not_both = entry_or_fault }
 
 one_executable : (text exe exe' r s : List ℕ) → Executable text exe r → Executable text exe' s → (exe ≡ exe') × (r ≡ s)
 one_executable text exe exe' r s e f =
@@ -128,5 +128,5 @@ module _ (spec : Spec) (line : ℕ) where
       let p = one_executable (behind_name text) e.exe exe e.range_text r e.part l in
       range_or_fault spec 64 r e.range c (subst (λ t. Stands spec 64 t e.range) p.1 e.versions) f
 
-  pub tool_row : Row (ToolEntry spec line) (ToolFault spec)
-  tool_row = record { one = one_tool; one_fault = one_tool_fault; not_both = tool_or_fault }
+  pub tool_settled : Settled (ToolEntry spec line) (ToolFault spec)
+  tool_settled = record { one = one_tool; one_fault = one_tool_fault; not_both = tool_or_fault }

@@ -29,7 +29,7 @@ use Rattle.depend_text.specs.Words.{is_text}
 use Rattle.depend_text.specs.Relaxes.{Relaxes, RelaxFault}
 use Rattle.depend_text.proofs.Cuts.{texts}
 use Rattle.depend_text.proofs.Found.{refuses_so}
-use Rattle.depend_text.proofs.Only.{Row, project_row, one_reading, one_first, reading_or_fault}
+use Rattle.depend_text.proofs.Only.{Settled, project_settled, one_reading, one_first, reading_or_fault}
 use Rattle.depend_text.proofs.Dashes.{same_cut}
 
 two : (b : Bool) → b ≡ true → b ≡ false → ⊥
@@ -109,8 +109,8 @@ one_word e = cc
 one_entry : (text : List ℕ) (x y : Option Relax) → RelaxEntry text x → RelaxEntry text y → x ≡ y
 one_entry text x y e f = one_relaxed f.word x y (subst (λ w. RelaxedBy w x) (one_word (sym e.alone ∙ f.alone)) e.relaxed) f.relaxed
 
-pub relax_row : Row RelaxEntry (BadAsNone RelaxEntry)
-relax_row = project_row RelaxEntry one_entry
+pub relax_settled : Settled RelaxEntry (BadAsNone RelaxEntry)
+relax_settled = project_settled RelaxEntry one_entry
 
 -- ---- what the calls answer
 
@@ -182,17 +182,17 @@ pub refused_reading : (text : List ℕ) (result : Result (List Relax) TextFault)
     → (xs : List Relax) → Relaxes text xs → MatchResult result (λ found. found ≡ xs) (Refuses (λ _. ⊥))
 refused_reading text result fault e h xs r =
     subst (λ t. MatchResult t (λ found. found ≡ xs) (Refuses (λ _. ⊥))) (sym e)
-    (refuses_so fault (λ c f. reading_or_fault RelaxEntry (BadAsNone RelaxEntry) relax_row.not_both text r.each c r.entries f) h)
+    (refuses_so fault (λ c f. reading_or_fault RelaxEntry (BadAsNone RelaxEntry) relax_settled.not_both text r.each c r.entries f) h)
 
 pub refused_fault : (text : List ℕ) (result : Result (List Relax) TextFault) (fault : TextFault) → result ≡ Err fault → Refuses (RelaxFault text) fault
     → (c : Cause) → RelaxFault text c → MatchResult result (λ _. ⊥) (Refuses (λ why. why ≡ c))
 refused_fault text result fault e h c g =
     subst (λ t. MatchResult t (λ _. ⊥) (Refuses (λ why. why ≡ c))) (sym e)
-    (refuses_so fault (λ d f. one_first RelaxEntry (BadAsNone RelaxEntry) relax_row text d c f g) h)
+    (refuses_so fault (λ d f. one_first RelaxEntry (BadAsNone RelaxEntry) relax_settled text d c f g) h)
 
 pub given_reading : (text : List ℕ) (each : List (Option Relax)) (found : List Relax) → Lists RelaxEntry text each → found ≡ filter_map (λ relax. relax) each
     → (xs : List Relax) → Relaxes text xs → found ≡ xs
-given_reading text each found is e xs r = e ∙ ap (filter_map (λ relax. relax)) (one_reading RelaxEntry relax_row.one text each r.each is r.entries) ∙ sym r.is
+given_reading text each found is e xs r = e ∙ ap (filter_map (λ relax. relax)) (one_reading RelaxEntry relax_settled.one text each r.each is r.entries) ∙ sym r.is
 
 pub no_fault : (text : List ℕ) (each : List (Option Relax)) → Lists RelaxEntry text each → (c : Cause) → RelaxFault text c → ⊥
-no_fault text each is c f = reading_or_fault RelaxEntry (BadAsNone RelaxEntry) relax_row.not_both text each c is f
+no_fault text each is c f = reading_or_fault RelaxEntry (BadAsNone RelaxEntry) relax_settled.not_both text each c is f

@@ -51,7 +51,7 @@ one_cut text ps qs p q = same_pieces text text ps qs refl p q
 
 -- ---- its entries, each with one reading or one fault
 
-pub record Row {A : Type 0} (Part : List ℕ → A → Type 0) (Fault : List ℕ → Cause → Type 0) : Type 0 where
+pub record Settled {A : Type 0} (Part : List ℕ → A → Type 0) (Fault : List ℕ → Cause → Type 0) : Type 0 where
   pub one : (part : List ℕ) (x y : A) → Part part x → Part part y → x ≡ y
   pub one_fault : (part : List ℕ) (c d : Cause) → Fault part c → Fault part d → c ≡ d
   pub not_both : (part : List ℕ) (x : A) (c : Cause) → Part part x → Fault part c → ⊥
@@ -64,7 +64,7 @@ one_each Part one parts xs ys (more {part = part} {x = x} {parts = rest} {xs = a
     let others = one_each Part one rest as' bs e f in
     λ i. same i ∷ others i
 
-first_of : {A : Type 0} (Part : List ℕ → A → Type 0) (Fault : List ℕ → Cause → Type 0) → Row Part Fault
+first_of : {A : Type 0} (Part : List ℕ → A → Type 0) (Fault : List ℕ → Cause → Type 0) → Settled Part Fault
     → (parts : List (List ℕ)) (c d : Cause) → First Part Fault parts c → First Part Fault parts d → c ≡ d
 first_of Part Fault row parts c d (here {part = part} f) (here g) = row.one_fault part c d f g
 first_of Part Fault row parts c d (here {part = part} f) (later {x = x} p g) = absurd (row.not_both part x c p f)
@@ -83,7 +83,7 @@ pub one_reading : {A : Type 0} (Part : List ℕ → A → Type 0) → ((part : L
 one_reading Part one text xs ys r s =
     one_each Part one (entries s.pieces) xs ys (subst (λ ps. Each Part (entries ps) xs) (one_cut text r.pieces s.pieces r.cut s.cut) r.each) s.each
 
-pub one_first : {A : Type 0} (Part : List ℕ → A → Type 0) (Fault : List ℕ → Cause → Type 0) → Row Part Fault
+pub one_first : {A : Type 0} (Part : List ℕ → A → Type 0) (Fault : List ℕ → Cause → Type 0) → Settled Part Fault
     → (text : List ℕ) (c d : Cause) → Faulty Part Fault text c → Faulty Part Fault text d → c ≡ d
 one_first Part Fault row text c d r s =
     first_of Part Fault row (entries s.pieces) c d (subst (λ ps. First Part Fault (entries ps) c) (one_cut text r.pieces s.pieces r.cut s.cut) r.first) s.first
@@ -111,8 +111,8 @@ only_fault Reads Fails one apart (Err NoMemory) h k c r = tt
 only_fault Reads Fails one apart (Err (Bad d)) h k c r = one d c k r
 
 -- an entry of a project that stands for nothing has the one fault that there is
-pub project_row : {A : Type 0} (Part : List ℕ → A → Type 0) → ((part : List ℕ) (x y : A) → Part part x → Part part y → x ≡ y) → Row Part (BadAsNone Part)
-project_row Part one = record {
+pub project_settled : {A : Type 0} (Part : List ℕ → A → Type 0) → ((part : List ℕ) (x y : A) → Part part x → Part part y → x ≡ y) → Settled Part (BadAsNone Part)
+project_settled Part one = record {
   one = one;
   one_fault = λ part c d f g. f.is ∙ sym g.is;
   not_both = λ part x c p f. f.stands_for_none x p;

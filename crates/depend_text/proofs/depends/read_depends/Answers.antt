@@ -1,11 +1,11 @@
 use Rattle.depend_text.specs.Depends.{LibraryEntry, LibraryFault, Depends, DependsFault}
 use Rattle.depend_text.proofs.Only.{one_reading, one_first, reading_or_fault, only_reading, only_fault}
-use Rattle.depend_text.proofs.OneLibrary.{library_row}
+use Rattle.depend_text.proofs.OneLibrary.{library_settled}
 use Rattle.depend_text.proofs.depends.read_depends.Goals as goal
 
 pub returns-clause-exactly_entries : goal.returns-clause-exactly_entries
 returns-clause-exactly_entries c =
-    let row = library_row c.args.spec c.args.kind c.args.line in
+    let row = library_settled c.args.spec c.args.kind c.args.line in
     let text = c.args.text.now in
     let entry = LibraryEntry c.args.spec c.args.kind c.args.line in
     only_reading (Depends c.args.spec c.args.kind c.args.line text) (DependsFault c.args.spec c.args.kind c.args.line text)
@@ -14,7 +14,7 @@ returns-clause-exactly_entries c =
 
 pub returns-clause-exactly_faults : goal.returns-clause-exactly_faults
 returns-clause-exactly_faults c =
-    let row = library_row c.args.spec c.args.kind c.args.line in
+    let row = library_settled c.args.spec c.args.kind c.args.line in
     let text = c.args.text.now in
     let entry = LibraryEntry c.args.spec c.args.kind c.args.line in
     only_fault (Depends c.args.spec c.args.kind c.args.line text) (DependsFault c.args.spec c.args.kind c.args.line text)

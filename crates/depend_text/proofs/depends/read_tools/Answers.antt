@@ -1,11 +1,11 @@
 use Rattle.depend_text.specs.Depends.{ToolEntry, ToolFault, Tools, ToolsFault}
 use Rattle.depend_text.proofs.Only.{one_reading, one_first, reading_or_fault, only_reading, only_fault}
-use Rattle.depend_text.proofs.OneLibrary.{tool_row}
+use Rattle.depend_text.proofs.OneLibrary.{tool_settled}
 use Rattle.depend_text.proofs.depends.read_tools.Goals as goal
 
 pub returns-clause-exactly_entries : goal.returns-clause-exactly_entries
 returns-clause-exactly_entries c =
-    let row = tool_row c.args.spec c.args.line in
+    let row = tool_settled c.args.spec c.args.line in
     let text = c.args.text.now in
     let entry = ToolEntry c.args.spec c.args.line in
     only_reading (Tools c.args.spec c.args.line text) (ToolsFault c.args.spec c.args.line text)
@@ -14,7 +14,7 @@ returns-clause-exactly_entries c =
 
 pub returns-clause-exactly_faults : goal.returns-clause-exactly_faults
 returns-clause-exactly_faults c =
-    let row = tool_row c.args.spec c.args.line in
+    let row = tool_settled c.args.spec c.args.line in
     let text = c.args.text.now in
     let entry = ToolEntry c.args.spec c.args.line in
     only_fault (Tools c.args.spec c.args.line text) (ToolsFault c.args.spec c.args.line text)
