@@ -31,6 +31,7 @@ pub fn byte_after(text: &[u8], byte: u8) -> Option<&[u8]>
     }
 }
 
+/// Whether the byte is the first.
 pub fn begins_with(text: &[u8], byte: u8) -> bool
     ensures { result ≡ begins_with byte text.now }
 {
