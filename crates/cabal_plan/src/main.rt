@@ -109,6 +109,6 @@ fn failure_of(status: Status) -> Option<&'static str>
         Status::ReadFault => Some("cabal-plan: a file or folder could not be read"),
         Status::WriteFault => Some("cabal-plan: the output could not be written"),
         Status::NoMemory => Some("cabal-plan: out of memory"),
-        Status::Planned | Status::NoPlan | Status::Refused | Status::Usage => None,
+        Status::Planned | Status::NoPlan | Status::GaveUp | Status::Refused | Status::Usage => None,
     }
 }

@@ -1,18 +1,16 @@
 -- Two whole valid assignments have one trail, or one of them comes before the other.
-use Rattle.std.proofs.Common.{◌≡◌, ℕ, zero, suc, true, false, List, [], ◌∷◌, ◌++◌, Some, None, refl, sym, ap, ◌∙◌, subst, inl, inr, ◌⊎◌, append_assoc}
-use Rattle.std.specs.Prelude.{nat_eq}
+use Rattle.std.proofs.Common.{◌≡◌, ℕ, zero, suc, true, false, List, [], ◌∷◌, ◌++◌, map, Some, None, refl, sym, ap, ◌∙◌, subst, inl, inr, ◌⊎◌, append_assoc}
+use Rattle.std.specs.Prelude.{is_none, is_some, nat_eq}
 use Rattle.std.specs.List.{Contains}
 use Rattle.std.proofs.lemmas.Bool.{false≢true, eqb-true, eq-eqb}
-use Rattle.std.proofs.lemmas.List.{append-nil}
 use Rattle.choice_problem.specs.declared.variable.Var.{Var}
 use Rattle.choice_problem.specs.declared.problem.Choice.{Choice}
-use Rattle.choice_problem.specs.Problem.{Problem, Lawful}
-use Rattle.choice_problem.specs.Assignment.{Assignment, HoldsWithin}
-use Rattle.choice_problem.specs.Trail.{next_var, with_next, with_value, choice_of, trail_from, trail_of}
-use Rattle.choice_problem.specs.Plain.{IsEarlier, ComesBefore, IsFirst}
-use Rattle.choice_problem.specs.Lists.{contains-none, contains-cases}
-use Rattle.choice_problem.proofs.Trails.{Passes, passes-push}
-use Rattle.choice_problem.proofs.Answer.{made-next, passes-choices}
+use Rattle.choice_problem.specs.Assignment.{Assignment, is_one_of}
+use Rattle.choice_problem.specs.General.{General, LawfulGeneral}
+use Rattle.choice_problem.specs.Trail.{value_in, next_var, choice_of, trail_from, trail_of}
+use Rattle.choice_problem.specs.Valid.{IsWholeValid, IsEarlier, ComesBefore, IsFirst}
+use Rattle.choice_problem.specs.Lists.{contains-none, contains-cases, contains-map, and-left}
+use Rattle.choice_problem.proofs.Trails.{Passes, passes-value, passes-push, value_in-some, next-opens, demand-after, target-known, passes-choices, trail-step, trail-end, trail-stop, trail-front}
 
 contains-split : (xs : List ℕ) (x : ℕ) → Contains xs x → (front : List ℕ) × (rest : List ℕ) × (xs ≡ front ++ x ∷ rest)
 contains-split [] x h = absurd (contains-none x h)
@@ -40,26 +38,39 @@ earlier-one (x ∷ xs) a b h k ne =
       ]
     ]
 
-module _ (p : Problem) (lawful : Lawful p) where
-  trail-step : (A : Assignment) (fuel : ℕ) (trail : List Choice) (v : Var) (n : ℕ) → next_var p trail ≡ Some v → A v ≡ Some n
-      → trail_from (suc fuel) p A trail ≡ trail_from fuel p A (trail ++ choice_of v n ∷ [])
-  trail-step A fuel trail v n next made =
-      ap (λ o. with_next o trail (λ w. with_value (A w) trail (λ m. trail_from fuel p A (trail ++ choice_of w m ∷ [])))) next
-      ∙ ap (λ o. with_value o trail (λ m. trail_from fuel p A (trail ++ choice_of v m ∷ []))) made
+-- a trail of which A makes the choices, and which has each variable of A, is A
+pub passes-all : (A : Assignment) (trail : List Choice) → Passes A trail → ((v : Var) → is_some (A v) ≡ true → Contains (map (λ (c : Choice). c.var) trail) v) → A ≡ value_in trail
+passes-all A trail passes each =
+    let at : (v : Var) → A v ≡ value_in trail v = λ v. elim (A v) as (λ o. A v ≡ o → o ≡ value_in trail v) [
+      | None ↦ λ e. elim (value_in trail v) as (λ o. value_in trail v ≡ o → None ≡ o) [
+        | None ↦ λ k. refl
+        | Some n ↦ λ k. sym e ∙ passes-value A trail v n passes k
+      ] refl
+      | Some n ↦ λ e.
+          let of = contains-map (λ (c : Choice). c.var) trail v (each v (ap is_some e)) in
+          elim (value_in trail v) as (λ o. value_in trail v ≡ o → Some n ≡ o) [
+            | None ↦ λ k. absurd (false≢true (ap is_some (sym k) ∙ subst (λ w. is_some (value_in trail w) ≡ true) of.2 (value_in-some trail of.0 of.1)))
+            | Some m ↦ λ k. sym e ∙ passes-value A trail v m passes k
+          ] refl
+    ] refl in
+    λ i v. at v i
 
-  trail-end : (A : Assignment) (fuel : ℕ) (trail : List Choice) → next_var p trail ≡ None → trail_from (suc fuel) p A trail ≡ trail
-  trail-end A fuel trail next = ap (λ o. with_next o trail (λ w. with_value (A w) trail (λ m. trail_from fuel p A (trail ++ choice_of w m ∷ [])))) next
-
-  trail-front : (A : Assignment) (fuel : ℕ) (trail : List Choice) → (more : List Choice) × (trail_from fuel p A trail ≡ trail ++ more)
-  trail-front A zero trail = ([], sym (append-nil trail))
-  trail-front A (suc fuel) trail =
-      elim (next_var p trail) as (λ o. (more : List Choice) × (with_next o trail (λ v. with_value (A v) trail (λ n. trail_from fuel p A (trail ++ choice_of v n ∷ []))) ≡ trail ++ more)) [
-        | None ↦ ([], sym (append-nil trail))
-        | Some v ↦ elim (A v) as (λ o. (more : List Choice) × (with_value o trail (λ n. trail_from fuel p A (trail ++ choice_of v n ∷ [])) ≡ trail ++ more)) [
-          | None ↦ ([], sym (append-nil trail))
-          | Some n ↦ let rest = trail-front A fuel (trail ++ choice_of v n ∷ []) in (choice_of v n ∷ rest.0, rest.1 ∙ append_assoc trail (choice_of v n ∷ []) rest.0)
-        ]
-      ]
+module _ (g : General) (lawful : LawfulGeneral g) where
+  -- a whole valid assignment has a value for the variable that is open next on its trail
+  whole-next : (A : Assignment) (fuel : ℕ) (trail : List Choice) (v : Var) → IsWholeValid g A → Passes A trail → trail_from (suc fuel) g A trail ≡ trail_of g A → next_var g trail ≡ Some v
+      → (n : ℕ) × (A v ≡ Some n)
+  whole-next A fuel trail v valid passes on next =
+      elim (A v) as (λ o. A v ≡ o → (n : ℕ) × (o ≡ Some n)) [
+        | Some n ↦ λ e. (n, refl)
+        | None ↦ λ e.
+            let whole = sym on ∙ trail-stop g A fuel trail v next e in
+            let same = passes-all A trail passes (λ w some. subst (λ t. Contains (map (λ (c : Choice). c.var) t) w) whole ((valid.reached w).0 some)) in
+            let found = next-opens g trail v next in
+            let is = demand-after g trail found.0 (passes-choices g lawful g.known A valid.holds trail passes) found.1 in
+            let yes = subst (λ B. found.0.is_yes B ≡ true) (sym same) (and-left (found.0.is_yes (value_in trail)) (is_none (value_in trail found.0.target)) found.2) in
+            let met = valid.holds.met found.0 is yes (target-known g found.0 lawful is) in
+            absurd (false≢true (subst (λ o. is_one_of o found.0.allowed ≡ true) (ap A found.3 ∙ e) met))
+      ] refl
 
   -- the trails part after a common front, where the value of A is the earlier one
   record Parts (A B : Assignment) (of_trail of_other : List Choice) : Type 0 where
@@ -71,16 +82,16 @@ module _ (p : Problem) (lawful : Lawful p) where
     rest_of_B : List Choice
     trail_of_A : of_trail ≡ common ++ choice_of var of_A ∷ rest_of_A
     trail_of_B : of_other ≡ common ++ choice_of var of_B ∷ rest_of_B
-    earlier : IsEarlier (p.order var common) of_A of_B
+    earlier : IsEarlier (g.order var common) of_A of_B
 
   abbrev Compared : Assignment → Assignment → List Choice → List Choice → Type 0
   Compared A B s t = (s ≡ t) ⊎ (Parts A B s t ⊎ Parts B A t s)
 
-  parts-at : (A B : Assignment) (fuel : ℕ) (trail : List Choice) (v : Var) (a b : ℕ) → next_var p trail ≡ Some v → A v ≡ Some a → B v ≡ Some b → IsEarlier (p.order v trail) a b
-      → Parts A B (trail_from (suc fuel) p A trail) (trail_from (suc fuel) p B trail)
+  parts-at : (A B : Assignment) (fuel : ℕ) (trail : List Choice) (v : Var) (a b : ℕ) → next_var g trail ≡ Some v → A v ≡ Some a → B v ≡ Some b → IsEarlier (g.order v trail) a b
+      → Parts A B (trail_from (suc fuel) g A trail) (trail_from (suc fuel) g B trail)
   parts-at A B fuel trail v a b next of_A of_B earlier =
-      let more = trail-front A fuel (trail ++ choice_of v a ∷ []) in
-      let other = trail-front B fuel (trail ++ choice_of v b ∷ []) in
+      let more = trail-front g A fuel (trail ++ choice_of v a ∷ []) in
+      let other = trail-front g B fuel (trail ++ choice_of v b ∷ []) in
       record {
         common = trail;
         var = v;
@@ -88,40 +99,44 @@ module _ (p : Problem) (lawful : Lawful p) where
         of_B = b;
         rest_of_A = more.0;
         rest_of_B = other.0;
-        trail_of_A = trail-step A fuel trail v a next of_A ∙ more.1 ∙ append_assoc trail (choice_of v a ∷ []) more.0;
-        trail_of_B = trail-step B fuel trail v b next of_B ∙ other.1 ∙ append_assoc trail (choice_of v b ∷ []) other.0;
+        trail_of_A = trail-step g A fuel trail v a next of_A ∙ more.1 ∙ append_assoc trail (choice_of v a ∷ []) more.0;
+        trail_of_B = trail-step g B fuel trail v b next of_B ∙ other.1 ∙ append_assoc trail (choice_of v b ∷ []) other.0;
         earlier = earlier;
       }
 
-  module _ (A B : Assignment) (holds_A : HoldsWithin p p.known A) (holds_B : HoldsWithin p p.known B) where
-    compared : (fuel : ℕ) (trail : List Choice) → Passes A trail → Passes B trail → Compared A B (trail_from fuel p A trail) (trail_from fuel p B trail)
-    compared zero trail passes_A passes_B = inl refl
-    compared (suc fuel) trail passes_A passes_B =
-        elim (next_var p trail) as (λ o. next_var p trail ≡ o → Compared A B (trail_from (suc fuel) p A trail) (trail_from (suc fuel) p B trail)) [
-          | None ↦ λ next. inl (trail-end A fuel trail next ∙ sym (trail-end B fuel trail next))
+  module _ (A B : Assignment) (valid_A : IsWholeValid g A) (valid_B : IsWholeValid g B) where
+    compared : (fuel : ℕ) (trail : List Choice) → Passes A trail → Passes B trail → trail_from fuel g A trail ≡ trail_of g A → trail_from fuel g B trail ≡ trail_of g B
+        → Compared A B (trail_from fuel g A trail) (trail_from fuel g B trail)
+    compared zero trail passes_A passes_B on_A on_B = inl refl
+    compared (suc fuel) trail passes_A passes_B on_A on_B =
+        elim (next_var g trail) as (λ o. next_var g trail ≡ o → Compared A B (trail_from (suc fuel) g A trail) (trail_from (suc fuel) g B trail)) [
+          | None ↦ λ next. inl (trail-end g A fuel trail next ∙ sym (trail-end g B fuel trail next))
           | Some v ↦ λ next.
-              let made_A = made-next p lawful A holds_A trail v passes_A next in
-              let made_B = made-next p lawful B holds_B trail v passes_B next in
+              let made_A = whole-next A fuel trail v valid_A passes_A on_A next in
+              let made_B = whole-next B fuel trail v valid_B passes_B on_B next in
               let a = made_A.0 in
               let b = made_B.0 in
-              elim (nat_eq a b) as (λ t. nat_eq a b ≡ t → Compared A B (trail_from (suc fuel) p A trail) (trail_from (suc fuel) p B trail)) [
+              elim (nat_eq a b) as (λ t. nat_eq a b ≡ t → Compared A B (trail_from (suc fuel) g A trail) (trail_from (suc fuel) g B trail)) [
                 | true ↦ λ same.
                     let also = made_B.1 ∙ ap Some (sym (eqb-true a b same)) in
-                    let rest = compared fuel (trail ++ choice_of v a ∷ []) (passes-push A trail (choice_of v a) passes_A made_A.1) (passes-push B trail (choice_of v a) passes_B also) in
-                    subst (λ s. Compared A B s (trail_from (suc fuel) p B trail)) (sym (trail-step A fuel trail v a next made_A.1))
-                    (subst (λ t. Compared A B (trail_from fuel p A (trail ++ choice_of v a ∷ [])) t) (sym (trail-step B fuel trail v a next also)) rest)
+                    let step_A = trail-step g A fuel trail v a next made_A.1 in
+                    let step_B = trail-step g B fuel trail v a next also in
+                    let rest = compared fuel (trail ++ choice_of v a ∷ []) (passes-push A trail (choice_of v a) passes_A made_A.1) (passes-push B trail (choice_of v a) passes_B also)
+                    (sym step_A ∙ on_A) (sym step_B ∙ on_B) in
+                    subst (λ s. Compared A B s (trail_from (suc fuel) g B trail)) (sym step_A)
+                    (subst (λ t. Compared A B (trail_from fuel g A (trail ++ choice_of v a ∷ [])) t) (sym step_B) rest)
                 | false ↦ λ other.
-                    let is_A = holds_A.assignment.choice (choice_of v a) made_A.1 in
-                    let is_B = holds_B.assignment.choice (choice_of v b) made_B.1 in
-                    let each = (lawful.order v is_A.variable trail (passes-choices p lawful A holds_A trail passes_A)).each in
-                    elim (earlier-one (p.order v trail) a b (each a is_A.value) (each b is_B.value) (λ e. false≢true (sym other ∙ eq-eqb a b e))) [
+                    let is_A = valid_A.holds.assignment.choice (choice_of v a) made_A.1 in
+                    let is_B = valid_B.holds.assignment.choice (choice_of v b) made_B.1 in
+                    let each = (lawful.order v is_A.variable trail (passes-choices g lawful g.known A valid_A.holds trail passes_A)).each in
+                    elim (earlier-one (g.order v trail) a b (each a is_A.value) (each b is_B.value) (λ e. false≢true (sym other ∙ eq-eqb a b e))) [
                       | inl i ↦ inr (inl (parts-at A B fuel trail v a b next made_A.1 made_B.1 i))
                       | inr i ↦ inr (inr (parts-at B A fuel trail v b a next made_B.1 made_A.1 i))
                     ]
               ] refl
         ] refl
 
-  before-of : (A B : Assignment) → Parts A B (trail_of p A) (trail_of p B) → ComesBefore p A B
+  before-of : (A B : Assignment) → Parts A B (trail_of g A) (trail_of g B) → ComesBefore g A B
   before-of A B parts = record {
     common = parts.common;
     var = parts.var;
@@ -134,9 +149,9 @@ module _ (p : Problem) (lawful : Lawful p) where
     earlier = parts.earlier;
   }
 
-  pub one-first : (A B : Assignment) → IsFirst p A → IsFirst p B → trail_of p A ≡ trail_of p B
+  pub one-first : (A B : Assignment) → IsFirst g A → IsFirst g B → trail_of g A ≡ trail_of g B
   one-first A B first_A first_B =
-      elim (compared A B first_A.whole_valid.holds first_B.whole_valid.holds p.bound [] (λ c k. absurd (contains-none c k)) (λ c k. absurd (contains-none c k))) [
+      elim (compared A B first_A.whole_valid first_B.whole_valid g.bound [] (λ c k. absurd (contains-none c k)) (λ c k. absurd (contains-none c k)) refl refl) [
         | inl same ↦ same
         | inr parts ↦ elim parts [
           | inl front ↦ absurd (first_B.none_before A first_A.whole_valid (before-of A B front))

@@ -1,4 +1,13 @@
+pub mod Order
+pub mod Sets
 pub mod Trails
-pub mod Answer
-pub mod Stack
+pub mod Paths
+pub mod Active
+pub mod Conflicts
+pub mod Failures
+pub mod Ends
 pub mod First
+pub mod Limits
+pub mod Alike
+pub mod Tries
+pub mod Merges

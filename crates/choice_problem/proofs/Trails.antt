@@ -1,20 +1,22 @@
 -- Trails as maps, the variables that are open after them, and the demands so far.
-use Rattle.std.proofs.Common.{◌≡◌, ℕ, Bool, true, false, cond, ◌||◌, List, [], ◌∷◌, ◌++◌, map, Option, Some, None, refl, sym, ap, ◌∙◌, subst, inl, inr, nat_eq}
+use Rattle.std.proofs.Common.{◌≡◌, ℕ, zero, suc, ◌≤◌, Bool, true, false, cond, ◌||◌, List, [], ◌∷◌, ◌++◌, length, map, get_or, append_assoc, arith, Option, Some, None, refl, sym, ap, ◌∙◌, subst, inl, inr, nat_eq}
 use Rattle.std.specs.Prelude.{is_none, is_some, IsTrue}
 use Rattle.std.specs.List.{Contains, All, filter, flat_map, list_all}
-use Rattle.std.specs.Ordering.{is_lt}
 use Rattle.std.proofs.lemmas.Bool.{false≢true, eqb-true, eq-eqb}
-use Rattle.std.proofs.lemmas.List.Elements.{filter-append, All-contains}
-use Rattle.std.proofs.lemmas.List.{map-append}
+use Rattle.std.proofs.lemmas.List.Elements.{All-contains, Contains-get_or}
+use Rattle.std.proofs.lemmas.List.{map-append, append-nil}
 use Rattle.choice_problem.specs.declared.variable.Var.{Var}
 use Rattle.choice_problem.specs.declared.problem.Choice.{Choice}
 use Rattle.choice_problem.specs.declared.problem.Demand.{Demand}
-use Rattle.choice_problem.specs.Variable.{var_cmp, same_var}
-use Rattle.choice_problem.specs.Problem.{Problem, IsChoice, IsDemand, IsRoot, IsOwned, Lawful}
+use Rattle.choice_problem.specs.Variable.{same_var}
+use Rattle.choice_problem.specs.Problem.{ProblemOf, Problem, IsChoice, IsDemand, IsRoot, IsOwned, Lawful}
 use Rattle.choice_problem.specs.Assignment.{Assignment, is_one_of, is_made, is_yes}
-use Rattle.choice_problem.specs.Trail.{value_in, demands_after, opens, lesser, least_from, next_var, choice_of}
+use Rattle.choice_problem.specs.General.{Request, General, IsRootRequest, IsOwnedRequest, LawfulGeneral, owner_of, request_of, general}
+use Rattle.choice_problem.specs.Holds.{HoldsWithin}
+use Rattle.choice_problem.specs.Trail.{value_in, demands_after, opens, next_var, with_next, with_value, choice_of, trail_from}
 use Rattle.choice_problem.specs.SameVariable.{same_var-is, same_var-refl}
-use Rattle.choice_problem.specs.Lists.{contains-head, contains-tail, contains-none, contains-cases, contains-left, contains-right, contains-append, contains-flat_map, flat_map-contains, contains-map, contains-filter, filter-none, and-left, and-right, all-at, all-from}
+use Rattle.choice_problem.specs.Lists.{contains-head, contains-tail, contains-none, contains-cases, contains-left, contains-right, contains-append, contains-flat_map, flat_map-contains, contains-map, map-contains, without, contains-filter, filter-none, and-left, and-right, all-at, all-from}
+use Rattle.choice_problem.proofs.Order.{least-is, least-none}
 
 -- a trail as a map
 
@@ -116,58 +118,18 @@ pub passes-yes : (A : Assignment) (trail : List Choice) (d : Demand) → Passes 
 passes-yes A trail d passes h =
     all-from (is_made A) d.when (λ c k. is_made-from A c (passes-value A trail c.var c.val passes (is_made-is (value_in trail) c (all-at (is_made (value_in trail)) d.when c h k))))
 
--- the least of some variables
+-- the variables that are open
 
-least_from-some : (v : Var) (vars : List Var) → least_from (Some v) vars ≡ None → ⊥
-least_from-some v [] h = cc h
-least_from-some v (w ∷ vars) h =
-    elim (is_lt (var_cmp w v)) as (λ b. least_from (cond b (Some w) (Some v)) vars ≡ None → ⊥) [
-      | true ↦ λ k. least_from-some w vars k
-      | false ↦ λ k. least_from-some v vars k
-    ] h
-
-pub least_from-none : (vars : List Var) → least_from None vars ≡ None → vars ≡ []
-least_from-none [] h = refl
-least_from-none (v ∷ vars) h = absurd (least_from-some v vars h)
-
-least_from-best : (v : Var) (vars : List Var) (w : Var) → least_from (Some v) vars ≡ Some w → Contains (v ∷ vars) w
-least_from-best v [] w h = subst (λ x. Contains (v ∷ []) x) (cc h) (contains-head v [])
-least_from-best v (u ∷ vars) w h =
-    elim (is_lt (var_cmp u v)) as (λ b. least_from (cond b (Some u) (Some v)) vars ≡ Some w → Contains (v ∷ u ∷ vars) w) [
-      | true ↦ λ k. contains-tail v (u ∷ vars) w (least_from-best u vars w k)
-      | false ↦ λ k. elim (contains-cases v vars w (least_from-best v vars w k)) [
-        | inl e ↦ subst (λ x. Contains (v ∷ u ∷ vars) x) e (contains-head v (u ∷ vars))
-        | inr r ↦ contains-tail v (u ∷ vars) w (contains-tail u vars w r)
-      ]
-    ] h
-
-pub least_from-member : (vars : List Var) (w : Var) → least_from None vars ≡ Some w → Contains vars w
-least_from-member [] w h = absurd (cc h)
-least_from-member (v ∷ vars) w h = least_from-best v vars w h
-
-pub least_from-append : (best : Option Var) (xs ys : List Var) → least_from best (xs ++ ys) ≡ least_from (least_from best xs) ys
-least_from-append best [] ys = refl
-least_from-append best (x ∷ xs) ys = least_from-append (lesser best x) xs ys
-
-abbrev pub targets_open : List Choice → List Demand → List Var
-targets_open trail demands = map (λ d. d.target) (filter (opens trail) demands)
-
-pub targets_open-append : (trail : List Choice) (xs ys : List Demand) → targets_open trail (xs ++ ys) ≡ targets_open trail xs ++ targets_open trail ys
-targets_open-append trail xs ys = ap (map (λ d. d.target)) (filter-append (opens trail) xs ys) ∙ map-append (λ (d : Demand). d.target) (filter (opens trail) xs) (filter (opens trail) ys)
-
--- the least of one list after another
-pub least_open-append : (trail : List Choice) (best : Option Var) (xs ys : List Demand)
-    → least_from (least_from best (targets_open trail xs)) (targets_open trail ys) ≡ least_from best (targets_open trail (xs ++ ys))
-least_open-append trail best xs ys =
-    sym (ap (least_from best) (targets_open-append trail xs ys) ∙ least_from-append best (targets_open trail xs) (targets_open trail ys))
+abbrev pub targets_open : List Choice → List Request → List Var
+targets_open trail requests = map (λ r. r.target) (filter (opens trail) requests)
 
 -- the least open variable is the target of a demand that opens it
-pub next-opens : (p : Problem) (trail : List Choice) (v : Var) → next_var p trail ≡ Some v
-    → (d : Demand) × Contains (demands_after p trail) d × (opens trail d ≡ true) × (d.target ≡ v)
+pub next-opens : (g : General) (trail : List Choice) (v : Var) → next_var g trail ≡ Some v
+    → (r : Request) × Contains (demands_after g trail) r × (opens trail r ≡ true) × (r.target ≡ v)
 unfolding next_var
-next-opens p trail v h =
-    let found = contains-map (λ (d : Demand). d.target) (filter (opens trail) (demands_after p trail)) v (least_from-member (targets_open trail (demands_after p trail)) v h) in
-    let kept = contains-filter (opens trail) (demands_after p trail) found.0 found.1 in
+next-opens g trail v h =
+    let found = contains-map (λ (r : Request). r.target) (filter (opens trail) (demands_after g trail)) v (least-is (targets_open trail (demands_after g trail)) v h).0 in
+    let kept = contains-filter (opens trail) (demands_after g trail) found.0 found.1 in
     (found.0, kept.0, kept.1, found.2)
 
 map-nil : {X Y : Type 0} (f : X → Y) (xs : List X) → map f xs ≡ [] → xs ≡ []
@@ -175,25 +137,25 @@ map-nil f [] h = refl
 map-nil f (x ∷ xs) h = absurd (cc h)
 
 -- where none is open, no demand opens one
-pub next-none : (p : Problem) (trail : List Choice) → next_var p trail ≡ None → (d : Demand) → Contains (demands_after p trail) d → opens trail d ≡ false
+pub next-none : (g : General) (trail : List Choice) → next_var g trail ≡ None → (r : Request) → Contains (demands_after g trail) r → opens trail r ≡ false
 unfolding next_var
-next-none p trail h d k =
-    filter-none (opens trail) (demands_after p trail)
-    (map-nil (λ (e : Demand). e.target) (filter (opens trail) (demands_after p trail)) (least_from-none (targets_open trail (demands_after p trail)) h)) d k
+next-none g trail h r k =
+    filter-none (opens trail) (demands_after g trail)
+    (map-nil (λ (e : Request). e.target) (filter (opens trail) (demands_after g trail)) (least-none (targets_open trail (demands_after g trail)) h)) r k
 
 pub none-is : {X : Type 0} (o : Option X) → is_none o ≡ true → o ≡ None
 none-is None h = refl
 none-is (Some x) h = absurd (false≢true h)
 
 -- it isn't chosen yet
-pub next-unchosen : (p : Problem) (trail : List Choice) (v : Var) → next_var p trail ≡ Some v → value_in trail v ≡ None
-next-unchosen p trail v h =
-    let found = next-opens p trail v h in
-    subst (λ w. value_in trail w ≡ None) found.3 (none-is (value_in trail found.0.target) (and-right (is_yes (value_in trail) found.0) (is_none (value_in trail found.0.target)) found.2))
+pub next-unchosen : (g : General) (trail : List Choice) (v : Var) → next_var g trail ≡ Some v → value_in trail v ≡ None
+next-unchosen g trail v h =
+    let found = next-opens g trail v h in
+    subst (λ w. value_in trail w ≡ None) found.3 (none-is (value_in trail found.0.target) (and-right (found.0.is_yes (value_in trail)) (is_none (value_in trail found.0.target)) found.2))
 
 -- the demands so far
 
-pub demand-after : (p : Problem) (trail : List Choice) (d : Demand) → All (IsChoice p) trail → Contains (demands_after p trail) d → IsDemand p d
+pub demand-after : {D : Type 0} (p : ProblemOf D) (trail : List Choice) (d : D) → All (IsChoice p) trail → Contains (demands_after p trail) d → IsDemand p d
 demand-after p trail d choices h =
     elim (contains-append p.roots (flat_map p.demands trail) d h) [
       | inl l ↦ inl l
@@ -202,15 +164,159 @@ demand-after p trail d choices h =
           inr (found.0, All-contains (IsChoice p) trail found.0 choices found.1, found.2)
     ]
 
-pub target-known : (p : Problem) (d : Demand) → Lawful p → IsDemand p d → IsTrue (p.known d.target)
-target-known p d lawful (inl root) = (All-contains (IsRoot p) p.roots d lawful.roots root).target
-target-known p d lawful (inr (owner, is, owns)) = (All-contains (IsOwned p owner) (p.demands owner) d (lawful.demands owner is) owns).target
+pub target-known : (g : General) (r : Request) → LawfulGeneral g → IsDemand g r → IsTrue (g.known r.target)
+target-known g r lawful (inl root) = (All-contains (IsRootRequest g) g.roots r lawful.roots root).target
+target-known g r lawful (inr (owner, is, owns)) = (All-contains (IsOwnedRequest g owner) (g.demands owner) r (lawful.demands owner is) owns).target
 
 -- a demand that is Yes under a trail is one of those so far
-pub yes-after : (p : Problem) (trail : List Choice) (d : Demand) → Lawful p → IsDemand p d → is_yes (value_in trail) d ≡ true → Contains (demands_after p trail) d
-yes-after p trail d lawful (inl root) h = contains-left p.roots (flat_map p.demands trail) d root
-yes-after p trail d lawful (inr (owner, is, owns)) h =
-    let owned = All-contains (IsOwned p owner) (p.demands owner) d (lawful.demands owner is) owns in
-    let first = subst (λ l. list_all (is_made (value_in trail)) l ≡ true) owned.condition h in
-    let made = is_made-is (value_in trail) owner (and-left (is_made (value_in trail) owner) (list_all (is_made (value_in trail)) owned.others) first) in
-    contains-right p.roots (flat_map p.demands trail) d (flat_map-contains p.demands trail owner d (value_in-made trail owner.var owner.val made) owns)
+pub yes-after : (g : General) (trail : List Choice) (r : Request) → LawfulGeneral g → IsDemand g r → r.is_yes (value_in trail) ≡ true → Contains (demands_after g trail) r
+yes-after g trail r lawful (inl root) h = contains-left g.roots (flat_map g.demands trail) r root
+yes-after g trail r lawful (inr (owner, is, owns)) h =
+    let owned = All-contains (IsOwnedRequest g owner) (g.demands owner) r (lawful.demands owner is) owns in
+    contains-right g.roots (flat_map g.demands trail) r
+    (flat_map-contains g.demands trail owner r (value_in-made trail owner.var owner.val (owned.chosen (value_in trail) h)) owns)
+
+-- how many known variables may still be chosen
+
+module _ (g : General) (lawful : LawfulGeneral g) where
+  pub record Room (fuel : ℕ) (trail : List Choice) : Type 0 where
+    pub unchosen : List Var
+    pub count : length unchosen ≤ fuel
+    pub each : (v : Var) → IsTrue (g.known v) → value_in trail v ≡ None → Contains unchosen v
+
+  pub room-start : Room g.bound []
+  room-start = record { unchosen = lawful.bounded.variables; count = lawful.bounded.count; each = λ v k none. lawful.bounded.each v k }
+
+  pub next-known : (trail : List Choice) (v : Var) → All (IsChoice g) trail → next_var g trail ≡ Some v → IsTrue (g.known v)
+  next-known trail v choices h =
+      let found = next-opens g trail v h in
+      subst (λ w. IsTrue (g.known w)) found.3 (target-known g found.0 lawful (demand-after g trail found.0 choices found.1))
+
+  pub room-zero : (trail : List Choice) (v : Var) → All (IsChoice g) trail → next_var g trail ≡ Some v → Room zero trail → ⊥
+  room-zero trail v choices h room =
+      let found = without room.unchosen v (room.each v (next-known trail v choices h) (next-unchosen g trail v h)) in
+      omega (arith, found.1, room.count)
+
+  pub room-next : (fuel : ℕ) (trail : List Choice) (v : Var) (n : ℕ) → All (IsChoice g) trail → next_var g trail ≡ Some v → Room (suc fuel) trail → Room fuel (trail ++ choice_of v n ∷ [])
+  room-next fuel trail v n choices h room =
+      let unchosen = next-unchosen g trail v h in
+      let found = without room.unchosen v (room.each v (next-known trail v choices h) unchosen) in
+      record {
+        unchosen = found.0;
+        count = omega (arith, found.1, room.count);
+        each = λ w k none. found.2 w (room.each w k (value_in-none trail (choice_of v n ∷ []) w none))
+            (λ same. let made : None ≡ Some n = sym none ∙ ap (value_in (trail ++ choice_of v n ∷ [])) (sym same) ∙ value_in-new trail [] v n unchosen in cc made);
+      }
+
+  -- the choices of a trail that an assignment makes, which holds
+  pub passes-choices : (set : Var → Bool) (A : Assignment) → HoldsWithin g set A → (trail : List Choice) → Passes A trail → All (IsChoice g) trail
+  passes-choices set A holds trail passes k d h = holds.assignment.choice (get_or trail k d) (passes (get_or trail k d) (Contains-get_or trail k d h))
+
+-- the steps of a trail
+
+pub trail-step : (g : General) (A : Assignment) (fuel : ℕ) (trail : List Choice) (v : Var) (n : ℕ) → next_var g trail ≡ Some v → A v ≡ Some n
+    → trail_from (suc fuel) g A trail ≡ trail_from fuel g A (trail ++ choice_of v n ∷ [])
+trail-step g A fuel trail v n next made =
+    ap (λ o. with_next o trail (λ w. with_value (A w) trail (λ m. trail_from fuel g A (trail ++ choice_of w m ∷ [])))) next
+    ∙ ap (λ o. with_value o trail (λ m. trail_from fuel g A (trail ++ choice_of v m ∷ []))) made
+
+pub trail-end : (g : General) (A : Assignment) (fuel : ℕ) (trail : List Choice) → next_var g trail ≡ None → trail_from (suc fuel) g A trail ≡ trail
+trail-end g A fuel trail next = ap (λ o. with_next o trail (λ w. with_value (A w) trail (λ m. trail_from fuel g A (trail ++ choice_of w m ∷ [])))) next
+
+-- a trail ends where A has no value for the next variable
+pub trail-stop : (g : General) (A : Assignment) (fuel : ℕ) (trail : List Choice) (v : Var) → next_var g trail ≡ Some v → A v ≡ None → trail_from (suc fuel) g A trail ≡ trail
+trail-stop g A fuel trail v next none =
+    ap (λ o. with_next o trail (λ w. with_value (A w) trail (λ m. trail_from fuel g A (trail ++ choice_of w m ∷ [])))) next
+    ∙ ap (λ o. with_value o trail (λ m. trail_from fuel g A (trail ++ choice_of v m ∷ []))) none
+
+pub trail-front : (g : General) (A : Assignment) (fuel : ℕ) (trail : List Choice) → (more : List Choice) × (trail_from fuel g A trail ≡ trail ++ more)
+trail-front g A zero trail = ([], sym (append-nil trail))
+trail-front g A (suc fuel) trail =
+    elim (next_var g trail) as (λ o. (more : List Choice) × (with_next o trail (λ v. with_value (A v) trail (λ n. trail_from fuel g A (trail ++ choice_of v n ∷ []))) ≡ trail ++ more)) [
+      | None ↦ ([], sym (append-nil trail))
+      | Some v ↦ elim (A v) as (λ o. (more : List Choice) × (with_value o trail (λ n. trail_from fuel g A (trail ++ choice_of v n ∷ [])) ≡ trail ++ more)) [
+        | None ↦ ([], sym (append-nil trail))
+        | Some n ↦ let rest = trail-front g A fuel (trail ++ choice_of v n ∷ []) in (choice_of v n ∷ rest.0, rest.1 ∙ append_assoc trail (choice_of v n ∷ []) rest.0)
+      ]
+    ]
+
+pub passes-trail : (g : General) (A : Assignment) (fuel : ℕ) (trail : List Choice) → Passes A trail → Passes A (trail_from fuel g A trail)
+passes-trail g A zero trail passes = passes
+passes-trail g A (suc fuel) trail passes =
+    elim (next_var g trail) as (λ o. Passes A (with_next o trail (λ v. with_value (A v) trail (λ n. trail_from fuel g A (trail ++ choice_of v n ∷ []))))) [
+      | None ↦ passes
+      | Some v ↦ elim (A v) as (λ o. A v ≡ o → Passes A (with_value o trail (λ n. trail_from fuel g A (trail ++ choice_of v n ∷ [])))) [
+        | None ↦ λ e. passes
+        | Some n ↦ λ e. passes-trail g A fuel (trail ++ choice_of v n ∷ []) (passes-push A trail (choice_of v n) passes e)
+      ] refl
+    ]
+
+-- a problem that is searched, as a general one
+
+module _ (p : Problem) where
+  pub choice-general : (c : Choice) → IsChoice p c → IsChoice (general p) c
+  choice-general c is = record { variable = is.variable; value = is.value }
+
+  pub choice-plain : (c : Choice) → IsChoice (general p) c → IsChoice p c
+  choice-plain c is = record { variable = is.variable; value = is.value }
+
+  pub choices-general : (trail : List Choice) → All (IsChoice p) trail → All (IsChoice (general p)) trail
+  choices-general trail choices k d h = choice-general (get_or trail k d) (choices k d h)
+
+  pub choices-plain : (trail : List Choice) → All (IsChoice (general p)) trail → All (IsChoice p) trail
+  choices-plain trail choices k d h = choice-plain (get_or trail k d) (choices k d h)
+
+  pub demand-general : (d : Demand) → IsDemand p d → IsDemand (general p) (request_of d)
+  demand-general d (inl root) = inl (map-contains request_of p.roots d root)
+  demand-general d (inr (owner, is, owns)) = inr (owner, choice-general owner is, map-contains request_of (p.demands owner) d owns)
+
+  pub demand-plain : (r : Request) → IsDemand (general p) r → (d : Demand) × IsDemand p d × (request_of d ≡ r)
+  demand-plain r (inl root) = let found = contains-map request_of p.roots r root in (found.0, inl found.1, found.2)
+  demand-plain r (inr (owner, is, owns)) =
+      let found = contains-map request_of (p.demands owner) r owns in
+      (found.0, inr (owner, choice-plain owner is, found.1), found.2)
+
+  map-demands : (trail : List Choice) → map request_of (flat_map p.demands trail) ≡ flat_map (λ owner. map request_of (p.demands owner)) trail
+  map-demands [] = refl
+  map-demands (c ∷ trail) = map-append request_of (p.demands c) (flat_map p.demands trail) ∙ ap (λ l. map request_of (p.demands c) ++ l) (map-demands trail)
+
+  -- the demands so far are the same
+  pub demands-general : (trail : List Choice) → demands_after (general p) trail ≡ map request_of (demands_after p trail)
+  demands-general trail = sym (map-append request_of p.roots (flat_map p.demands trail) ∙ ap (λ l. map request_of p.roots ++ l) (map-demands trail))
+
+  pub after-general : (trail : List Choice) (d : Demand) → Contains (demands_after p trail) d → Contains (demands_after (general p) trail) (request_of d)
+  after-general trail d h = subst (λ l. Contains l (request_of d)) (sym (demands-general trail)) (map-contains request_of (demands_after p trail) d h)
+
+  pub after-plain : (trail : List Choice) (r : Request) → Contains (demands_after (general p) trail) r → (d : Demand) × Contains (demands_after p trail) d × (request_of d ≡ r)
+  after-plain trail r h = contains-map request_of (demands_after p trail) r (subst (λ l. Contains l r) (demands-general trail) h)
+
+  -- what is Yes under a trail is Yes under what makes its choices
+  pub passes-yes-general : (A : Assignment) (trail : List Choice) (r : Request) → IsDemand (general p) r → Passes A trail → r.is_yes (value_in trail) ≡ true → r.is_yes A ≡ true
+  passes-yes-general A trail r is passes =
+      let plain = demand-plain r is in
+      subst (λ x. x.is_yes (value_in trail) ≡ true → x.is_yes A ≡ true) plain.2 (passes-yes A trail plain.0 passes)
+
+  root-request : (d : Demand) → IsRoot p d → IsRootRequest (general p) (request_of d)
+  root-request d is = record { owner = ap owner_of is.condition; target = is.target }
+
+  -- an owned demand that is Yes has its owner made
+  pub owner-made : (A : Assignment) (owner : Choice) (d : Demand) → IsOwned p owner d → is_yes A d ≡ true → A owner.var ≡ Some owner.val
+  owner-made A owner d owned h =
+      is_made-is A owner (and-left (is_made A owner) (list_all (is_made A) owned.others) (subst (λ l. list_all (is_made A) l ≡ true) owned.condition h))
+
+  owned-request : (owner : Choice) (d : Demand) → IsOwned p owner d → IsOwnedRequest (general p) owner (request_of d)
+  owned-request owner d owned = record { owner_is = ap owner_of owned.condition; target = owned.target; chosen = λ A h. owner-made A owner d owned h }
+
+  all-mapped : (P : Demand → Type 0) (Q : Request → Type 0) (ds : List Demand) → ((d : Demand) → P d → Q (request_of d)) → All P ds → All Q (map request_of ds)
+  all-mapped P Q ds f all k x h =
+      let found = contains-map request_of ds (get_or (map request_of ds) k x) (Contains-get_or (map request_of ds) k x h) in
+      subst Q found.2 (f found.0 (All-contains P ds found.0 all found.1))
+
+  -- the laws are kept
+  pub general-lawful : Lawful p → LawfulGeneral (general p)
+  general-lawful lawful = record {
+    bounded = record { variables = lawful.bounded.variables; count = lawful.bounded.count; each = lawful.bounded.each };
+    order = λ v known trail choices. lawful.order v known trail (choices-plain trail choices);
+    roots = all-mapped (IsRoot p) (IsRootRequest (general p)) p.roots root-request lawful.roots;
+    demands = λ owner is. all-mapped (IsOwned p owner) (IsOwnedRequest (general p) owner) (p.demands owner) (owned-request owner) (lawful.demands owner (choice-plain owner is));
+  }

@@ -1,10 +1,9 @@
--- Assignments, what they hold within, and sets that admit none.
-use Rattle.std.specs.Prelude.{◌≡◌, ℕ, Bool, false, nat_eq, IsTrue, IsFalse, List, [], ◌∷◌, Option, Some, None}
+-- Assignments, and the demands that they make and meet.
+use Rattle.std.specs.Prelude.{ℕ, Bool, false, nat_eq, List, [], ◌∷◌, Option, Some, None}
 use Rattle.std.specs.List.{list_all, list_any}
 use Rattle.choice_problem.specs.declared.variable.Var.{Var}
 use Rattle.choice_problem.specs.declared.problem.Choice.{Choice}
 use Rattle.choice_problem.specs.declared.problem.Demand.{Demand}
-use Rattle.choice_problem.specs.Problem.{Problem, IsChoice, IsDemand}
 
 -- a partial map from variables to values
 abbrev pub Assignment : Type 0
@@ -26,18 +25,3 @@ is_yes A d = list_all (is_made A) d.when
 -- its target has an allowed value
 abbrev pub is_met : Assignment → Demand → Bool
 is_met A d = is_one_of (A d.target) d.allowed
-
--- the values are those of known variables of the set, and of their domains
-pub record IsAssignmentIn (p : Problem) (set : Var → Bool) (A : Assignment) : Type 0 where
-  pub inside : (v : Var) (n : ℕ) → A v ≡ Some n → IsTrue (set v)
-  pub choice : (c : Choice) → A c.var ≡ Some c.val → IsChoice p c
-
--- A gives values to variables of the set alone, and within it breaks nothing
-pub record HoldsWithin (p : Problem) (set : Var → Bool) (A : Assignment) : Type 0 where
-  pub assignment : IsAssignmentIn p set A
-  pub unbarred : (c : Choice) → A c.var ≡ Some c.val → IsFalse (p.barred c)
-  pub met : (d : Demand) → IsDemand p d → IsTrue (is_yes A d) → IsTrue (set d.target) → IsTrue (is_met A d)
-
--- no assignment holds within the set
-abbrev pub AdmitsNone : Problem → (Var → Bool) → Type 0
-AdmitsNone p set = (A : Assignment) → HoldsWithin p set A → ⊥

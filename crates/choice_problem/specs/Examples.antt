@@ -1,34 +1,51 @@
 -- The definitions on small problems, computed.
-use Rattle.std.specs.Prelude.{◌≡◌, ℕ, Bool, true, false, cond, ◌&&◌, ◌||◌, nat_eq, nat_lt, List, [], ◌∷◌, Option, Some, None, refl}
-use Rattle.std.proofs.Common.{sym}
-use Rattle.std.proofs.lemmas.Bool.{false≢true}
+use Rattle.std.specs.Prelude.{◌≡◌, ℕ, true, false, cond, ◌||◌, nat_eq, List, [], ◌∷◌, Option, Some, None, refl}
+use Rattle.plan_types.specs.declared.limit.Limit.TheVariants.{Unlimited, At}
 use Rattle.choice_problem.specs.declared.variable.Qual.TheVariants.{Top}
-use Rattle.choice_problem.specs.declared.variable.Part.TheVariants.{Package}
+use Rattle.choice_problem.specs.declared.variable.Part.TheVariants.{Package, Flag}
 use Rattle.choice_problem.specs.declared.variable.Var.{Var}
 use Rattle.choice_problem.specs.declared.problem.Choice.{Choice}
 use Rattle.choice_problem.specs.declared.problem.Demand.{Demand}
+use Rattle.choice_problem.specs.declared.written.WrittenVar.{WrittenVar}
+use Rattle.choice_problem.specs.declared.outcome.Outcome.TheVariants as outcome
 use Rattle.choice_problem.specs.Problem.{Problem}
-use Rattle.choice_problem.specs.Assignment.{Assignment, is_yes, is_met, HoldsWithin}
+use Rattle.choice_problem.specs.Assignment.{Assignment, is_yes, is_met}
+use Rattle.choice_problem.specs.General.{general}
 use Rattle.choice_problem.specs.Trail.{next_var, trail_of, choice_of}
-use Rattle.choice_problem.specs.Plain.{ComesBefore}
+use Rattle.choice_problem.specs.Valid.{ComesBefore}
+use Rattle.choice_problem.specs.ConflictSet.{set_of, has}
+use Rattle.choice_problem.specs.Active.{made_active, active, least_open, reason}
+use Rattle.choice_problem.specs.Conflict.{circular, conflict}
+use Rattle.choice_problem.specs.Answer.{Found, Failed, GaveUp, counts_of, answer_of, plain_count, outcome_of}
+use Rattle.choice_problem.specs.Written.{problem_of}
 
--- the package with this number, at top level
+-- a package at top level, and one of its flags, by their numbers
 abbrev package_var : ℕ → Var
 package_var n = record { qual = Top; «package» = n; part = Package }
+
+abbrev flag_var : ℕ → ℕ → Var
+flag_var n m = record { qual = Top; «package» = n; part = Flag m }
 
 abbrev choice : ℕ → ℕ → Choice
 choice n m = choice_of (package_var n) m
 
--- the owner asks for a package
+-- a package with this order of values, none of them barred
+abbrev values : ℕ → List ℕ → WrittenVar
+values n order = record { var = package_var n; order = order; barred = [] }
+
+-- a root, and a demand of one owner
+abbrev root : ℕ → List ℕ → Demand
+root n allowed = record { when = []; target = package_var n; allowed = allowed }
+
 abbrev asks : Choice → ℕ → List ℕ → Demand
 asks owner n allowed = record { when = owner ∷ []; target = package_var n; allowed = allowed }
 
 -- an assignment by the packages' numbers
 abbrev by_number : (ℕ → Option ℕ) → Assignment
-by_number values v = values v.«package»
+by_number numbers v = numbers v.«package»
 
--- Packages in goal order: a, b, c, main, and a fifth that is barred and that nothing asks for. main asks for b
--- and c; b's value 1 asks for c's value 0, which asks for the fifth; b's value 0 asks for a.
+-- A late goal. Packages in goal order: a, b, c, main, and a fifth without values. main asks for b and c; b's value 1
+-- asks for c's value 0, which asks for the fifth; b's value 0 asks for a.
 abbrev a : ℕ
 a = 0
 
@@ -44,46 +61,34 @@ main = 3
 abbrev gone : ℕ
 gone = 4
 
-abbrev owned : ℕ → ℕ → List Demand
-owned n m =
-    cond (nat_eq n main) (asks (choice main m) b (0 ∷ 1 ∷ []) ∷ asks (choice main m) c (0 ∷ 1 ∷ []) ∷ [])
-    (cond (nat_eq n b && nat_eq m 1) (asks (choice b 1) c (0 ∷ []) ∷ [])
-    (cond (nat_eq n b && nat_eq m 0) (asks (choice b 0) a (0 ∷ 1 ∷ []) ∷ [])
-    (cond (nat_eq n c && nat_eq m 0) (asks (choice c 0) gone (0 ∷ []) ∷ []) [])))
-
 abbrev late : Problem
-late = record {
-  bound = 5;
-  known = λ v. nat_lt v.«package» 5;
-  domain = λ v. cond (nat_lt v.«package» 3) 2 1;
-  roots = record { when = []; target = package_var main; allowed = 0 ∷ [] } ∷ [];
-  order = λ v trail. cond (nat_lt v.«package» 3) (1 ∷ 0 ∷ []) (0 ∷ []);
-  barred = λ ch. nat_eq ch.var.«package» gone;
-  demands = λ owner. owned owner.var.«package» owner.val;
-}
+late = problem_of
+    (values a (1 ∷ 0 ∷ []) ∷ values b (1 ∷ 0 ∷ []) ∷ values c (1 ∷ 0 ∷ []) ∷ values main (0 ∷ []) ∷ values gone [] ∷ [])
+    (root main (0 ∷ []) ∷ [])
+    (asks (choice main 0) b (0 ∷ 1 ∷ []) ∷ asks (choice main 0) c (0 ∷ 1 ∷ []) ∷ asks (choice b 1) c (0 ∷ [])
+    ∷ asks (choice b 0) a (0 ∷ 1 ∷ []) ∷ asks (choice c 0) gone [] ∷ [])
 
 -- main, then b's value 0, then a, which is smaller in goal order and opens late, then c
 abbrev plan : Assignment
 plan = by_number (λ n. cond (nat_eq n main) (Some 0) (cond (nat_eq n b) (Some 0) (cond (nat_eq n a) (Some 1) (cond (nat_eq n c) (Some 1) None))))
 
-pub late_trail : trail_of late plan ≡ choice main 0 ∷ choice b 0 ∷ choice a 1 ∷ choice c 1 ∷ []
+abbrev plan_trail : List Choice
+plan_trail = choice main 0 ∷ choice b 0 ∷ choice a 1 ∷ choice c 1 ∷ []
+
+pub late_trail : trail_of (general late) plan ≡ plan_trail
 unfolding next_var
 late_trail = refl
 
 -- before any choice main alone is open, and then b, before c
-pub first_open : next_var late [] ≡ Some (package_var main)
+pub first_open : next_var (general late) [] ≡ Some (package_var main)
 unfolding next_var
 first_open = refl
 
-pub second_open : next_var late (choice main 0 ∷ []) ≡ Some (package_var b)
-unfolding next_var
-second_open = refl
-
-pub a_opens : next_var late (choice main 0 ∷ choice b 0 ∷ []) ≡ Some (package_var a)
+pub a_opens : next_var (general late) (choice main 0 ∷ choice b 0 ∷ []) ≡ Some (package_var a)
 unfolding next_var
 a_opens = refl
 
-pub none_open : next_var late (choice main 0 ∷ choice b 0 ∷ choice a 1 ∷ choice c 1 ∷ []) ≡ None
+pub none_open : next_var (general late) plan_trail ≡ None
 unfolding next_var
 none_open = refl
 
@@ -91,21 +96,9 @@ none_open = refl
 abbrev short : Assignment
 short = by_number (λ n. cond (nat_eq n main || nat_eq n b) (Some 0) (cond (nat_eq n c) (Some 1) None))
 
-pub short_trail : trail_of late short ≡ choice main 0 ∷ choice b 0 ∷ []
+pub short_trail : trail_of (general late) short ≡ choice main 0 ∷ choice b 0 ∷ []
 unfolding next_var
 short_trail = refl
-
--- the fifth package isn't in the trail of an assignment that gives it a value, since nothing asks for it
-abbrev idle : Assignment
-idle = by_number (λ n. cond (nat_eq n c || nat_eq n a) (Some 1) (Some 0))
-
-pub idle_trail : trail_of late idle ≡ choice main 0 ∷ choice b 0 ∷ choice a 1 ∷ choice c 1 ∷ []
-unfolding next_var
-idle_trail = refl
-
--- and its value is barred, so that assignment holds within no set
-pub barred_value : (set : Var → Bool) → HoldsWithin late set idle → ⊥
-barred_value set h = false≢true (sym (h.unbarred (choice gone 0) refl))
 
 -- b's value 1 asks for c's value 0: the demand is Yes and isn't met
 abbrev clash : Assignment
@@ -125,7 +118,7 @@ partly_made = refl
 abbrev worse : Assignment
 worse = by_number (λ n. cond (nat_eq n main || nat_eq n b || nat_eq n c) (Some 0) (cond (nat_eq n a) (Some 1) None))
 
-pub better : ComesBefore late plan worse
+pub better : ComesBefore (general late) plan worse
 unfolding next_var
 better = record {
   common = choice main 0 ∷ choice b 0 ∷ choice a 1 ∷ [];
@@ -138,3 +131,121 @@ better = record {
   trail_of_B = refl;
   earlier = ([], [], [], refl);
 }
+
+-- the search tries seven values: b's value 1 makes c's value 1 break a demand, and c's value 0 asks for what is gone
+pub late_found : answer_of late Unlimited ≡ record { ended = Found plan_trail; counts = counts_of 7 2 }
+unfolding answer_of least_open reason conflict circular made_active active
+late_found = refl
+
+-- sets are in goal order, with each variable once
+pub set : set_of (package_var 2 ∷ package_var 0 ∷ flag_var 0 1 ∷ package_var 2 ∷ []) ≡ package_var 0 ∷ flag_var 0 1 ∷ package_var 2 ∷ []
+set = refl
+
+pub in_set : has (set_of (package_var 2 ∷ package_var 0 ∷ [])) (package_var 1) ≡ false
+in_set = refl
+
+-- A demand of an earlier owner that becomes active late. The package 0 asks for 1 and, with its flag on, for 2, which
+-- asks for 3; the package 1 asks for 2 and then for 3.
+abbrev flagged : Demand
+flagged = record { when = choice 0 0 ∷ choice_of (flag_var 0 0) 1 ∷ []; target = package_var 2; allowed = 1 ∷ [] }
+
+abbrev flag_root : Demand
+flag_root = record { when = []; target = flag_var 0 0; allowed = 0 ∷ 1 ∷ [] }
+
+abbrev order : Problem
+order = problem_of
+    (values 0 (0 ∷ []) ∷ record { var = flag_var 0 0; order = 1 ∷ 0 ∷ []; barred = [] } ∷ values 1 (0 ∷ []) ∷ values 2 (0 ∷ []) ∷ values 3 (0 ∷ []) ∷ [])
+    (root 0 (0 ∷ []) ∷ flag_root ∷ [])
+    (flagged ∷ asks (choice 0 0) 1 (0 ∷ []) ∷ asks (choice 1 0) 2 (0 ∷ []) ∷ [])
+
+-- the flag is chosen last: the flagged demand comes first in its owner's list, and is active last
+abbrev flag_last : List Choice
+flag_last = choice 0 0 ∷ choice 1 0 ∷ choice_of (flag_var 0 0) 1 ∷ []
+
+pub active_late : active order flag_last ≡ root 0 (0 ∷ []) ∷ flag_root ∷ asks (choice 0 0) 1 (0 ∷ []) ∷ asks (choice 1 0) 2 (0 ∷ []) ∷ flagged ∷ []
+unfolding made_active active
+active_late = refl
+
+-- so the reason of 2 is 1, which asked for it first
+pub first_reason : reason order flag_last (package_var 2) ≡ package_var 1 ∷ []
+unfolding made_active active reason
+first_reason = refl
+
+-- and with the flag before 1 it is 0 and the flag
+pub flag_reason : reason order (choice 0 0 ∷ choice_of (flag_var 0 0) 1 ∷ choice 1 0 ∷ []) (package_var 2) ≡ package_var 0 ∷ flag_var 0 0 ∷ []
+unfolding made_active active reason
+flag_reason = refl
+
+-- The four rules of a conflict.
+
+abbrev rules : Problem
+rules = problem_of
+    (values 0 (0 ∷ []) ∷ record { var = package_var 1; order = 0 ∷ 1 ∷ 2 ∷ []; barred = 2 ∷ [] } ∷ values 2 (0 ∷ []) ∷ [])
+    (root 0 (0 ∷ []) ∷ root 2 (0 ∷ []) ∷ [])
+    (asks (choice 0 0) 1 (0 ∷ 2 ∷ []) ∷ asks (choice 1 0) 2 [] ∷ [])
+
+pub by_bar : conflict rules (choice 0 0 ∷ []) (choice 1 2) ≡ Some (package_var 1 ∷ [])
+unfolding conflict circular made_active active
+by_bar = refl
+
+-- the package 0 is active already and doesn't allow 1's value 1
+pub by_refusal : conflict rules (choice 0 0 ∷ []) (choice 1 1) ≡ Some (package_var 0 ∷ package_var 1 ∷ [])
+unfolding conflict circular made_active active
+by_refusal = refl
+
+-- the demand of 1's value 0 becomes active, and doesn't allow what 2 has
+pub by_breach : conflict rules (choice 0 0 ∷ choice 2 0 ∷ []) (choice 1 0) ≡ Some (package_var 1 ∷ package_var 2 ∷ [])
+unfolding conflict circular made_active active
+by_breach = refl
+
+-- as long as 2 isn't chosen it does no harm
+pub no_conflict : conflict rules (choice 0 0 ∷ []) (choice 1 0) ≡ None
+unfolding conflict circular made_active active
+no_conflict = refl
+
+-- 0 asks for 1, which asks back where its flag is on: the set of the cycle has the flag, and 3 lies on none
+abbrev asks_back : Demand
+asks_back = record { when = choice 1 0 ∷ choice_of (flag_var 1 0) 1 ∷ []; target = package_var 0; allowed = 0 ∷ [] }
+
+abbrev ring : Problem
+ring = problem_of
+    (values 0 (0 ∷ []) ∷ values 1 (0 ∷ []) ∷ record { var = flag_var 1 0; order = 1 ∷ 0 ∷ []; barred = [] } ∷ values 3 (0 ∷ []) ∷ [])
+    (root 0 (0 ∷ []) ∷ [])
+    (asks (choice 0 0) 1 (0 ∷ []) ∷ asks (choice 0 0) 3 (0 ∷ [])
+    ∷ record { when = choice 1 0 ∷ []; target = flag_var 1 0; allowed = 0 ∷ 1 ∷ [] } ∷ asks_back ∷ [])
+
+pub by_cycle : conflict ring (choice 0 0 ∷ choice 1 0 ∷ []) (choice_of (flag_var 1 0) 1) ≡ Some (package_var 0 ∷ package_var 1 ∷ flag_var 1 0 ∷ [])
+unfolding conflict circular made_active active
+by_cycle = refl
+
+pub off_cycle : conflict ring (choice 0 0 ∷ choice 1 0 ∷ []) (choice_of (flag_var 1 0) 0) ≡ None
+unfolding conflict circular made_active active
+off_cycle = refl
+
+-- Backjumps and counts. The packages 0 to 2 are asked for, and what 3 asks for isn't allowed by 0's only value, so that
+-- the points of 1 and 2 are left at once.
+abbrev far : Problem
+far = problem_of
+    (values 0 (0 ∷ 1 ∷ []) ∷ values 1 (0 ∷ 1 ∷ []) ∷ values 2 (0 ∷ 1 ∷ []) ∷ values 3 (0 ∷ []) ∷ [])
+    (root 0 (0 ∷ 1 ∷ []) ∷ root 1 (0 ∷ 1 ∷ []) ∷ root 2 (0 ∷ 1 ∷ []) ∷ root 3 (0 ∷ []) ∷ [])
+    (asks (choice 3 0) 0 [] ∷ [])
+
+-- each value of 0 tries 1, 2 and 3 once: three exhausted points, of which the last is the first one
+pub far_failed : answer_of far Unlimited ≡ record { ended = Failed (package_var 0 ∷ package_var 3 ∷ []); counts = counts_of 8 3 }
+unfolding answer_of least_open reason conflict circular made_active active
+far_failed = refl
+
+-- without leaving a point early there are more tries
+pub far_plain : plain_count far ≡ 22
+unfolding plain_count least_open reason conflict circular made_active active
+far_plain = refl
+
+-- the limit 1 is met at the second exhausted point, which isn't counted
+pub far_limit : answer_of far (At 1) ≡ record { ended = GaveUp; counts = counts_of 8 1 }
+unfolding answer_of least_open reason conflict circular made_active active
+far_limit = refl
+
+-- the limit 2 is met at the first point alone, which never gives up
+pub first_point : outcome_of (answer_of far (At 2)) ≡ outcome.NoPlan (package_var 0 ∷ package_var 3 ∷ []) (counts_of 8 3)
+unfolding answer_of least_open reason conflict circular made_active active
+first_point = refl

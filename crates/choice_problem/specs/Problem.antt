@@ -4,23 +4,27 @@ use Rattle.choice_problem.specs.declared.variable.Var.{Var}
 use Rattle.choice_problem.specs.declared.problem.Choice.{Choice}
 use Rattle.choice_problem.specs.declared.problem.Demand.{Demand}
 
--- the answers of a problem; at most bound variables are known
-pub record Problem : Type 0 where
+-- the answers of a problem with demands of some kind; at most bound variables are known
+pub record ProblemOf (D : Type 0) : Type 0 where
   pub bound : ℕ
   pub known : Var → Bool
   pub domain : Var → ℕ
-  pub roots : List Demand
+  pub roots : List D
   pub order : Var → List Choice → List ℕ
   pub barred : Choice → Bool
-  pub demands : Choice → List Demand
+  pub demands : Choice → List D
+
+-- a problem that is searched: the condition of a demand is a list of choices
+abbrev pub Problem : Type 0
+Problem = ProblemOf Demand
 
 -- the variable is known, and the value is one of its domain
-pub record IsChoice (p : Problem) (c : Choice) : Type 0 where
+pub record IsChoice {D : Type 0} (p : ProblemOf D) (c : Choice) : Type 0 where
   pub variable : IsTrue (p.known c.var)
   pub value : c.val < p.domain c.var
 
 -- d is a root, or a choice owns it
-abbrev pub IsDemand : Problem → Demand → Type 0
+abbrev pub IsDemand : {D : Type 0} → ProblemOf D → D → Type 0
 IsDemand p d = Contains p.roots d ⊎ ((owner : Choice) × IsChoice p owner × Contains (p.demands owner) d)
 
 -- each number below n once, and no other
@@ -28,6 +32,16 @@ pub record IsOrderBelow (n : ℕ) (values : List ℕ) : Type 0 where
   pub below : All (λ x. x < n) values
   pub each : (x : ℕ) → x < n → Contains values x
   pub once : AllPairs (λ x y. x ≢ y) values
+
+-- a list of at most bound variables that holds each known one
+pub record IsBounded {D : Type 0} (p : ProblemOf D) : Type 0 where
+  pub variables : List Var
+  pub count : length variables ≤ p.bound
+  pub each : (v : Var) → IsTrue (p.known v) → Contains variables v
+
+-- the order of a known variable has each value of its domain once
+abbrev pub IsOrdered : {D : Type 0} → ProblemOf D → Type 0
+IsOrdered p = (v : Var) → IsTrue (p.known v) → (trail : List Choice) → All (IsChoice p) trail → IsOrderBelow (p.domain v) (p.order v trail)
 
 -- c is of a part of the owner's package, under the same qualifier
 pub record IsBeside (owner c : Choice) : Type 0 where
@@ -46,15 +60,9 @@ pub record IsOwned (p : Problem) (owner : Choice) (d : Demand) : Type 0 where
   pub beside : All (IsBeside owner) others
   pub target : IsTrue (p.known d.target)
 
--- a list of at most bound variables that holds each known one
-pub record IsBounded (p : Problem) : Type 0 where
-  pub variables : List Var
-  pub count : length variables ≤ p.bound
-  pub each : (v : Var) → IsTrue (p.known v) → Contains variables v
-
 -- the laws
 pub record Lawful (p : Problem) : Type 0 where
   pub bounded : IsBounded p
-  pub order : (v : Var) → IsTrue (p.known v) → (trail : List Choice) → All (IsChoice p) trail → IsOrderBelow (p.domain v) (p.order v trail)
+  pub order : IsOrdered p
   pub roots : All (IsRoot p) p.roots
   pub demands : (owner : Choice) → IsChoice p owner → All (IsOwned p owner) (p.demands owner)

@@ -3,10 +3,10 @@ use Rattle.std.specs.Prelude.{ℕ, zero, suc, Bool, cond, ◌&&◌, List, [], �
 use Rattle.std.specs.Ordering.{is_lt}
 use Rattle.choice_problem.specs.declared.variable.Var.{Var}
 use Rattle.choice_problem.specs.declared.problem.Choice.{Choice}
-use Rattle.choice_problem.specs.declared.problem.Demand.{Demand}
 use Rattle.choice_problem.specs.Variable.{var_cmp, same_var}
-use Rattle.choice_problem.specs.Problem.{Problem}
-use Rattle.choice_problem.specs.Assignment.{Assignment, is_yes}
+use Rattle.choice_problem.specs.Assignment.{Assignment}
+use Rattle.choice_problem.specs.Problem.{ProblemOf}
+use Rattle.choice_problem.specs.General.{Request, General}
 
 -- the choices of a trail as a map
 abbrev pub value_in : List Choice → Assignment
@@ -14,12 +14,12 @@ value_in [] v = None
 value_in (c ∷ trail) v = cond (same_var c.var v) (Some c.val) (value_in trail v)
 
 -- the demands so far: the roots, and those that the choices own
-abbrev pub demands_after : Problem → List Choice → List Demand
+abbrev pub demands_after : {D : Type 0} → ProblemOf D → List Choice → List D
 demands_after p trail = p.roots ++ flat_map p.demands trail
 
 -- whether a demand is Yes under the choices so far, and its target isn't chosen yet
-abbrev pub opens : List Choice → Demand → Bool
-opens trail d = is_yes (value_in trail) d && is_none (value_in trail d.target)
+abbrev pub opens : List Choice → Request → Bool
+opens trail r = r.is_yes (value_in trail) && is_none (value_in trail r.target)
 
 -- the lesser of two variables in goal order, of which the first may be missing
 abbrev pub lesser : Option Var → Var → Option Var
@@ -31,9 +31,9 @@ abbrev pub least_from : Option Var → List Var → Option Var
 least_from best [] = best
 least_from best (v ∷ vars) = least_from (lesser best v) vars
 
--- the least open variable: a target that isn't chosen yet, of a demand that is Yes
-unfoldable pub next_var : Problem → List Choice → Option Var
-next_var p trail = least_from None (map (λ d. d.target) (filter (opens trail) (demands_after p trail)))
+-- the least variable that isn't chosen yet and is the target of a demand that is Yes
+unfoldable pub next_var : General → List Choice → Option Var
+next_var g trail = least_from None (map (λ r. r.target) (filter (opens trail) (demands_after g trail)))
 
 abbrev pub choice_of : Var → ℕ → Choice
 choice_of v n = record { var = v; val = n }
@@ -49,11 +49,11 @@ with_value None none some = none
 with_value (Some n) none some = some n
 
 -- a trail, followed by the choices that A makes for the next open variables, at most fuel many
-abbrev pub trail_from : ℕ → Problem → Assignment → List Choice → List Choice
-trail_from zero p A trail = trail
-trail_from (suc fuel) p A trail =
-    with_next (next_var p trail) trail (λ v. with_value (A v) trail (λ n. trail_from fuel p A (trail ++ choice_of v n ∷ [])))
+abbrev pub trail_from : ℕ → General → Assignment → List Choice → List Choice
+trail_from zero g A trail = trail
+trail_from (suc fuel) g A trail =
+    with_next (next_var g trail) trail (λ v. with_value (A v) trail (λ n. trail_from fuel g A (trail ++ choice_of v n ∷ [])))
 
 -- no trail is longer than the number of known variables
-abbrev pub trail_of : Problem → Assignment → List Choice
-trail_of p A = trail_from p.bound p A []
+abbrev pub trail_of : General → Assignment → List Choice
+trail_of g A = trail_from g.bound g A []

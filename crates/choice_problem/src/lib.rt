@@ -1,15 +1,25 @@
 //! Problems of choices. A problem has variables with numbered values, values that are barred, and demands: a
-//! demand asks that its target has one of some values, once all choices of its `when` are made. `plain_search`
-//! answers with the trail of the first of all whole valid assignments, or says that there is none.
+//! demand asks that its target has one of some values, once all choices of its `when` are made. What is valid, which
+//! of the valid assignments is the first, which set of choices is to blame where there is none, and what a search
+//! counts on its way are definitions, and this crate proves the laws that join them.
 #![tactic(auto)]
 
-mod plain;
+mod conflict_set;
+mod laws;
+mod outcome;
 mod problem;
-mod search;
+mod steps;
 mod variable;
 mod written;
 
-pub use plain::{Plain, one_first, plain_search};
+pub use conflict_set::ConflictSet;
+pub use laws::{
+    conflicts_are_sound, ends_right, failures_are_sound, general_is_lawful, limit_only_gives_up,
+    one_first, plain_count_is_most, valid_alike,
+};
+pub use outcome::{Counts, Outcome};
+pub use plan_types::Limit;
 pub use problem::{Choice, Choices, Demand};
-pub use variable::{Part, Qual, Var};
+pub use steps::Steps;
+pub use variable::{Part, Qual, Var, is_same};
 pub use written::{Written, WrittenVar};

@@ -1,3 +1,6 @@
+ghost use Rattle.std.specs.Prelude.{◌≡◌};
+ghost use Rattle.choice_problem.specs.Variable.{same_var};
+
 /// Where a package is chosen: at top level, in the setup of a package, or for a tool of a package.
 #[derive(Clone, Copy, Debug, Drop, PartialEq, Eq, PartialOrd, Ord, Hash)]
 pub enum Qual {
@@ -23,4 +26,11 @@ pub struct Var {
     pub qual: Qual,
     pub package: u64,
     pub part: Part,
+}
+
+/// Whether two variables are one, by the goal order's own test.
+pub fn is_same(v: Var, w: Var) -> bool
+    ensures { result ≡ same_var v w }
+{
+    v.cmp(&w).is_eq()
 }

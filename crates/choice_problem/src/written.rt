@@ -2,8 +2,7 @@ ghost use Rattle.std.specs.Prelude.{◌≡◌, ◌&&◌, IfOk, IsTrue, MatchOpti
 ghost use Rattle.std.specs.List.{list_all};
 ghost use Rattle.choice_problem.specs.Written.{is_among, is_listed, order_of, barred_of, begins_with, problem_of, AreLawful, has_each_below, is_once, is_order, are_listed_once, is_beside, is_empty, is_condition, are_lawful};
 
-use crate::search::is_same;
-use crate::{Choice, Choices, Demand, Var};
+use crate::{Choice, Choices, Demand, Var, is_same};
 use plan_types::{List, NoMemory};
 use std::alloc::Global;
 

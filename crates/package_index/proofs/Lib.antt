@@ -3,3 +3,4 @@ pub mod InTurn
 pub mod Kept
 pub mod Progress
 pub mod TooMany
+mod OneReading

@@ -235,3 +235,8 @@ fn earlier(first: Option<IndexFault>, fault: IndexFault) -> Option<IndexFault>
 pub fn a_part_too_many()
     ensures { (files : Files) (local : PlainFile) (names : List Bytes) → IsTooMany files local → IsClosure files local names → reads_too_many files names ≡ true }
 {}
+
+/// What the index is read as for a local package is one.
+pub fn one_reading()
+    ensures { (files : Files) (local : PlainFile) (a b : Reading) → IsReading files local a → IsReading files local b → a ≡ b }
+{}

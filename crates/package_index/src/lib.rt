@@ -8,7 +8,7 @@ mod releases;
 mod totals;
 mod trouble;
 
-pub use index::{Package, Reading, a_part_too_many, read_index};
+pub use index::{Package, Reading, a_part_too_many, one_reading, read_index};
 pub use trouble::Trouble;
 
 #[cfg(test)]

@@ -1,2 +1,3 @@
-pub mod Demands
-pub mod Outcomes
+mod Demands
+mod OneAnswer
+mod Outcomes

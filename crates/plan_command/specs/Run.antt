@@ -1,9 +1,15 @@
 -- The answer of a folder, and what a run leaves in the sink.
-use Rattle.std.specs.Prelude.{◌≡◌, false, List, codes, Result, Ok, Err, Option, Some, None, MatchBool}
+use Rattle.std.specs.Prelude.{◌≡◌, ◌⊎◌, false, List, codes, Result, Ok, Err, Option, Some, None, MatchBool}
 use Rattle.plan_types.specs.declared.refusal.Cause.TheVariants.{NoPackages, TooLarge, Unbuilt}
+use Rattle.choice_problem.specs.declared.variable.Var.{Var}
+use Rattle.choice_problem.specs.declared.outcome.Counts.{Counts}
 use Rattle.choice_problem.specs.Assignment.{Assignment}
+use Rattle.choice_problem.specs.General.{general}
+use Rattle.choice_problem.specs.Holds.{AdmitsNone}
 use Rattle.choice_problem.specs.Trail.{trail_of}
-use Rattle.choice_problem.specs.Plain.{IsFirst, IsWholeValid}
+use Rattle.choice_problem.specs.Valid.{IsFirst, IsWholeValid}
+use Rattle.choice_problem.specs.ConflictSet.{has}
+use Rattle.choice_problem.specs.Answer.{GaveUp, answer_of}
 use Rattle.outside_folder.specs.Files.{Bytes, Files}
 use Rattle.outside_folder.specs.Sink.{Appends, AppendsPrefix}
 use Rattle.plain_file.specs.declared.file.PlainFile.{PlainFile}
@@ -16,20 +22,21 @@ use Rattle.package_index.specs.Index.{IsReading}
 use Rattle.plan_command.specs.declared.answer.Answer.{Answer}
 use Rattle.plan_command.specs.declared.status.Status.{Status}
 use Rattle.plan_command.specs.declared.status.Status.TheVariants as status
-use Rattle.plan_command.specs.Answer.{refused, usage, read_of, is_plan}
+use Rattle.plan_command.specs.declared.output.Output.{Output}
+use Rattle.plan_command.specs.Answer.{refused, output_of, usage, read_of, is_plan}
 use Rattle.plan_command.specs.FolderProblem.{problem_of}
-use Rattle.plan_command.specs.Plan.{IsPlanOf}
+use Rattle.plan_command.specs.Plan.{limit, searched}
 use Rattle.plan_command.specs.Root.{root_names, cabal_file, unbuilt_name}
-use Rattle.plan_command.specs.Text.{trail_text, no_plan_text}
+use Rattle.plan_command.specs.Text.{plan_text, conflict_text, gave_up_text}
 
 -- the answer to what the index was read as
-abbrev pub IsAnswerOfReading : Reading → Answer → Type 0
-IsAnswerOfReading (Refused path line cause) answer = answer ≡ refused path line cause
-IsAnswerOfReading (Read packages) answer = IsPlanOf packages answer
+abbrev pub answer_of_reading : Reading → Answer
+answer_of_reading (Refused path line cause) = refused path line cause
+answer_of_reading (Read packages) = searched packages
 
 -- the answer to what the index is read as for a local file
 abbrev pub IsAnswerOfIndex : Files → PlainFile → Answer → Type 0
-IsAnswerOfIndex files local answer = (reading : Reading) × IsReading files local reading × IsAnswerOfReading reading answer
+IsAnswerOfIndex files local answer = (reading : Reading) × IsReading files local reading × (answer ≡ answer_of_reading reading)
 
 -- the answer to what a local file is read as
 abbrev pub IsAnswerOfFile : Files → Bytes → Result PlainFile LineFault → Answer → Type 0
@@ -54,20 +61,29 @@ IsAnswerOfRoot files (Some path) answer = answer ≡ refused path 0 Unbuilt
 unfoldable pub IsAnswerOfFolder : Files → Answer → Type 0
 IsAnswerOfFolder files answer = IsAnswerOfRoot files (unbuilt_name false (root_names files)) answer
 
--- the answer to words over a folder
-abbrev pub IsAnswerOf : List Bytes → Files → Answer → Type 0
-IsAnswerOf words files answer = MatchBool (is_plan words) (IsAnswerOfFolder files answer) (answer ≡ usage)
+-- what is printed of the answer to a folder
+abbrev pub IsOutputOfFolder : Files → Output → Type 0
+IsOutputOfFolder files output = (answer : Answer) × IsAnswerOfFolder files answer × (output ≡ output_of answer)
 
--- What a run leaves in the sink: nothing after a failed read or for want of memory, a prefix of an answer's
--- text after a failed write, and else the whole text, with the answer's status.
-abbrev pub Prints : (Answer → Type 0) → Option Bytes → Option Bytes → Status → Type 0
-Prints IsAnswer old new status.ReadFault = new ≡ old
-Prints IsAnswer old new status.NoMemory = new ≡ old
-Prints IsAnswer old new status.WriteFault = (answer : Answer) × IsAnswer answer × AppendsPrefix old new answer.text
-Prints IsAnswer old new status.Planned = (answer : Answer) × IsAnswer answer × (status.Planned ≡ answer.status) × Appends old new answer.text
-Prints IsAnswer old new status.NoPlan = (answer : Answer) × IsAnswer answer × (status.NoPlan ≡ answer.status) × Appends old new answer.text
-Prints IsAnswer old new status.Refused = (answer : Answer) × IsAnswer answer × (status.Refused ≡ answer.status) × Appends old new answer.text
-Prints IsAnswer old new status.Usage = (answer : Answer) × IsAnswer answer × (status.Usage ≡ answer.status) × Appends old new answer.text
+-- what is printed for words over a folder
+abbrev pub IsOutputOf : List Bytes → Files → Output → Type 0
+IsOutputOf words files output = MatchBool (is_plan words) (IsOutputOfFolder files output) (output ≡ usage)
+
+-- an answer's output, or the usage line: a refusal's line, a plan's lines, a conflict's, those of giving up
+abbrev pub HasForm : Output → Type 0
+HasForm output = ((answer : Answer) × (output ≡ output_of answer)) ⊎ (output ≡ usage)
+
+-- What a run leaves in the sink: nothing after a failed read or for want of memory, a prefix of an output's
+-- text after a failed write, and else the whole text, with the output's status.
+abbrev pub Prints : (Output → Type 0) → Option Bytes → Option Bytes → Status → Type 0
+Prints IsOutput old new status.ReadFault = new ≡ old
+Prints IsOutput old new status.NoMemory = new ≡ old
+Prints IsOutput old new status.WriteFault = (output : Output) × IsOutput output × AppendsPrefix old new output.text
+Prints IsOutput old new status.Planned = (output : Output) × IsOutput output × (status.Planned ≡ output.status) × Appends old new output.text
+Prints IsOutput old new status.NoPlan = (output : Output) × IsOutput output × (status.NoPlan ≡ output.status) × Appends old new output.text
+Prints IsOutput old new status.GaveUp = (output : Output) × IsOutput output × (status.GaveUp ≡ output.status) × Appends old new output.text
+Prints IsOutput old new status.Refused = (output : Output) × IsOutput output × (status.Refused ≡ output.status) × Appends old new output.text
+Prints IsOutput old new status.Usage = (output : Output) × IsOutput output × (status.Usage ≡ output.status) × Appends old new output.text
 
 -- The files make these packages to choose from: nothing is refused, and the index was read from the local file on.
 pub record MakesPackages (files : Files) (packages : List Package) : Type 0 where
@@ -80,17 +96,30 @@ pub record MakesPackages (files : Files) (packages : List Package) : Type 0 wher
   pub plain : plain_file None bytes ≡ Ok local
   pub reading : IsReading files local (Read packages)
 
--- The lines of the first of all whole valid assignments of the problem that the files make.
+-- The lines of the first of all whole valid assignments of the problem that the files make, and some counts.
 pub record PlansFirst (files : Files) (old new : Option Bytes) : Type 0 where
   pub packages : List Package
   pub made : MakesPackages files packages
   pub assignment : Assignment
-  pub first : IsFirst (problem_of packages) assignment
-  pub printed : Appends old new (trail_text packages (trail_of (problem_of packages) assignment))
+  pub first : IsFirst (general (problem_of packages)) assignment
+  pub counts : Counts
+  pub printed : Appends old new (plan_text packages (trail_of (general (problem_of packages)) assignment) counts)
 
--- The problem that the files make has no whole valid assignment.
+-- The problem that the files make has no whole valid assignment, and the variables that are printed admit none by
+-- themselves.
 pub record HasNone (files : Files) (old new : Option Bytes) : Type 0 where
   pub packages : List Package
   pub made : MakesPackages files packages
-  pub none : (assignment : Assignment) → IsWholeValid (problem_of packages) assignment → ⊥
-  pub printed : Appends old new no_plan_text
+  pub none : (assignment : Assignment) → IsWholeValid (general (problem_of packages)) assignment → ⊥
+  pub set : List Var
+  pub admits_none : AdmitsNone (general (problem_of packages)) (has set)
+  pub counts : Counts
+  pub printed : Appends old new (conflict_text packages set counts)
+
+-- A search over the problem that the files make meets its limit.
+pub record GivesUp (files : Files) (old new : Option Bytes) : Type 0 where
+  pub packages : List Package
+  pub made : MakesPackages files packages
+  pub ended : (answer_of (problem_of packages) limit).ended ≡ GaveUp
+  pub counts : Counts
+  pub printed : Appends old new (gave_up_text counts)

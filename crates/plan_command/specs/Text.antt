@@ -4,7 +4,9 @@ use Rattle.std.specs.Fmt.{decimal}
 use Rattle.plan_types.specs.declared.refusal.Cause.{Cause}
 use Rattle.plan_types.specs.declared.refusal.Cause.TheVariants.{NotUtf8, StrayBrace, UnclosedBrace, BadName, TooDeep, BadVersion, BadRange, NeedsVersion, BadCond, BadDepend, BadConstraint, NoPackages, TooLarge, TooMany, Unbuilt}
 use Rattle.plan_types.specs.declared.refusal.Refusal.{Refusal}
+use Rattle.choice_problem.specs.declared.variable.Var.{Var}
 use Rattle.choice_problem.specs.declared.problem.Choice.{Choice}
+use Rattle.choice_problem.specs.declared.outcome.Counts.{Counts}
 use Rattle.outside_folder.specs.Files.{Bytes}
 use Rattle.package_index.specs.declared.index.Package.{Package}
 use Rattle.plan_command.specs.FolderProblem.{no_package, release_at}
@@ -60,5 +62,22 @@ choice_line packages choice =
 abbrev pub trail_text : List Package → List Choice → Bytes
 trail_text packages trail = codes "plan" ++ 10 ∷ flat_map (choice_line packages) trail
 
-abbrev pub no_plan_text : Bytes
-no_plan_text = codes "no plan" ++ 10 ∷ []
+abbrev pub counts_line : Counts → Bytes
+counts_line counts = codes "visited " ++ decimal counts.visited ++ codes " exhausted " ++ decimal counts.exhausted ++ 10 ∷ []
+
+abbrev pub plan_text : List Package → List Choice → Counts → Bytes
+plan_text packages trail counts = trail_text packages trail ++ counts_line counts
+
+-- a variable of a set stands behind a blank, by the name of its package
+abbrev pub named_var : List Package → Var → Bytes
+named_var packages v = 32 ∷ (slice_index_or packages v.«package» no_package).name
+
+abbrev pub conflict_line : List Package → List Var → Bytes
+conflict_line packages set = codes "conflict" ++ flat_map (named_var packages) set
+
+-- the choices that can't be met together, in goal order
+abbrev pub conflict_text : List Package → List Var → Counts → Bytes
+conflict_text packages set counts = codes "no plan" ++ 10 ∷ conflict_line packages set ++ 10 ∷ counts_line counts
+
+abbrev pub gave_up_text : Counts → Bytes
+gave_up_text counts = codes "gave up" ++ 10 ∷ counts_line counts

@@ -1,25 +1,29 @@
-// The answer of a folder is made whole before anything is written.
-ghost use Rattle.std.specs.Prelude.{◌≡◌, ◌≢◌, ◌≤◌, None, IfOk, IfSome, IsErrOf};
+// The way from a folder to its answer, which carries what was found. Its text is made at the end.
+ghost use Rattle.std.specs.Prelude.{◌≡◌, ◌≤◌, None, IfOk, IfSome, IsErrOf};
 ghost use Rattle.outside_folder.specs.Faults.{Rose};
 ghost use Rattle.plain_file.specs.File.{plain_file};
-ghost use Rattle.plan_command.specs.Answer.{IsMade, refused, read_of};
-ghost use Rattle.plan_command.specs.Run.{IsAnswerOfReading, IsAnswerOfIndex, IsAnswerOfFile, IsAnswerOfBytes, IsAnswerOfFolder};
+ghost use Rattle.plan_command.specs.Answer.{refused, read_of};
+ghost use Rattle.plan_command.specs.Run.{answer_of_reading, IsAnswerOfIndex, IsAnswerOfFile, IsAnswerOfBytes, IsAnswerOfFolder};
 
-use crate::Status;
-use crate::plan::plan_of;
+use crate::plan::searched;
 use crate::root::{cabal_file, root_names, unbuilt_name};
-use crate::text::text_of_refusal;
+use backjump::Outcome;
 use outside_folder::{Folder, FolderFault};
-use package_index::{Reading, Trouble, read_index};
+use package_index::{Package, Reading, Trouble, read_index};
 use plain_file::{PlainFile, plain_file};
 use plan_types::{Cause, Fault, List, NoMemory, Refusal, Text};
 use std::alloc::Global;
 
-/// What a run is to print, and the status that it ends with.
+/// What a run found.
 #[derive(Debug, Drop)]
-pub(crate) struct Answer {
-    pub status: Status,
-    pub text: Text,
+pub(crate) enum Answer {
+    /// The input is refused.
+    Refused(Refusal),
+    /// A search over these packages ended: with a plan, a conflict, or at its limit.
+    Searched {
+        packages: List<Package>,
+        outcome: Outcome,
+    },
 }
 
 /// The answer to the command `plan`.
@@ -27,8 +31,6 @@ pub(crate) struct Answer {
 pub(crate) fn answer_of_folder<F: Folder>(alloc: Global, folder: &mut F) -> Result<Answer, Trouble>
     ensures told { IfSome (F.tells folder.old) (λ files. IfOk result (IsAnswerOfFolder files)) }
     ensures failed { IsErrOf result Trouble.Failed → Rose (F.faults folder.old) (F.faults folder.new) }
-    ensures made { IfOk result (λ answer. IsMade answer.status) }
-    ensures read { IfOk result (λ answer. answer.status ≢ Status.Usage) }
 {
     let names = root_names(alloc, folder)?;
     if let Some(path) = unbuilt_name(names.as_slice()) {
@@ -43,8 +45,6 @@ pub(crate) fn answer_of_folder<F: Folder>(alloc: Global, folder: &mut F) -> Resu
 fn answer_of_local<F: Folder>(alloc: Global, folder: &mut F, path: &str) -> Result<Answer, Trouble>
     ensures told { IfSome (F.tells folder.old) (λ files. IfOk result (IsAnswerOfBytes files path.now (read_of files path.now))) }
     ensures failed { IsErrOf result Trouble.Failed → Rose (F.faults folder.old) (F.faults folder.new) }
-    ensures made { IfOk result (λ answer. IsMade answer.status) }
-    ensures read { IfOk result (λ answer. answer.status ≢ Status.Usage) }
 {
     match read_file(alloc, folder, path)? {
         None => Ok(refused(alloc, path, 0, Cause::TooLarge)?),
@@ -60,8 +60,6 @@ fn answer_of_bytes<F: Folder>(
 ) -> Result<Answer, Trouble>
     ensures told { IfSome (F.tells folder.old) (λ files. IfOk result (IsAnswerOfFile files path.now (plain_file None bytes.now))) }
     ensures failed { IsErrOf result Trouble.Failed → Rose (F.faults folder.old) (F.faults folder.new) }
-    ensures made { IfOk result (λ answer. IsMade answer.status) }
-    ensures read { IfOk result (λ answer. answer.status ≢ Status.Usage) }
 {
     match plain_file(alloc, None, bytes) {
         Ok(local) => answer_of_index(alloc, folder, local),
@@ -77,8 +75,6 @@ fn answer_of_index<F: Folder>(
 ) -> Result<Answer, Trouble>
     ensures told { IfSome (F.tells folder.old) (λ files. IfOk result (IsAnswerOfIndex files local)) }
     ensures failed { IsErrOf result Trouble.Failed → Rose (F.faults folder.old) (F.faults folder.new) }
-    ensures made { IfOk result (λ answer. IsMade answer.status) }
-    ensures read { IfOk result (λ answer. answer.status ≢ Status.Usage) }
 {
     let reading = read_index(alloc, folder, local)?;
     let answer = answer_of_reading(alloc, reading)?;
@@ -86,13 +82,11 @@ fn answer_of_index<F: Folder>(
 }
 
 fn answer_of_reading(alloc: Global, reading: Reading) -> Result<Answer, NoMemory>
-    ensures answer { IfOk result (IsAnswerOfReading reading) }
-    ensures made { IfOk result (λ answer. IsMade answer.status) }
-    ensures read { IfOk result (λ answer. answer.status ≢ Status.Usage) }
+    ensures { IfOk result (λ answer. answer ≡ answer_of_reading reading) }
 {
     match reading {
         Reading::Refused { path, line, cause } => refused(alloc, path.as_str(), line, cause),
-        Reading::Read(packages) => plan_of(alloc, packages),
+        Reading::Read(packages) => searched(alloc, packages),
     }
 }
 
@@ -117,18 +111,12 @@ pub(crate) fn read_file<F: Folder>(
 }
 
 fn refused(alloc: Global, path: &str, line: u32, cause: Cause) -> Result<Answer, NoMemory>
-    ensures answer { IfOk result (λ answer. answer ≡ refused path.now line cause) }
-    ensures made { IfOk result (λ answer. IsMade answer.status) }
-    ensures read { IfOk result (λ answer. answer.status ≢ Status.Usage) }
+    ensures { IfOk result (λ answer. answer ≡ refused path.now line cause) }
 {
-    let refusal = Refusal {
+    Ok(Answer::Refused(Refusal {
         path: Text::from_str(alloc, path)?,
         line,
         cause,
         detail: Text::new(alloc),
-    };
-    Ok(Answer {
-        status: Status::Refused,
-        text: text_of_refusal(alloc, &refusal)?,
-    })
+    }))
 }

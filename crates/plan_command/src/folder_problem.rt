@@ -3,22 +3,22 @@ ghost use Rattle.std.specs.Prelude.{◌≡◌, length, unwrap_or, IfOk, ℕ, Lis
 ghost use Rattle.std.specs.Ordering.{nat_cmp};
 ghost use Rattle.std.specs.Cmp.Lexicographic.{slice_cmp};
 ghost use Rattle.std.specs.BTreeMap as tree;
-ghost use Rattle.plan_command.specs.FolderProblem.{rising, falling, releases_of, number_of, is_below, meets, meeting, variable, is_known, root_of};
+ghost use Rattle.plan_command.specs.FolderProblem.{rising, falling, releases_of, release_at, number_of, is_below, meets, meeting, variable, is_known, root_of};
 ghost use Rattle.plan_command.specs.Resolved.{table_of};
 
-use crate::resolved::{Resolved, demands_of, needs_at, table_of};
+use crate::resolved::{demands_of, table_of, targets_at};
 use choice_problem::{Choice, Choices, Demand, Part, Qual, Var};
 use package_index::Package;
-use plain_file::{Bound, PlainFile};
+use plain_file::{Bound, Need, PlainFile};
 use plan_types::{List, NoMemory, Text, Version};
 use std::alloc::Global;
 use std::collections::BTreeMap;
 
-/// The problem that packages make. The needs in the table are those of the packages.
+/// The problem that packages make, with the numbers of the names that their files need.
 #[derive(Debug, Drop)]
 pub(crate) struct FolderProblem {
     pub packages: List<Package>,
-    table: List<List<List<Resolved>>>,
+    table: List<List<List<u64>>>,
     ghost resolved: { table ≡ table_of packages },
 }
 
@@ -63,8 +63,10 @@ impl Choices for FolderProblem {
     }
 
     fn demands(&self, alloc: Global, owner: Choice) -> Result<List<Demand>, NoMemory> {
-        let needs = needs_at(self.table.as_slice(), owner.var.package, owner.val);
-        demands_of(alloc, owner, needs)
+        let packages = self.packages.as_slice();
+        let needs = needs_of(packages, owner.var.package, owner.val);
+        let targets = targets_at(self.table.as_slice(), owner.var.package, owner.val);
+        demands_of(alloc, packages, owner, needs, targets)
     }
 }
 
@@ -90,6 +92,16 @@ pub(crate) fn releases_of(packages: &[Package], number: u64) -> &[PlainFile]
 {
     match packages.get(number as usize) {
         Some(found) => found.releases.as_slice(),
+        None => &[],
+    }
+}
+
+/// What the release of a package asks for.
+fn needs_of(packages: &[Package], number: u64, release: u64) -> &[Need]
+    ensures { result.now ≡ (release_at packages.now number release).needs }
+{
+    match releases_of(packages, number).get(release as usize) {
+        Some(file) => file.needs.as_slice(),
         None => &[],
     }
 }

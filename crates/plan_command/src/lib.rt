@@ -5,6 +5,7 @@
 mod answer;
 mod command;
 mod folder_problem;
+mod output;
 mod plan;
 mod resolved;
 mod root;
@@ -12,6 +13,7 @@ mod status;
 mod text;
 
 pub use command::{print_usage, run};
+pub use output::one_answer;
 pub use status::{Status, code_of};
 
 #[cfg(test)]

@@ -1,40 +1,44 @@
-ghost use Rattle.std.specs.Prelude.{◌≡◌, ◌≢◌, IfOk};
-ghost use Rattle.plan_command.specs.Answer.{IsMade};
-ghost use Rattle.plan_command.specs.Plan.{IsPlanOf, answer_of_plain};
+ghost use Rattle.std.specs.Prelude.{◌≡◌, ◌<◌, IfOk};
+ghost use Rattle.choice_problem.specs.Answer.{answer_of, outcome_of};
+ghost use Rattle.plan_command.specs.FolderProblem.{problem_of};
+ghost use Rattle.plan_command.specs.Plan.{limit, searched};
 
-use crate::Status;
 use crate::answer::Answer;
 use crate::folder_problem::FolderProblem;
-use crate::text::{NO_PLAN, text_of_trail};
-use choice_problem::{Plain, plain_search};
+use backjump::{Outcome, search};
+use choice_problem::{Limit, Steps};
 use package_index::Package;
-use plan_types::{List, NoMemory, Text};
+use plan_types::{List, NoMemory};
 use std::alloc::Global;
+use std::marker::Brand;
+use std::sync::ledger::{Blank, Ledger};
 
-/// The plan of the packages that were read, of which the first is the local one.
-pub(crate) fn plan_of(alloc: Global, packages: List<Package>) -> Result<Answer, NoMemory>
-    ensures plan { IfOk result (IsPlanOf packages) }
-    ensures made { IfOk result (λ answer. IsMade answer.status) }
-    ensures read { IfOk result (λ answer. answer.status ≢ Status.Usage) }
+/// How many exhausted points a search counts before it gives up.
+const LIMIT: Limit = Limit::At(4000);
+
+/// What a search finds for the packages that were read, of which the first is the local one.
+pub(crate) fn searched(alloc: Global, packages: List<Package>) -> Result<Answer, NoMemory>
+    ensures { IfOk result (λ answer. answer ≡ searched packages) }
 {
     let problem = FolderProblem::new(alloc, packages)?;
-    let plain = plain_search(alloc, &problem)?;
-    answer_of_plain(alloc, problem.packages.as_slice(), &plain)
+    let outcome = outcome_of::<Brand>(alloc, &problem, Blank::new(1))?;
+    Ok(Answer::Searched {
+        packages: problem.packages,
+        outcome,
+    })
 }
 
-fn answer_of_plain(alloc: Global, packages: &[Package], plain: &Plain) -> Result<Answer, NoMemory>
-    ensures answer { IfOk result (λ answer. answer ≡ answer_of_plain packages.now plain.now) }
-    ensures made { IfOk result (λ answer. IsMade answer.status) }
-    ensures read { IfOk result (λ answer. answer.status ≢ Status.Usage) }
+// The tries are counted over a ledger of the search's own.
+fn outcome_of<L: Ledger>(
+    alloc: Global,
+    problem: &FolderProblem,
+    blank: Blank,
+) -> Result<Outcome, NoMemory>
+    requires name { blank.name ≡ L.name }
+    requires parts { blank.parts ≡ L.parts }
+    requires some { 0 < L.parts }
+    ensures { IfOk result (λ outcome. outcome ≡ outcome_of (answer_of (problem_of problem.now.packages) limit)) }
 {
-    match plain {
-        Plain::Found(trail) => Ok(Answer {
-            status: Status::Planned,
-            text: text_of_trail(alloc, packages, trail)?,
-        }),
-        Plain::NoPlan => Ok(Answer {
-            status: Status::NoPlan,
-            text: Text::from_str(alloc, NO_PLAN)?,
-        }),
-    }
+    let mut steps = Steps::<L>::open(blank);
+    search(alloc, problem, LIMIT, &mut steps)
 }

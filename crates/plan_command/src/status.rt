@@ -6,8 +6,10 @@ ghost use Rattle.plan_command.specs.Status.{number_of_status};
 pub enum Status {
     /// A plan was printed.
     Planned,
-    /// There is no plan, which was printed.
+    /// There is no plan; the choices that can't be met together were printed.
     NoPlan,
+    /// The search met its limit, which was printed.
+    GaveUp,
     /// The input was refused; the line that says why was printed.
     Refused,
     /// A file or folder could not be read.
@@ -26,6 +28,7 @@ pub fn code_of(status: Status) -> u8
     match status {
         Status::Planned => 0,
         Status::NoPlan => 1,
+        Status::GaveUp => 2,
         Status::Refused => 3,
         Status::ReadFault => 4,
         Status::WriteFault => 5,

@@ -108,12 +108,12 @@ fn planned<'a>(files: &'a [(&'a str, &'a str)], text: &'a str) -> Case<'a> {
     }
 }
 
-fn no_plan<'a>(files: &'a [(&'a str, &'a str)]) -> Case<'a> {
+fn no_plan<'a>(files: &'a [(&'a str, &'a str)], text: &'a str) -> Case<'a> {
     Case {
         words: &["plan"],
         files,
         status: Status::NoPlan,
-        text: "no plan\n",
+        text,
     }
 }
 
@@ -135,7 +135,7 @@ fn answers(rt: HostRuntime) -> Result<(), Fail> {
             words: &["plan"],
             files: &[("main.cabal", PLAIN), (".x.cabal", ""), ("lib/a.cabal", "")],
             status: Status::Planned,
-            text: "plan\nchoose main 1 local\n",
+            text: "plan\nchoose main 1 local\nvisited 1 exhausted 0\n",
         },
         refused(&[], "refused . NoPackages\n"),
         refused(
@@ -172,7 +172,7 @@ fn answers_over_an_index(rt: HostRuntime) -> Result<(), Fail> {
     let cases = [
         planned(
             &LATE,
-            "plan\nchoose main 1 local\nchoose b 1 source\nchoose a 2 source\nchoose c 2 source\n",
+            "plan\nchoose main 1 local\nchoose b 1 source\nchoose a 2 source\nchoose c 2 source\nvisited 7 exhausted 2\n",
         ),
         planned(
             &[
@@ -181,7 +181,7 @@ fn answers_over_an_index(rt: HostRuntime) -> Result<(), Fail> {
                 ("index/foo/10/foo.cabal", FOO_10),
                 ("index/foo/2/foo.cabal", FOO_2),
             ],
-            "plan\nchoose main 1 local\nchoose foo 10 source\n",
+            "plan\nchoose main 1 local\nchoose foo 10 source\nvisited 2 exhausted 0\n",
         ),
         planned(
             &[
@@ -190,10 +190,16 @@ fn answers_over_an_index(rt: HostRuntime) -> Result<(), Fail> {
                 ("index/foo/10/foo.cabal", FOO_10),
                 ("index/foo/2/foo.cabal", FOO_2),
             ],
-            "plan\nchoose main 1 local\nchoose foo 2 source\n",
+            "plan\nchoose main 1 local\nchoose foo 2 source\nvisited 3 exhausted 0\n",
         ),
-        no_plan(&[("main.cabal", FOO)]),
-        no_plan(&[("main.cabal", BOUNDED), ("index/foo/1/foo.cabal", FOO_1)]),
+        no_plan(
+            &[("main.cabal", FOO)],
+            "no plan\nconflict main foo\nvisited 1 exhausted 2\n",
+        ),
+        no_plan(
+            &[("main.cabal", BOUNDED), ("index/foo/1/foo.cabal", FOO_1)],
+            "no plan\nconflict main foo\nvisited 2 exhausted 2\n",
+        ),
         refused(
             &[("main.cabal", FOO), ("index/foo/1/foo.cabal", "")],
             "refused index/foo/1/foo.cabal:1 Unbuilt\n",

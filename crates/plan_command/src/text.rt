@@ -1,19 +1,16 @@
 // Lines of the output.
 ghost use Rattle.std.specs.Prelude.{◌≡◌, IfOk, slice_index_or};
 ghost use Rattle.plan_command.specs.FolderProblem.{no_package, release_at};
-ghost use Rattle.plan_command.specs.Text.{cause_name, where_of, refusal_line, refusal_text, choose_line, source_of, choice_line, trail_text};
+ghost use Rattle.plan_command.specs.Text.{cause_name, where_of, refusal_line, refusal_text, choose_line, source_of, choice_line, trail_text, plan_text, conflict_line, conflict_text, gave_up_text, counts_line};
 
 use crate::folder_problem::releases_of;
-use choice_problem::Choice;
+use choice_problem::{Choice, ConflictSet, Counts, Var};
 use package_index::Package;
 use plan_types::{Cause, List, NoMemory, Refusal, Text};
 use std::alloc::Global;
 
 /// What is printed where the words have no reading.
 pub(crate) const USAGE: &str = "usage: cabal-plan plan or generate, with options\n";
-
-/// What is printed where there is no plan.
-pub(crate) const NO_PLAN: &str = "no plan\n";
 
 /// The line of a refusal.
 pub(crate) fn text_of_refusal(alloc: Global, refusal: &Refusal) -> Result<Text, NoMemory>
@@ -28,8 +25,22 @@ pub(crate) fn text_of_refusal(alloc: Global, refusal: &Refusal) -> Result<Text, 
     )
 }
 
-/// The plan that the choices of a trail make, in their order.
-pub(crate) fn text_of_trail(
+/// The choices of a plan, in their order, and the counts of the search.
+pub(crate) fn text_of_plan(
+    alloc: Global,
+    packages: &[Package],
+    trail: &List<Choice>,
+    counts: Counts,
+) -> Result<Text, NoMemory>
+    ensures { IfOk result (λ text. text ≡ plan_text packages.now trail.now counts) }
+{
+    let mut text = text_of_trail(alloc, packages, trail)?;
+    let line = counts_line(alloc, counts)?;
+    text.push_str(line.as_str())?;
+    Ok(text)
+}
+
+fn text_of_trail(
     alloc: Global,
     packages: &[Package],
     trail: &List<Choice>,
@@ -42,6 +53,50 @@ pub(crate) fn text_of_trail(
         text.push_str(line.as_str())?;
     }
     Ok(text)
+}
+
+/// The set of choices that can't be met together, in goal order, and the counts of the search.
+pub(crate) fn text_of_conflict(
+    alloc: Global,
+    packages: &[Package],
+    set: &ConflictSet,
+    counts: Counts,
+) -> Result<Text, NoMemory>
+    ensures { IfOk result (λ text. text ≡ conflict_text packages.now set.now counts) }
+{
+    let line = conflict_line(alloc, packages, set.vars())?;
+    let counted = counts_line(alloc, counts)?;
+    let text = format!(in alloc; "no plan\n{}\n{}", line.as_str(), counted.as_str())?;
+    Ok(Text::from_string(text))
+}
+
+/// That the search met its limit, and its counts.
+pub(crate) fn text_of_giving_up(alloc: Global, counts: Counts) -> Result<Text, NoMemory>
+    ensures { IfOk result (λ text. text ≡ gave_up_text counts) }
+{
+    let counted = counts_line(alloc, counts)?;
+    let text = format!(in alloc; "gave up\n{}", counted.as_str())?;
+    Ok(Text::from_string(text))
+}
+
+fn conflict_line(alloc: Global, packages: &[Package], vars: &[Var]) -> Result<Text, NoMemory>
+    ensures { IfOk result (λ line. line ≡ conflict_line packages.now vars.now) }
+{
+    let mut line = Text::from_str(alloc, "conflict")?;
+    for var in vars {
+        line.push_str(" ")?;
+        line.push_str(name_at(packages, var.package))?;
+    }
+    Ok(line)
+}
+
+fn counts_line(alloc: Global, counts: Counts) -> Result<Text, NoMemory>
+    ensures { IfOk result (λ line. line ≡ counts_line counts) }
+{
+    let visited = counts.visited;
+    let exhausted = counts.exhausted;
+    let text = format!(in alloc; "visited {visited} exhausted {exhausted}\n")?;
+    Ok(Text::from_string(text))
 }
 
 fn choice_line(alloc: Global, packages: &[Package], choice: Choice) -> Result<Text, NoMemory>

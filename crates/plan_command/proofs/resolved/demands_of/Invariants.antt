@@ -1,7 +1,7 @@
 -- the demands of the needs so far
 use Rattle.std.proofs.Common.{◌≡◌, map, take}
-use Rattle.plan_command.specs.Resolved.{demanded}
+use Rattle.plan_command.specs.FolderProblem.{demand_of}
 use Rattle.plan_command.proofs.resolved.demands_of.Given as goal
 
-abbrev pub invariant-loop-need : goal.invariant-loop-need
-invariant-loop-need l = l.demands ≡ map (demanded l.owner) (take l.need-index l.needs)
+abbrev pub invariant-loop-place : goal.invariant-loop-place
+invariant-loop-place l = l.demands ≡ map (demand_of l.packages l.owner) (take l.place l.needs)

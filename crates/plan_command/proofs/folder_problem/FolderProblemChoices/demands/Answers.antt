@@ -1,14 +1,14 @@
-use Rattle.std.proofs.Common.{◌≡◌, List, ap, ◌∙◌, subst}
-use Rattle.std.specs.Prelude.{IfOk}
-use Rattle.choice_problem.specs.declared.problem.Demand.{Demand}
-use Rattle.plan_command.specs.Resolved.{needs_at}
-use Rattle.plan_command.proofs.Demands.{demands-resolved}
+use Rattle.std.proofs.Common.{map, ap, ◌∙◌, sym}
+use Rattle.plan_command.specs.FolderProblem.{release_at}
+use Rattle.plan_command.specs.Resolved.{target_of, targets_at}
+use Rattle.plan_command.proofs.Demands.{targets-resolved}
 use Rattle.plan_command.proofs.folder_problem.FolderProblemChoices.demands.Goals as goal
 
-pub returns : goal.returns
-returns c =
+pub demands_of-requires : goal.demands_of-requires
+demands_of-requires c =
     let owner = c.args.owner in
-    let needs = c.needs_at-needs.ensures ∙ ap (λ t. needs_at t owner.var.«package» owner.val) c.as_slice.ensures in
-    subst (λ (demands : List Demand). IfOk c.demands_of.result (λ found. found ≡ demands))
-    (demands-resolved c.args.self.now.packages c.args.self.now.table owner c.needs_at-needs.result.now c.args.self.now.resolved needs)
-    c.demands_of.ensures
+    c.targets_at-targets.ensures
+    ∙ ap (λ t. targets_at t owner.var.«package» owner.val) (c.as_slice.ensures ∙ c.args.self.now.resolved)
+    ∙ targets-resolved c.args.self.now.packages owner.var.«package» owner.val
+    ∙ sym (ap (λ ps. map (target_of ps) (release_at ps owner.var.«package» owner.val).needs) c.as_slice-packages.ensures)
+    ∙ ap (map (target_of c.as_slice-packages.result.now)) (sym c.needs_of-needs.ensures)

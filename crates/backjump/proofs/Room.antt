@@ -1,0 +1,136 @@
+-- While a variable is open, more choices may follow: the variables of a trail are different and known.
+use Rattle.std.proofs.Common.{◌≡◌, ℕ, zero, suc, ◌+◌, ◌≤◌, true, false, cond, List, [], ◌∷◌, ◌++◌, length, Option, Some, None, refl, sym, ap, ◌∙◌, subst, inl, inr, arith, length-append}
+use Rattle.std.specs.Prelude.{IsTrue, is_none, filter, flat_map, map}
+use Rattle.std.specs.List.{Contains, All}
+use Rattle.std.proofs.lemmas.Bool.{false≢true}
+use Rattle.std.proofs.lemmas.List.Elements.{All-contains}
+use Rattle.choice_problem.specs.declared.variable.Var.{Var}
+use Rattle.choice_problem.specs.declared.problem.Choice.{Choice}
+use Rattle.choice_problem.specs.declared.problem.Demand.{Demand}
+use Rattle.choice_problem.specs.Variable.{same_var}
+use Rattle.choice_problem.specs.Problem.{Problem, IsChoice, IsRoot, IsOwned, Lawful}
+use Rattle.choice_problem.specs.Trail.{value_in, demands_after}
+use Rattle.choice_problem.specs.Active.{turns_yes, made_active, active_from, active, is_waited_for, least_open}
+use Rattle.choice_problem.specs.Lists.{contains-head, contains-none, contains-left, contains-right, contains-append, contains-flat_map, contains-map, contains-filter, without}
+use Rattle.choice_problem.specs.SameVariable.{same_var-refl}
+use Rattle.choice_problem.proofs.Order.{least-is}
+use Rattle.validation.specs.Standing.{AreNew, none, on}
+use Rattle.choice_tree.specs.Tree.{choice_at}
+use Rattle.backjump.specs.Walk.{Point, IsChain}
+
+none-is : (o : Option ℕ) → is_none o ≡ true → o ≡ None
+none-is None h = refl
+none-is (Some n) h = absurd (false≢true h)
+
+-- each of these choices is one of the problem
+abbrev AreChoices : Problem → List Choice → Type 0
+AreChoices p trail = (c : Choice) → Contains trail c → IsChoice p c
+
+-- a map without a variable lacks it before its last choice, which is of another one
+none-before : (before : List Choice) (c : Choice) (w : Var) → value_in (before ++ c ∷ []) w ≡ None → (value_in before w ≡ None) × (same_var c.var w ≡ false)
+none-before [] c w h =
+    elim (same_var c.var w) as (λ b. same_var c.var w ≡ b → cond b (Some c.val) None ≡ None → (value_in [] w ≡ None) × (b ≡ false)) [
+      | true ↦ λ e k. absurd (cc k)
+      | false ↦ λ e k. (refl, refl)
+    ] refl h
+none-before (d ∷ before) c w h =
+    elim (same_var d.var w) as (λ b. cond b (Some d.val) (value_in (before ++ c ∷ []) w) ≡ None → (cond b (Some d.val) (value_in before w) ≡ None) × (same_var c.var w ≡ false)) [
+      | true ↦ λ k. absurd (cc k)
+      | false ↦ λ k. none-before before c w k
+    ] h
+
+module _ (p : Problem) (lawful : Lawful p) where
+  after-known : (trail : List Choice) (d : Demand) → AreChoices p trail → Contains (demands_after p trail) d → IsTrue (p.known d.target)
+  after-known trail d choices h =
+      elim (contains-append p.roots (flat_map p.demands trail) d h) [
+        | inl root ↦ (All-contains (IsRoot p) p.roots d lawful.roots root).target
+        | inr r ↦
+            let found = contains-flat_map p.demands trail d r in
+            (All-contains (IsOwned p found.0) (p.demands found.0) d (lawful.demands found.0 (choices found.0 found.1)) found.2).target
+      ]
+
+  from-known : (before rest : List Choice) (d : Demand) → AreChoices p before → AreChoices p rest → Contains (active_from p before rest) d → IsTrue (p.known d.target)
+  unfolding made_active
+  from-known before [] d bs rs h = absurd (contains-none d h)
+  from-known before (c ∷ rest) d bs rs h =
+      let all : AreChoices p (before ++ c ∷ []) = λ x k. elim (contains-append before (c ∷ []) x k) [
+        | inl l ↦ bs x l
+        | inr r ↦ rs x (contains-left (c ∷ []) rest x r)
+      ] in
+      elim (contains-append (made_active p before c) (active_from p (before ++ c ∷ []) rest) d h) [
+        | inl l ↦ after-known (before ++ c ∷ []) d all (contains-filter (turns_yes before c) (demands_after p (before ++ c ∷ [])) d l).0
+        | inr r ↦ from-known (before ++ c ∷ []) rest d all (λ x k. rs x (contains-right (c ∷ []) rest x k)) r
+      ]
+
+  active-known : (trail : List Choice) (d : Demand) → AreChoices p trail → Contains (active p trail) d → IsTrue (p.known d.target)
+  unfolding active
+  active-known trail d choices h =
+      elim (contains-append p.roots (active_from p [] trail) d h) [
+        | inl root ↦ (All-contains (IsRoot p) p.roots d lawful.roots root).target
+        | inr r ↦ from-known [] trail d (λ c k. absurd (contains-none c k)) choices r
+      ]
+
+  -- the least open variable is known, and isn't chosen
+  record IsFree (trail : List Choice) (v : Var) : Type 0 where
+    pub known : IsTrue (p.known v)
+    pub unchosen : value_in trail v ≡ None
+
+  least-free : (trail : List Choice) (v : Var) → AreChoices p trail → least_open p trail ≡ Some v → IsFree trail v
+  unfolding least_open
+  least-free trail v choices h =
+      let found = contains-map (λ (d : Demand). d.target) (filter (is_waited_for trail) (active p trail)) v
+      (least-is (map (λ d. d.target) (filter (is_waited_for trail) (active p trail))) v h).0 in
+      let kept = contains-filter (is_waited_for trail) (active p trail) found.0 found.1 in
+      record {
+        known = subst (λ w. IsTrue (p.known w)) found.2 (active-known trail found.0 choices kept.0);
+        unchosen = subst (λ w. value_in trail w ≡ None) found.2 (none-is (value_in trail found.0.target) kept.1);
+      }
+
+  -- the known variables that aren't chosen
+  record Room (trail : List Choice) : Type 0 where
+    rest : List Var
+    count : length rest + length trail ≤ p.bound
+    each : (v : Var) → IsTrue (p.known v) → value_in trail v ≡ None → Contains rest v
+
+  room-next : (before : List Choice) (c : Choice) → Room before → IsTrue (p.known c.var) → value_in before c.var ≡ None → Room (before ++ c ∷ [])
+  room-next before c room known unchosen =
+      let found = without room.rest c.var (room.each c.var known unchosen) in
+      record {
+        rest = found.0;
+        count = omega (arith, found.1, room.count, length-append before (c ∷ []));
+        each = λ w k none_now.
+            let both = none-before before c w none_now in
+            found.2 w (room.each w k both.0) (λ same. false≢true (sym both.1 ∙ ap (same_var c.var) (sym same) ∙ same_var-refl c.var));
+      }
+
+  room : {trail : List Choice} → AreNew trail → AreChoices p trail → Room trail
+  room none choices = record { rest = lawful.bounded.variables; count = omega (arith, lawful.bounded.count); each = λ v k e. lawful.bounded.each v k }
+  room (on {before = before} new c unchosen e) choices =
+      let all = subst (AreChoices p) e choices in
+      subst Room (sym e)
+      (room-next before c (room new (λ x k. all x (contains-left before (c ∷ []) x k))) (all c (contains-right before (c ∷ []) c (contains-head c []))).variable unchosen)
+
+  chain-fuel : (points : List Point) (prefix : List Choice) (fuel : ℕ) → IsChain p points prefix fuel → fuel + length prefix ≡ p.bound
+  chain-fuel [] prefix fuel h = omega (arith, h.1, ap length h.0)
+  chain-fuel (point ∷ outer) prefix fuel h =
+      let rest = chain-fuel outer point.prefix (suc point.fuel) h.1 in
+      omega (arith, rest, h.0.fuel_is, ap length h.0.prefix_is, length-append point.prefix (choice_at point.node ∷ []))
+
+  pub choices-of : (trail : List Choice) → All (IsChoice p) trail → AreChoices p trail
+  choices-of trail h c k = All-contains (IsChoice p) trail c h k
+
+  pub least-known : (trail : List Choice) (v : Var) → All (IsChoice p) trail → least_open p trail ≡ Some v → IsTrue (p.known v)
+  least-known trail v choices h = (least-free trail v (choices-of trail choices) h).known
+
+  -- where a variable is open, one choice more may follow
+  pub fuel-left : (points : List Point) (trail : List Choice) (fuel : ℕ) (v : Var) → AreNew trail → All (IsChoice p) trail → IsChain p points trail fuel → least_open p trail ≡ Some v
+      → (less : ℕ) × (fuel ≡ suc less)
+  fuel-left points trail fuel v new choices chain h =
+      let free = least-free trail v (choices-of trail choices) h in
+      let place = room new (choices-of trail choices) in
+      let found = without place.rest v (place.each v free.known free.unchosen) in
+      let total = chain-fuel points trail fuel chain in
+      elim fuel as (λ n. n + length trail ≡ p.bound → (less : ℕ) × (n ≡ suc less)) [
+        | zero ↦ λ e. absurd (omega (arith, e, place.count, found.1))
+        | suc less ↦ λ e. (less, refl)
+      ] total

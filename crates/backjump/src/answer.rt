@@ -1,0 +1,29 @@
+ghost use Rattle.std.specs.Prelude.{◌≡◌, ◌+◌, ◌≤◌, IfOk, OnOk, OnErr};
+ghost use Rattle.choice_problem.specs.Answer.{answer_of, outcome_of};
+
+use crate::walk::{Step, Turn, Walk};
+use choice_problem::{Choices, Limit, Outcome, Steps};
+use plan_types::NoMemory;
+use std::alloc::Global;
+use std::sync::ledger::Ledger;
+
+/// Searches a problem, trying the values of the least open variable in their order. Each try is counted by `steps`.
+pub fn search<C: Choices, L: Ledger>(
+    alloc: Global,
+    choices: &C,
+    limit: Limit,
+    steps: &mut Steps<L>,
+) -> Result<Outcome, NoMemory>
+    ensures outcome { IfOk result (λ outcome. outcome ≡ outcome_of (answer_of (C.problem choices.now) limit)) }
+    ensures ticks { OnOk result (steps.new ≡ steps.old + (answer_of (C.problem choices.now) limit).counts.visited) }
+    ensures most { OnErr result (steps.new ≤ steps.old + (answer_of (C.problem choices.now) limit).counts.visited) }
+{
+    let mut walk = Walk::start(alloc, choices)?;
+    let mut turn = Turn::Look;
+    loop {
+        match walk.advance(alloc, choices, limit, steps, turn)? {
+            Step::On(next) => turn = next,
+            Step::Done(end) => return Ok(walk.outcome(end)),
+        }
+    }
+}

@@ -1,0 +1,275 @@
+ghost use Rattle.std.specs.Prelude.{◌≡◌, ◌≢◌, ◌+◌, ◌*◌, ◌<◌, ◌≤◌, ℕ, List, [], ◌∷◌, ◌++◌, length, IfOk, OnErr, OnOk, nat_lt, ◌&&◌};
+ghost use Rattle.choice_problem.specs.declared.variable.Var.{Var};
+ghost use Rattle.choice_problem.specs.Problem.{Problem};
+ghost use Rattle.choice_problem.specs.Active.{reason};
+ghost use Rattle.choice_problem.specs.Answer.{answer_of, outcome_of, is_reached};
+ghost use Rattle.choice_problem.specs.ConflictSet.{union, set_of};
+ghost use Rattle.backjump.specs.declared.walk.Turn.TheVariants.{Look, Try, Back};
+ghost use Rattle.backjump.specs.Walk.{Point, IsHeld, AtLook, AtValue, AtExhausted, AtCut, AtBack, IsAt, IsEnd, IsNext, IsLighter, Goes, Moves, Stops, SomeAt, SomeValue, SomePoint, load};
+
+use choice_problem::{Choice, Choices, ConflictSet, Counts, Limit, Outcome, Steps, Var};
+use choice_tree::Tree;
+use plan_types::{List, NoMemory};
+use std::alloc::Global;
+use std::sync::ledger::Ledger;
+use validation::{State, Verdict};
+
+/// What a search does next.
+#[derive(Drop)]
+pub enum Turn {
+    /// It looks for the least open variable.
+    Look,
+    /// It tries the next value of the last node.
+    Try,
+    /// It goes back: the value that the last node gave has failed, with this set.
+    Back(ConflictSet),
+}
+
+/// How a search ends: with the choices that were made, with a set that admits none, or at its limit.
+#[derive(Drop)]
+pub enum End {
+    Whole,
+    NoPlan(ConflictSet),
+    Stopped,
+}
+
+#[derive(Drop)]
+pub enum Step {
+    On(Turn),
+    Done(End),
+}
+
+/// A search on its way: a node for each choice, and one for the variable that is tried; for each node the sets of its
+/// failed values together; the choices; and the counts.
+#[derive(Drop)]
+pub struct Walk {
+    tree: Tree,
+    failed: List<ConflictSet>,
+    state: State,
+    counts: Counts,
+}
+
+fn reached(limit: Limit, exhausted: u64) -> bool
+    ensures { result ≡ is_reached limit exhausted }
+{
+    match limit {
+        Limit::Unlimited => false,
+        Limit::At(most) => most <= exhausted,
+    }
+}
+
+// The first node never gives up.
+fn gives_up(limit: Limit, depth: u64, exhausted: u64) -> bool
+    ensures { result ≡ (nat_lt 1 depth && is_reached limit exhausted) }
+{
+    depth > 1 && reached(limit, exhausted)
+}
+
+fn last_of(sets: &[ConflictSet]) -> &ConflictSet
+    requires { sets.now ≢ [] }
+    ensures { (outer : List (List Var)) (set : List Var) → sets.now ≡ outer ++ set ∷ [] → result.now ≡ set }
+{
+    &sets[sets.len() - 1]
+}
+
+// Adds a set to the last one.
+fn add_failed(
+    alloc: Global,
+    failed: &mut List<ConflictSet>,
+    set: &ConflictSet,
+) -> Result<(), NoMemory>
+    requires { failed.old ≢ [] }
+    ensures { OnOk result ((outer : List (List Var)) (before : List Var) → failed.old ≡ outer ++ before ∷ [] → failed.new ≡ outer ++ union before set.now ∷ []) }
+{
+    let both = last_of(failed.as_slice()).union(alloc, set)?;
+    let last = failed.len() - 1;
+    failed.set(last, both);
+    Ok(())
+}
+
+// The set of a variable whose values have all failed, with these sets together.
+fn blamed(
+    alloc: Global,
+    failed: &ConflictSet,
+    var: Var,
+    reason: &ConflictSet,
+) -> Result<ConflictSet, NoMemory>
+    ensures { IfOk result (λ set. (vars : List Var) → reason.now ≡ set_of vars → set ≡ union failed.now (set_of (var ∷ vars))) }
+{
+    let alone = ConflictSet::of(alloc, &[var])?;
+    let open = alone.union(alloc, reason)?;
+    let set = failed.union(alloc, &open)?;
+    Ok(set)
+}
+
+impl Walk {
+    /// The start, before any choice.
+    pub fn start<C: Choices>(alloc: Global, choices: &C) -> Result<Walk, NoMemory>
+        ensures { IfOk result (λ walk. (limit : Limit) → AtLook (C.problem choices.now) limit walk 0) }
+    {
+        let state = State::new(alloc, choices)?;
+        Ok(Walk {
+            tree: Tree::new(alloc),
+            failed: List::new(alloc),
+            state,
+            counts: Counts {
+                visited: 0,
+                exhausted: 0,
+            },
+        })
+    }
+
+    /// What a search that has ended hands out.
+    pub fn outcome(self, end: End) -> Outcome
+        ensures { (p : Problem) (limit : Limit) (visited : ℕ) → IsEnd p limit self visited end → result ≡ outcome_of (answer_of p limit) }
+    {
+        let Walk {
+            tree: _,
+            failed: _,
+            state,
+            counts,
+        } = self;
+        match end {
+            End::Whole => Outcome::Found {
+                trail: state.into_trail(),
+                counts,
+            },
+            End::NoPlan(set) => Outcome::NoPlan { set, counts },
+            End::Stopped => Outcome::GaveUp { counts },
+        }
+    }
+
+    // The least open variable gets a node.
+    fn look<C: Choices>(
+        &mut self,
+        alloc: Global,
+        choices: &C,
+        limit: Limit,
+    ) -> Result<Step, NoMemory>
+        requires { SomeAt (C.problem choices.now) limit self.old Look }
+        ensures { IfOk result (λ step. (visited : ℕ) → AtLook (C.problem choices.now) limit self.old visited → Moves (C.problem choices.now) limit self.new visited (load self.old Look) step) }
+    {
+        match self.state.least() {
+            None => Ok(Step::Done(End::Whole)),
+            Some(var) => {
+                let values = choices.order(alloc, var, self.state.trail())?;
+                self.failed.push(ConflictSet::new(alloc))?;
+                self.tree.grow(var, values)?;
+                Ok(Step::On(Turn::Try))
+            }
+        }
+    }
+
+    // Chooses the value that the last node gave.
+    fn choose<C: Choices, L: Ledger>(
+        &mut self,
+        alloc: Global,
+        choices: &C,
+        limit: Limit,
+        steps: &mut Steps<L>,
+        value: u64,
+    ) -> Result<Step, NoMemory>
+        requires { SomeValue (C.problem choices.now) limit self.old value }
+        ensures ticks { steps.new ≡ steps.old + 1 }
+        ensures step { IfOk result (λ step. (visited : ℕ) → AtValue (C.problem choices.now) limit self.old visited value → Moves (C.problem choices.now) limit self.new (visited + 1) (4 + load self.old Try) step) }
+    {
+        let choice = Choice {
+            var: self.tree.top(),
+            val: value,
+        };
+        self.counts.visited = self.counts.visited.saturating_add(1);
+        match self.state.choose(alloc, choices, choice, steps)? {
+            Verdict::Accepted => Ok(Step::On(Turn::Look)),
+            Verdict::Conflict(set) => Ok(Step::On(Turn::Back(set))),
+        }
+    }
+
+    // Leaves the last node, and hands its set to the one below.
+    fn cut(&mut self, set: ConflictSet) -> Step
+        requires { SomePoint self.old }
+        ensures { (p : Problem) (limit : Limit) (visited : ℕ) → AtCut p limit self.old visited set → Moves p limit self.new visited (load self.old Try) result }
+    {
+        self.tree.back();
+        self.failed.pop();
+        if self.tree.depth() == 0 {
+            return Step::Done(End::NoPlan(set));
+        }
+        self.state.undo();
+        Step::On(Turn::Back(set))
+    }
+
+    // The set of the last node, of which all values have failed.
+    fn exhausted_set(&self, alloc: Global) -> Result<ConflictSet, NoMemory>
+        requires { SomePoint self.now }
+        ensures { IfOk result (λ set. (p : Problem) (visited : ℕ) (point : Point) (outer : List Point) → IsHeld p self.now visited (point ∷ outer) → self.now.state.trail ≡ point.prefix
+            → set ≡ union point.failed (set_of (point.node.var ∷ reason p point.prefix point.node.var))) }
+    {
+        let var = self.tree.top();
+        let reason = self.state.reason(alloc, var)?;
+        let set = blamed(alloc, last_of(self.failed.as_slice()), var, &reason)?;
+        Ok(set)
+    }
+
+    // Ends the last node, of which all values have failed.
+    fn exhaust(&mut self, alloc: Global, limit: Limit) -> Result<Step, NoMemory>
+        requires { SomePoint self.old }
+        ensures { IfOk result (λ step. (p : Problem) (visited : ℕ) → AtExhausted p limit self.old visited → Moves p limit self.new visited (load self.old Try) step) }
+    {
+        if gives_up(limit, self.tree.depth(), self.counts.exhausted) {
+            return Ok(Step::Done(End::Stopped));
+        }
+        let set = self.exhausted_set(alloc)?;
+        self.counts.exhausted = self.counts.exhausted.saturating_add(1);
+        Ok(self.cut(set))
+    }
+
+    // Tries the next value of the last node.
+    fn try_next<C: Choices, L: Ledger>(
+        &mut self,
+        alloc: Global,
+        choices: &C,
+        limit: Limit,
+        steps: &mut Steps<L>,
+    ) -> Result<Step, NoMemory>
+        requires { SomeAt (C.problem choices.now) limit self.old Try }
+        ensures ok { IfOk result (Goes (C.problem choices.now) limit self.old self.new Try steps.old steps.new) }
+        ensures err { OnErr result (Stops (C.problem choices.now) limit self.old Try steps.old steps.new) }
+    {
+        match self.tree.next_value() {
+            None => self.exhaust(alloc, limit),
+            Some(value) => self.choose(alloc, choices, limit, steps, value),
+        }
+    }
+
+    // The value that the last node gave has failed: a set that names its variable is kept there.
+    fn fall(&mut self, alloc: Global, set: ConflictSet) -> Result<Step, NoMemory>
+        requires { SomePoint self.old }
+        ensures { IfOk result (λ step. (p : Problem) (limit : Limit) (visited : ℕ) → AtBack p limit self.old visited set → Moves p limit self.new visited (load self.old Try + 1) step) }
+    {
+        if set.has(self.tree.top()) {
+            add_failed(alloc, &mut self.failed, &set)?;
+            return Ok(Step::On(Turn::Try));
+        }
+        Ok(self.cut(set))
+    }
+
+    /// The next step of the search.
+    pub fn advance<C: Choices, L: Ledger>(
+        &mut self,
+        alloc: Global,
+        choices: &C,
+        limit: Limit,
+        steps: &mut Steps<L>,
+        turn: Turn,
+    ) -> Result<Step, NoMemory>
+        requires { SomeAt (C.problem choices.now) limit self.old turn }
+        ensures ok { IfOk result (Goes (C.problem choices.now) limit self.old self.new turn steps.old steps.new) }
+        ensures err { OnErr result (Stops (C.problem choices.now) limit self.old turn steps.old steps.new) }
+    {
+        match turn {
+            Turn::Look => self.look(alloc, choices, limit),
+            Turn::Try => self.try_next(alloc, choices, limit, steps),
+            Turn::Back(set) => self.fall(alloc, set),
+        }
+    }
+}

@@ -1,0 +1,284 @@
+-- The set of a conflict admits none with the choice that conflicts, and a choice without a conflict breaks nothing.
+use Rattle.std.proofs.Common.{◌≡◌, ℕ, Bool, true, false, cond, not, ◌&&◌, List, [], ◌∷◌, ◌++◌, length, get_or, Option, Some, None, refl, sym, ap, ◌∙◌, subst, inl, inr, ◌⊎◌, arith}
+use Rattle.std.specs.Prelude.{is_some, find}
+use Rattle.std.specs.List.{Contains, All, flat_map}
+use Rattle.std.proofs.lemmas.Bool.{false≢true}
+use Rattle.std.proofs.lemmas.List.Elements.{All-contains, Contains-get_or}
+use Rattle.choice_problem.specs.declared.variable.Var.{Var}
+use Rattle.choice_problem.specs.declared.problem.Choice.{Choice}
+use Rattle.choice_problem.specs.declared.problem.Demand.{Demand}
+use Rattle.choice_problem.specs.Variable.{same_var}
+use Rattle.choice_problem.specs.Problem.{Problem, IsChoice, IsDemand, Lawful}
+use Rattle.choice_problem.specs.Assignment.{Assignment, is_one_of, is_yes, is_met}
+use Rattle.choice_problem.specs.General.{request_of, owner_of, general}
+use Rattle.choice_problem.specs.Holds.{IsEdge, IsPath, last, more, HoldsWithin}
+use Rattle.choice_problem.specs.Trail.{value_in}
+use Rattle.choice_problem.specs.Active.{made_active, active, vars_of}
+use Rattle.choice_problem.specs.ConflictSet.{has, set_of}
+use Rattle.choice_problem.specs.Conflict.{named_by, set_of_first, barred_set, refuses, refused_set, is_broken, broken_set, Edge, edges_from, edges_by, edges_of, leads, lies_on_cycle, circular, set_of_all, cycle_set, first_set, conflict}
+use Rattle.choice_problem.specs.Sound.{MakesWithin, ConflictsAreSound}
+use Rattle.choice_problem.specs.SameVariable.{same_var-is, same_var-refl}
+use Rattle.choice_problem.specs.Lists.{contains-head, contains-tail, contains-none, contains-cases, contains-left, contains-flat_map, flat_map-contains, map-contains, contains-filter, filter-none, and-left, and-right}
+use Rattle.choice_problem.proofs.Sets.{contains-has, has-set_of}
+use Rattle.choice_problem.proofs.Trails.{value_in-new, demand-general}
+use Rattle.choice_problem.proofs.Paths.{any-at, any-found, filter-contains, Way, start, step, way-edge, way-join, leads-way, way-leads}
+use Rattle.choice_problem.proofs.Active.{find-is, find-none, yes-from, yes-kept, active-yes, active-demand, made-is, made-demand}
+
+-- the first of some sets
+
+first-member : (sets : List (Option (List Var))) (set : List Var) → first_set sets ≡ Some set → Contains sets (Some set)
+first-member [] set h = absurd (cc h)
+first-member (None ∷ sets) set h = contains-tail None sets (Some set) (first-member sets set h)
+first-member (Some s ∷ sets) set h = subst (λ o. Contains (Some s ∷ sets) o) h (contains-head (Some s) sets)
+
+first-none : (sets : List (Option (List Var))) (o : Option (List Var)) → first_set sets ≡ None → Contains sets o → o ≡ None
+first-none [] o h k = absurd (contains-none o k)
+first-none (None ∷ sets) o h k = elim (contains-cases None sets o k) [ inl e ↦ sym e | inr r ↦ first-none sets o h r ]
+first-none (Some s ∷ sets) o h k = absurd (cc h)
+
+-- the variables that a demand names are in its set
+
+set-has : (vars set : List Var) (v : Var) → set_of vars ≡ set → Contains vars v → has set v ≡ true
+set-has vars set v h k = ap (λ s. has s v) (sym h) ∙ has-set_of vars v ∙ contains-has vars v k
+
+first-named : (o : Option Demand) (set : List Var) → set_of_first o ≡ Some set → (d : Demand) × (o ≡ Some d) × (set_of (named_by d) ≡ set)
+first-named None set h = absurd (cc h)
+first-named (Some d) set h = (d, refl, cc h)
+
+all-named : (ds : List Demand) (set : List Var) → set_of_all ds ≡ Some set
+    → (d : Demand) × Contains ds d × ((e : Demand) (v : Var) → Contains ds e → Contains (named_by e) v → has set v ≡ true)
+all-named [] set h = absurd (cc h)
+all-named (d ∷ ds) set h = (
+  d,
+  contains-head d ds,
+  λ e v k named. set-has (flat_map named_by (d ∷ ds)) set v (cc h) (flat_map-contains named_by (d ∷ ds) e v k named),
+)
+
+none-named : (ds : List Demand) → set_of_all ds ≡ None → ds ≡ []
+none-named [] h = refl
+none-named (d ∷ ds) h = absurd (cc h)
+
+none-first : (o : Option Demand) → set_of_first o ≡ None → o ≡ None
+none-first None h = refl
+none-first (Some d) h = absurd (cc h)
+
+pub not-true : (b : Bool) → not b ≡ true → b ≡ false
+not-true true h = absurd (false≢true h)
+not-true false h = refl
+
+pub all-front : {X : Type 0} (P : X → Type 0) (xs ys : List X) → All P (xs ++ ys) → All P xs
+all-front P xs ys all k d h = All-contains P (xs ++ ys) (get_or xs k d) all (contains-left xs ys (get_or xs k d) (Contains-get_or xs k d h))
+
+-- the edge of a demand leads from its owner to its target
+
+pub edge-of : (condition : List Choice) (target : Var) (e : Edge) → Contains (edges_from condition target) e
+    → (owner : Choice) × (owner_of condition ≡ Some owner) × (owner.var ≡ e.from) × (target ≡ e.to)
+edge-of [] target e h = absurd (contains-none e h)
+edge-of (owner ∷ others) target e h =
+    elim (contains-cases (record { from = owner.var; to = target }) [] e h) [
+      | inl same ↦ (owner, refl, ap (λ (x : Edge). x.from) same, ap (λ (x : Edge). x.to) same)
+      | inr none ↦ absurd (contains-none e none)
+    ]
+
+pub of-edge : (condition : List Choice) (target : Var) (owner : Choice) → owner_of condition ≡ Some owner
+    → Contains (edges_from condition target) (record { from = owner.var; to = target })
+of-edge [] target owner h = absurd (cc h)
+of-edge (c ∷ others) target owner h =
+    let same : c ≡ owner = cc h in
+    subst (λ (x : Choice). Contains (edges_from (c ∷ others) target) (record { from = x.var; to = target })) same (contains-head (record { from = c.var; to = target }) [])
+
+circular-is : (ds : List Demand) (d : Demand) → Contains (circular ds) d → Contains ds d × (lies_on_cycle (edges_of ds) d ≡ true)
+unfolding circular
+circular-is ds d h = contains-filter (lies_on_cycle (edges_of ds)) ds d h
+
+circular-from : (ds : List Demand) (d : Demand) → Contains ds d → lies_on_cycle (edges_of ds) d ≡ true → Contains (circular ds) d
+unfolding circular
+circular-from ds d h k = filter-contains (lies_on_cycle (edges_of ds)) ds d h k
+
+circular-none : (ds : List Demand) (d : Demand) → circular ds ≡ [] → Contains ds d → lies_on_cycle (edges_of ds) d ≡ false
+unfolding circular
+circular-none ds d h k = filter-none (lies_on_cycle (edges_of ds)) ds h d k
+
+module _ (p : Problem) (lawful : Lawful p) where
+  -- an assignment that holds within a set, and makes the choices of a trail within it
+
+  module _ (set : List Var) (trail : List Choice) (A : Assignment) (holds : HoldsWithin (general p) (has set) A) (makes : MakesWithin set trail A) where
+    pub yes-within : (d : Demand) → ((v : Var) → Contains (vars_of d.when) v → has set v ≡ true) → is_yes (value_in trail) d ≡ true → is_yes A d ≡ true
+    yes-within d inside h =
+        yes-from (value_in trail) A d (λ c k e. makes c.var c.val (inside c.var (map-contains (λ (x : Choice). x.var) d.when c k)) e) h
+
+    named-yes : (d : Demand) → ((v : Var) → Contains (named_by d) v → has set v ≡ true) → is_yes (value_in trail) d ≡ true → is_yes A d ≡ true
+    named-yes d inside h = yes-within d (λ v k. inside v (contains-tail d.target (vars_of d.when) v k)) h
+
+    -- a demand that names variables of the set alone, and is Yes under the trail, is met
+    named-met : (d : Demand) → IsDemand p d → ((v : Var) → Contains (named_by d) v → has set v ≡ true) → is_yes (value_in trail) d ≡ true → is_one_of (A d.target) d.allowed ≡ true
+    named-met d is inside h =
+        holds.met (request_of d) (demand-general p d is) (named-yes d inside h) (inside d.target (contains-head d.target (vars_of d.when)))
+
+    module _ (ds : List Demand) (asked : (d : Demand) → Contains ds d → IsDemand p d × (is_yes (value_in trail) d ≡ true))
+        (inside : (d : Demand) (v : Var) → Contains (circular ds) d → Contains (named_by d) v → has set v ≡ true) where
+      abbrev Edges : List Edge
+      Edges = edges_of ds
+
+      abbrev Holding : Var → Var → Type 0
+      Holding = IsEdge (general p) (has set) A
+
+      -- an edge on a cycle is one of A
+      edge-holds : (e : Edge) → Contains Edges e → Way Edges e.to e.from → Holding e.from e.to
+      edge-holds e h way =
+          let found = contains-flat_map edges_by ds e h in
+          let d = found.0 in
+          let lies = any-at (λ (x : Edge). leads (length Edges) Edges x.to x.from) (edges_by d) e found.2 (way-leads Edges e.to e.from way) in
+          let named = inside d in
+          let on = circular-from ds d found.1 lies in
+          let of = edge-of d.when d.target e found.2 in
+          record {
+            request = request_of d;
+            owner = of.0;
+            demand = demand-general p d (asked d found.1).0;
+            owner_is = of.1;
+            yes = named-yes d (λ v k. named v on k) (asked d found.1).1;
+            inside = named d.target on (contains-head d.target (vars_of d.when));
+            leaves = of.2;
+            enters = of.3;
+          }
+
+      -- a way there and back is a path of A
+      way-path : (v w : Var) → Way Edges v w → Way Edges w v → (v ≡ w) ⊎ IsPath Holding v w
+      way-path v w (start e) back = inl e
+      way-path v w (step e h k way) back =
+          let here = edge-holds e h (way-join Edges e.to w e.from way (subst (λ x. Way Edges w x) (sym k) back)) in
+          let edge = subst (λ x. Holding x e.to) k here in
+          elim (way-path e.to w way (way-join Edges w v e.to back (step e h k (start refl)))) [
+            | inl same ↦ inr (last (subst (λ x. Holding v x) same edge))
+            | inr path ↦ inr (more edge path)
+          ]
+
+      no-circular : (d : Demand) → Contains (circular ds) d → ⊥
+      no-circular d h =
+          let is = circular-is ds d h in
+          let found = any-found (λ (x : Edge). leads (length Edges) Edges x.to x.from) (edges_by d) is.1 in
+          let e = found.0 in
+          let member = flat_map-contains edges_by ds d e is.0 found.1 in
+          let way = leads-way (length Edges) Edges e.to e.from found.2 in
+          let edge = edge-holds e member way in
+          holds.acyclic e.from
+          (elim (way-path e.to e.from way (way-edge Edges e member)) [
+            | inl same ↦ last (subst (λ x. Holding e.from x) same edge)
+            | inr path ↦ more edge path
+          ])
+
+  -- the rules, one by one
+
+  module _ (trail : List Choice) (c : Choice) (set : List Var) (choices : All (IsChoice p) (trail ++ c ∷ [])) (front : All (IsChoice p) trail) (unchosen : value_in trail c.var ≡ None)
+      (A : Assignment) (holds : HoldsWithin (general p) (has set) A) (makes : MakesWithin set (trail ++ c ∷ []) A) where
+    made-last : has set c.var ≡ true → A c.var ≡ Some c.val
+    made-last h = makes c.var c.val h (value_in-new trail [] c.var c.val unchosen)
+
+    barred-sound : barred_set p c ≡ Some set → ⊥
+    barred-sound h =
+        elim (p.barred c) as (λ b. p.barred c ≡ b → cond b (Some (set_of (c.var ∷ []))) None ≡ Some set → ⊥) [
+          | true ↦ λ is k. false≢true (sym (holds.unbarred c (made-last (set-has (c.var ∷ []) set c.var (cc k) (contains-head c.var [])))) ∙ is)
+          | false ↦ λ is k. cc k
+        ] refl h
+
+    refused-sound : refused_set p trail c ≡ Some set → ⊥
+    refused-sound h =
+        let first = first-named (find (refuses c) (active p trail)) set h in
+        let d = first.0 in
+        let inside = λ (v : Var) (k : Contains (named_by d) v). set-has (named_by d) set v first.2 k in
+        let found = find-is (refuses c) (active p trail) d first.1 in
+        let same = same_var-is d.target c.var (and-left (same_var d.target c.var) (not (is_one_of (Some c.val) d.allowed)) found.1) in
+        let refused = not-true (is_one_of (Some c.val) d.allowed) (and-right (same_var d.target c.var) (not (is_one_of (Some c.val) d.allowed)) found.1) in
+        let met = named-met set (trail ++ c ∷ []) A holds makes d (active-demand p lawful trail d front found.0) inside
+        (yes-kept trail (c ∷ []) d (active-yes p lawful trail d found.0)) in
+        let chosen = ap A same ∙ made-last (subst (λ v. has set v ≡ true) same (inside d.target (contains-head d.target (vars_of d.when)))) in
+        false≢true (sym refused ∙ ap (λ o. is_one_of o d.allowed) (sym chosen) ∙ met)
+
+    broken-sound : broken_set p trail c ≡ Some set → ⊥
+    broken-sound h =
+        let after = trail ++ c ∷ [] in
+        let first = first-named (find (is_broken after) (made_active p trail c)) set h in
+        let d = first.0 in
+        let inside = λ (v : Var) (k : Contains (named_by d) v). set-has (named_by d) set v first.2 k in
+        let found = find-is (is_broken after) (made_active p trail c) d first.1 in
+        let unmet = not-true (is_met (value_in after) d) (and-right (is_some (value_in after d.target)) (not (is_met (value_in after) d)) found.1) in
+        let met = named-met set after A holds makes d (made-demand p lawful trail c d choices found.0) inside (made-is p trail c d found.0).1 in
+        elim (value_in after d.target) as (λ o. value_in after d.target ≡ o → is_some o ≡ true → ⊥) [
+          | None ↦ λ e k. false≢true k
+          | Some n ↦ λ e k.
+              let chosen = makes d.target n (inside d.target (contains-head d.target (vars_of d.when))) e in
+              false≢true (sym unmet ∙ ap (λ o. is_one_of o d.allowed) (e ∙ sym chosen) ∙ met)
+        ] refl (and-left (is_some (value_in after d.target)) (not (is_met (value_in after) d)) found.1)
+
+    cycle-sound : cycle_set p trail c ≡ Some set → ⊥
+    cycle-sound h =
+        let after = trail ++ c ∷ [] in
+        let all = all-named (circular (active p after)) set h in
+        no-circular set after A holds makes (active p after)
+        (λ d k. (active-demand p lawful after d choices k, active-yes p lawful after d k))
+        all.2 all.0 all.1
+
+    sound : conflict p trail c ≡ Some set → ⊥
+    unfolding conflict
+    sound h =
+        let found = first-member (barred_set p c ∷ refused_set p trail c ∷ broken_set p trail c ∷ cycle_set p trail c ∷ []) set h in
+        elim (contains-cases (barred_set p c) (refused_set p trail c ∷ broken_set p trail c ∷ cycle_set p trail c ∷ []) (Some set) found) [
+          | inl e ↦ barred-sound e
+          | inr r ↦ elim (contains-cases (refused_set p trail c) (broken_set p trail c ∷ cycle_set p trail c ∷ []) (Some set) r) [
+            | inl e ↦ refused-sound e
+            | inr s ↦ elim (contains-cases (broken_set p trail c) (cycle_set p trail c ∷ []) (Some set) s) [
+              | inl e ↦ broken-sound e
+              | inr t ↦ elim (contains-cases (cycle_set p trail c) [] (Some set) t) [
+                | inl e ↦ cycle-sound e
+                | inr none ↦ contains-none (Some set) none
+              ]
+            ]
+          ]
+        ]
+
+  pub conflicts-sound : ConflictsAreSound p
+  conflicts-sound trail c set choices unchosen h A holds makes =
+      sound trail c set choices (all-front (IsChoice p) trail (c ∷ []) choices) unchosen A holds makes h
+
+-- a choice without a conflict
+
+not-false : (b : Bool) → not b ≡ false → b ≡ true
+not-false true h = refl
+not-false false h = absurd (false≢true (sym h))
+
+pub and-false : (a b : Bool) → a && b ≡ false → a ≡ true → b ≡ false
+and-false true b h k = h
+and-false false b h k = absurd (false≢true k)
+
+module _ (p : Problem) where
+  -- the choice breaks none of the four rules
+  pub record IsFree (trail : List Choice) (c : Choice) : Type 0 where
+    pub unbarred : p.barred c ≡ false
+    pub allowed : (d : Demand) → Contains (active p trail) d → d.target ≡ c.var → is_one_of (Some c.val) d.allowed ≡ true
+    pub kept : (d : Demand) (n : ℕ) → Contains (made_active p trail c) d → value_in (trail ++ c ∷ []) d.target ≡ Some n → is_one_of (Some n) d.allowed ≡ true
+    pub acyclic : (d : Demand) → Contains (active p (trail ++ c ∷ [])) d → lies_on_cycle (edges_of (active p (trail ++ c ∷ []))) d ≡ false
+
+  none-at : (trail : List Choice) (c : Choice) → conflict p trail c ≡ None
+      → (o : Option (List Var)) → Contains (barred_set p c ∷ refused_set p trail c ∷ broken_set p trail c ∷ cycle_set p trail c ∷ []) o → o ≡ None
+  unfolding conflict
+  none-at trail c h o k = first-none (barred_set p c ∷ refused_set p trail c ∷ broken_set p trail c ∷ cycle_set p trail c ∷ []) o h k
+
+  pub free : (trail : List Choice) (c : Choice) → conflict p trail c ≡ None → IsFree trail c
+  free trail c h =
+      let after = trail ++ c ∷ [] in
+      let barred = none-at trail c h (barred_set p c) (0, omega arith, refl) in
+      let refused = none-first (find (refuses c) (active p trail)) (none-at trail c h (refused_set p trail c) (1, omega arith, refl)) in
+      let broken = none-first (find (is_broken after) (made_active p trail c)) (none-at trail c h (broken_set p trail c) (2, omega arith, refl)) in
+      let cycle = none-named (circular (active p after)) (none-at trail c h (cycle_set p trail c) (3, omega arith, refl)) in
+      record {
+        unbarred = elim (p.barred c) as (λ b. cond b (Some (set_of (c.var ∷ []))) None ≡ None → b ≡ false) [ true ↦ λ k. absurd (cc k) | false ↦ λ k. refl ] barred;
+        allowed = λ d k same.
+            not-false (is_one_of (Some c.val) d.allowed)
+            (and-false (same_var d.target c.var) (not (is_one_of (Some c.val) d.allowed)) (find-none (refuses c) (active p trail) d refused k)
+            (subst (λ v. same_var d.target v ≡ true) same (same_var-refl d.target)));
+        kept = λ d n k e.
+            not-false (is_one_of (Some n) d.allowed)
+            (subst (λ o. is_some o && not (is_one_of o d.allowed) ≡ false) e (find-none (is_broken after) (made_active p trail c) d broken k));
+        acyclic = λ d k. circular-none (active p after) d cycle k;
+      }

@@ -1,0 +1,6 @@
+-- the set of a conflict admits none
+use Rattle.choice_problem.proofs.Conflicts.{conflicts-sound}
+use Rattle.choice_problem.proofs.laws.conflicts_are_sound.Goals as goal
+
+pub returns : goal.returns
+returns c = conflicts-sound

@@ -1,0 +1,6 @@
+-- problems whose demands are Yes together are one
+use Rattle.choice_problem.proofs.Alike.{are-one}
+use Rattle.choice_problem.proofs.laws.valid_alike.Goals as goal
+
+pub returns : goal.returns
+returns c = are-one

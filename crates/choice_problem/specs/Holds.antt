@@ -1,0 +1,42 @@
+-- What an assignment holds within, and sets that admit none.
+use Rattle.std.specs.Prelude.{◌≡◌, ℕ, Bool, IsTrue, IsFalse, Some}
+use Rattle.choice_problem.specs.declared.variable.Var.{Var}
+use Rattle.choice_problem.specs.declared.problem.Choice.{Choice}
+use Rattle.choice_problem.specs.Assignment.{Assignment, is_one_of}
+use Rattle.choice_problem.specs.Problem.{IsChoice, IsDemand}
+use Rattle.choice_problem.specs.General.{Request, General}
+
+-- the values are those of known variables of the set, and of their domains
+pub record IsAssignmentIn (g : General) (set : Var → Bool) (A : Assignment) : Type 0 where
+  pub inside : (v : Var) (n : ℕ) → A v ≡ Some n → IsTrue (set v)
+  pub choice : (c : Choice) → A c.var ≡ Some c.val → IsChoice g c
+
+-- an edge leads from an owner to the target of its demand, where the demand is Yes and its target is in the set
+pub record IsEdge (g : General) (set : Var → Bool) (A : Assignment) (from to : Var) : Type 0 where
+  pub request : Request
+  pub owner : Choice
+  pub demand : IsDemand g request
+  pub owner_is : request.owner ≡ Some owner
+  pub yes : IsTrue (request.is_yes A)
+  pub inside : IsTrue (set request.target)
+  pub leaves : owner.var ≡ from
+  pub enters : request.target ≡ to
+
+-- one edge or more, each from where the one before it ends
+pub data IsPath (Edge : Var → Var → Type 0) : Var → Var → Type 0 where
+  last : {v w : Var} → Edge v w → IsPath Edge v w
+  more : {v w x : Var} → Edge v w → IsPath Edge w x → IsPath Edge v x
+
+abbrev pub HasNoCycle : (Var → Var → Type 0) → Type 0
+HasNoCycle Edge = (v : Var) → IsPath Edge v v → ⊥
+
+-- A gives values to variables of the set alone, and within it breaks nothing
+pub record HoldsWithin (g : General) (set : Var → Bool) (A : Assignment) : Type 0 where
+  pub assignment : IsAssignmentIn g set A
+  pub unbarred : (c : Choice) → A c.var ≡ Some c.val → IsFalse (g.barred c)
+  pub met : (r : Request) → IsDemand g r → IsTrue (r.is_yes A) → IsTrue (set r.target) → IsTrue (is_one_of (A r.target) r.allowed)
+  pub acyclic : HasNoCycle (IsEdge g set A)
+
+-- no assignment holds within the set
+abbrev pub AdmitsNone : General → (Var → Bool) → Type 0
+AdmitsNone g set = (A : Assignment) → HoldsWithin g set A → ⊥

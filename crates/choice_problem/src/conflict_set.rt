@@ -1,0 +1,164 @@
+ghost use Rattle.std.specs.Prelude.{◌≡◌, [], IfOk, OnOk, IsTrue, if◌then◌else◌};
+ghost use Rattle.choice_problem.specs.ConflictSet.{is_before, is_rising, has, with_var, set_of, union, place_of, front_of, behind};
+
+use crate::{Var, is_same};
+use plan_types::{List, NoMemory};
+use std::alloc::Global;
+use std::marker::Model;
+
+/// A set of variables, seen as the list of them in goal order, each once.
+#[derive(Debug, Drop, PartialEq, Eq)]
+pub struct ConflictSet {
+    vars: List<Var>,
+}
+
+impl Model for ConflictSet {
+    ghost use Rattle.std.specs.Prelude.{List, IsTrue};
+    ghost use Rattle.choice_problem.specs.declared.variable.Var.{Var};
+    ghost use Rattle.choice_problem.specs.ConflictSet.{is_rising};
+
+    ghost Value = { List Var };
+
+    ghost view = { λ s. s.vars };
+
+    ghost invariant = { λ s. IsTrue (is_rising s.vars) };
+
+    ghost inverse = { λ vars. record { vars = vars } };
+}
+
+impl ConflictSet {
+    /// The empty set.
+    pub fn new(alloc: Global) -> ConflictSet
+        ensures { result ≡ [] }
+    {
+        ConflictSet {
+            vars: List::new(alloc),
+        }
+    }
+
+    /// The set of some variables.
+    pub fn of(alloc: Global, vars: &[Var]) -> Result<ConflictSet, NoMemory>
+        ensures { IfOk result (λ set. set ≡ set_of vars.now) }
+    {
+        Ok(ConflictSet {
+            vars: List::from_vec(rising(alloc, vars)?),
+        })
+    }
+
+    /// The variables, in goal order.
+    pub fn vars(&self) -> &[Var]
+        ensures { result.now ≡ self.now }
+    {
+        self.vars.as_slice()
+    }
+
+    /// Whether the variable is in the set.
+    pub fn has(&self, v: Var) -> bool
+        ensures { result ≡ has self.now v }
+    {
+        is_among(self.vars.as_slice(), v)
+    }
+
+    /// The set of what is in either.
+    pub fn union(&self, alloc: Global, other: &ConflictSet) -> Result<ConflictSet, NoMemory>
+        ensures { IfOk result (λ both. both ≡ union self.now other.now) }
+    {
+        Ok(ConflictSet {
+            vars: List::from_vec(merged(alloc, self.vars.as_slice(), other.vars.as_slice())?),
+        })
+    }
+}
+
+fn is_among(vars: &[Var], v: Var) -> bool
+    ensures { result ≡ has vars.now v }
+{
+    vars.iter().any(|w| is_same(*w, v))
+}
+
+// The first place of a rising list whose variable isn't before this one.
+fn place_of(vars: &[Var], v: Var) -> usize
+    ensures { result ≡ place_of v vars.now }
+{
+    for (place, w) in vars.iter().enumerate() {
+        if !is_before(*w, v) {
+            return place;
+        }
+    }
+    vars.len()
+}
+
+fn is_before(v: Var, w: Var) -> bool
+    ensures { result ≡ is_before v w }
+{
+    v.cmp(&w).is_lt()
+}
+
+fn add(vars: &mut Vec<Var>, v: Var) -> Result<(), NoMemory>
+    ensures { OnOk result (vars.new.items ≡ with_var v vars.old.items) }
+{
+    let place = place_of(vars.as_slice(), v);
+    if place < vars.len() && is_same(vars[place], v) {
+        return Ok(());
+    }
+    vars.insert(place, v)?;
+    Ok(())
+}
+
+// The set of some variables.
+fn rising(alloc: Global, vars: &[Var]) -> Result<Vec<Var>, NoMemory>
+    ensures set { IfOk result (λ set. set.items ≡ set_of vars.now) }
+    ensures rising { IfOk result (λ set. IsTrue (is_rising set.items)) }
+{
+    let mut set = Vec::new(alloc);
+    let mut place = vars.len();
+    while place > 0 {
+        place -= 1;
+        add(&mut set, vars[place])?;
+    }
+    Ok(set)
+}
+
+// What is in either of two rising lists, of which the lesser front goes first.
+fn merged(alloc: Global, left: &[Var], right: &[Var]) -> Result<Vec<Var>, NoMemory>
+    requires left { IsTrue (is_rising left.now) }
+    requires right { IsTrue (is_rising right.now) }
+    ensures both { IfOk result (λ both. both.items ≡ union left.now right.now) }
+    ensures rising { IfOk result (λ both. IsTrue (is_rising both.items)) }
+{
+    let mut left = left;
+    let mut right = right;
+    let mut both = Vec::new(alloc);
+    while let Some(v) = front_of(left, right) {
+        both.push(v)?;
+        left = behind(left, v);
+        right = behind(right, v);
+    }
+    Ok(both)
+}
+
+fn front_of(left: &[Var], right: &[Var]) -> Option<Var>
+    ensures { result ≡ front_of left.now right.now }
+{
+    match (left, right) {
+        ([v, ..], [w, ..]) => Some(lesser(*v, *w)),
+        ([v, ..], []) => Some(*v),
+        ([], [w, ..]) => Some(*w),
+        ([], []) => None,
+    }
+}
+
+fn lesser(v: Var, w: Var) -> Var
+    ensures { result ≡ (if is_before w v then w else v) }
+{
+    if is_before(w, v) { w } else { v }
+}
+
+// What follows a variable, where it is the first.
+fn behind(vars: &[Var], v: Var) -> &[Var]
+    ensures { result.now ≡ behind v vars.now }
+{
+    match vars {
+        [w, rest @ ..] => { if is_same(*w, v) { rest } else { vars } }
+        [] => vars,
+    }
+}

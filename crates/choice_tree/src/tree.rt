@@ -1,0 +1,161 @@
+ghost use Rattle.std.specs.Prelude.{◌≡◌, ◌≢◌, ◌+◌, ◌-◌, ◌<◌, ◌≤◌, List, [], ◌∷◌, ◌++◌, length, drop, slice_index_or, MatchOption, OnOk, OnErr};
+ghost use Rattle.choice_tree.specs.declared.tree.Node.{Node};
+ghost use Rattle.choice_tree.specs.Tree.{fresh, stepped, values_left, choice_at, Gives, GivesNext, HasGiven};
+
+use choice_problem::{Choice, Var};
+use plan_types::{List, NoMemory};
+use std::alloc::Global;
+use std::marker::Model;
+
+/// A variable with its values in order, of which the first were given.
+#[derive(Drop)]
+pub struct Node {
+    var: Var,
+    values: List<u64>,
+    given: usize,
+}
+
+// The next value, where one is left.
+fn give(node: &mut Node) -> Option<u64>
+    ensures next { MatchOption result ((values_left node.old ≡ []) × (node.new ≡ node.old)) (Gives node.old node.new) }
+    ensures within { node.old.given ≤ length node.old.values → node.new.given ≤ length node.new.values }
+{
+    if node.given >= node.values.len() {
+        return None;
+    }
+    let value = node.values.as_slice()[node.given];
+    node.given += 1;
+    Some(value)
+}
+
+fn last_given(node: &Node) -> Choice
+    requires some { 0 < node.now.given }
+    requires within { node.now.given ≤ length node.now.values }
+    ensures { result ≡ choice_at node.now }
+{
+    Choice {
+        var: node.var,
+        val: node.values.as_slice()[node.given - 1],
+    }
+}
+
+/// A path of nodes, of which each but the last has given a value.
+#[derive(Drop)]
+pub struct Tree {
+    nodes: Vec<Node>,
+}
+
+impl Model for Tree {
+    ghost use Rattle.std.specs.Prelude.{List};
+    ghost use Rattle.choice_tree.specs.declared.tree.Node.{Node};
+    ghost use Rattle.choice_tree.specs.Tree.{IsGrown};
+
+    ghost Value = { List Node };
+
+    ghost view = { λ t. t.nodes.items };
+
+    ghost invariant = { λ t. IsGrown t.nodes.items };
+}
+
+impl Tree {
+    /// The path without nodes.
+    pub fn new(alloc: Global) -> Tree
+        ensures { result ≡ [] }
+    {
+        Tree {
+            nodes: Vec::new(alloc),
+        }
+    }
+
+    /// How many nodes there are.
+    pub fn depth(&self) -> u64
+        ensures { result ≡ length self.now }
+    {
+        self.nodes.len() as u64
+    }
+
+    /// The variable of the last node.
+    pub fn top(&self) -> Var
+        requires { self.now ≢ [] }
+        ensures { (outer : List Node) (node : Node) → self.now ≡ outer ++ node ∷ [] → result ≡ node.var }
+    {
+        self.nodes[self.nodes.len() - 1].var
+    }
+
+    /// Adds a node that has given nothing yet.
+    pub fn grow(&mut self, var: Var, values: List<u64>) -> Result<(), NoMemory>
+        requires { HasGiven self.old }
+        ensures ok { OnOk result (self.new ≡ self.old ++ fresh var values ∷ []) }
+        ensures err { OnErr result (self.new ≡ self.old) }
+    {
+        self.nodes.push(Node {
+            var,
+            values,
+            given: 0,
+        })?;
+        Ok(())
+    }
+
+    /// The next value of the last node. There is none where all were given.
+    pub fn next_value(&mut self) -> Option<u64>
+        requires { self.old ≢ [] }
+        ensures { (outer : List Node) (node : Node) → self.old ≡ outer ++ node ∷ [] → MatchOption result
+            ((values_left node ≡ []) × (self.new ≡ self.old))
+            (GivesNext outer node self.new) }
+    {
+        let last = self.nodes.len() - 1;
+        give(&mut self.nodes[last])
+    }
+
+    /// Takes the last node off.
+    pub fn back(&mut self)
+        requires { self.old ≢ [] }
+        ensures { (outer : List Node) (node : Node) → self.old ≡ outer ++ node ∷ [] → self.new ≡ outer }
+    {
+        self.nodes.pop();
+    }
+
+    /// The choice that a node stands for: its variable, with the value that it gave last.
+    pub fn trail_at(&self, i: u64) -> Choice
+        requires node { i < length self.now }
+        requires given { (d : Node) → 0 < (slice_index_or self.now i d).given }
+        ensures { (d : Node) → result ≡ choice_at (slice_index_or self.now i d) }
+    {
+        last_given(&self.nodes[i as usize])
+    }
+}
+
+#[cfg(test)]
+mod tests {
+    use super::*;
+    use choice_problem::{Part, Qual};
+    use std::test::Fail;
+
+    fn package(n: u64) -> Var {
+        Var {
+            qual: Qual::Top,
+            package: n,
+            part: Part::Package,
+        }
+    }
+
+    #[test]
+    fn gives_values_on_demand(rt: HostRuntime) -> Result<(), Fail> {
+        let alloc = rt.alloc();
+        let v = package(0);
+        let w = package(1);
+        let mut tree = Tree::new(alloc);
+        assert_eq!(rt; tree.depth(), 0);
+        tree.grow(v, List::from_vec(vec![in alloc; 3, 1]?))?;
+        assert_eq!(rt; tree.next_value(), Some(3));
+        assert_eq!(rt; tree.trail_at(0), Choice { var: v, val: 3 });
+        tree.grow(w, List::new(alloc))?;
+        assert_eq!(rt; tree.depth(), 2);
+        assert_eq!(rt; tree.top(), w);
+        assert_eq!(rt; tree.next_value(), None);
+        tree.back();
+        assert_eq!(rt; tree.next_value(), Some(1));
+        assert_eq!(rt; tree.next_value(), None);
+        Ok(())
+    }
+}

@@ -1,0 +1,109 @@
+-- What opens and what doesn't as active demands come and go.
+use Rattle.std.proofs.Common.{◌≡◌, ℕ, suc, Bool, true, false, not, cond, ◌&&◌, ◌||◌, List, [], ◌∷◌, ◌++◌, Option, Some, None, is_some, is_none, refl, sym, ap, ◌∙◌}
+use Rattle.std.proofs.lemmas.List.{map-append}
+use Rattle.choice_problem.specs.declared.variable.Var.{Var}
+use Rattle.choice_problem.specs.Variable.{same_var}
+use Rattle.choice_problem.specs.SameVariable.{same_var-is}
+use Rattle.choice_problem.specs.ConflictSet.{has}
+use Rattle.choice_problem.proofs.Sets.{has-append}
+use Rattle.validation.specs.declared.chain.Mention.{Mention}
+use Rattle.validation.specs.Table.{entry}
+use Rattle.validation.specs.Chain.{last_from, last_of}
+use Rattle.validation.specs.Stack.{vars_at, AreOpen}
+
+or-true : (b : Bool) → b || true ≡ true
+or-true true = refl
+or-true false = refl
+
+last-from-has : (n : ℕ) (best : Option ℕ) (v : Var) (ms : List Mention) → is_some (last_from n best v ms) ≡ is_some best || has (vars_at ms) v
+last-from-has n best v [] = elim (is_some best) as (λ b. b ≡ b || false) [ true ↦ refl | false ↦ refl ]
+last-from-has n best v (m ∷ ms) =
+    last-from-has (suc n) (cond (same_var m.var v) (Some n) best) v ms
+    ∙ elim (same_var m.var v) as (λ b. is_some (cond b (Some n) best) || has (vars_at ms) v ≡ is_some best || (b || has (vars_at ms) v)) [
+      | true ↦ sym (or-true (is_some best))
+      | false ↦ refl
+    ]
+
+pub last-has : (v : Var) (ms : List Mention) → is_some (last_of v ms) ≡ has (vars_at ms) v
+last-has v ms = last-from-has 0 None v ms
+
+pub vars-push : (front : List Mention) (m : Mention) (v : Var) → has (vars_at (front ++ m ∷ [])) v ≡ has (vars_at front) v || (same_var m.var v || false)
+vars-push front m v = ap (λ vs. has vs v) (map-append (λ x. x.var) front (m ∷ [])) ∙ has-append (vars_at front) (m.var ∷ []) v
+
+some-none : (o : Option ℕ) (b : Bool) → is_some o ≡ b → is_none o ≡ not b
+some-none None b h = ap not h
+some-none (Some n) b h = ap not h
+
+other : (a n : Bool) → (a || (false || false)) && n ≡ a && n
+other true n = refl
+other false n = refl
+
+and-false : (a : Bool) → a && false ≡ false
+and-false true = refl
+and-false false = refl
+
+-- one active demand less whose target has a value
+pub less-valued : (front : List Mention) (m : Mention) (table : List (Var × ℕ)) (vars : List Var) → AreOpen (front ++ m ∷ []) table vars
+    → is_some (entry table m.var) ≡ true → AreOpen front table vars
+less-valued front m table vars h valued v =
+    h v ∙ ap (λ b. b && is_none (entry table v)) (vars-push front m v)
+    ∙ elim (same_var m.var v) as (λ b. same_var m.var v ≡ b → (has (vars_at front) v || (b || false)) && is_none (entry table v) ≡ has (vars_at front) v && is_none (entry table v)) [
+      | true ↦ λ e.
+          let none : is_none (entry table v) ≡ false = ap (λ w. is_none (entry table w)) (sym (same_var-is m.var v e)) ∙ some-none (entry table m.var) true valued in
+          ap (λ n. (has (vars_at front) v || true) && n) none ∙ and-false (has (vars_at front) v || true)
+          ∙ sym (ap (λ n. has (vars_at front) v && n) none ∙ and-false (has (vars_at front) v))
+      | false ↦ λ e. other (has (vars_at front) v) (is_none (entry table v))
+    ] refl
+
+-- whose target is asked for still
+pub less-again : (front : List Mention) (m : Mention) (table : List (Var × ℕ)) (vars : List Var) → AreOpen (front ++ m ∷ []) table vars
+    → has (vars_at front) m.var ≡ true → AreOpen front table vars
+less-again front m table vars h again v =
+    h v ∙ ap (λ b. b && is_none (entry table v)) (vars-push front m v)
+    ∙ elim (same_var m.var v) as (λ b. same_var m.var v ≡ b → (has (vars_at front) v || (b || false)) && is_none (entry table v) ≡ has (vars_at front) v && is_none (entry table v)) [
+      | true ↦ λ e.
+          let there : has (vars_at front) v ≡ true = ap (has (vars_at front)) (sym (same_var-is m.var v e)) ∙ again in
+          ap (λ b. b && is_none (entry table v)) (or-true (has (vars_at front) v)) ∙ sym (ap (λ b. b && is_none (entry table v)) there)
+      | false ↦ λ e. other (has (vars_at front) v) (is_none (entry table v))
+    ] refl
+
+-- the last that asked for its target
+pub less-open : (front : List Mention) (m : Mention) (table : List (Var × ℕ)) (vars less : List Var) → AreOpen (front ++ m ∷ []) table vars
+    → has (vars_at front) m.var ≡ false → ((v : Var) → has less v ≡ (not (same_var m.var v) && has vars v)) → AreOpen front table less
+less-open front m table vars less h once less_is v =
+    less_is v ∙ ap (λ b. not (same_var m.var v) && b) (h v ∙ ap (λ b. b && is_none (entry table v)) (vars-push front m v))
+    ∙ elim (same_var m.var v) as (λ b. same_var m.var v ≡ b
+    → not b && ((has (vars_at front) v || (b || false)) && is_none (entry table v)) ≡ has (vars_at front) v && is_none (entry table v)) [
+      | true ↦ λ e.
+          let there : has (vars_at front) v ≡ false = ap (has (vars_at front)) (sym (same_var-is m.var v e)) ∙ once in
+          sym (ap (λ b. b && is_none (entry table v)) there)
+      | false ↦ λ e. other (has (vars_at front) v) (is_none (entry table v))
+    ] refl
+
+-- one active demand more whose target has a value
+pub more-valued : (front after : List Mention) (m : Mention) (table : List (Var × ℕ)) (vars : List Var) → AreOpen front table vars
+    → after ≡ front ++ m ∷ [] → is_some (entry table m.var) ≡ true → AreOpen after table vars
+more-valued front after m table vars h is valued v =
+    h v
+    ∙ elim (same_var m.var v) as (λ b. same_var m.var v ≡ b → has (vars_at front) v && is_none (entry table v) ≡ (has (vars_at front) v || (b || false)) && is_none (entry table v)) [
+      | true ↦ λ e.
+          let none : is_none (entry table v) ≡ false = ap (λ w. is_none (entry table w)) (sym (same_var-is m.var v e)) ∙ some-none (entry table m.var) true valued in
+          ap (λ n. has (vars_at front) v && n) none ∙ and-false (has (vars_at front) v)
+          ∙ sym (ap (λ n. (has (vars_at front) v || true) && n) none ∙ and-false (has (vars_at front) v || true))
+      | false ↦ λ e. sym (other (has (vars_at front) v) (is_none (entry table v)))
+    ] refl
+    ∙ sym (ap (λ b. b && is_none (entry table v)) (ap (λ ms. has (vars_at ms) v) is ∙ vars-push front m v))
+
+-- whose target has none
+pub more-open : (front after : List Mention) (m : Mention) (table : List (Var × ℕ)) (vars more : List Var) → AreOpen front table vars
+    → after ≡ front ++ m ∷ [] → is_some (entry table m.var) ≡ false → ((v : Var) → has more v ≡ (same_var m.var v || has vars v)) → AreOpen after table more
+more-open front after m table vars more h is free more_is v =
+    more_is v ∙ ap (λ b. same_var m.var v || b) (h v)
+    ∙ elim (same_var m.var v) as (λ b. same_var m.var v ≡ b
+    → b || (has (vars_at front) v && is_none (entry table v)) ≡ (has (vars_at front) v || (b || false)) && is_none (entry table v)) [
+      | true ↦ λ e.
+          let none : is_none (entry table v) ≡ true = ap (λ w. is_none (entry table w)) (sym (same_var-is m.var v e)) ∙ some-none (entry table m.var) false free in
+          sym (ap (λ b. b && is_none (entry table v)) (or-true (has (vars_at front) v)) ∙ none)
+      | false ↦ λ e. sym (other (has (vars_at front) v) (is_none (entry table v)))
+    ] refl
+    ∙ sym (ap (λ b. b && is_none (entry table v)) (ap (λ ms. has (vars_at ms) v) is ∙ vars-push front m v))

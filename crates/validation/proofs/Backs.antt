@@ -1,0 +1,116 @@
+-- What a trail stands for with its last choice taken back.
+use Rattle.std.proofs.Common.{◌≡◌, ℕ, zero, suc, ◌≤◌, arith, length, take, Bool, true, false, cond, ◌&&◌, ◌||◌, List, [], ◌∷◌, ◌++◌, filter, refl, sym, ap, ◌∙◌, subst, length-append}
+use Rattle.std.specs.List.{Contains, All, list_any}
+use Rattle.std.proofs.lemmas.Bool.{false≢true}
+use Rattle.std.proofs.lemmas.Grind.{flat_map-append}
+use Rattle.std.proofs.Math.Seq.{take-append_seam}
+use Rattle.choice_problem.specs.declared.variable.Var.{Var}
+use Rattle.choice_problem.specs.declared.problem.Choice.{Choice}
+use Rattle.choice_problem.specs.declared.problem.Demand.{Demand}
+use Rattle.choice_problem.specs.Variable.{same_var}
+use Rattle.choice_problem.specs.Problem.{Problem, IsChoice}
+use Rattle.choice_problem.specs.Trail.{demands_after}
+use Rattle.choice_problem.specs.Active.{active, made_active}
+use Rattle.choice_problem.specs.Conflict.{Edge, edges_by, edges_of, leads, lies_on_cycle, circular}
+use Rattle.choice_problem.specs.Lists.{contains-head, contains-tail, contains-left, and-left, and-right, and-both, filter-none}
+use Rattle.validation.specs.Standing.{Standing, Stands, AreNew, listed_counts, counts_before, standing}
+use Rattle.validation.specs.Standing.AreNew.{none, on}
+use Rattle.validation.specs.Stack.{Stacked, standing_of, undone, front_of, last_number}
+use Rattle.validation.proofs.Chains.{snoc-none, snoc-same}
+use Rattle.validation.proofs.Stacks.{front-of, last-number}
+use Rattle.validation.proofs.Standings.{after-push, active-push, counts-push, listed-push, all-front}
+use Rattle.validation.proofs.Verdicts.{shown-same}
+
+-- fewer demands have no more cycles
+
+any-more : (p q : Edge → Bool) → ((e : Edge) → p e ≡ true → q e ≡ true) → (edges more : List Edge) → list_any p edges ≡ true → list_any q (edges ++ more) ≡ true
+any-more p q h [] more k = absurd (false≢true k)
+any-more p q h (e ∷ edges) more k =
+    elim (p e) as (λ b. p e ≡ b → b || list_any p edges ≡ true → q e || list_any q (edges ++ more) ≡ true) [
+      | true ↦ λ is l. ap (λ b. b || list_any q (edges ++ more)) (h e is)
+      | false ↦ λ is l. ap (λ b. q e || b) (any-more p q h edges more l) ∙ elim (q e) as (λ b. b || true ≡ true) [ true ↦ refl | false ↦ refl ]
+    ] refl k
+
+leads-more : (n m : ℕ) (edges more : List Edge) (v w : Var) → n ≤ m → leads n edges v w ≡ true → leads m (edges ++ more) v w ≡ true
+leads-more zero zero edges more v w h k = k
+leads-more zero (suc m) edges more v w h k = ap (λ b. b || list_any (λ e. same_var e.from v && leads m (edges ++ more) e.to w) (edges ++ more)) k
+leads-more (suc n) zero edges more v w h k = absurd (omega (arith, h))
+leads-more (suc n) (suc m) edges more v w h k =
+    elim (same_var v w) as (λ b. b || list_any (λ e. same_var e.from v && leads n edges e.to w) edges ≡ true
+    → b || list_any (λ e. same_var e.from v && leads m (edges ++ more) e.to w) (edges ++ more) ≡ true) [
+      | true ↦ λ l. refl
+      | false ↦ λ l. any-more (λ e. same_var e.from v && leads n edges e.to w) (λ e. same_var e.from v && leads m (edges ++ more) e.to w)
+          (λ e s. and-both (same_var e.from v) (leads m (edges ++ more) e.to w) (and-left (same_var e.from v) (leads n edges e.to w) s)
+          (leads-more n m edges more e.to w (omega (arith, h)) (and-right (same_var e.from v) (leads n edges e.to w) s)))
+          edges more l
+    ] k
+
+any-same : (p q : Edge → Bool) → ((e : Edge) → p e ≡ true → q e ≡ true) → (edges : List Edge) → list_any p edges ≡ true → list_any q edges ≡ true
+any-same p q h [] k = k
+any-same p q h (e ∷ edges) k =
+    elim (p e) as (λ b. p e ≡ b → b || list_any p edges ≡ true → q e || list_any q edges ≡ true) [
+      | true ↦ λ is l. ap (λ b. b || list_any q edges) (h e is)
+      | false ↦ λ is l. ap (λ b. q e || b) (any-same p q h edges l) ∙ elim (q e) as (λ b. b || true ≡ true) [ true ↦ refl | false ↦ refl ]
+    ] refl k
+
+lies-more : (edges more : List Edge) (d : Demand) → lies_on_cycle edges d ≡ true → lies_on_cycle (edges ++ more) d ≡ true
+lies-more edges more d h =
+    any-same (λ e. leads (length edges) edges e.to e.from) (λ e. leads (length (edges ++ more)) (edges ++ more) e.to e.from)
+    (λ e k. leads-more (length edges) (length (edges ++ more)) edges more e.to e.from (omega (arith, length-append edges more)) k) (edges_by d) h
+
+none-kept : (test : Demand → Bool) (ds : List Demand) → ((d : Demand) → Contains ds d → test d ≡ false) → filter test ds ≡ []
+none-kept test [] h = refl
+none-kept test (d ∷ ds) h =
+    ap (λ b. cond b (d ∷ filter test ds) (filter test ds)) (h d (contains-head d ds)) ∙ none-kept test ds (λ x k. h x (contains-tail d ds x k))
+
+pub acyclic-front : (xs ys : List Demand) → circular (xs ++ ys) ≡ [] → circular xs ≡ []
+unfolding circular
+acyclic-front xs ys h = none-kept (lies_on_cycle (edges_of xs)) xs (λ d k.
+    elim (lies_on_cycle (edges_of xs) d) as (λ b. lies_on_cycle (edges_of xs) d ≡ b → b ≡ false) [
+      | true ↦ λ e. absurd (false≢true (
+          sym (filter-none (lies_on_cycle (edges_of (xs ++ ys))) (xs ++ ys) h d (contains-left xs ys d k))
+          ∙ ap (λ es. lies_on_cycle es d) (flat_map-append edges_by xs ys) ∙ lies-more (edges_of xs) (edges_of ys) d e))
+      | false ↦ λ e. refl
+    ] refl)
+
+-- the last choice of a trail of new ones
+
+pub new-front : {trail : List Choice} → AreNew trail → (front : List Choice) (c : Choice) → trail ≡ front ++ c ∷ [] → AreNew front
+new-front none front c e = absurd (snoc-none front c [] e)
+new-front (on {before = before} new d free is) front c e = subst (λ (t : List Choice). AreNew t) (snoc-same before d front c (sym is ∙ e)).0 new
+
+pub new-split : {trail : List Choice} → AreNew trail → (trail ≡ [] → ⊥) → (front : List Choice) × (c : Choice) × (trail ≡ front ++ c ∷ [])
+new-split none some = absurd (some refl)
+new-split (on {before = before} new d free is) some = (before, d, is)
+
+pub stands-undone : (p : Problem) (x y : Stacked) → Stands p (standing_of x) → (x.trail ≡ [] → ⊥) → y ≡ undone x → Stands p (standing_of y)
+stands-undone p x y h some e =
+    let split = new-split h.new some in
+    let front = split.0 in
+    let c = split.1 in
+    let was : standing_of x ≡ standing p (front ++ c ∷ []) = h.same ∙ ap (standing p) split.2 in
+    let trail : y.trail ≡ front = ap (λ (s : Stacked). s.trail) e ∙ ap front_of split.2 ∙ front-of front c in
+    let listed_marks : x.listed_before ≡ listed_counts p [] front ++ length (demands_after p front) ∷ [] = ap (λ (s : Standing). s.listed_before) was ∙ listed-push p front c in
+    let active_marks : x.active_before ≡ counts_before p [] front ++ length (active p front) ∷ [] = ap (λ (s : Standing). s.active_before) was ∙ counts-push p front c in
+    let all_listed : x.listed ≡ demands_after p front ++ p.demands c = ap (λ (s : Standing). s.listed) was ∙ after-push p front c in
+    let all_active : x.active ≡ active p front ++ made_active p front c = ap (λ (s : Standing). s.active) was ∙ active-push p front c in
+    let listed : y.listed ≡ demands_after p front =
+    ap (λ (s : Stacked). s.listed) e ∙ ap (λ n. take n x.listed) (ap last_number listed_marks ∙ last-number (listed_counts p [] front) (length (demands_after p front)))
+    ∙ ap (take (length (demands_after p front))) all_listed ∙ take-append_seam (demands_after p front) (p.demands c) in
+    let acts : y.active ≡ active p front =
+    ap (λ (s : Stacked). s.active) e ∙ ap (λ n. take n x.active) (ap last_number active_marks ∙ last-number (counts_before p [] front) (length (active p front)))
+    ∙ ap (take (length (active p front))) all_active ∙ take-append_seam (active p front) (made_active p front c) in
+    let were : y.listed_before ≡ listed_counts p [] front =
+    ap (λ (s : Stacked). s.listed_before) e ∙ ap front_of listed_marks ∙ front-of (listed_counts p [] front) (length (demands_after p front)) in
+    let counts : y.active_before ≡ counts_before p [] front =
+    ap (λ (s : Stacked). s.active_before) e ∙ ap front_of active_marks ∙ front-of (counts_before p [] front) (length (active p front)) in
+    let same : standing_of y ≡ standing p front =
+    shown-same y.trail front y.listed (demands_after p front) y.active (active p front) y.listed_before (listed_counts p [] front) y.active_before
+    (counts_before p [] front) trail listed acts were counts in
+    record {
+      choices = subst (λ (t : List Choice). All (IsChoice p) t) (sym trail)
+          (all-front p (IsChoice p) front (c ∷ []) (subst (λ (t : List Choice). All (IsChoice p) t) split.2 h.choices));
+      new = subst (λ (t : List Choice). AreNew t) (sym trail) (new-front h.new front c split.2);
+      same = same ∙ ap (standing p) (sym trail);
+      acyclic = ap circular acts ∙ acyclic-front (active p front) (made_active p front c) (ap circular (sym all_active) ∙ h.acyclic);
+    }

@@ -1,0 +1,150 @@
+-- The edges of the active demands, by their targets and by what they wait for.
+use Rattle.std.proofs.Common.{◌≡◌, ℕ, zero, suc, ◌<◌, arith, length, get_or, Bool, true, false, cond, ◌||◌, List, [], ◌∷◌, Some, is_some, map, filter, refl, sym, ap, ◌∙◌, subst, inl, inr}
+use Rattle.std.specs.List.{Contains, list_any, slice_get}
+use Rattle.std.specs.Option.{option_to_list}
+use Rattle.std.proofs.lemmas.List.{map-append}
+use Rattle.choice_problem.specs.declared.variable.Var.{Var}
+use Rattle.choice_problem.specs.declared.problem.Choice.{Choice}
+use Rattle.choice_problem.specs.declared.problem.Demand.{Demand}
+use Rattle.choice_problem.specs.Variable.{same_var}
+use Rattle.choice_problem.specs.SameVariable.{same_var-is, same_var-refl}
+use Rattle.choice_problem.specs.Active.{asks_for}
+use Rattle.choice_problem.specs.Conflict.{Edge, edges_from, edges_by, edges_of}
+use Rattle.choice_problem.specs.ConflictSet.{has}
+use Rattle.choice_problem.specs.Lists.{contains-head, contains-tail, contains-none, contains-cases, contains-filter, contains-flat_map, flat_map-contains}
+use Rattle.choice_problem.proofs.Sets.{has-append}
+use Rattle.validation.specs.declared.chain.Mention.{Mention}
+use Rattle.validation.specs.Chain.{places_on, last_of}
+use Rattle.validation.specs.Cycles.{HasEdge, first_of_condition, owner_of}
+use Rattle.validation.specs.Stack.{demand_at, demands_at, places_of, vars_at, mention_of, are_naming, names, waits_by, waits_from, owners_of, AreTargets}
+use Rattle.validation.proofs.Asked.{last-has}
+use Rattle.validation.proofs.Stacks.{targets-tail}
+
+filter-contains : {X : Type 0} (test : X → Bool) (xs : List X) (x : X) → Contains xs x → test x ≡ true → Contains (filter test xs) x
+filter-contains test [] x h k = absurd (contains-none x h)
+filter-contains test (y ∷ xs) x h k =
+    elim (contains-cases y xs x h) [
+      | inl e ↦ subst (λ b. Contains (cond b (y ∷ filter test xs) (filter test xs)) x) (sym (ap test e ∙ k)) (subst (λ z. Contains (y ∷ filter test xs) z) e (contains-head y (filter test xs)))
+      | inr r ↦ elim (test y) as (λ b. Contains (cond b (y ∷ filter test xs) (filter test xs)) x) [
+        | true ↦ contains-tail y (filter test xs) x (filter-contains test xs x r k)
+        | false ↦ filter-contains test xs x r k
+      ]
+    ]
+
+-- the demands at the places on a variable are those whose target it is
+demands-on : (listed : List Demand) (v : Var) (ms : List Mention) → AreTargets listed ms → demands_at listed (places_on v ms) ≡ filter (asks_for v) (demands_at listed (places_of ms))
+demands-on listed v [] h = refl
+demands-on listed v (m ∷ ms) h =
+    let more = demands-on listed v ms (targets-tail listed m ms h) in
+    let d = demand_at listed m.place in
+    elim (same_var m.var v) as (λ b. demands_at listed (map (λ x. x.place) (cond b (m ∷ filter (λ x. same_var x.var v) ms) (filter (λ x. same_var x.var v) ms)))
+    ≡ cond b (d ∷ filter (asks_for v) (demands_at listed (places_of ms))) (filter (asks_for v) (demands_at listed (places_of ms)))) [
+      | true ↦ ap (λ ds. d ∷ ds) more
+      | false ↦ more
+    ]
+    ∙ ap (λ w. cond (same_var w v) (d ∷ filter (asks_for v) (demands_at listed (places_of ms))) (filter (asks_for v) (demands_at listed (places_of ms)))) (h.target [] m ms refl)
+
+-- an edge of a demand leaves its owner for its target
+edge-of-owner : (when : List Choice) (d : Demand) (v : Var) → d.when ≡ when → Contains (option_to_list (owner_of d)) v → (let e : Edge = record { from = v; to = d.target } in Contains (edges_by d) e)
+edge-of-owner [] d v e h = absurd (contains-none v (subst (λ w. Contains (option_to_list (first_of_condition w)) v) e h))
+edge-of-owner (owner ∷ others) d v e h =
+    let is : owner.var ≡ v = elim (contains-cases owner.var [] v (subst (λ w. Contains (option_to_list (first_of_condition w)) v) e h)) [ inl k ↦ k | inr k ↦ absurd (contains-none v k) ] in
+    let mine : Edge = record { from = owner.var; to = d.target } in
+    subst (λ (w : List Choice). Contains {X = Edge} (edges_from w d.target) (record { from = v; to = d.target })) (sym e)
+    (subst (λ (u : Var). Contains {X = Edge} (mine ∷ []) (record { from = u; to = d.target })) is (contains-head mine []))
+
+-- the first of its condition is the owner
+record IsOwner (d : Demand) (e : Edge) : Type 0 where
+  owner : Choice
+  others : List Choice
+  condition : d.when ≡ owner ∷ others
+  from : owner.var ≡ e.from
+  to : d.target ≡ e.to
+
+owner-of-edge : (when : List Choice) (d : Demand) (e : Edge) → d.when ≡ when → Contains (edges_by d) e → IsOwner d e
+owner-of-edge [] d e is h = absurd (contains-none e (subst (λ w. Contains (edges_from w d.target) e) is h))
+owner-of-edge (owner ∷ others) d e is h =
+    let mine : Edge = record { from = owner.var; to = d.target } in
+    let one : mine ≡ e =
+    elim (contains-cases mine [] e (subst (λ w. Contains (edges_from w d.target) e) is h)) [ inl k ↦ k | inr k ↦ absurd (contains-none e k) ] in
+    record { owner = owner; others = others; condition = is; from = ap (λ (x : Edge). x.from) one; to = ap (λ (x : Edge). x.to) one }
+
+pub sources-edge : (listed : List Demand) (ms : List Mention) (to v : Var) → AreTargets listed ms → Contains (owners_of (demands_at listed (places_on to ms))) v → HasEdge (edges_of (demands_at listed (places_of ms))) v to
+sources-edge listed ms to v h k =
+    let all = demands_at listed (places_of ms) in
+    let found = contains-flat_map (λ d. option_to_list (owner_of d)) (demands_at listed (places_on to ms)) v k in
+    let among = contains-filter (asks_for to) all found.0 (subst (λ ds. Contains ds found.0) (demands-on listed to ms h) found.1) in
+    let mine : Edge = record { from = v; to = found.0.target } in
+    (mine, flat_map-contains edges_by all found.0 mine among.0 (edge-of-owner found.0.when found.0 v refl found.2), refl, same_var-is found.0.target to among.1)
+
+pub edge-sources : (listed : List Demand) (ms : List Mention) (to v : Var) → AreTargets listed ms → HasEdge (edges_of (demands_at listed (places_of ms))) v to → Contains (owners_of (demands_at listed (places_on to ms))) v
+edge-sources listed ms to v h (e, within, from, target) =
+    let all = demands_at listed (places_of ms) in
+    let found = contains-flat_map edges_by all e within in
+    let owns = owner-of-edge found.0.when found.0 e refl found.2 in
+    let asked : asks_for to found.0 ≡ true = ap (λ w. same_var w to) (owns.to ∙ target) ∙ same_var-refl to in
+    let owner : owner_of found.0 ≡ Some v = ap first_of_condition owns.condition ∙ ap Some (owns.from ∙ from) in
+    flat_map-contains (λ d. option_to_list (owner_of d)) (demands_at listed (places_on to ms)) found.0 v
+    (subst (λ ds. Contains ds found.0) (sym (demands-on listed to ms h)) (filter-contains (asks_for to) all found.0 found.1 asked))
+    (subst (λ o. Contains (option_to_list o) v) (sym owner) (contains-head v []))
+
+-- what listed demands wait for
+
+naming-has : (n : ℕ) (v : Var) (when : List Choice) → has (vars_at (waits_by n when)) v ≡ are_naming v when
+naming-has n v [] = refl
+naming-has n v (c ∷ rest) =
+    elim (are_naming c.var rest) as (λ b. are_naming c.var rest ≡ b → has (vars_at (cond b (waits_by n rest) (mention_of c.var n ∷ waits_by n rest))) v ≡ same_var c.var v || are_naming v rest) [
+      | true ↦ λ e.
+          naming-has n v rest
+          ∙ elim (same_var c.var v) as (λ b. same_var c.var v ≡ b → are_naming v rest ≡ b || are_naming v rest) [
+            | true ↦ λ k. ap (λ w. are_naming w rest) (sym (same_var-is c.var v k)) ∙ e
+            | false ↦ λ k. refl
+          ] refl
+      | false ↦ λ e. ap (λ b. same_var c.var v || b) (naming-has n v rest)
+    ] refl
+
+waits-has : (n : ℕ) (v : Var) (demands : List Demand) → has (vars_at (waits_from n demands)) v ≡ list_any (names v) demands
+waits-has n v [] = refl
+waits-has n v (d ∷ demands) =
+    ap (λ vs. has vs v) (map-append (λ m. m.var) (waits_by n d.when) (waits_from (suc n) demands))
+    ∙ has-append (vars_at (waits_by n d.when)) (vars_at (waits_from (suc n) demands)) v
+    ∙ ap (λ b. b || has (vars_at (waits_from (suc n) demands)) v) (naming-has n v d.when) ∙ ap (λ b. names v d || b) (waits-has (suc n) v demands)
+
+or-true : (b : Bool) → b || true ≡ true
+or-true true = refl
+or-true false = refl
+
+any-contains : (test : Demand → Bool) (ds : List Demand) (d : Demand) → Contains ds d → test d ≡ true → list_any test ds ≡ true
+any-contains test [] d h k = absurd (contains-none d h)
+any-contains test (x ∷ ds) d h k =
+    elim (contains-cases x ds d h) [
+      | inl e ↦ ap (λ b. b || list_any test ds) (ap test e ∙ k)
+      | inr r ↦ ap (λ b. test x || b) (any-contains test ds d r k) ∙ or-true (test x)
+    ]
+
+at-contains : (listed : List Demand) (k : ℕ) → k < length listed → Contains listed (demand_at listed k)
+at-contains [] k h = absurd (omega (arith, h))
+at-contains (d ∷ listed) zero h = contains-head d listed
+at-contains (d ∷ listed) (suc k) h = contains-tail d listed (demand_at listed k) (at-contains listed k (omega (arith, h)))
+
+active-listed : (listed : List Demand) (ms : List Mention) (d : Demand) → AreTargets listed ms → Contains (demands_at listed (places_of ms)) d → Contains listed d
+active-listed listed [] d h k = absurd (contains-none d k)
+active-listed listed (m ∷ ms) d h k =
+    elim (contains-cases (demand_at listed m.place) (demands_at listed (places_of ms)) d k) [
+      | inl e ↦ subst (λ x. Contains listed x) e (at-contains listed m.place (h.within [] m ms refl))
+      | inr r ↦ active-listed listed ms d (targets-tail listed m ms h) r
+    ]
+
+pub edge-chosen : (listed : List Demand) (ms waits : List Mention) (v w : Var) → AreTargets listed ms → waits ≡ waits_from 0 listed
+    → HasEdge (edges_of (demands_at listed (places_of ms))) v w → is_some (last_of v waits) ≡ true
+edge-chosen listed ms waits v w h waiting (e, within, from, target) =
+    let all = demands_at listed (places_of ms) in
+    let found = contains-flat_map edges_by all e within in
+    let owns = owner-of-edge found.0.when found.0 e refl found.2 in
+    let named : names v found.0 ≡ true = ap (are_naming v) owns.condition ∙ ap (λ b. b || are_naming v owns.others) (ap (λ u. same_var u v) (owns.from ∙ from) ∙ same_var-refl v) in
+    last-has v waits ∙ ap (λ ws. has (vars_at ws) v) waiting ∙ waits-has 0 v listed ∙ any-contains (names v) listed found.0 (active-listed listed ms found.0 h found.1) named
+
+pub active-at : (listed : List Demand) (ms : List Mention) (k : ℕ) (m : Mention) → k < length ms → m ≡ get_or ms k m → slice_get (demands_at listed (places_of ms)) k ≡ Some (demand_at listed m.place)
+active-at listed [] k m h e = absurd (omega (arith, h))
+active-at listed (x ∷ ms) zero m h e = ap (λ (y : Mention). Some (demand_at listed y.place)) (sym e)
+active-at listed (x ∷ ms) (suc k) m h e = active-at listed ms k m (omega (arith, h)) e

@@ -1,0 +1,16 @@
+pub mod Tables
+pub mod Chains
+pub mod Walks
+pub mod Opens
+pub mod Stacks
+pub mod Asked
+pub mod Below
+pub mod Turned
+pub mod Queries
+pub mod Keys
+pub mod Reached
+pub mod Rings
+pub mod Graphs
+pub mod Standings
+pub mod Verdicts
+pub mod Backs

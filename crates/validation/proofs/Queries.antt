@@ -1,0 +1,126 @@
+-- What a stack is asked: the demands on a variable, the first that passes a test, and the least that is open.
+use Rattle.std.proofs.Common.{◌≡◌, ℕ, zero, suc, ◌<◌, arith, length, get_or, drop, Bool, true, false, not, cond, ◌&&◌, ◌||◌, List, [], ◌∷◌, Some, None, is_none, is_some, find, map, filter, refl, sym, ap, ◌∙◌, subst}
+use Rattle.std.specs.List.{slice_get}
+use Rattle.choice_problem.specs.declared.variable.Var.{Var}
+use Rattle.choice_problem.specs.declared.problem.Choice.{Choice}
+use Rattle.choice_problem.specs.declared.problem.Demand.{Demand}
+use Rattle.choice_problem.specs.Variable.{same_var}
+use Rattle.choice_problem.specs.SameVariable.{same_var-is}
+use Rattle.choice_problem.specs.Assignment.{is_one_of}
+use Rattle.choice_problem.specs.Trail.{value_in, least_from}
+use Rattle.choice_problem.specs.Active.{is_waited_for, asks_for}
+use Rattle.choice_problem.specs.Conflict.{is_broken, refuses}
+use Rattle.choice_problem.specs.ConflictSet.{has}
+use Rattle.choice_problem.proofs.Order.{least-same}
+use Rattle.choice_problem.proofs.Sets.{has-contains, contains-has}
+use Rattle.validation.specs.declared.chain.Mention.{Mention}
+use Rattle.validation.specs.Table.{entry}
+use Rattle.validation.specs.Chain.{places_on}
+use Rattle.validation.specs.Checks.{is_broken_in}
+use Rattle.validation.specs.Stack.{demand_at, demands_at, places_of, vars_at, AllBelow, AreTargets, AreOpen, least_waiting}
+use Rattle.validation.proofs.Stacks.{targets-tail}
+
+pub targets-below : (listed : List Demand) (ms : List Mention) → AreTargets listed ms → AllBelow (length listed) (places_of ms)
+targets-below listed [] h = tt
+targets-below listed (m ∷ ms) h = (h.within [] m ms refl, targets-below listed ms (targets-tail listed m ms h))
+
+pub on-below : (n : ℕ) (v : Var) (ms : List Mention) → AllBelow n (places_of ms) → AllBelow n (places_on v ms)
+on-below n v [] h = tt
+on-below n v (m ∷ ms) h =
+    elim (same_var m.var v) as (λ b. AllBelow n (map (λ x. x.place) (cond b (m ∷ filter (λ x. same_var x.var v) ms) (filter (λ x. same_var x.var v) ms)))) [
+      | true ↦ (h.0, on-below n v ms h.1)
+      | false ↦ on-below n v ms h.1
+    ]
+
+pub place-below : (n : ℕ) (ms : List Mention) (k : ℕ) (d : Mention) → AllBelow n (places_of ms) → k < length ms → (get_or ms k d).place < n
+place-below n [] k d h within = absurd (omega (arith, within))
+place-below n (m ∷ ms) zero d h within = h.0
+place-below n (m ∷ ms) (suc k) d h within = place-below n ms k d h.1 (omega (arith, within))
+
+-- the first that passes a test which only demands on a variable pass
+pub find-on : (test : Demand → Bool) (listed : List Demand) (v : Var) (ms : List Mention) → AreTargets listed ms → ((d : Demand) → same_var d.target v ≡ false → test d ≡ false)
+    → find test (demands_at listed (places_of ms)) ≡ find test (demands_at listed (places_on v ms))
+find-on test listed v [] h only = refl
+find-on test listed v (m ∷ ms) h only =
+    let more = find-on test listed v ms (targets-tail listed m ms h) only in
+    let d = demand_at listed m.place in
+    elim (same_var m.var v) as (λ b. same_var m.var v ≡ b → cond (test d) (Some d) (find test (demands_at listed (places_of ms)))
+    ≡ find test (demands_at listed (map (λ x. x.place) (cond b (m ∷ filter (λ x. same_var x.var v) ms) (filter (λ x. same_var x.var v) ms))))) [
+      | true ↦ λ e. ap (λ o. cond (test d) (Some d) o) more
+      | false ↦ λ e.
+          let fails : test d ≡ false = only d (ap (λ w. same_var w v) (sym (h.target [] m ms refl)) ∙ e) in
+          ap (λ b. cond b (Some d) (find test (demands_at listed (places_of ms)))) fails ∙ more
+    ] refl
+
+pub find-asks : (listed : List Demand) (v : Var) (ms : List Mention) → AreTargets listed ms → slice_get (demands_at listed (places_on v ms)) 0 ≡ find (asks_for v) (demands_at listed (places_of ms))
+find-asks listed v [] h = refl
+find-asks listed v (m ∷ ms) h =
+    let more = find-asks listed v ms (targets-tail listed m ms h) in
+    let d = demand_at listed m.place in
+    let target : same_var d.target v ≡ same_var m.var v = ap (λ w. same_var w v) (sym (h.target [] m ms refl)) in
+    elim (same_var m.var v) as (λ b. slice_get (demands_at listed (map (λ x. x.place) (cond b (m ∷ filter (λ x. same_var x.var v) ms) (filter (λ x. same_var x.var v) ms)))) 0
+    ≡ cond b (Some d) (find (asks_for v) (demands_at listed (places_of ms)))) [ true ↦ refl | false ↦ more ]
+    ∙ sym (ap (λ b. cond b (Some d) (find (asks_for v) (demands_at listed (places_of ms)))) target)
+
+pub refuses-only : (c : Choice) (d : Demand) → same_var d.target c.var ≡ false → refuses c d ≡ false
+refuses-only c d h = ap (λ b. b && not (is_one_of (Some c.val) d.allowed)) h
+
+pub find-same : (p q : Demand → Bool) → ((d : Demand) → p d ≡ q d) → (ds : List Demand) → find p ds ≡ find q ds
+find-same p q h [] = refl
+find-same p q h (d ∷ ds) = ap (λ b. cond b (Some d) (find p ds)) (h d) ∙ ap (λ o. cond (q d) (Some d) o) (find-same p q h ds)
+
+demands-drop : (n : ℕ) (listed : List Demand) (ms : List Mention) → demands_at listed (places_of (drop n ms)) ≡ drop n (demands_at listed (places_of ms))
+demands-drop zero listed ms = refl
+demands-drop (suc n) listed [] = refl
+demands-drop (suc n) listed (m ∷ ms) = demands-drop n listed ms
+
+broken-same : (table : List (Var × ℕ)) (trail : List Choice) → ((v : Var) → entry table v ≡ value_in trail v) → (d : Demand) → is_broken trail d ≡ is_broken_in (entry table) d
+broken-same table trail h d = ap (λ o. is_some o && not (is_one_of o d.allowed)) (sym (h d.target))
+
+pub find-broken : (n : ℕ) (listed : List Demand) (ms : List Mention) (table : List (Var × ℕ)) (trail : List Choice) → ((v : Var) → entry table v ≡ value_in trail v)
+    → find (is_broken trail) (drop n (demands_at listed (places_of ms))) ≡ find (is_broken_in (entry table)) (demands_at listed (places_of (drop n ms)))
+find-broken n listed ms table trail h =
+    ap (find (is_broken trail)) (sym (demands-drop n listed ms))
+    ∙ find-same (is_broken trail) (is_broken_in (entry table)) (broken-same table trail h) (demands_at listed (places_of (drop n ms)))
+
+-- the targets that are waited for
+
+waiting-has : (trail : List Choice) (listed : List Demand) (ms : List Mention) (v : Var) → AreTargets listed ms
+    → has (map (λ d. d.target) (filter (is_waited_for trail) (demands_at listed (places_of ms)))) v ≡ has (vars_at ms) v && is_none (value_in trail v)
+waiting-has trail listed [] v h = elim (is_none (value_in trail v)) as (λ b. false ≡ false && b) [ true ↦ refl | false ↦ refl ]
+waiting-has trail listed (m ∷ ms) v h =
+    let d = demand_at listed m.place in
+    let rest = filter (is_waited_for trail) (demands_at listed (places_of ms)) in
+    let more = waiting-has trail listed ms v (targets-tail listed m ms h) in
+    let same : (e : same_var m.var v ≡ true) → is_none (value_in trail m.var) ≡ is_none (value_in trail v) = λ e. ap (λ w. is_none (value_in trail w)) (same_var-is m.var v e) in
+    let target : d.target ≡ m.var = sym (h.target [] m ms refl) in
+    let first : has (map (λ x. x.target) (cond (is_none (value_in trail d.target)) (d ∷ rest) rest)) v ≡ cond (is_none (value_in trail m.var)) (same_var m.var v || has (map (λ x. x.target) rest) v) (has (map (λ x. x.target) rest) v) =
+    elim (is_none (value_in trail d.target)) as (λ b. has (map (λ x. x.target) (cond b (d ∷ rest) rest)) v ≡ cond b (same_var d.target v || has (map (λ x. x.target) rest) v) (has (map (λ x. x.target) rest) v)) [ true ↦ refl | false ↦ refl ]
+    ∙ ap (λ w. cond (is_none (value_in trail w)) (same_var w v || has (map (λ x. x.target) rest) v) (has (map (λ x. x.target) rest) v)) target in
+    first ∙ ap (λ b. cond (is_none (value_in trail m.var)) (same_var m.var v || b) b) more
+    ∙ elim (same_var m.var v) as (λ b. same_var m.var v ≡ b
+    → cond (is_none (value_in trail m.var)) (b || (has (vars_at ms) v && is_none (value_in trail v))) (has (vars_at ms) v && is_none (value_in trail v))
+    ≡ (b || has (vars_at ms) v) && is_none (value_in trail v)) [
+      | true ↦ λ e.
+          ap (λ n. cond n true (has (vars_at ms) v && is_none (value_in trail v))) (same e)
+          ∙ elim (is_none (value_in trail v)) as (λ n. cond n true (has (vars_at ms) v && n) ≡ n) [
+            | true ↦ refl
+            | false ↦ elim (has (vars_at ms) v) as (λ b. b && false ≡ false) [ true ↦ refl | false ↦ refl ]
+          ]
+      | false ↦ λ e. elim (is_none (value_in trail m.var)) as (λ n.
+          cond n (has (vars_at ms) v && is_none (value_in trail v)) (has (vars_at ms) v && is_none (value_in trail v)) ≡ has (vars_at ms) v && is_none (value_in trail v)) [
+            | true ↦ refl
+            | false ↦ refl
+          ]
+    ] refl
+
+pub least-open-is : (trail : List Choice) (listed : List Demand) (ms : List Mention) (table : List (Var × ℕ)) (vars : List Var) → AreTargets listed ms
+    → ((v : Var) → entry table v ≡ value_in trail v) → AreOpen ms table vars → least_from None vars ≡ least_waiting trail (demands_at listed (places_of ms))
+least-open-is trail listed ms table vars h values opened =
+    let targets = map (λ (d : Demand). d.target) (filter (is_waited_for trail) (demands_at listed (places_of ms))) in
+    let same : (v : Var) → has vars v ≡ has targets v = λ v. opened v ∙ ap (λ o. has (vars_at ms) v && is_none o) (values v) ∙ sym (waiting-has trail listed ms v h) in
+    least-same vars targets (λ v k. has-contains targets v (sym (same v) ∙ contains-has vars v k)) (λ v k. has-contains vars v (same v ∙ contains-has targets v k))
+
+pub places-below : (v : Var) (listed seen : List Demand) (ms : List Mention) (places : List ℕ) → AreTargets listed ms → seen ≡ listed → places ≡ places_on v ms → AllBelow (length seen) places
+places-below v listed seen ms places h e is =
+    subst (λ (ds : List Demand). AllBelow (length ds) places) (sym e) (subst (AllBelow (length listed)) (sym is) (on-below (length listed) v ms (targets-below listed ms h)))

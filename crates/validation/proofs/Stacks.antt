@@ -1,0 +1,359 @@
+-- Stacks: choices with their marks, and what opens.
+use Rattle.std.proofs.Common.{◌≡◌, ℕ, zero, suc, ◌+◌, ◌-◌, ◌<◌, arith, length, get_or, take, drop, true, false, not, cond, ◌&&◌, ◌||◌, List, [], ◌∷◌, ◌++◌, Some, None, is_none, Result, Ok, Err, OnOk, OnErr, map, refl, sym, ap, ◌∙◌, subst, inl, inr, append_assoc, append-nil, length-append}
+use Rattle.std.proofs.lemmas.Bool.{false≢true}
+use Rattle.std.proofs.lemmas.List.{map-append, take-append-le, take-append-drop}
+use Rattle.std.proofs.Math.ListN.{get_or-append}
+use Rattle.std.proofs.Math.Seq.{take-length, take-append_seam, get_or-append_seam}
+use Rattle.choice_problem.specs.declared.variable.Var.{Var}
+use Rattle.choice_problem.specs.declared.problem.Choice.{Choice}
+use Rattle.choice_problem.specs.declared.problem.Demand.{Demand}
+use Rattle.choice_problem.specs.Variable.{same_var}
+use Rattle.choice_problem.specs.SameVariable.{same_var-is}
+use Rattle.choice_problem.specs.Trail.{value_in}
+use Rattle.choice_problem.specs.ConflictSet.{has}
+use Rattle.validation.specs.declared.chain.Mention.{Mention}
+use Rattle.validation.specs.declared.stack.Mark.{Mark}
+use Rattle.validation.specs.Table.{entry, with_entry, without_entry}
+use Rattle.validation.specs.Stack.{Stacked, front_of, last_number, undone, with_listed, with_active, no_demand, demand_at, demands_at, places_of, vars_at, waits_by, waits_from, AreTargets, AreOpen, IsMark, AreMarks, AreParts}
+use Rattle.validation.specs.Stack.AreMarks.{none, on}
+use Rattle.validation.proofs.Chains.{snoc-split, snoc-none, snoc-same}
+
+-- values
+
+-- what the first choice of a variable has is what counts
+none-tail : (x : Choice) (trail : List Choice) (v : Var) → value_in (x ∷ trail) v ≡ None → (same_var x.var v ≡ false) × (value_in trail v ≡ None)
+none-tail x trail v h =
+    elim (same_var x.var v) as (λ b. cond b (Some x.val) (value_in trail v) ≡ None → (b ≡ false) × (value_in trail v ≡ None)) [
+      | true ↦ λ k. absurd (cc k)
+      | false ↦ λ k. (refl, k)
+    ] h
+
+pub value-push : (front : List Choice) (c : Choice) (v : Var) → value_in front c.var ≡ None
+    → value_in (front ++ c ∷ []) v ≡ cond (same_var c.var v) (Some c.val) (value_in front v)
+value-push [] c v h = refl
+value-push (x ∷ front) c v h =
+    let tail = none-tail x front c.var h in
+    ap (λ o. cond (same_var x.var v) (Some x.val) o) (value-push front c v tail.1)
+    ∙ elim (same_var x.var v) as (λ b. same_var x.var v ≡ b
+    → cond b (Some x.val) (cond (same_var c.var v) (Some c.val) (value_in front v)) ≡ cond (same_var c.var v) (Some c.val) (cond b (Some x.val) (value_in front v))) [
+      | true ↦ λ e. elim (same_var c.var v) as (λ b. same_var c.var v ≡ b → Some x.val ≡ cond b (Some c.val) (Some x.val)) [
+        | true ↦ λ f. absurd (false≢true (sym tail.0 ∙ ap (same_var x.var) (same_var-is c.var v f) ∙ e))
+        | false ↦ λ f. refl
+      ] refl
+      | false ↦ λ e. refl
+    ] refl
+
+-- with the value taken out again the map is that of the choices before
+pub value-pop : (front : List Choice) (c : Choice) (v : Var) → value_in front c.var ≡ None → cond (same_var c.var v) None (value_in (front ++ c ∷ []) v) ≡ value_in front v
+value-pop front c v h =
+    ap (λ o. cond (same_var c.var v) None o) (value-push front c v h)
+    ∙ elim (same_var c.var v) as (λ b. same_var c.var v ≡ b → cond b None (cond b (Some c.val) (value_in front v)) ≡ value_in front v) [
+      | true ↦ λ e. sym (ap (value_in front) (sym (same_var-is c.var v e)) ∙ h)
+      | false ↦ λ e. refl
+    ] refl
+
+-- targets
+
+pub targets-tail : (listed : List Demand) (m : Mention) (ms : List Mention) → AreTargets listed (m ∷ ms) → AreTargets listed ms
+targets-tail listed m ms h = record {
+  within = λ front k rest e. h.within (m ∷ front) k rest (ap (λ l. m ∷ l) e);
+  target = λ front k rest e. h.target (m ∷ front) k rest (ap (λ l. m ∷ l) e);
+}
+
+pub targets-vars : (listed : List Demand) (ms : List Mention) → AreTargets listed ms → map (λ d. d.target) (demands_at listed (places_of ms)) ≡ vars_at ms
+targets-vars listed [] h = refl
+targets-vars listed (m ∷ ms) h =
+    ap (λ v. v ∷ map (λ d. d.target) (demands_at listed (places_of ms))) (sym (h.target [] m ms refl))
+    ∙ ap (λ vs. m.var ∷ vs) (targets-vars listed ms (targets-tail listed m ms h))
+
+pub targets-grow : (listed more : List Demand) (ms : List Mention) → AreTargets listed ms → AreTargets (listed ++ more) ms
+targets-grow listed more ms h = record {
+  within = λ front m rest e. let less = h.within front m rest e in omega (arith, less, length-append listed more);
+  target = λ front m rest e.
+      h.target front m rest e ∙ ap (λ (d : Demand). d.target) (sym (get_or-append listed more no_demand m.place (h.within front m rest e)));
+}
+
+pub targets-push : (listed : List Demand) (ms : List Mention) (m : Mention) → AreTargets listed ms → m.place < length listed → m.var ≡ (demand_at listed m.place).target → AreTargets listed (ms ++ m ∷ [])
+targets-push listed ms m h within target = record {
+  within = λ front k rest e. elim (snoc-split ms m front k rest e) [
+    | inl is ↦ subst (λ (x : Mention). x.place < length listed) (sym is.2) within
+    | inr is ↦ h.within front k is.0 is.1
+  ];
+  target = λ front k rest e. elim (snoc-split ms m front k rest e) [
+    | inl is ↦ subst (λ (x : Mention). x.var ≡ (demand_at listed x.place).target) (sym is.2) target
+    | inr is ↦ h.target front k is.0 is.1
+  ];
+}
+
+-- marks
+
+pub marks-targets : {trail : List Choice} {marks : List Mark} {listed : List Demand} {active : List Mention} → AreMarks trail marks listed active → AreTargets listed active
+marks-targets (none targets) = targets
+marks-targets (on c m levels e f is targets) = targets
+
+pub marks-grow : {trail : List Choice} {marks : List Mark} {listed : List Demand} {active : List Mention} (more : List Demand)
+    → AreMarks trail marks listed active → AreMarks trail marks (listed ++ more) active
+marks-grow {listed = listed} {active = active} more (none targets) = none (targets-grow listed more active targets)
+marks-grow {listed = listed} {active = active} more (on {front = front} {less = less} c m levels e f is targets) =
+    let same = sym (take-append-le m.listed listed more is.listed_within) in
+    on {front = front} {less = less} c m (subst (λ (ds : List Demand). AreMarks front less ds (take m.active active)) same levels) e f
+    (record {
+      new = is.new;
+      asked = is.asked;
+      listed_within = omega (arith, is.listed_within, length-append listed more);
+      active_within = is.active_within;
+      waits = is.waits ∙ ap (λ (ds : List Demand). length (waits_from 0 ds)) same;
+    })
+    (targets-grow listed more active targets)
+
+pub marks-push : {trail : List Choice} {marks : List Mark} {listed : List Demand} {active : List Mention} (m : Mention)
+    → AreMarks trail marks listed active → AreTargets listed (active ++ m ∷ []) → AreMarks trail marks listed (active ++ m ∷ [])
+marks-push m (none before) targets = none targets
+marks-push {listed = listed} {active = active} k (on {front = front} {less = less} c m levels e f is before) targets =
+    let same = sym (take-append-le m.active active (k ∷ []) is.active_within) in
+    on {front = front} {less = less} c m (subst (λ (ms : List Mention). AreMarks front less (take m.listed listed) ms) same levels) e f
+    (record {
+      new = is.new;
+      asked = ap (λ (ms : List Mention). has (vars_at ms) c.var) (sym same) ∙ is.asked;
+      listed_within = is.listed_within;
+      active_within = omega (arith, is.active_within, length-append active (k ∷ []));
+      waits = is.waits;
+    })
+    targets
+
+pub marks-hold : {trail : List Choice} {marks : List Mark} {listed : List Demand} {active : List Mention} (c : Choice) (m : Mark)
+    → AreMarks trail marks listed active → value_in trail c.var ≡ None → has (vars_at active) c.var ≡ true
+    → m.listed ≡ length listed → m.active ≡ length active → m.waits ≡ length (waits_from 0 listed) → AreMarks (trail ++ c ∷ []) (marks ++ m ∷ []) listed active
+marks-hold {trail = trail} {marks = marks} {listed = listed} {active = active} c m levels new asked l a w =
+    let all_listed : take m.listed listed ≡ listed = ap (λ n. take n listed) l ∙ take-length listed in
+    let all_active : take m.active active ≡ active = ap (λ n. take n active) a ∙ take-length active in
+    on {front = trail} {less = marks} c m
+    (subst (λ (ms : List Mention). AreMarks trail marks (take m.listed listed) ms) (sym all_active)
+    (subst (λ (ds : List Demand). AreMarks trail marks ds active) (sym all_listed) levels))
+    refl refl
+    (record {
+      new = new;
+      asked = ap (λ (ms : List Mention). has (vars_at ms) c.var) all_active ∙ asked;
+      listed_within = omega (arith, l);
+      active_within = omega (arith, a);
+      waits = w ∙ ap (λ (ds : List Demand). length (waits_from 0 ds)) (sym all_listed);
+    })
+    (marks-targets levels)
+
+-- what is open once a variable has a value
+pub open-hold : (active : List Mention) (old new : List (Var × ℕ)) (vars less : List Var) (c : Choice) → AreOpen active old vars
+    → ((v : Var) → entry new v ≡ with_entry c.var c.val (entry old) v) → ((v : Var) → has less v ≡ (not (same_var c.var v) && has vars v)) → AreOpen active new less
+open-hold active old new vars less c h updates less_is v =
+    less_is v ∙ ap (λ b. not (same_var c.var v) && b) (h v)
+    ∙ elim (same_var c.var v) as (λ b. not b && (has (vars_at active) v && is_none (entry old v)) ≡ has (vars_at active) v && is_none (cond b (Some c.val) (entry old v))) [
+      | true ↦ elim (has (vars_at active) v) as (λ b. false ≡ b && false) [ true ↦ refl | false ↦ refl ]
+      | false ↦ refl
+    ]
+    ∙ ap (λ o. has (vars_at active) v && is_none o) (sym (updates v))
+
+pub parts-open : (trail : List Choice) (marks : List Mark) (listed : List Demand) (active waits : List Mention) (table : List (Var × ℕ)) (vars : List Var) (held : ℕ) (v : Var)
+    → AreParts trail marks listed active waits table vars held → value_in trail v ≡ None → has (vars_at active) v ≡ true → has vars v ≡ true
+parts-open trail marks listed active waits table vars held v h free asked =
+    h.opened v ∙ ap (λ b. b && is_none (entry table v)) asked ∙ ap is_none (h.values v ∙ free)
+
+pub parts-hold : (trail after : List Choice) (marks above : List Mark) (listed : List Demand) (active waits : List Mention) (old new : List (Var × ℕ)) (vars less : List Var) (held more : ℕ)
+    (c : Choice) (m : Mark) → AreParts trail marks listed active waits old vars held → value_in trail c.var ≡ None → has (vars_at active) c.var ≡ true
+    → m.listed ≡ length listed → m.active ≡ length active → m.waits ≡ length waits → after ≡ trail ++ c ∷ [] → above ≡ marks ++ m ∷ []
+    → ((v : Var) → entry new v ≡ with_entry c.var c.val (entry old) v) → ((v : Var) → has less v ≡ (not (same_var c.var v) && has vars v)) → more ≡ held + 1
+    → AreParts after above listed active waits new less more
+parts-hold trail after marks above listed active waits old new vars less held more c m h free asked l a w after_is above_is updates less_is room = record {
+  levels =
+      subst (λ (cs : List Choice). AreMarks cs above listed active) (sym after_is)
+      (subst (λ (ms : List Mark). AreMarks (trail ++ c ∷ []) ms listed active) (sym above_is) (marks-hold c m h.levels free asked l a (w ∙ ap length h.waiting)));
+  values = λ v. updates v ∙ ap (λ o. cond (same_var c.var v) (Some c.val) o) (h.values v) ∙ sym (value-push trail c v free) ∙ ap (λ cs. value_in cs v) (sym after_is);
+  waiting = h.waiting;
+  opened = open-hold active old new vars less c h.opened updates less_is;
+  room = omega (arith, room, h.room, ap length after_is, length-append trail (c ∷ []));
+}
+
+pub parts-none : (trail : List Choice) (marks : List Mark) (listed : List Demand) (active waits : List Mention) (table : List (Var × ℕ)) (vars : List Var) (held : ℕ)
+    → trail ≡ [] → marks ≡ [] → listed ≡ [] → active ≡ [] → waits ≡ [] → ((v : Var) → entry table v ≡ None) → vars ≡ [] → held ≡ 0
+    → AreParts trail marks listed active waits table vars held
+parts-none trail marks listed active waits table vars held t m l a w h v k = record {
+  levels =
+      subst (λ (cs : List Choice). AreMarks cs marks listed active) (sym t) (subst (λ (ms : List Mark). AreMarks [] ms listed active) (sym m) (none (record {
+        within = λ front x rest e. absurd (snoc-none front x rest (sym a ∙ e));
+        target = λ front x rest e. absurd (snoc-none front x rest (sym a ∙ e));
+      })));
+  values = λ x. h x ∙ ap (λ cs. value_in cs x) (sym t);
+  waiting = w ∙ ap (waits_from 0) (sym l);
+  opened = λ x. ap (λ vs. has vs x) v ∙ sym (ap (λ ms. has (vars_at ms) x && is_none (entry table x)) a);
+  room = k ∙ ap length (sym t);
+}
+
+-- demands that are listed, and what they wait for
+
+waits-append : (n : ℕ) (xs ys : List Demand) → waits_from n (xs ++ ys) ≡ waits_from n xs ++ waits_from (n + length xs) ys
+waits-append n [] ys = ap (λ k. waits_from k ys) (omega arith)
+waits-append n (x ∷ xs) ys =
+    ap (λ ws. waits_by n x.when ++ ws) (waits-append (suc n) xs ys) ∙ sym (append_assoc (waits_by n x.when) (waits_from (suc n) xs) (waits_from (suc n + length xs) ys))
+    ∙ ap (λ k. (waits_by n x.when ++ waits_from (suc n) xs) ++ waits_from k ys) (omega arith)
+
+waits-push : (listed : List Demand) (d : Demand) → waits_from 0 (listed ++ d ∷ []) ≡ waits_from 0 listed ++ waits_by (length listed) d.when
+waits-push listed d =
+    waits-append 0 listed (d ∷ []) ∙ ap (λ ws. waits_from 0 listed ++ ws) (append-nil (waits_by (0 + length listed) d.when))
+    ∙ ap (λ k. waits_from 0 listed ++ waits_by k d.when) (omega arith)
+
+waits-cut : (k : ℕ) (listed : List Demand) → take (length (waits_from 0 (take k listed))) (waits_from 0 listed) ≡ waits_from 0 (take k listed)
+waits-cut k listed =
+    ap (λ ds. take (length (waits_from 0 (take k listed))) (waits_from 0 ds)) (sym (take-append-drop k listed))
+    ∙ ap (take (length (waits_from 0 (take k listed)))) (waits-append 0 (take k listed) (drop k listed))
+    ∙ take-append_seam (waits_from 0 (take k listed)) (waits_from (0 + length (take k listed)) (drop k listed))
+
+pub parts-list : (trail : List Choice) (marks : List Mark) (listed after : List Demand) (active waits more : List Mention) (table : List (Var × ℕ)) (vars : List Var) (held : ℕ) (d : Demand)
+    → AreParts trail marks listed active waits table vars held → after ≡ listed ++ d ∷ [] → more ≡ waits ++ waits_by (length listed) d.when
+    → AreParts trail marks after active more table vars held
+parts-list trail marks listed after active waits more table vars held d h after_is more_is = record {
+  levels = subst (λ (ds : List Demand). AreMarks trail marks ds active) (sym after_is) (marks-grow (d ∷ []) h.levels);
+  values = h.values;
+  waiting = more_is ∙ ap (λ ws. ws ++ waits_by (length listed) d.when) h.waiting ∙ sym (waits-push listed d) ∙ ap (waits_from 0) (sym after_is);
+  opened = h.opened;
+  room = h.room;
+}
+
+pub demands-grow : (listed more : List Demand) (ms : List Mention) → AreTargets listed ms → demands_at (listed ++ more) (places_of ms) ≡ demands_at listed (places_of ms)
+demands-grow listed more [] h = refl
+demands-grow listed more (m ∷ ms) h =
+    ap (λ d. d ∷ demands_at (listed ++ more) (places_of ms)) (get_or-append listed more no_demand m.place (h.within [] m ms refl))
+    ∙ ap (λ ds. demand_at listed m.place ∷ ds) (demands-grow listed more ms (targets-tail listed m ms h))
+
+-- one active demand more
+
+pub parts-ask : {E : Type 0} (r : Result (Unit {0}) E) (trail : List Choice) (marks : List Mark) (listed : List Demand) (active after waits : List Mention) (table : List (Var × ℕ)) (vars more : List Var) (held same : ℕ) (m : Mention)
+    → AreParts trail marks listed active waits table vars held → m.place < length listed → m.var ≡ (demand_at listed m.place).target
+    → OnOk r (after ≡ active ++ m ∷ []) → OnErr r (after ≡ active) → AreOpen after table more → same ≡ held → AreParts trail marks listed after waits table more same
+parts-ask (Ok u) trail marks listed active after waits table vars more held same m h within target ok err opened room = record {
+  levels = subst (λ (ms : List Mention). AreMarks trail marks listed ms) (sym ok) (marks-push m h.levels (targets-push listed active m (marks-targets h.levels) within target));
+  values = h.values;
+  waiting = h.waiting;
+  opened = opened;
+  room = room ∙ h.room;
+}
+parts-ask (Err e) trail marks listed active after waits table vars more held same m h within target ok err opened room = record {
+  levels = subst (λ (ms : List Mention). AreMarks trail marks listed ms) (sym err) h.levels;
+  values = h.values;
+  waiting = h.waiting;
+  opened = opened;
+  room = room ∙ h.room;
+}
+
+-- the last choice less
+
+pub marks-undo : {trail : List Choice} {marks : List Mark} {listed : List Demand} {active : List Mention} (front : List Choice) (c : Choice) (less : List Mark) (m : Mark)
+    → AreMarks trail marks listed active → trail ≡ front ++ c ∷ [] → marks ≡ less ++ m ∷ []
+    → AreMarks front less (take m.listed listed) (take m.active active) × IsMark front c m listed active
+marks-undo front c less m (none targets) e f = absurd (snoc-none front c [] e)
+marks-undo {listed = listed} {active = active} front c less m (on {front = front'} {less = less'} c' m' levels e' f' is targets) e f =
+    let choices = snoc-same front' c' front c (sym e' ∙ e) in
+    let numbers = snoc-same less' m' less m (sym f' ∙ f) in (
+      subst (λ (cs : List Choice). AreMarks cs less (take m.listed listed) (take m.active active)) choices.0
+          (subst (λ (ms : List Mark). AreMarks front' ms (take m.listed listed) (take m.active active)) numbers.0
+          (subst (λ (k : Mark). AreMarks front' less' (take k.listed listed) (take k.active active)) numbers.1 levels)),
+      subst (λ (cs : List Choice). IsMark cs c m listed active) choices.0
+          (subst (λ (k : Choice). IsMark front' k m listed active) choices.1
+          (subst (λ (k : Mark). IsMark front' c' k listed active) numbers.1 is)),
+    )
+
+pub marks-some : {trail : List Choice} {marks : List Mark} {listed : List Demand} {active : List Mention} (front : List Choice) (c : Choice)
+    → AreMarks trail marks listed active → trail ≡ front ++ c ∷ [] → (less : List Mark) × (m : Mark) × (marks ≡ less ++ m ∷ [])
+marks-some front c (none targets) e = absurd (snoc-none front c [] e)
+marks-some front c (on {less = less} c' m levels e' f is targets) e = (less, m, f)
+
+pub parts-undo : (trail front : List Choice) (marks less : List Mark) (listed fewer : List Demand) (active asked waits left : List Mention) (table new : List (Var × ℕ)) (vars kept more : List Var) (held same one : ℕ)
+    (c : Choice) (m : Mark) → AreParts trail marks listed active waits table vars held → trail ≡ front ++ c ∷ [] → marks ≡ less ++ m ∷ []
+    → asked ≡ take m.active active → AreOpen asked table kept → same ≡ held → left ≡ take m.waits waits → fewer ≡ take m.listed listed
+    → ((v : Var) → entry new v ≡ without_entry c.var (entry table) v) → ((v : Var) → has more v ≡ (same_var c.var v || has kept v)) → one + 1 ≡ same
+    → AreParts front less fewer asked left new more one
+parts-undo trail front marks less listed fewer active asked waits left table new vars kept more held same one c m h e f asked_is opened same_is left_is fewer_is updates more_is room =
+    let level = marks-undo front c less m h.levels e f in
+    record {
+      levels =
+          subst (λ (ms : List Mention). AreMarks front less fewer ms) (sym asked_is)
+          (subst (λ (ds : List Demand). AreMarks front less ds (take m.active active)) (sym fewer_is) level.0);
+      values = λ v. updates v ∙ ap (λ o. cond (same_var c.var v) None o) (h.values v ∙ ap (λ cs. value_in cs v) e) ∙ value-pop front c v level.1.new;
+      waiting =
+          left_is ∙ ap (take m.waits) h.waiting ∙ ap (λ n. take n (waits_from 0 listed)) level.1.waits ∙ waits-cut m.listed listed
+          ∙ ap (waits_from 0) (sym fewer_is);
+      opened = λ v.
+          more_is v ∙ ap (λ b. same_var c.var v || b) (opened v)
+          ∙ elim (same_var c.var v) as (λ b. same_var c.var v ≡ b
+          → b || (has (vars_at asked) v && is_none (entry table v)) ≡ has (vars_at asked) v && is_none (cond b None (entry table v))) [
+            | true ↦ λ k.
+                let there : has (vars_at asked) v ≡ true = ap (has (vars_at asked)) (sym (same_var-is c.var v k)) ∙ ap (λ ms. has (vars_at ms) c.var) asked_is ∙ level.1.asked in
+                sym (ap (λ b. b && true) there)
+            | false ↦ λ k. refl
+          ] refl
+          ∙ ap (λ o. has (vars_at asked) v && is_none o) (sym (updates v));
+      room = omega (arith, room, same_is, h.room, ap length e, length-append front (c ∷ []));
+    }
+
+-- what a stack is seen as
+
+abbrev seen : List Choice → List Demand → List Demand → List ℕ → List ℕ → Stacked
+seen trail listed active listed_before active_before =
+    record { trail = trail; listed = listed; active = active; listed_before = listed_before; active_before = active_before }
+
+pub seen-same : (t u : List Choice) (l m a b : List Demand) (n k i j : List ℕ) → t ≡ u → l ≡ m → a ≡ b → n ≡ k → i ≡ j → seen t l a n i ≡ seen u m b k j
+seen-same t u l m a b n k i j e f g h o =
+    ap (λ x. seen x l a n i) e ∙ ap (λ x. seen u x a n i) f ∙ ap (λ x. seen u m x n i) g ∙ ap (λ x. seen u m b x i) h ∙ ap (λ x. seen u m b k x) o
+
+pub front-of : {X : Type 0} (front : List X) (x : X) → front_of (front ++ x ∷ []) ≡ front
+front-of front x =
+    ap (λ n. take n (front ++ x ∷ [])) (let e : length (front ++ x ∷ []) - 1 ≡ length front = omega (arith, length-append front (x ∷ [])) in e) ∙ take-append_seam front (x ∷ [])
+
+pub last-number : (front : List ℕ) (n : ℕ) → last_number (front ++ n ∷ []) ≡ n
+last-number front n =
+    ap (λ k. get_or (front ++ n ∷ []) k 0) (let e : length (front ++ n ∷ []) - 1 ≡ length front = omega (arith, length-append front (n ∷ [])) in e)
+    ∙ get_or-append_seam front n [] 0
+
+demands-take : (n : ℕ) (listed : List Demand) (ms : List Mention) → demands_at listed (places_of (take n ms)) ≡ take n (demands_at listed (places_of ms))
+demands-take zero listed ms = refl
+demands-take (suc n) listed [] = refl
+demands-take (suc n) listed (m ∷ ms) = ap (λ ds. demand_at listed m.place ∷ ds) (demands-take n listed ms)
+
+demands-cut : (k : ℕ) (listed : List Demand) (ms : List Mention) → AreTargets (take k listed) ms → demands_at (take k listed) (places_of ms) ≡ demands_at listed (places_of ms)
+demands-cut k listed ms h =
+    sym (demands-grow (take k listed) (drop k listed) ms h) ∙ ap (λ ds. demands_at ds (places_of ms)) (take-append-drop k listed)
+
+pub undone-seen : (trail front : List Choice) (marks less : List Mark) (listed fewer : List Demand) (active asked : List Mention) (c : Choice) (m : Mark)
+    → AreMarks trail marks listed active → trail ≡ front ++ c ∷ [] → marks ≡ less ++ m ∷ [] → asked ≡ take m.active active → fewer ≡ take m.listed listed
+    → seen front fewer (demands_at fewer (places_of asked)) (map (λ k. k.listed) less) (map (λ k. k.active) less)
+    ≡ undone (seen trail listed (demands_at listed (places_of active)) (map (λ k. k.listed) marks) (map (λ k. k.active) marks))
+undone-seen trail front marks less listed fewer active asked c m levels e f asked_is fewer_is =
+    let inner = marks-targets (marks-undo front c less m levels e f).0 in
+    let listed_marks : map (λ (k : Mark). k.listed) marks ≡ map (λ (k : Mark). k.listed) less ++ m.listed ∷ [] = ap (map (λ (k : Mark). k.listed)) f ∙ map-append (λ (k : Mark). k.listed) less (m ∷ []) in
+    let active_marks : map (λ (k : Mark). k.active) marks ≡ map (λ (k : Mark). k.active) less ++ m.active ∷ [] = ap (map (λ (k : Mark). k.active)) f ∙ map-append (λ (k : Mark). k.active) less (m ∷ []) in
+    let was_listed : last_number (map (λ (k : Mark). k.listed) marks) ≡ m.listed = ap last_number listed_marks ∙ last-number (map (λ (k : Mark). k.listed) less) m.listed in
+    let was_active : last_number (map (λ (k : Mark). k.active) marks) ≡ m.active = ap last_number active_marks ∙ last-number (map (λ (k : Mark). k.active) less) m.active in
+    seen-same front (front_of trail) fewer (take (last_number (map (λ (k : Mark). k.listed) marks)) listed) (demands_at fewer (places_of asked))
+    (take (last_number (map (λ (k : Mark). k.active) marks)) (demands_at listed (places_of active))) (map (λ (k : Mark). k.listed) less)
+    (front_of (map (λ (k : Mark). k.listed) marks)) (map (λ (k : Mark). k.active) less) (front_of (map (λ (k : Mark). k.active) marks))
+    (sym (ap front_of e ∙ front-of front c))
+    (fewer_is ∙ ap (λ n. take n listed) (sym was_listed))
+    (ap (λ ds. demands_at ds (places_of asked)) fewer_is ∙ ap (λ ms. demands_at (take m.listed listed) (places_of ms)) asked_is
+    ∙ demands-cut m.listed listed (take m.active active) inner ∙ demands-take m.active listed active
+    ∙ ap (λ n. take n (demands_at listed (places_of active))) (sym was_active))
+    (sym (ap front_of listed_marks ∙ front-of (map (λ (k : Mark). k.listed) less) m.listed))
+    (sym (ap front_of active_marks ∙ front-of (map (λ (k : Mark). k.active) less) m.active))
+
+pub listed-seen : (trail : List Choice) (listed after : List Demand) (active : List Mention) (n k : List ℕ) (d : Demand) → AreTargets listed active → after ≡ listed ++ d ∷ []
+    → seen trail after (demands_at after (places_of active)) n k ≡ with_listed (seen trail listed (demands_at listed (places_of active)) n k) (d ∷ [])
+listed-seen trail listed after active n k d h e =
+    ap (λ (x : List Demand). seen trail x (demands_at x (places_of active)) n k) e
+    ∙ ap (λ a. seen trail (listed ++ d ∷ []) a n k) (demands-grow listed (d ∷ []) active h)
+
+pub active-seen : (trail : List Choice) (listed : List Demand) (active after : List Mention) (n k : List ℕ) (m : Mention) → after ≡ active ++ m ∷ []
+    → seen trail listed (demands_at listed (places_of after)) n k ≡ with_active (seen trail listed (demands_at listed (places_of active)) n k) (demand_at listed m.place ∷ [])
+active-seen trail listed active after n k m e =
+    ap (λ (ms : List Mention). seen trail listed (demands_at listed (places_of ms)) n k) e
+    ∙ ap (λ (ps : List ℕ). seen trail listed (demands_at listed ps) n k) (map-append (λ (x : Mention). x.place) active (m ∷ []))
+    ∙ ap (λ a. seen trail listed a n k) (map-append (demand_at listed) (places_of active) (m.place ∷ []))
+
+pub length-active : (listed : List Demand) (ms : List Mention) → length (demands_at listed (places_of ms)) ≡ length ms
+length-active listed [] = refl
+length-active listed (m ∷ ms) = ap suc (length-active listed ms)

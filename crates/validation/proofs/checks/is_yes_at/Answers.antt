@@ -1,0 +1,11 @@
+use Rattle.std.proofs.Common.{◌∙◌, ap}
+use Rattle.choice_problem.specs.Assignment.{is_yes}
+use Rattle.validation.specs.Table.{entry}
+use Rattle.validation.specs.Stack.{no_demand}
+use Rattle.validation.proofs.Chains.{get-any}
+use Rattle.validation.proofs.checks.is_yes_at.Goals as goal
+
+pub returns : goal.returns
+returns c =
+    c.is_yes.ensures
+    ∙ ap (is_yes (entry c.args.values.now)) (c.index-listed-place.is ∙ get-any c.args.listed.now c.args.place c.index-listed-place.result no_demand c.requires)

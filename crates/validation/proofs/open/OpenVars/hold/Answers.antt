@@ -1,0 +1,25 @@
+use Rattle.std.proofs.Common.{◌≡◌, ◌∙◌, ap, not, ◌&&◌, length, true, arith}
+use Rattle.choice_problem.specs.Variable.{same_var}
+use Rattle.choice_problem.specs.ConflictSet.{is_rising, has}
+use Rattle.validation.specs.Open.{Room}
+use Rattle.validation.proofs.Opens.{rising-without, has-without, length-taken}
+use Rattle.validation.proofs.open.OpenVars.hold.Goals as goal
+
+pub invariant_of-self : goal.invariant_of-self
+invariant_of-self c =
+    let there : has c.self.inside.vars.items c.args.v ≡ true = ap (λ (r : Room). has r.vars c.args.v) c.self.view_is ∙ c.requires in
+    record {
+      rising = ap is_rising c.remove_rising.ensures.items ∙ rising-without c.args.v c.self.inside.vars.items c.self.invariant.rising;
+      room = omega (
+        arith,
+        ap length c.remove_rising.ensures.items,
+        length-taken c.args.v c.self.inside.vars.items there,
+        c.remove_rising.ensures.capacity,
+        c.self.invariant.room,
+      );
+    }
+
+pub returns-clause-vars : goal.returns-clause-vars
+returns-clause-vars c u =
+    ap (λ vars. has vars u) c.remove_rising.ensures.items ∙ has-without c.args.v c.self.inside.vars.items u
+    ∙ ap (λ (r : Room). not (same_var c.args.v u) && has r.vars u) c.self.view_is

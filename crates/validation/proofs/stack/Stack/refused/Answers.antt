@@ -1,0 +1,26 @@
+use Rattle.std.proofs.Common.{◌≡◌, ◌∙◌, ℕ, List, sym, ap, find}
+use Rattle.std.specs.Option.{option_map}
+use Rattle.choice_problem.specs.declared.problem.Demand.{Demand}
+use Rattle.choice_problem.specs.Conflict.{refuses, set_of_first}
+use Rattle.validation.specs.Stack.{Stacked, demand_at, demands_at}
+use Rattle.validation.proofs.Stacks.{marks-targets}
+use Rattle.validation.proofs.Queries.{places-below, find-on, refuses-only}
+use Rattle.validation.proofs.stack.Stack.refused.Goals as goal
+
+pub first_refusing-first-requires : goal.first_refusing-first-requires
+first_refusing-first-requires c =
+    let s = c.self.inside in
+    places-below c.args.c.var s.listed c.as_slice.result.now s.active c.as_slice-2.result.now (marks-targets c.self.invariant.levels) c.as_slice.ensures
+    (c.as_slice-2.ensures.value ∙ c.in_ok-places.ensures)
+
+pub returns : goal.returns
+returns c =
+    let s = c.self.inside in
+    let same : c.as_slice-3.result.now ≡ c.as_slice.result.now = c.as_slice-3.ensures ∙ sym c.as_slice.ensures in
+    c.in_ok-set.ensures
+    ∙ ap (λ (ds : List Demand). set_of_first (option_map (demand_at ds) c.first_refusing-first.result)) same
+    ∙ ap set_of_first (sym c.first_refusing-first.ensures.found)
+    ∙ ap (λ (ds : List Demand). set_of_first (find (refuses c.args.c) (demands_at ds c.as_slice-2.result.now))) c.as_slice.ensures
+    ∙ ap (λ (ps : List ℕ). set_of_first (find (refuses c.args.c) (demands_at s.listed ps))) (c.as_slice-2.ensures.value ∙ c.in_ok-places.ensures)
+    ∙ ap set_of_first (sym (find-on (refuses c.args.c) s.listed c.args.c.var s.active (marks-targets c.self.invariant.levels) (refuses-only c.args.c)))
+    ∙ ap (λ (x : Stacked). set_of_first (find (refuses c.args.c) x.active)) c.self.view_is

@@ -1,0 +1,25 @@
+use Rattle.std.proofs.Common.{◌<◌, ◌≤◌, ◌∷◌, [], ◌∙◌, sym, ap, take, length, arith, length-append}
+use Rattle.std.proofs.lemmas.List.{take-append-le}
+use Rattle.validation.proofs.Chains.{last-split}
+use Rattle.validation.proofs.stack.forget.Goals as goal
+
+pub loop-active-smaller : goal.loop-active-smaller
+loop-active-smaller c =
+    let some : 0 < length c.loop-active.active = omega (arith, c.loop-active-test.true, c.len.ensures) in
+    let split = last-split c.loop-active.active some in
+    let less = c.forget_last.ensures.active split.0 split.1 split.2 in
+    omega (arith, ap length less, ap length split.2, length-append split.0 (split.1 ∷ []))
+
+pub loop-active-preserved : goal.loop-active-preserved
+loop-active-preserved c =
+    let some : 0 < length c.loop-active.active = omega (arith, c.loop-active-test.true, c.len.ensures) in
+    let split = last-split c.loop-active.active some in
+    let less = c.forget_last.ensures.active split.0 split.1 split.2 in
+    let within : c.args.len ≤ length split.0 = omega (arith, c.loop-active-test.true, c.len.ensures, ap length split.2, length-append split.0 (split.1 ∷ [])) in
+    record {
+      first =
+          ap (take c.args.len) less ∙ sym (take-append-le c.args.len split.0 (split.1 ∷ []) within) ∙ ap (take c.args.len) (sym split.2)
+          ∙ c.loop-active.invariant.first;
+      opened = c.forget_last.ensures.opened;
+      held = c.forget_last.ensures.held ∙ c.loop-active.invariant.held;
+    }

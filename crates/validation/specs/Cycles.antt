@@ -1,0 +1,42 @@
+-- Which edges there are, what leads to one of some variables by them, and the keys of a search.
+use Rattle.std.specs.Prelude.{◌≡◌, Bool, cond, List, [], ◌∷◌, ◌++◌, Option, Some, None, option_to_list, length, filter, flat_map}
+use Rattle.std.specs.List.{Contains, list_any}
+use Rattle.choice_problem.specs.declared.variable.Var.{Var}
+use Rattle.choice_problem.specs.declared.problem.Choice.{Choice}
+use Rattle.choice_problem.specs.declared.problem.Demand.{Demand}
+use Rattle.choice_problem.specs.ConflictSet.{has}
+use Rattle.choice_problem.specs.Conflict.{Edge, leads, lies_on_cycle}
+
+-- an edge leaves the first variable for the second
+abbrev pub HasEdge : List Edge → Var → Var → Type 0
+HasEdge edges v w = (e : Edge) × Contains edges e × (e.from ≡ v) × (e.to ≡ w)
+
+-- whether edges lead from a variable to one of some others
+abbrev pub leads_to_any : List Edge → List Var → Var → Bool
+leads_to_any edges goals v = list_any (λ w. leads (length edges) edges v w) goals
+
+-- the variable of the first choice of a condition
+abbrev pub first_of_condition : List Choice → Option Var
+first_of_condition [] = None
+first_of_condition (owner ∷ others) = Some owner.var
+
+-- the variable that owns a demand, which a root hasn't
+abbrev pub owner_of : Demand → Option Var
+owner_of d = first_of_condition d.when
+
+-- the owners of those of some demands whose edges lie on a cycle
+abbrev pub owners_on_cycles : List Edge → List Demand → List Var
+owners_on_cycles edges demands = flat_map (λ d. option_to_list (owner_of d)) (filter (lies_on_cycle edges) demands)
+
+-- the keys with one more, where it isn't among them
+abbrev pub with_key : List Var → Var → List Var
+with_key keys v = cond (has keys v) keys (keys ++ v ∷ [])
+
+-- the keys with each of some more
+abbrev pub with_keys : List Var → List Var → List Var
+with_keys keys [] = keys
+with_keys keys (v ∷ vars) = with_keys (with_key keys v) vars
+
+-- the keys are the variables that lead to one of the goals
+abbrev pub AreAncestors : List Edge → List Var → List Var → Type 0
+AreAncestors edges goals keys = (v : Var) → has keys v ≡ leads_to_any edges goals v

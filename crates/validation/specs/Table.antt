@@ -1,0 +1,16 @@
+-- Partial maps from variables to numbers.
+use Rattle.std.specs.Prelude.{ℕ, cond, List, Option, Some, None}
+use Rattle.std.specs.Map.{lookup}
+use Rattle.std.specs.BTreeMap.{is_at}
+use Rattle.choice_problem.specs.declared.variable.Var.{Var}
+use Rattle.choice_problem.specs.Variable.{var_cmp, same_var}
+
+-- what the entries have at a variable
+abbrev pub entry : List (Var × ℕ) → Var → Option ℕ
+entry entries v = lookup (is_at (var_cmp v)) entries
+
+abbrev pub with_entry : Var → ℕ → (Var → Option ℕ) → Var → Option ℕ
+with_entry v n old w = cond (same_var v w) (Some n) (old w)
+
+abbrev pub without_entry : Var → (Var → Option ℕ) → Var → Option ℕ
+without_entry v old w = cond (same_var v w) None (old w)

@@ -1,0 +1,416 @@
+ghost use Rattle.std.specs.Prelude.{◌≡◌, ◌≢◌, ◌<◌, ◌++◌, [], ◌∷◌, None, IfOk, OnOk, OnErr, IsTrue, IfSome, List, length, take, drop, map, find};
+ghost use Rattle.std.specs.Option.{option_map};
+ghost use Rattle.choice_problem.specs.Trail.{value_in};
+ghost use Rattle.validation.specs.Table.{entry};
+ghost use Rattle.choice_problem.specs.Active.{asks_for, vars_of_first};
+ghost use Rattle.choice_problem.specs.Conflict.{refuses, is_broken, set_of_first};
+ghost use Rattle.choice_problem.specs.ConflictSet.{has, set_of};
+ghost use Rattle.validation.specs.Checks.{is_broken_in};
+ghost use Rattle.validation.specs.declared.chain.Mention.{Mention};
+ghost use Rattle.validation.specs.Stack.{Stacked, AreOpen, demand_at, are_naming, waits_by, undone, held, with_listed, with_active, HasListed, HasActivated, HasGrown, AllBelow, turned, made, demands_at, places_of, least_waiting};
+
+use crate::chain::{Chain, Mention};
+use crate::checks::{
+    demand_in, first_refusing, is_broken_at, owners_at, reason_at, set_at, yes_among,
+};
+use crate::cycles::Graph;
+use crate::open::OpenVars;
+use crate::table::Table;
+use choice_problem::{Choice, ConflictSet, Demand, Var, is_same};
+use plan_types::{List, NoMemory};
+use std::alloc::Global;
+use std::marker::Model;
+
+/// How much there was of each before a choice.
+#[derive(Clone, Copy, Debug, Drop)]
+pub(crate) struct Mark {
+    pub(crate) listed: usize,
+    pub(crate) waits: usize,
+    pub(crate) active: usize,
+}
+
+/// Choices, with the demands that are listed and those of them that are active.
+#[derive(Drop)]
+pub(crate) struct Stack {
+    trail: List<Choice>,
+    marks: List<Mark>,
+    listed: List<Demand>,
+    // The mentions of the targets of active demands.
+    active: Chain,
+    // The mentions of the variables of each listed demand's condition.
+    waits: Chain,
+    values: Table,
+    opens: OpenVars,
+}
+
+impl Model for Stack {
+    ghost use Rattle.std.specs.Prelude.{map};
+    ghost use Rattle.validation.specs.Stack.{Stacked, AreParts, demands_at, places_of};
+
+    ghost Value = { Stacked };
+
+    ghost view = { λ s. record {
+      trail = s.trail;
+      listed = s.listed;
+      active = demands_at s.listed (places_of s.active);
+      listed_before = map (λ m. m.listed) s.marks;
+      active_before = map (λ m. m.active) s.marks;
+    } };
+
+    ghost invariant = { λ s. AreParts s.trail s.marks s.listed s.active s.waits s.values s.opens.vars s.opens.held };
+}
+
+impl Stack {
+    pub(crate) fn new(alloc: Global) -> Stack
+        ensures { result ≡ record { trail = []; listed = []; active = []; listed_before = []; active_before = [] } }
+    {
+        Stack {
+            trail: List::new(alloc),
+            marks: List::new(alloc),
+            listed: List::new(alloc),
+            active: Chain::new(alloc),
+            waits: Chain::new(alloc),
+            values: Table::new(alloc),
+            opens: OpenVars::new(alloc),
+        }
+    }
+
+    pub(crate) fn trail(&self) -> &List<Choice>
+        ensures { result.now ≡ self.now.trail }
+    {
+        &self.trail
+    }
+
+    pub(crate) fn into_trail(self) -> List<Choice>
+        ensures { result ≡ self.trail }
+    {
+        self.trail
+    }
+
+    /// Makes a choice of an open variable.
+    pub(crate) fn hold(&mut self, c: Choice) -> Result<(), NoMemory>
+        requires new { value_in self.old.trail c.var ≡ None }
+        requires asked { IsTrue (has (map (λ d. d.target) self.old.active) c.var) }
+        ensures ok { OnOk result (self.new ≡ held self.old c) }
+        ensures err { OnErr result (self.new ≡ self.old) }
+    {
+        let mark = Mark {
+            listed: self.listed.len(),
+            waits: self.waits.len(),
+            active: self.active.len(),
+        };
+        add_level(&mut self.trail, &mut self.marks, c, mark)?;
+        if self.values.set(c.var, c.val).is_err() {
+            self.trail.pop();
+            self.marks.pop();
+            return Err(NoMemory);
+        }
+        self.opens.hold(c.var);
+        Ok(())
+    }
+}
+
+impl Stack {
+    /// Takes the last choice back, with what came behind it.
+    pub(crate) fn undo(&mut self)
+        requires { self.old.trail ≢ [] }
+        ensures { self.new ≡ undone self.old }
+    {
+        let c = self.trail.pop().unwrap();
+        let mark = self.marks.pop().unwrap();
+        forget(&mut self.active, &mut self.opens, &self.values, mark.active);
+        self.waits.cut(mark.waits);
+        self.listed.truncate(mark.listed);
+        self.values.remove(c.var);
+        self.opens.put_back(c.var);
+    }
+
+    pub(crate) fn list(&mut self, d: Demand) -> Result<(), NoMemory>
+        ensures ok { OnOk result (self.new ≡ with_listed self.old (d ∷ [])) }
+        ensures err { OnErr result (self.new ≡ self.old) }
+    {
+        let place = self.listed.len();
+        let len = self.waits.len();
+        wait_for(&mut self.waits, place, d.when.as_slice())?;
+        if self.listed.push(d).is_err() {
+            self.waits.cut(len);
+            return Err(NoMemory);
+        }
+        Ok(())
+    }
+
+    pub(crate) fn activate(&mut self, place: usize) -> Result<(), NoMemory>
+        requires { place < length self.old.listed }
+        ensures ok { OnOk result (self.new ≡ with_active self.old (demand_at self.old.listed place ∷ [])) }
+        ensures err { OnErr result (self.new ≡ self.old) }
+    {
+        let var = self.listed.as_slice()[place].target;
+        ask(
+            &mut self.active,
+            &mut self.opens,
+            &self.values,
+            Mention { var, place },
+        )
+    }
+}
+
+impl Stack {
+    pub(crate) fn list_all(&mut self, demands: List<Demand>) -> Result<(), NoMemory>
+        ensures ok { OnOk result (self.new ≡ with_listed self.old demands) }
+        ensures err { OnErr result (HasListed self.old self.new) }
+    {
+        for d in demands.into_vec() {
+            self.list(d)?;
+        }
+        Ok(())
+    }
+
+    pub(crate) fn activate_all(&mut self, places: &[usize]) -> Result<(), NoMemory>
+        requires { AllBelow (length self.old.listed) places.now }
+        ensures ok { OnOk result (self.new ≡ with_active self.old (demands_at self.old.listed places.now)) }
+        ensures err { OnErr result (HasActivated self.old self.new) }
+    {
+        for place in places {
+            self.activate(*place)?;
+        }
+        Ok(())
+    }
+
+    /// The places of the listed demands that name a variable and are Yes.
+    pub(crate) fn turned(&self, alloc: Global, v: Var) -> Result<Vec<usize>, NoMemory>
+        ensures demands { IfOk result (λ found. demands_at self.now.listed found.items ≡ turned self.now.trail v self.now.listed) }
+        ensures within { IfOk result (λ found. AllBelow (length self.now.listed) found.items) }
+    {
+        let places = self.waits.places(alloc, v)?;
+        let found = yes_among(
+            alloc,
+            self.listed.as_slice(),
+            &self.values,
+            places.as_slice(),
+        )?;
+        Ok(found)
+    }
+}
+
+impl Stack {
+    pub(crate) fn activate_listed(&mut self) -> Result<(), NoMemory>
+        ensures { OnOk result (self.new ≡ with_active self.old self.old.listed) }
+    {
+        let count = self.listed.len();
+        for place in 0..count {
+            self.activate(place)?;
+        }
+        Ok(())
+    }
+
+    /// Makes a choice of an open variable, lists its demands, and makes active what turns Yes.
+    pub(crate) fn make(
+        &mut self,
+        alloc: Global,
+        c: Choice,
+        demands: List<Demand>,
+    ) -> Result<(), NoMemory>
+        requires new { value_in self.old.trail c.var ≡ None }
+        requires asked { IsTrue (has (map (λ d. d.target) self.old.active) c.var) }
+        ensures ok { OnOk result (self.new ≡ made self.old c demands) }
+        ensures err { OnErr result (self.new ≡ self.old) }
+    {
+        self.hold(c)?;
+        if self.grow(alloc, c.var, demands).is_err() {
+            self.undo();
+            return Err(NoMemory);
+        }
+        Ok(())
+    }
+
+    fn grow(&mut self, alloc: Global, v: Var, demands: List<Demand>) -> Result<(), NoMemory>
+        ensures ok { OnOk result (self.new ≡ with_active (with_listed self.old demands) (turned self.old.trail v (self.old.listed ++ demands))) }
+        ensures err { OnErr result (HasGrown self.old self.new) }
+    {
+        self.list_all(demands)?;
+        let places = self.turned(alloc, v)?;
+        self.activate_all(places.as_slice())?;
+        Ok(())
+    }
+}
+
+impl Stack {
+    /// The least variable that has no value and is the target of an active demand.
+    pub(crate) fn least(&self) -> Option<Var>
+        ensures { result ≡ least_waiting self.now.trail self.now.active }
+    {
+        self.opens.least()
+    }
+
+    /// The set of the condition of the first active demand on a variable.
+    pub(crate) fn reason(&self, alloc: Global, v: Var) -> Result<ConflictSet, NoMemory>
+        ensures { IfOk result (λ set. set ≡ set_of (vars_of_first (find (asks_for v) self.now.active))) }
+    {
+        let places = self.active.places(alloc, v)?;
+        let set = reason_at(alloc, self.listed.as_slice(), places.as_slice())?;
+        Ok(set)
+    }
+
+    /// The set of the first active demand that refuses a choice.
+    pub(crate) fn refused(&self, alloc: Global, c: Choice) -> Result<Option<ConflictSet>, NoMemory>
+        ensures { IfOk result (λ set. set ≡ set_of_first (find (refuses c) self.now.active)) }
+    {
+        let places = self.active.places(alloc, c.var)?;
+        let first = first_refusing(self.listed.as_slice(), places.as_slice(), c);
+        let set = set_at(alloc, self.listed.as_slice(), first)?;
+        Ok(set)
+    }
+
+    /// The set of the first active demand from a place on that the choices break.
+    pub(crate) fn broken(&self, alloc: Global, from: usize) -> Result<Option<ConflictSet>, NoMemory>
+        ensures { IfOk result (λ set. set ≡ set_of_first (find (is_broken self.now.trail) (drop from self.now.active))) }
+    {
+        let first = first_broken(&self.active, self.listed.as_slice(), &self.values, from);
+        let set = set_at(alloc, self.listed.as_slice(), first)?;
+        Ok(set)
+    }
+}
+
+impl Graph for Stack {
+    ghost demands = { λ s. s.active };
+
+    fn count(&self) -> usize {
+        self.active.len()
+    }
+
+    fn demand(&self, place: usize) -> &Demand {
+        let listed = self.active.at(place).place;
+        demand_in(self.listed.as_slice(), listed)
+    }
+
+    fn sources(&self, alloc: Global, to: Var) -> Result<List<Var>, NoMemory> {
+        let places = self.active.places(alloc, to)?;
+        let owners = owners_at(alloc, self.listed.as_slice(), places.as_slice())?;
+        Ok(List::from_vec(owners))
+    }
+
+    // A variable that no listed demand waits for owns none.
+    fn is_chosen(&self, v: Var) -> bool {
+        self.waits.last(v).is_some()
+    }
+}
+
+fn first_broken(active: &Chain, listed: &[Demand], values: &Table, from: usize) -> Option<usize>
+    requires { AllBelow (length listed.now) (places_of active.now) }
+    ensures found { find (is_broken_in (entry values.now)) (demands_at listed.now (places_of (drop from active.now))) ≡ option_map (demand_at listed.now) result }
+    ensures within { IfSome result (λ place. place < length listed.now) }
+{
+    let count = active.len();
+    for index in from..count {
+        let place = active.at(index).place;
+        if is_broken_at(values, listed, place) {
+            return Some(place);
+        }
+    }
+    None
+}
+
+// Cuts the mentions of active demands back, with what they opened.
+fn forget(active: &mut Chain, opens: &mut OpenVars, values: &Table, len: usize)
+    requires { AreOpen active.old values.now opens.old.vars }
+    ensures active { active.new ≡ take len active.old }
+    ensures opened { AreOpen active.new values.now opens.new.vars }
+    ensures held { opens.new.held ≡ opens.old.held }
+{
+    while active.len() > len {
+        forget_last(active, opens, values);
+    }
+}
+
+fn forget_last(active: &mut Chain, opens: &mut OpenVars, values: &Table)
+    requires { AreOpen active.old values.now opens.old.vars }
+    ensures active { (front : List Mention) (m : Mention) → active.old ≡ front ++ m ∷ [] → active.new ≡ front }
+    ensures opened { AreOpen active.new values.now opens.new.vars }
+    ensures held { opens.new.held ≡ opens.old.held }
+{
+    let Some(mention) = active.pop() else {
+        return;
+    };
+    if values.has(mention.var) {
+        return;
+    }
+    if active.last(mention.var).is_some() {
+        return;
+    }
+    opens.remove(mention.var);
+}
+
+// Puts the mention of an active demand's target onto the others, and opens it where it has no value.
+fn ask(
+    active: &mut Chain,
+    opens: &mut OpenVars,
+    values: &Table,
+    mention: Mention,
+) -> Result<(), NoMemory>
+    requires { AreOpen active.old values.now opens.old.vars }
+    ensures ok { OnOk result (active.new ≡ active.old ++ mention ∷ []) }
+    ensures err { OnErr result (active.new ≡ active.old) }
+    ensures opened { AreOpen active.new values.now opens.new.vars }
+    ensures held { opens.new.held ≡ opens.old.held }
+{
+    if values.has(mention.var) {
+        active.push(mention)?;
+        return Ok(());
+    }
+    active.push(mention)?;
+    if opens.add(mention.var).is_err() {
+        active.pop();
+        return Err(NoMemory);
+    }
+    Ok(())
+}
+
+// Waits for each variable of a condition once.
+fn wait_for(waits: &mut Chain, place: usize, when: &[Choice]) -> Result<(), NoMemory>
+    ensures ok { OnOk result (waits.new ≡ waits.old ++ waits_by place when.now) }
+    ensures err { OnErr result (waits.new ≡ waits.old) }
+{
+    let len = waits.len();
+    if add_waits(waits, place, when).is_err() {
+        waits.cut(len);
+        return Err(NoMemory);
+    }
+    Ok(())
+}
+
+fn add_waits(waits: &mut Chain, place: usize, when: &[Choice]) -> Result<(), NoMemory>
+    ensures ok { OnOk result (waits.new ≡ waits.old ++ waits_by place when.now) }
+    ensures err { OnErr result (take (length waits.old) waits.new ≡ waits.old) }
+{
+    let mut rest = when;
+    while let [c, tail @ ..] = rest {
+        if !are_naming(tail, c.var) {
+            waits.push(Mention { var: c.var, place })?;
+        }
+        rest = tail;
+    }
+    Ok(())
+}
+
+fn are_naming(choices: &[Choice], v: Var) -> bool
+    ensures { result ≡ are_naming v choices.now }
+{
+    choices.iter().any(|c| is_same(c.var, v))
+}
+
+fn add_level(
+    trail: &mut List<Choice>,
+    marks: &mut List<Mark>,
+    c: Choice,
+    mark: Mark,
+) -> Result<(), NoMemory>
+    ensures ok { OnOk result ((trail.new ≡ trail.old ++ c ∷ []) × (marks.new ≡ marks.old ++ mark ∷ [])) }
+    ensures err { OnErr result ((trail.new ≡ trail.old) × (marks.new ≡ marks.old)) }
+{
+    trail.push(c)?;
+    if marks.push(mark).is_err() {
+        trail.pop();
+        return Err(NoMemory);
+    }
+    Ok(())
+}

@@ -1,0 +1,148 @@
+ghost use Rattle.std.specs.Prelude.{◌≡◌, ◌≢◌, ◌+◌, ◌<◌, List, ◌∷◌, [], ◌++◌, IfOk, OnErr, Some, None, take, drop, find};
+ghost use Rattle.choice_problem.specs.declared.problem.Choice.{Choice};
+ghost use Rattle.choice_problem.specs.Problem.{Problem, IsChoice, Lawful};
+ghost use Rattle.choice_problem.specs.Active.{least_open, reason};
+ghost use Rattle.choice_problem.specs.Conflict.{barred_set, refuses, is_broken, circular, set_of_first, set_of_all, first_set, conflict};
+ghost use Rattle.choice_problem.specs.ConflictSet.{set_of};
+ghost use Rattle.validation.specs.Standing.{Standing, Stands, standing};
+ghost use Rattle.validation.specs.Verdict.{verdict_of, Leaves};
+
+use crate::Verdict;
+use crate::cycles::{Graph, cycle_set_of};
+use crate::stack::Stack;
+use choice_problem::{Choice, Choices, ConflictSet, Steps, Var};
+use plan_types::{List, NoMemory};
+use std::alloc::Global;
+use std::marker::Model;
+use std::sync::ledger::Ledger;
+
+/// The choices so far, and what they ask for.
+#[derive(Drop)]
+pub struct State {
+    stack: Stack,
+}
+
+impl Model for State {
+    ghost use Rattle.validation.specs.Standing.{Standing};
+    ghost use Rattle.validation.specs.Stack.{standing_of};
+
+    ghost Value = { Standing };
+
+    ghost view = { λ s. standing_of s.stack };
+}
+
+impl State {
+    /// The state before any choice, with the roots active.
+    pub fn new<C: Choices>(alloc: Global, choices: &C) -> Result<State, NoMemory>
+        ensures { IfOk result (λ state. Stands (C.problem choices.now) state × (state.trail ≡ [])) }
+    {
+        let roots = choices.roots(alloc)?;
+        let mut stack = Stack::new(alloc);
+        stack.list_all(roots)?;
+        stack.activate_listed()?;
+        Ok(State { stack })
+    }
+
+    /// The least open variable.
+    pub fn least(&self) -> Option<Var>
+        ensures { (p : Problem) → Lawful p → Stands p self.now → result ≡ least_open p self.now.trail }
+    {
+        self.stack.least()
+    }
+
+    /// Why an open variable is so: the variables of the condition of the first demand on it that became active.
+    pub fn reason(&self, alloc: Global, v: Var) -> Result<ConflictSet, NoMemory>
+        ensures { (p : Problem) → Stands p self.now → IfOk result (λ set. set ≡ set_of (reason p self.now.trail v)) }
+    {
+        let set = self.stack.reason(alloc, v)?;
+        Ok(set)
+    }
+
+    /// The choices, in the order in which they were made.
+    pub fn trail(&self) -> &List<Choice>
+        ensures { result.now ≡ self.now.trail }
+    {
+        self.stack.trail()
+    }
+
+    pub fn into_trail(self) -> List<Choice>
+        ensures { result ≡ self.trail }
+    {
+        self.stack.into_trail()
+    }
+
+    /// Makes a choice of the least open variable, or answers its conflict and leaves all as it was.
+    pub fn choose<C: Choices, L: Ledger>(
+        &mut self,
+        alloc: Global,
+        choices: &C,
+        c: Choice,
+        steps: &mut Steps<L>,
+    ) -> Result<Verdict, NoMemory>
+        requires stands { Stands (C.problem choices.now) self.old }
+        requires open { least_open (C.problem choices.now) self.old.trail ≡ Some c.var }
+        requires value { c.val < (C.problem choices.now).domain c.var }
+        ensures ticks { steps.new ≡ steps.old + 1 }
+        ensures verdict { IfOk result (λ verdict. verdict ≡ verdict_of (conflict (C.problem choices.now) self.old.trail c)) }
+        ensures leaves { IfOk result (λ verdict. Leaves (C.problem choices.now) self.old self.new c verdict) }
+        ensures err { OnErr result (self.new ≡ self.old) }
+    {
+        steps.tick();
+        if let Some(set) = fault_before(alloc, choices, &self.stack, c)? {
+            return Ok(Verdict::Conflict(set));
+        }
+        let demands = choices.demands(alloc, c)?;
+        let before = self.stack.count();
+        self.stack.make(alloc, c, demands)?;
+        match fault_after(alloc, &self.stack, before) {
+            Ok(None) => Ok(Verdict::Accepted),
+            Ok(Some(set)) => {
+                self.stack.undo();
+                Ok(Verdict::Conflict(set))
+            }
+            Err(refused) => {
+                self.stack.undo();
+                Err(refused)
+            }
+        }
+    }
+
+    /// Takes the last accepted choice back. It takes no memory.
+    pub fn undo(&mut self)
+        requires { self.old.trail ≢ [] }
+        ensures stands { (p : Problem) → Stands p self.old → Stands p self.new }
+        ensures trail { (front : List Choice) (c : Choice) → self.old.trail ≡ front ++ c ∷ [] → self.new.trail ≡ front }
+    {
+        self.stack.undo();
+    }
+}
+
+// The set of a value that is barred, or that an active demand refuses.
+fn fault_before<C: Choices>(
+    alloc: Global,
+    choices: &C,
+    stack: &Stack,
+    c: Choice,
+) -> Result<Option<ConflictSet>, NoMemory>
+    requires { IsChoice (C.problem choices.now) c }
+    ensures { IfOk result (λ set. set ≡ first_set (barred_set (C.problem choices.now) c ∷ set_of_first (find (refuses c) stack.now.active) ∷ [])) }
+{
+    if choices.barred(c) {
+        let set = ConflictSet::of(alloc, &[c.var])?;
+        return Ok(Some(set));
+    }
+    let set = stack.refused(alloc, c)?;
+    Ok(set)
+}
+
+// The set of a demand that became active and is broken, or of those on a cycle.
+fn fault_after(alloc: Global, stack: &Stack, before: usize) -> Result<Option<ConflictSet>, NoMemory>
+    requires { circular (take before stack.now.active) ≡ [] }
+    ensures { IfOk result (λ set. set ≡ first_set (set_of_first (find (is_broken stack.now.trail) (drop before stack.now.active)) ∷ set_of_all (circular stack.now.active) ∷ [])) }
+{
+    if let Some(set) = stack.broken(alloc, before)? {
+        return Ok(Some(set));
+    }
+    let set = cycle_set_of(alloc, stack, before)?;
+    Ok(set)
+}
