@@ -24,7 +24,8 @@ use Rattle.backjump.specs.declared.walk.Step.{Step}
 use Rattle.backjump.specs.declared.walk.Step.TheVariants.{On, Done}
 use Rattle.backjump.specs.Walk.{Point, manner_of, below, of_point_after, resume, nodes_of, sets_of, IsChain, IsHeld, counts_at, failed_with, AtLook, AtTry, AtBack, AtCut, AtExhausted, AtValue, load, IsLighter, Moves}
 use Rattle.backjump.proofs.Rises.{resume-found, resume-stopped, resume-none, resume-point, after-lacking, after-having, value-kept, value-failed, below-none, below-some}
-use Rattle.backjump.proofs.Room.{least-known, fuel-left}
+use Rattle.validation.proofs.Standings.{least-known}
+use Rattle.backjump.proofs.Room.{fuel-left}
 
 -- what a `pop` leaves of a list whose last item is known
 pub popped : {X : Type 0} (old new outer : List X) (x : X) (r : Option X)
@@ -104,7 +105,7 @@ module _ (p : Problem) (limit : Limit) where
           };
           is = record {
             next = e;
-            values = subst (λ l. All (λ n. n < p.domain v) l) (sym o) (lawful.order v (least-known p lawful trail v choices e) trail choices).below;
+            values = subst (λ l. All (λ n. n < p.domain v) l) (sym o) (lawful.order v (least-known p trail v lawful choices e).known trail choices).below;
           };
           prefix_is = refl;
           chain = subst (λ n. IsChain p at.points trail n) left.1 at.chain;

@@ -1,26 +1,21 @@
 -- While a variable is open, more choices may follow: the variables of a trail are different and known.
-use Rattle.std.proofs.Common.{◌≡◌, ℕ, zero, suc, ◌+◌, ◌≤◌, true, false, cond, List, [], ◌∷◌, ◌++◌, length, Option, Some, None, refl, sym, ap, ◌∙◌, subst, inl, inr, arith, length-append}
-use Rattle.std.specs.Prelude.{IsTrue, is_none, filter, flat_map, map}
+use Rattle.std.proofs.Common.{◌≡◌, ℕ, zero, suc, ◌+◌, ◌≤◌, true, false, cond, List, [], ◌∷◌, ◌++◌, length, Some, None, refl, sym, ap, ◌∙◌, subst, arith, length-append}
+use Rattle.std.specs.Prelude.{IsTrue}
 use Rattle.std.specs.List.{Contains, All}
 use Rattle.std.proofs.lemmas.Bool.{false≢true}
 use Rattle.std.proofs.lemmas.List.Elements.{All-contains}
 use Rattle.choice_problem.specs.declared.variable.Var.{Var}
 use Rattle.choice_problem.specs.declared.problem.Choice.{Choice}
-use Rattle.choice_problem.specs.declared.problem.Demand.{Demand}
 use Rattle.choice_problem.specs.Variable.{same_var}
-use Rattle.choice_problem.specs.Problem.{Problem, IsChoice, IsRoot, IsOwned, Lawful}
-use Rattle.choice_problem.specs.Trail.{value_in, demands_after}
-use Rattle.choice_problem.specs.Active.{turns_yes, made_active, active_from, active, is_waited_for, least_open}
-use Rattle.choice_problem.specs.Lists.{contains-head, contains-none, contains-left, contains-right, contains-append, contains-flat_map, contains-map, contains-filter, without}
+use Rattle.choice_problem.specs.Problem.{Problem, IsChoice, Lawful}
+use Rattle.choice_problem.specs.Trail.{value_in}
+use Rattle.choice_problem.specs.Active.{least_open}
+use Rattle.choice_problem.specs.Lists.{contains-head, contains-left, contains-right, without}
 use Rattle.choice_problem.specs.SameVariable.{same_var-refl}
-use Rattle.choice_problem.proofs.Order.{least-is}
 use Rattle.validation.specs.Standing.{AreNew, none, on}
+use Rattle.validation.proofs.Standings.{least-known}
 use Rattle.choice_tree.specs.Tree.{choice_at}
 use Rattle.backjump.specs.Walk.{Point, IsChain}
-
-none-is : (o : Option ℕ) → is_none o ≡ true → o ≡ None
-none-is None h = refl
-none-is (Some n) h = absurd (false≢true h)
 
 -- each of these choices is one of the problem
 abbrev AreChoices : Problem → List Choice → Type 0
@@ -40,52 +35,6 @@ none-before (d ∷ before) c w h =
     ] h
 
 module _ (p : Problem) (lawful : Lawful p) where
-  after-known : (trail : List Choice) (d : Demand) → AreChoices p trail → Contains (demands_after p trail) d → IsTrue (p.known d.target)
-  after-known trail d choices h =
-      elim (contains-append p.roots (flat_map p.demands trail) d h) [
-        | inl root ↦ (All-contains (IsRoot p) p.roots d lawful.roots root).target
-        | inr r ↦
-            let found = contains-flat_map p.demands trail d r in
-            (All-contains (IsOwned p found.0) (p.demands found.0) d (lawful.demands found.0 (choices found.0 found.1)) found.2).target
-      ]
-
-  from-known : (before rest : List Choice) (d : Demand) → AreChoices p before → AreChoices p rest → Contains (active_from p before rest) d → IsTrue (p.known d.target)
-  unfolding made_active
-  from-known before [] d bs rs h = absurd (contains-none d h)
-  from-known before (c ∷ rest) d bs rs h =
-      let all : AreChoices p (before ++ c ∷ []) = λ x k. elim (contains-append before (c ∷ []) x k) [
-        | inl l ↦ bs x l
-        | inr r ↦ rs x (contains-left (c ∷ []) rest x r)
-      ] in
-      elim (contains-append (made_active p before c) (active_from p (before ++ c ∷ []) rest) d h) [
-        | inl l ↦ after-known (before ++ c ∷ []) d all (contains-filter (turns_yes before c) (demands_after p (before ++ c ∷ [])) d l).0
-        | inr r ↦ from-known (before ++ c ∷ []) rest d all (λ x k. rs x (contains-right (c ∷ []) rest x k)) r
-      ]
-
-  active-known : (trail : List Choice) (d : Demand) → AreChoices p trail → Contains (active p trail) d → IsTrue (p.known d.target)
-  unfolding active
-  active-known trail d choices h =
-      elim (contains-append p.roots (active_from p [] trail) d h) [
-        | inl root ↦ (All-contains (IsRoot p) p.roots d lawful.roots root).target
-        | inr r ↦ from-known [] trail d (λ c k. absurd (contains-none c k)) choices r
-      ]
-
-  -- the least open variable is known, and isn't chosen
-  record IsFree (trail : List Choice) (v : Var) : Type 0 where
-    pub known : IsTrue (p.known v)
-    pub unchosen : value_in trail v ≡ None
-
-  least-free : (trail : List Choice) (v : Var) → AreChoices p trail → least_open p trail ≡ Some v → IsFree trail v
-  unfolding least_open
-  least-free trail v choices h =
-      let found = contains-map (λ (d : Demand). d.target) (filter (is_waited_for trail) (active p trail)) v
-      (least-is (map (λ d. d.target) (filter (is_waited_for trail) (active p trail))) v h).0 in
-      let kept = contains-filter (is_waited_for trail) (active p trail) found.0 found.1 in
-      record {
-        known = subst (λ w. IsTrue (p.known w)) found.2 (active-known trail found.0 choices kept.0);
-        unchosen = subst (λ w. value_in trail w ≡ None) found.2 (none-is (value_in trail found.0.target) kept.1);
-      }
-
   -- the known variables that aren't chosen
   record Room (trail : List Choice) : Type 0 where
     rest : List Var
@@ -116,19 +65,16 @@ module _ (p : Problem) (lawful : Lawful p) where
       let rest = chain-fuel outer point.prefix (suc point.fuel) h.1 in
       omega (arith, rest, h.0.fuel_is, ap length h.0.prefix_is, length-append point.prefix (choice_at point.node ∷ []))
 
-  pub choices-of : (trail : List Choice) → All (IsChoice p) trail → AreChoices p trail
+  choices-of : (trail : List Choice) → All (IsChoice p) trail → AreChoices p trail
   choices-of trail h c k = All-contains (IsChoice p) trail c h k
-
-  pub least-known : (trail : List Choice) (v : Var) → All (IsChoice p) trail → least_open p trail ≡ Some v → IsTrue (p.known v)
-  least-known trail v choices h = (least-free trail v (choices-of trail choices) h).known
 
   -- where a variable is open, one choice more may follow
   pub fuel-left : (points : List Point) (trail : List Choice) (fuel : ℕ) (v : Var) → AreNew trail → All (IsChoice p) trail → IsChain p points trail fuel → least_open p trail ≡ Some v
       → (less : ℕ) × (fuel ≡ suc less)
   fuel-left points trail fuel v new choices chain h =
-      let free = least-free trail v (choices-of trail choices) h in
+      let least = least-known p trail v lawful choices h in
       let place = room new (choices-of trail choices) in
-      let found = without place.rest v (place.each v free.known free.unchosen) in
+      let found = without place.rest v (place.each v least.known least.free) in
       let total = chain-fuel points trail fuel chain in
       elim fuel as (λ n. n + length trail ≡ p.bound → (less : ℕ) × (n ≡ suc less)) [
         | zero ↦ λ e. absurd (omega (arith, e, place.count, found.1))

@@ -13,12 +13,13 @@ use Rattle.choice_problem.specs.Trail.{demands_after}
 use Rattle.choice_problem.specs.Active.{active, made_active}
 use Rattle.choice_problem.specs.Conflict.{Edge, edges_by, edges_of, leads, lies_on_cycle, circular}
 use Rattle.choice_problem.specs.Lists.{contains-head, contains-tail, contains-left, and-left, and-right, and-both, filter-none}
+use Rattle.choice_problem.proofs.Active.{active-push}
 use Rattle.validation.specs.Standing.{Standing, Stands, AreNew, listed_counts, counts_before, standing}
 use Rattle.validation.specs.Standing.AreNew.{none, on}
-use Rattle.validation.specs.Stack.{Stacked, standing_of, undone, front_of, last_number}
+use Rattle.validation.specs.Stack.{undone, front_of, last_number}
 use Rattle.validation.proofs.Chains.{snoc-none, snoc-same}
 use Rattle.validation.proofs.Stacks.{front-of, last-number}
-use Rattle.validation.proofs.Standings.{after-push, active-push, counts-push, listed-push, all-front}
+use Rattle.validation.proofs.Standings.{after-push, counts-push, listed-push, all-front}
 use Rattle.validation.proofs.Verdicts.{shown-same}
 
 -- fewer demands have no more cycles
@@ -83,28 +84,28 @@ pub new-split : {trail : List Choice} → AreNew trail → (trail ≡ [] → ⊥
 new-split none some = absurd (some refl)
 new-split (on {before = before} new d free is) some = (before, d, is)
 
-pub stands-undone : (p : Problem) (x y : Stacked) → Stands p (standing_of x) → (x.trail ≡ [] → ⊥) → y ≡ undone x → Stands p (standing_of y)
+pub stands-undone : (p : Problem) (x y : Standing) → Stands p x → (x.trail ≡ [] → ⊥) → y ≡ undone x → Stands p y
 stands-undone p x y h some e =
     let split = new-split h.new some in
     let front = split.0 in
     let c = split.1 in
-    let was : standing_of x ≡ standing p (front ++ c ∷ []) = h.same ∙ ap (standing p) split.2 in
-    let trail : y.trail ≡ front = ap (λ (s : Stacked). s.trail) e ∙ ap front_of split.2 ∙ front-of front c in
+    let was : x ≡ standing p (front ++ c ∷ []) = h.same ∙ ap (standing p) split.2 in
+    let trail : y.trail ≡ front = ap (λ (s : Standing). s.trail) e ∙ ap front_of split.2 ∙ front-of front c in
     let listed_marks : x.listed_before ≡ listed_counts p [] front ++ length (demands_after p front) ∷ [] = ap (λ (s : Standing). s.listed_before) was ∙ listed-push p front c in
     let active_marks : x.active_before ≡ counts_before p [] front ++ length (active p front) ∷ [] = ap (λ (s : Standing). s.active_before) was ∙ counts-push p front c in
     let all_listed : x.listed ≡ demands_after p front ++ p.demands c = ap (λ (s : Standing). s.listed) was ∙ after-push p front c in
     let all_active : x.active ≡ active p front ++ made_active p front c = ap (λ (s : Standing). s.active) was ∙ active-push p front c in
     let listed : y.listed ≡ demands_after p front =
-    ap (λ (s : Stacked). s.listed) e ∙ ap (λ n. take n x.listed) (ap last_number listed_marks ∙ last-number (listed_counts p [] front) (length (demands_after p front)))
+    ap (λ (s : Standing). s.listed) e ∙ ap (λ n. take n x.listed) (ap last_number listed_marks ∙ last-number (listed_counts p [] front) (length (demands_after p front)))
     ∙ ap (take (length (demands_after p front))) all_listed ∙ take-append_seam (demands_after p front) (p.demands c) in
     let acts : y.active ≡ active p front =
-    ap (λ (s : Stacked). s.active) e ∙ ap (λ n. take n x.active) (ap last_number active_marks ∙ last-number (counts_before p [] front) (length (active p front)))
+    ap (λ (s : Standing). s.active) e ∙ ap (λ n. take n x.active) (ap last_number active_marks ∙ last-number (counts_before p [] front) (length (active p front)))
     ∙ ap (take (length (active p front))) all_active ∙ take-append_seam (active p front) (made_active p front c) in
     let were : y.listed_before ≡ listed_counts p [] front =
-    ap (λ (s : Stacked). s.listed_before) e ∙ ap front_of listed_marks ∙ front-of (listed_counts p [] front) (length (demands_after p front)) in
+    ap (λ (s : Standing). s.listed_before) e ∙ ap front_of listed_marks ∙ front-of (listed_counts p [] front) (length (demands_after p front)) in
     let counts : y.active_before ≡ counts_before p [] front =
-    ap (λ (s : Stacked). s.active_before) e ∙ ap front_of active_marks ∙ front-of (counts_before p [] front) (length (active p front)) in
-    let same : standing_of y ≡ standing p front =
+    ap (λ (s : Standing). s.active_before) e ∙ ap front_of active_marks ∙ front-of (counts_before p [] front) (length (active p front)) in
+    let same : y ≡ standing p front =
     shown-same y.trail front y.listed (demands_after p front) y.active (active p front) y.listed_before (listed_counts p [] front) y.active_before
     (counts_before p [] front) trail listed acts were counts in
     record {

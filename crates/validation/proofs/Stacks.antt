@@ -14,7 +14,8 @@ use Rattle.choice_problem.specs.ConflictSet.{has}
 use Rattle.validation.specs.declared.chain.Mention.{Mention}
 use Rattle.validation.specs.declared.stack.Mark.{Mark}
 use Rattle.validation.specs.Table.{entry, with_entry, without_entry}
-use Rattle.validation.specs.Stack.{Stacked, front_of, last_number, undone, with_listed, with_active, no_demand, demand_at, demands_at, places_of, vars_at, waits_by, waits_from, AreTargets, AreOpen, IsMark, AreMarks, AreParts}
+use Rattle.validation.specs.Standing.{Standing}
+use Rattle.validation.specs.Stack.{front_of, last_number, undone, with_listed, with_active, no_demand, demand_at, demands_at, places_of, vars_at, waits_by, waits_from, AreTargets, AreOpen, IsMark, AreMarks, AreParts}
 use Rattle.validation.specs.Stack.AreMarks.{none, on}
 use Rattle.validation.proofs.Chains.{snoc-split, snoc-none, snoc-same}
 
@@ -294,7 +295,7 @@ parts-undo trail front marks less listed fewer active asked waits left table new
 
 -- what a stack is seen as
 
-abbrev seen : List Choice → List Demand → List Demand → List ℕ → List ℕ → Stacked
+abbrev seen : List Choice → List Demand → List Demand → List ℕ → List ℕ → Standing
 seen trail listed active listed_before active_before =
     record { trail = trail; listed = listed; active = active; listed_before = listed_before; active_before = active_before }
 

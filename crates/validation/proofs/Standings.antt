@@ -1,5 +1,5 @@
 -- What a trail with one choice more stands for.
-use Rattle.std.proofs.Common.{◌≡◌, ℕ, arith, length, Bool, true, false, not, cond, ◌&&◌, ◌||◌, IsTrue, List, [], ◌∷◌, ◌++◌, Option, Some, None, is_none, map, filter, refl, sym, ap, ◌∙◌, subst, inl, inr, append_assoc, append-nil, length-append}
+use Rattle.std.proofs.Common.{◌≡◌, arith, length, Bool, true, false, not, cond, ◌&&◌, ◌||◌, IsTrue, List, [], ◌∷◌, ◌++◌, Some, None, map, filter, refl, sym, ap, ◌∙◌, subst, inl, inr, append_assoc, append-nil, length-append}
 use Rattle.std.specs.List.{Contains, All, flat_map, list_all, list_any}
 use Rattle.std.proofs.lemmas.Bool.{false≢true}
 use Rattle.std.proofs.Math.ListN.{get_or-append}
@@ -10,14 +10,14 @@ use Rattle.choice_problem.specs.declared.problem.Choice.{Choice}
 use Rattle.choice_problem.specs.declared.problem.Demand.{Demand}
 use Rattle.choice_problem.specs.Variable.{same_var}
 use Rattle.choice_problem.specs.SameVariable.{same_var-is, same_var-refl}
-use Rattle.choice_problem.specs.Problem.{Problem, IsChoice, IsRoot, IsOwned, Lawful}
+use Rattle.choice_problem.specs.Problem.{Problem, IsChoice, IsDemand, IsRoot, IsOwned, Lawful}
 use Rattle.choice_problem.specs.Assignment.{is_one_of, is_made, is_yes}
 use Rattle.choice_problem.specs.Trail.{value_in, demands_after}
-use Rattle.choice_problem.specs.Active.{turns_yes, made_active, active_from, active, is_waited_for, least_open}
+use Rattle.choice_problem.specs.Active.{turns_yes, made_active, active, least_open}
 use Rattle.choice_problem.specs.Conflict.{Edge, edges_from, edges_of, leads, lies_on_cycle, circular}
 use Rattle.choice_problem.specs.ConflictSet.{has}
-use Rattle.choice_problem.specs.Lists.{contains-head, contains-tail, contains-none, contains-append, contains-flat_map, contains-map, map-contains, contains-filter, and-left, and-right}
-use Rattle.choice_problem.proofs.Order.{least-is}
+use Rattle.choice_problem.specs.Lists.{contains-head, contains-tail, map-contains, and-left, and-right}
+use Rattle.choice_problem.proofs.Active.{active-demand, least-open}
 use Rattle.choice_problem.proofs.Sets.{contains-has}
 use Rattle.validation.specs.Standing.{listed_counts, counts_before}
 use Rattle.validation.specs.Stack.{are_naming, names, turned}
@@ -75,17 +75,6 @@ module _ (p : Problem) where
       filter-same (turns_yes trail c) (λ d. names c.var d && is_yes (value_in (trail ++ c ∷ [])) d) (turns-is trail c free) (demands_after p (trail ++ c ∷ []))
       ∙ ap (filter (λ d. names c.var d && is_yes (value_in (trail ++ c ∷ [])) d)) (after-push trail c)
 
-  active_from-push : (before rest : List Choice) (c : Choice) → active_from p before (rest ++ c ∷ []) ≡ active_from p before rest ++ made_active p (before ++ rest) c
-  active_from-push before [] c = append-nil (made_active p before c) ∙ ap (λ t. made_active p t c) (sym (append-nil before))
-  active_from-push before (d ∷ rest) c =
-      ap (λ l. made_active p before d ++ l)
-      (active_from-push (before ++ d ∷ []) rest c ∙ ap (λ t. active_from p (before ++ d ∷ []) rest ++ made_active p t c) (append_assoc before (d ∷ []) rest))
-      ∙ sym (append_assoc (made_active p before d) (active_from p (before ++ d ∷ []) rest) (made_active p (before ++ d ∷ rest) c))
-
-  pub active-push : (trail : List Choice) (c : Choice) → active p (trail ++ c ∷ []) ≡ active p trail ++ made_active p trail c
-  unfolding active
-  active-push trail c = ap (λ l. p.roots ++ l) (active_from-push [] trail c) ∙ sym (append_assoc p.roots (active_from p [] trail) (made_active p trail c))
-
   counts-from : (before trail : List Choice) (c : Choice) → counts_before p before (trail ++ c ∷ []) ≡ counts_before p before trail ++ length (active p (before ++ trail)) ∷ []
   counts-from before [] c = ap (λ t. length (active p t) ∷ []) (sym (append-nil before))
   counts-from before (d ∷ trail) c =
@@ -104,37 +93,14 @@ module _ (p : Problem) where
   pub listed-push : (trail : List Choice) (c : Choice) → listed_counts p [] (trail ++ c ∷ []) ≡ listed_counts p [] trail ++ length (demands_after p trail) ∷ []
   listed-push trail c = listed-from [] trail c
 
-  -- active demands are those of the problem, so that their targets are known
+  -- the targets of demands are known
 
-  after-known : (trail : List Choice) (d : Demand) → Lawful p → All (IsChoice p) trail → Contains (demands_after p trail) d → IsTrue (p.known d.target)
-  after-known trail d lawful choices h =
-      elim (contains-append p.roots (flat_map p.demands trail) d h) [
-        | inl l ↦ (All-contains (IsRoot p) p.roots d lawful.roots l).target
-        | inr r ↦
-            let found = contains-flat_map p.demands trail d r in
-            (All-contains (IsOwned p found.0) (p.demands found.0) d (lawful.demands found.0 (All-contains (IsChoice p) trail found.0 choices found.1)) found.2).target
-      ]
+  demand-known : (d : Demand) → Lawful p → IsDemand p d → IsTrue (p.known d.target)
+  demand-known d lawful (inl root) = (All-contains (IsRoot p) p.roots d lawful.roots root).target
+  demand-known d lawful (inr (owner, is, owns)) = (All-contains (IsOwned p owner) (p.demands owner) d (lawful.demands owner is) owns).target
 
   pub all-front : {X : Type 0} (P : X → Type 0) (xs ys : List X) → All P (xs ++ ys) → All P xs
   all-front P xs ys h = λ k d within. subst P (get_or-append xs ys d k within) (h k d (omega (arith, within, length-append xs ys)))
-
-  active_from-known : (before rest : List Choice) (d : Demand) → Lawful p → All (IsChoice p) (before ++ rest) → Contains (active_from p before rest) d → IsTrue (p.known d.target)
-  unfolding made_active
-  active_from-known before [] d lawful choices h = absurd (contains-none d h)
-  active_from-known before (c ∷ rest) d lawful choices h =
-      let moved = subst (λ t. All (IsChoice p) t) (sym (append_assoc before (c ∷ []) rest)) choices in
-      elim (contains-append (made_active p before c) (active_from p (before ++ c ∷ []) rest) d h) [
-        | inl l ↦ after-known (before ++ c ∷ []) d lawful (all-front (IsChoice p) (before ++ c ∷ []) rest moved) (contains-filter (turns_yes before c) (demands_after p (before ++ c ∷ [])) d l).0
-        | inr r ↦ active_from-known (before ++ c ∷ []) rest d lawful moved r
-      ]
-
-  pub active-known : (trail : List Choice) (d : Demand) → Lawful p → All (IsChoice p) trail → Contains (active p trail) d → IsTrue (p.known d.target)
-  unfolding active
-  active-known trail d lawful choices h =
-      elim (contains-append p.roots (active_from p [] trail) d h) [
-        | inl l ↦ (All-contains (IsRoot p) p.roots d lawful.roots l).target
-        | inr r ↦ active_from-known [] trail d lawful choices r
-      ]
 
   -- the least open variable is known, has no value, and is the target of an active demand
   pub record IsOpen (trail : List Choice) (v : Var) : Type 0 where
@@ -142,21 +108,15 @@ module _ (p : Problem) where
     pub free : value_in trail v ≡ None
     pub asked : has (map (λ d. d.target) (active p trail)) v ≡ true
 
-  none-from : (o : Option ℕ) → is_none o ≡ true → o ≡ None
-  none-from None h = refl
-  none-from (Some n) h = absurd (false≢true h)
-
   pub least-known : (trail : List Choice) (v : Var) → Lawful p → All (IsChoice p) trail → least_open p trail ≡ Some v → IsOpen trail v
-  unfolding least_open
   least-known trail v lawful choices h =
-      let targets = map (λ (d : Demand). d.target) (filter (is_waited_for trail) (active p trail)) in
-      let among = contains-map (λ (d : Demand). d.target) (filter (is_waited_for trail) (active p trail)) v (least-is targets v h).0 in
-      let found = contains-filter (is_waited_for trail) (active p trail) among.0 among.1 in
+      let found = least-open p lawful trail v h in
       record {
-        known = subst (λ w. IsTrue (p.known w)) among.2 (active-known trail among.0 lawful choices found.0);
-        free = ap (value_in trail) (sym among.2) ∙ none-from (value_in trail among.0.target) found.1;
+        known = subst (λ w. IsTrue (p.known w)) found.target (demand-known found.demand lawful (active-demand p lawful trail found.demand choices found.member));
+        free = found.unchosen;
         asked = contains-has (map (λ (d : Demand). d.target) (active p trail)) v
-            (subst (λ w. Contains (map (λ (d : Demand). d.target) (active p trail)) w) among.2 (map-contains (λ (d : Demand). d.target) (active p trail) among.0 found.0));
+            (subst (λ w. Contains (map (λ (d : Demand). d.target) (active p trail)) w) found.target
+            (map-contains (λ (d : Demand). d.target) (active p trail) found.demand found.member));
       }
 
 -- roots have no edges

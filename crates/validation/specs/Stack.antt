@@ -17,17 +17,6 @@ use Rattle.validation.specs.Standing.{Standing}
 use Rattle.validation.specs.Table.{entry}
 use Rattle.validation.specs.Cycles.{owner_of}
 
--- what contracts see of a stack
-pub record Stacked : Type 0 where
-  -- the choices, in the order in which they were made
-  pub trail : List Choice
-  pub listed : List Demand
-  -- those of them that are active, in the order in which they became so
-  pub active : List Demand
-  -- for each choice, how many were listed and how many active before it
-  pub listed_before : List ℕ
-  pub active_before : List ℕ
-
 abbrev pub no_demand : Demand
 no_demand = record { when = []; target = record { qual = Top; «package» = 0; part = Package }; allowed = [] }
 
@@ -101,7 +90,7 @@ abbrev pub last_number : List ℕ → ℕ
 last_number ns = slice_index_or ns (length ns - 1) 0
 
 -- the last choice taken back
-abbrev pub undone : Stacked → Stacked
+abbrev pub undone : Standing → Standing
 undone s = record {
   trail = front_of s.trail;
   listed = take (last_number s.listed_before) s.listed;
@@ -111,7 +100,7 @@ undone s = record {
 }
 
 -- one choice more
-abbrev pub held : Stacked → Choice → Stacked
+abbrev pub held : Standing → Choice → Standing
 held s c = record {
   trail = s.trail ++ c ∷ [];
   listed = s.listed;
@@ -120,19 +109,19 @@ held s c = record {
   active_before = s.active_before ++ length s.active ∷ [];
 }
 
-abbrev pub with_listed : Stacked → List Demand → Stacked
+abbrev pub with_listed : Standing → List Demand → Standing
 with_listed s more = record s { listed = s.listed ++ more }
 
-abbrev pub with_active : Stacked → List Demand → Stacked
+abbrev pub with_active : Standing → List Demand → Standing
 with_active s more = record s { active = s.active ++ more }
 
-abbrev pub HasListed : Stacked → Stacked → Type 0
+abbrev pub HasListed : Standing → Standing → Type 0
 HasListed old new = (more : List Demand) × (new ≡ with_listed old more)
 
-abbrev pub HasActivated : Stacked → Stacked → Type 0
+abbrev pub HasActivated : Standing → Standing → Type 0
 HasActivated old new = (more : List Demand) × (new ≡ with_active old more)
 
-abbrev pub HasGrown : Stacked → Stacked → Type 0
+abbrev pub HasGrown : Standing → Standing → Type 0
 HasGrown old new = (more : List Demand) × (asked : List Demand) × (new ≡ with_active (with_listed old more) asked)
 
 abbrev pub AllBelow : ℕ → List ℕ → Type 0
@@ -148,7 +137,7 @@ abbrev pub turned : List Choice → Var → List Demand → List Demand
 turned trail v listed = filter (λ d. names v d && is_yes (value_in trail) d) listed
 
 -- a choice made, with the demands that it owns, and those active that turn Yes
-abbrev pub made : Stacked → Choice → List Demand → Stacked
+abbrev pub made : Standing → Choice → List Demand → Standing
 made s c demands = with_active (with_listed (held s c) demands) (turned (s.trail ++ c ∷ []) c.var (s.listed ++ demands))
 
 -- the least variable that has no value and is the target of one of these
@@ -158,7 +147,3 @@ least_waiting trail active = least_from None (map (λ d. d.target) (filter (is_w
 -- the owners of some demands
 abbrev pub owners_of : List Demand → List Var
 owners_of demands = flat_map (λ d. option_to_list (owner_of d)) demands
-
--- what a stack stands for
-abbrev pub standing_of : Stacked → Standing
-standing_of s = record { trail = s.trail; listed = s.listed; active = s.active; listed_before = s.listed_before; active_before = s.active_before }

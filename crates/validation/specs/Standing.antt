@@ -7,7 +7,7 @@ use Rattle.choice_problem.specs.Trail.{value_in, demands_after}
 use Rattle.choice_problem.specs.Active.{active}
 use Rattle.choice_problem.specs.Conflict.{circular}
 
--- what contracts see of a state
+-- what contracts see of a state, and of its stack
 pub record Standing : Type 0 where
   -- the choices, in the order in which they were made
   pub trail : List Choice

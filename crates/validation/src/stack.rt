@@ -7,7 +7,8 @@ ghost use Rattle.choice_problem.specs.Conflict.{refuses, is_broken, set_of_first
 ghost use Rattle.choice_problem.specs.ConflictSet.{has, set_of};
 ghost use Rattle.validation.specs.Checks.{is_broken_in};
 ghost use Rattle.validation.specs.declared.chain.Mention.{Mention};
-ghost use Rattle.validation.specs.Stack.{Stacked, AreOpen, demand_at, are_naming, waits_by, undone, held, with_listed, with_active, HasListed, HasActivated, HasGrown, AllBelow, turned, made, demands_at, places_of, least_waiting};
+ghost use Rattle.validation.specs.Standing.{Standing};
+ghost use Rattle.validation.specs.Stack.{AreOpen, demand_at, are_naming, waits_by, undone, held, with_listed, with_active, HasListed, HasActivated, HasGrown, AllBelow, turned, made, demands_at, places_of, least_waiting};
 
 use crate::chain::{Chain, Mention};
 use crate::checks::{
@@ -45,9 +46,10 @@ pub(crate) struct Stack {
 
 impl Model for Stack {
     ghost use Rattle.std.specs.Prelude.{map};
-    ghost use Rattle.validation.specs.Stack.{Stacked, AreParts, demands_at, places_of};
+    ghost use Rattle.validation.specs.Standing.{Standing};
+    ghost use Rattle.validation.specs.Stack.{AreParts, demands_at, places_of};
 
-    ghost Value = { Stacked };
+    ghost Value = { Standing };
 
     ghost view = { λ s. record {
       trail = s.trail;

@@ -24,11 +24,10 @@ pub struct State {
 
 impl Model for State {
     ghost use Rattle.validation.specs.Standing.{Standing};
-    ghost use Rattle.validation.specs.Stack.{standing_of};
 
     ghost Value = { Standing };
 
-    ghost view = { λ s. standing_of s.stack };
+    ghost view = { λ s. s.stack };
 }
 
 impl State {

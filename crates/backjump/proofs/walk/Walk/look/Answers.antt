@@ -1,6 +1,6 @@
 -- the least open variable gets a node, or there is none and the trail is whole
 use Rattle.std.proofs.Common.{◌++◌, ◌∷◌, [], ap, sym, ◌∙◌}
-use Rattle.backjump.proofs.Room.{least-known}
+use Rattle.validation.proofs.Standings.{least-known}
 use Rattle.backjump.proofs.Moves.{chain-given, look-none, look-some}
 use Rattle.backjump.proofs.walk.Walk.look.Goals as goal
 
@@ -9,7 +9,7 @@ order-requires-clause-variable g c =
     let p = g.C.Choices.problem c.args.choices.now in
     let lawful = g.met.C.Choices.lawful c.args.choices.now in
     let stands = c.requires.1.held.stands in
-    least-known p lawful c.args.self.now.state.trail c.in-Some.var stands.choices (sym (c.in-Some.ensures p lawful stands))
+    (least-known p c.args.self.now.state.trail c.in-Some.var lawful stands.choices (sym (c.in-Some.ensures p lawful stands))).known
 
 pub grow-requires : goal.grow-requires
 grow-requires g c outer node e =

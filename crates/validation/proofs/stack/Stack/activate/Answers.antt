@@ -1,7 +1,8 @@
 use Rattle.std.proofs.Common.{◌≡◌, ◌<◌, ◌∙◌, sym, ap, subst, length, get_or, List}
 use Rattle.choice_problem.specs.declared.problem.Demand.{Demand}
 use Rattle.validation.specs.declared.chain.Mention.{Mention}
-use Rattle.validation.specs.Stack.{Stacked, no_demand, demand_at}
+use Rattle.validation.specs.Standing.{Standing}
+use Rattle.validation.specs.Stack.{no_demand, demand_at}
 use Rattle.validation.proofs.Chains.{get-any}
 use Rattle.validation.proofs.Stacks.{parts-ask}
 use Rattle.validation.proofs.stack.Stack.activate.Goals as goal
@@ -11,7 +12,7 @@ invariant_of-self c =
     let s = c.self.inside in
     let d = get_or c.as_slice.result.now c.args.place c.index-as_slice-place.result in
     let m : Mention = record { var = d.target; place = c.args.place } in
-    let within : c.args.place < length s.listed = subst (λ (x : Stacked). c.args.place < length x.listed) (sym c.self.view_is) c.requires in
+    let within : c.args.place < length s.listed = subst (λ (x : Standing). c.args.place < length x.listed) (sym c.self.view_is) c.requires in
     let target : d.target ≡ (demand_at s.listed c.args.place).target =
     ap (λ (ds : List Demand). (get_or ds c.args.place c.index-as_slice-place.result).target) c.as_slice.ensures
     ∙ ap (λ (x : Demand). x.target) (get-any s.listed c.args.place c.index-as_slice-place.result no_demand within) in

@@ -1,6 +1,7 @@
 use Rattle.std.proofs.Common.{◌++◌, ◌∷◌, [], ◌∙◌, sym, ap, length, map}
 use Rattle.validation.specs.declared.stack.Mark.{Mark}
-use Rattle.validation.specs.Stack.{Stacked, with_listed, waits_by}
+use Rattle.validation.specs.Standing.{Standing}
+use Rattle.validation.specs.Stack.{with_listed, waits_by}
 use Rattle.validation.proofs.Opens.{ok-where}
 use Rattle.validation.proofs.Stacks.{parts-list, listed-seen, marks-targets}
 use Rattle.validation.proofs.stack.Stack.list.Goals as goal
@@ -19,4 +20,4 @@ returns-clause-ok c =
     let push = ok-where c.push.result c.push.ensures.ok (sym c.is_err.ensures.value ∙ c.if-is_err.false) in
     listed-seen s.trail s.listed c.push.new.self s.active (map (λ (k : Mark). k.listed) s.marks) (map (λ (k : Mark). k.active) s.marks) c.args.d
     (marks-targets c.self.invariant.levels) push
-    ∙ ap (λ (x : Stacked). with_listed x (c.args.d ∷ [])) c.self.view_is
+    ∙ ap (λ (x : Standing). with_listed x (c.args.d ∷ [])) c.self.view_is

@@ -5,7 +5,8 @@ use Rattle.choice_problem.specs.declared.problem.Demand.{Demand}
 use Rattle.choice_problem.specs.Conflict.{edges_of}
 use Rattle.validation.specs.Chain.{places_on}
 use Rattle.validation.specs.Cycles.{HasEdge}
-use Rattle.validation.specs.Stack.{Stacked, demands_at, owners_of}
+use Rattle.validation.specs.Standing.{Standing}
+use Rattle.validation.specs.Stack.{demands_at, owners_of}
 use Rattle.validation.proofs.Stacks.{marks-targets}
 use Rattle.validation.proofs.Queries.{places-below}
 use Rattle.validation.proofs.Graphs.{sources-edge, edge-sources}
@@ -24,8 +25,8 @@ returns c v =
     let found : c.from_vec.result ≡ owners_of (demands_at s.listed (places_on c.args.to s.active)) =
     c.from_vec.ensures ∙ c.in_ok-owners.ensures ∙ ap (λ (ds : List Demand). owners_of (demands_at ds c.as_slice-2.result.now)) c.as_slice.ensures
     ∙ ap (λ (ps : List ℕ). owners_of (demands_at s.listed ps)) (c.as_slice-2.ensures.value ∙ c.in_ok-places.ensures) in (
-      λ h. subst (λ (x : Stacked). HasEdge (edges_of x.active) v c.args.to) c.self.view_is
+      λ h. subst (λ (x : Standing). HasEdge (edges_of x.active) v c.args.to) c.self.view_is
           (sources-edge s.listed s.active c.args.to v targets (subst (λ (vs : List Var). Contains vs v) found h)),
       λ h. subst (λ (vs : List Var). Contains vs v) (sym found)
-          (edge-sources s.listed s.active c.args.to v targets (subst (λ (x : Stacked). HasEdge (edges_of x.active) v c.args.to) (sym c.self.view_is) h)),
+          (edge-sources s.listed s.active c.args.to v targets (subst (λ (x : Standing). HasEdge (edges_of x.active) v c.args.to) (sym c.self.view_is) h)),
     )

@@ -1,7 +1,6 @@
 use Rattle.std.proofs.Common.{◌≡◌, ◌∙◌, sym, ap, [], ◌∷◌, ◌++◌, drop, find, None}
 use Rattle.choice_problem.specs.Conflict.{barred_set, refuses, is_broken, circular, set_of_first, set_of_all, first_set, conflict}
 use Rattle.validation.specs.Standing.{Standing}
-use Rattle.validation.specs.Stack.{Stacked}
 use Rattle.validation.specs.Verdict.{verdict_of}
 use Rattle.validation.proofs.Verdicts.{ready, none-from, conflict-early, conflict-late, none-circular, stands-made}
 use Rattle.validation.proofs.state.State.choose.Goals as goal
@@ -53,7 +52,7 @@ returns-in-Ok-None-clause-leaves g c =
     let acyclic = none-circular (set_of_first (find (is_broken c.make.new.self.trail) (drop c.count-before.result c.make.new.self.active))) c.make.new.self.active
     (sym c.in-Ok-None.field-0-is ∙ late) in (
       stands-made p x c.make.new.self c.args.c c.in_ok-demands.demands mine c.in_ok-demands.ensures c.in_ok-make.ensures.ok acyclic,
-      ap (λ (s : Stacked). s.trail) c.in_ok-make.ensures.ok ∙ ap (λ (s : Standing). s.trail ++ c.args.c ∷ []) c.self.view_is,
+      ap (λ (s : Standing). s.trail) c.in_ok-make.ensures.ok ∙ ap (λ (s : Standing). s.trail ++ c.args.c ∷ []) c.self.view_is,
     )
 
 pub returns-in-Ok-Some-clause-verdict : goal.returns-in-Ok-Some-clause-verdict
