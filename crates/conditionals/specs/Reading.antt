@@ -8,7 +8,7 @@ use Rattle.plan_types.specs.declared.range.Range.{Range}
 use Rattle.plan_types.specs.declared.range.Range.TheVariants.{Any}
 use Rattle.plan_types.specs.declared.range.Spec.{Spec}
 use Rattle.plan_types.specs.declared.refusal.Cause.{Cause}
-use Rattle.plan_types.specs.declared.refusal.Cause.TheVariants.{NotUtf8, StrayBrace, UnclosedBrace, BadName, TooDeep, BadVersion, BadRange, NeedsVersion, BadCond, BadDepend, BadConstraint, NoPackages, TooLarge, TooMany, Unbuilt}
+use Rattle.plan_types.specs.declared.refusal.Cause.TheVariants.{NotUtf8, StrayBrace, UnclosedBrace, BadName, TooDeep, BadVersion, BadRange, NeedsVersion, BadCond, BadDepend, BadConstraint, MissingField, WrongCabalVersion, BadField, DuplicateName, UnknownStanza, UnknownFlag, ImportNotFirst, ElseWithoutIf, UnknownComponent, ComponentCycle, TooManyPaths, NoPackages, TooLarge, TooMany, Unbuilt}
 use Rattle.text_grammar.specs.Reading.{◌>>=◌, skip_blanks, byte_after, byte_due, letter_after, word_due, terms_at}
 use Rattle.version_range.specs.Read.{range_in, inside, missing}
 use Rattle.conditionals.specs.Grammar.{system_of}
@@ -56,6 +56,17 @@ cond_cause BadRange = BadCond
 cond_cause BadCond = BadCond
 cond_cause BadDepend = BadCond
 cond_cause BadConstraint = BadCond
+cond_cause MissingField = BadCond
+cond_cause WrongCabalVersion = BadCond
+cond_cause BadField = BadCond
+cond_cause DuplicateName = BadCond
+cond_cause UnknownStanza = BadCond
+cond_cause UnknownFlag = BadCond
+cond_cause ImportNotFirst = BadCond
+cond_cause ElseWithoutIf = BadCond
+cond_cause UnknownComponent = BadCond
+cond_cause ComponentCycle = BadCond
+cond_cause TooManyPaths = BadCond
 cond_cause NoPackages = BadCond
 cond_cause TooLarge = BadCond
 cond_cause TooMany = BadCond

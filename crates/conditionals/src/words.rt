@@ -56,6 +56,17 @@ fn cond_cause(cause: Cause) -> Cause
         | Cause::BadCond
         | Cause::BadDepend
         | Cause::BadConstraint
+        | Cause::MissingField
+        | Cause::WrongCabalVersion
+        | Cause::BadField
+        | Cause::DuplicateName
+        | Cause::UnknownStanza
+        | Cause::UnknownFlag
+        | Cause::ImportNotFirst
+        | Cause::ElseWithoutIf
+        | Cause::UnknownComponent
+        | Cause::ComponentCycle
+        | Cause::TooManyPaths
         | Cause::NoPackages
         | Cause::TooLarge
         | Cause::TooMany

@@ -2,9 +2,9 @@
 use Rattle.std.specs.Prelude.{ℕ, ◌==◌, List, [], ◌∷◌, ◌++◌, length, slice_index_or, flat_map, codes, if◌then◌else◌}
 use Rattle.std.specs.Fmt.{decimal}
 use Rattle.plan_types.specs.declared.refusal.Cause.{Cause}
-use Rattle.plan_types.specs.declared.refusal.Cause.TheVariants.{NotUtf8, StrayBrace, UnclosedBrace, BadName, TooDeep, BadVersion, BadRange, NeedsVersion, BadCond, BadDepend, BadConstraint, NoPackages, TooLarge, TooMany, Unbuilt}
+use Rattle.plan_types.specs.declared.refusal.Cause.TheVariants.{NotUtf8, StrayBrace, UnclosedBrace, BadName, TooDeep, BadVersion, BadRange, NeedsVersion, BadCond, BadDepend, BadConstraint, MissingField, WrongCabalVersion, BadField, DuplicateName, UnknownStanza, UnknownFlag, ImportNotFirst, ElseWithoutIf, UnknownComponent, ComponentCycle, TooManyPaths, NoPackages, TooLarge, TooMany, Unbuilt}
 use Rattle.plan_types.specs.declared.refusal.Refusal.{Refusal}
-use Rattle.choice_problem.specs.declared.variable.Var.{Var}
+use Rattle.qualified_goals.specs.declared.variable.Var.{Var}
 use Rattle.choice_problem.specs.declared.problem.Choice.{Choice}
 use Rattle.choice_problem.specs.declared.outcome.Counts.{Counts}
 use Rattle.outside_folder.specs.Files.{Bytes}
@@ -23,6 +23,17 @@ cause_name NeedsVersion = codes "NeedsVersion"
 cause_name BadCond = codes "BadCond"
 cause_name BadDepend = codes "BadDepend"
 cause_name BadConstraint = codes "BadConstraint"
+cause_name MissingField = codes "MissingField"
+cause_name WrongCabalVersion = codes "WrongCabalVersion"
+cause_name BadField = codes "BadField"
+cause_name DuplicateName = codes "DuplicateName"
+cause_name UnknownStanza = codes "UnknownStanza"
+cause_name UnknownFlag = codes "UnknownFlag"
+cause_name ImportNotFirst = codes "ImportNotFirst"
+cause_name ElseWithoutIf = codes "ElseWithoutIf"
+cause_name UnknownComponent = codes "UnknownComponent"
+cause_name ComponentCycle = codes "ComponentCycle"
+cause_name TooManyPaths = codes "TooManyPaths"
 cause_name NoPackages = codes "NoPackages"
 cause_name TooLarge = codes "TooLarge"
 cause_name TooMany = codes "TooMany"

@@ -1,10 +1,24 @@
-use crate::{List, Range, Text, Version};
+ghost use Rattle.std.specs.Prelude.{◌≡◌, IfOk};
+
+use crate::{List, NoMemory, Range, Text, Version};
+use std::alloc::Global;
 
 /// A library of a package: the main one, or one with a name of its own.
 #[derive(Debug, PartialEq, Eq, Drop)]
 pub enum LibName {
     Main,
     Named(Text),
+}
+
+impl LibName {
+    pub fn copy(&self) -> Result<LibName, NoMemory>
+        ensures { IfOk result (λ copied. copied ≡ self.now) }
+    {
+        match self {
+            LibName::Main => Ok(LibName::Main),
+            LibName::Named(name) => Ok(LibName::Named(name.copy()?)),
+        }
+    }
 }
 
 /// What a dependency is on: libraries, an executable that builds, or libraries of the setup script.
@@ -29,6 +43,36 @@ pub struct Dep {
     pub range: Range,
     /// Whether it means a component of the package itself.
     pub internal: bool,
+}
+
+impl Dep {
+    pub fn copy(&self, alloc: Global) -> Result<Dep, NoMemory>
+        ensures { IfOk result (λ copied. copied ≡ self.now) }
+    {
+        let libs = copy_libs(alloc, &self.libs)?;
+        let package = self.package.copy()?;
+        let exe = self.exe.copy()?;
+        let range = self.range.copy(alloc)?;
+        Ok(Dep {
+            line: self.line,
+            kind: self.kind,
+            package,
+            libs,
+            exe,
+            range,
+            internal: self.internal,
+        })
+    }
+}
+
+fn copy_libs(alloc: Global, libs: &List<LibName>) -> Result<List<LibName>, NoMemory>
+    ensures { IfOk result (λ copied. copied ≡ libs.now) }
+{
+    let mut copied = List::new(alloc);
+    for lib in libs.as_slice() {
+        copied.push(lib.copy()?)?;
+    }
+    Ok(copied)
 }
 
 /// A package and the versions of it that are meant.

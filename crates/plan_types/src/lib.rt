@@ -6,12 +6,15 @@ mod boxed;
 mod condition;
 mod constraint;
 mod dependency;
+mod description;
 mod element;
+mod index;
 mod limit;
 mod list;
 mod members;
 mod memory;
 mod name;
+mod project;
 mod range;
 mod refusal;
 mod text;
@@ -21,11 +24,17 @@ pub use boxed::Boxed;
 pub use condition::{Cond, Env, FlagSet};
 pub use constraint::{Constraint, Scope, What};
 pub use dependency::{Dep, DepKind, LibName, Named, Relax, RelaxOwner};
+pub use description::{CompKind, Component, Description, FlagDecl, GuardedDep};
 pub use element::{Element, joined_text};
+pub use index::{
+    Body, Entry, Exposed, FlatDep, Index, Instance, Literal, Origin, Package, PartName, Skipped,
+    UnitRecord, Warning,
+};
 pub use limit::Limit;
 pub use list::List;
 pub use memory::NoMemory;
 pub use name::{is_component_name, is_flag_name, is_package_name};
+pub use project::{Project, ProjectEntry, Settings};
 pub use range::{Range, Spec};
 pub use refusal::{Cause, Fault, Refusal, TextFault};
 pub use text::Text;

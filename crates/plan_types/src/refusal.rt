@@ -29,6 +29,28 @@ pub enum Cause {
     BadDepend,
     /// A text of a project about packages can't be read.
     BadConstraint,
+    /// A description doesn't begin with its cabal-version, or lacks its name or its version.
+    MissingField,
+    /// A description is of another cabal-version than those that are read.
+    WrongCabalVersion,
+    /// A value or a section that may not stand where it does.
+    BadField,
+    /// A second thing of one name, or a library that is named as its package.
+    DuplicateName,
+    /// An import names no common stanza before it.
+    UnknownStanza,
+    /// A condition names a flag that isn't declared.
+    UnknownFlag,
+    /// An import behind something else, or in a branch before cabal-version 3.0.
+    ImportNotFirst,
+    /// `elif` or `else` not directly behind `if` or `elif`.
+    ElseWithoutIf,
+    /// A dependency is on a component that the package itself doesn't have.
+    UnknownComponent,
+    /// Components of a package need each other.
+    ComponentCycle,
+    /// More than 256 ways to set the flags of a dependency's condition.
+    TooManyPaths,
     /// There is no local package.
     NoPackages,
     /// A file has more than 1,048,576 bytes.
