@@ -1,0 +1,115 @@
+-- The search before its first node, between two, and after its last.
+use Rattle.std.proofs.Common.{◌≡◌, ◌≢◌, Bool, true, false, cond, ℕ, ◌<◌, List, [], length, Option, Some, None, position, replicate, get_or, refl, sym, ap, ◌∙◌, subst, inl, inr, arith}
+use Rattle.std.specs.List.{Contains, position_or_len}
+use Rattle.std.proofs.lemmas.List.Sums.{fails_before_first}
+use borrow.Author.Tests.{lt-ltb}
+use Rattle.std.proofs.lemmas.Bool.{cases_lt, false≢true}
+use Rattle.std.proofs.lemmas.List.{get_or_past, length-replicate, get_or-replicate}
+use Rattle.std.proofs.lemmas.List.Quantifiers.{position-Some}
+use Rattle.component_cycle.specs.declared.search.State.TheVariants.{Unseen, OnPath, Settled}
+use Rattle.component_cycle.specs.declared.search.Search.{Search}
+use Rattle.component_cycle.specs.Cycle.{IsPath, IsOnCycle, IsFirstOnCycle, one, more}
+use Rattle.component_cycle.proofs.Reaches.{from-edge}
+use Rattle.component_cycle.specs.Search.{state, IsSound, Leads, is_on_cycle}
+
+abbrev pub start : ℕ → Search
+start n = record { states = replicate n Unseen; path = []; waiting = []; marks = [] }
+
+start-unseen : (n v : ℕ) → state (start n) v ≡ Unseen
+start-unseen n v =
+    elim (cases_lt v n) [
+      | inl less ↦ get_or-replicate n v Unseen Unseen less
+      | inr past ↦ get_or_past (replicate n Unseen) v Unseen (omega (arith, length-replicate n Unseen, past))
+    ]
+
+none-in : {X : Type 0} (x : X) → Contains [] x → ⊥
+none-in x c = omega (arith, c.1)
+
+pub start-sound : (needs : List (List ℕ)) → IsSound needs (start (length needs)) None
+start-sound needs =
+    let n = length needs in
+    record {
+      count = length-replicate n Unseen;
+      placed = λ u i k. let both : Unseen ≡ OnPath i = sym (start-unseen n u) ∙ k in absurd (cc both);
+      standing = λ i l. absurd (omega (arith, l));
+      closed = λ u v b k edge. let both : Unseen ≡ Settled b = sym (start-unseen n u) ∙ k in absurd (cc both);
+      right = λ u b k. let both : Unseen ≡ Settled b = sym (start-unseen n u) ∙ k in absurd (cc both);
+      marked = λ m c. absurd (none-in m c);
+      rising = λ i j d less below. absurd (omega (arith, below));
+      covered = λ i l. absurd (omega (arith, l));
+      forward = λ i j le l. absurd (omega (arith, l));
+      back = λ i j le l k. absurd (omega (arith, l));
+      known = λ i v l edge. absurd (omega (arith, l));
+      source = λ l below. absurd (omega (arith, below));
+    }
+
+-- no element passes, where no position is found
+position-None : {X : Type 0} (p : X → Bool) (xs : List X) → position p xs ≡ None → (k : ℕ) (d : X) → k < length xs → p (get_or xs k d) ≡ false
+position-None p xs e k d l =
+    elim (cases_lt (position_or_len p xs) (length xs)) [
+      | inl less ↦ let found : position p xs ≡ Some (position_or_len p xs) = ap (λ b. cond b (Some (position_or_len p xs)) None) (lt-ltb (position_or_len p xs) (length xs) less) in absurd (cc (found, e))
+      | inr ge ↦ fails_before_first p xs k d (omega (arith, l, ge))
+    ]
+
+bool-from : (b : Bool) → (b ≡ false → ⊥) → b ≡ true
+bool-from true h = refl
+bool-from false h = absurd (h refl)
+
+module _ (needs : List (List ℕ)) (s : Search) (h : IsSound needs s None) (idle : s.marks ≡ []) where
+  pub no-path : (i : ℕ) → i < length s.path → ⊥
+  no-path i l = let one = h.covered i l in none-in one.0 (subst (λ ms. Contains ms one.0) idle one.1)
+
+  pub root-leads : (v : ℕ) → Leads needs s v
+  root-leads v i l = absurd (no-path i l)
+
+  pub root-sound : (v : ℕ) → IsSound needs s (Some v)
+  root-sound v =
+      record {
+        count = h.count;
+        placed = h.placed;
+        standing = h.standing;
+        closed = h.closed;
+        right = h.right;
+        marked = h.marked;
+        rising = h.rising;
+        covered = h.covered;
+        forward = h.forward;
+        back = h.back;
+        known = λ i w l edge. absurd (no-path i l);
+        source = h.source;
+      }
+
+  module _ (seen : (v : ℕ) → v < length needs → state s v ≢ Unseen) where
+    all-settled : (v : ℕ) → v < length needs → (b : Bool) × (state s v ≡ Settled b)
+    all-settled v l =
+        elim (state s v) as (λ x. state s v ≡ x → (b : Bool) × (state s v ≡ Settled b)) [
+          | Unseen ↦ λ k. absurd (seen v l k)
+          | OnPath i ↦ λ k. absurd (no-path i (h.placed v i k).0)
+          | Settled b ↦ λ k. (b, k)
+        ] refl
+
+    first-edge : (u v : ℕ) → IsPath needs u v → u < length needs
+    first-edge u v (one edge) = from-edge needs u v edge
+    first-edge u v (more x edge p) = from-edge needs u x edge
+
+    -- a node is on a cycle exactly if its state says so
+    says : (u : ℕ) → IsOnCycle needs u → is_on_cycle (state s u) ≡ true
+    says u c =
+        let found = all-settled u (first-edge u u c) in
+        ap is_on_cycle found.1 ∙ bool-from found.0 (λ k. (h.right u found.0 found.1).none k c)
+
+    said : (u : ℕ) → is_on_cycle (state s u) ≡ true → IsOnCycle needs u
+    said u k =
+        elim (state s u) as (λ x. state s u ≡ x → IsOnCycle needs u) [
+          | Unseen ↦ λ e. absurd (false≢true (sym (ap is_on_cycle e) ∙ k))
+          | OnPath i ↦ λ e. absurd (false≢true (sym (ap is_on_cycle e) ∙ k))
+          | Settled b ↦ λ e. (h.right u b e).cycle (sym (ap is_on_cycle e) ∙ k)
+        ] refl
+
+    pub first-is : (found : Option ℕ) → found ≡ position is_on_cycle s.states → IsFirstOnCycle needs found
+    first-is None e = λ u c.
+        let l = first-edge u u c in
+        absurd (false≢true (sym (position-None is_on_cycle s.states (sym e) u Unseen (omega (arith, l, h.count))) ∙ says u c))
+    first-is (Some u) e =
+        let at-u = position-Some is_on_cycle s.states u Unseen (sym e) in
+        (said u at-u.1, λ v c. elim (cases_lt v u) [ inr ge ↦ ge | inl less ↦ absurd (false≢true (sym (at-u.2 v less) ∙ says v c)) ])

@@ -1,0 +1,3 @@
+pub mod Cycle
+pub mod Search
+pub mod Examples

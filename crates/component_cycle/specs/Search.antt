@@ -1,0 +1,115 @@
+-- What holds while the path of groups grows and shrinks.
+use Rattle.std.specs.Prelude.{◌≡◌, ◌≢◌, ◌↔◌, ◌⊎◌, ℕ, ◌+◌, ◌<◌, ◌≤◌, Bool, true, false, List, [], ◌∷◌, ◌++◌, length, Option, Some, None, IsTrue, Contains, slice_index, slice_index_or, slice_set}
+use Rattle.std.specs.List.{AllPairs}
+use Rattle.component_cycle.specs.declared.search.State.{State}
+use Rattle.component_cycle.specs.declared.search.State.TheVariants.{Unseen, OnPath, Settled}
+use Rattle.component_cycle.specs.declared.search.Mark.{Mark}
+use Rattle.component_cycle.specs.declared.search.Search.{Search}
+use Rattle.component_cycle.specs.Cycle.{IsEdge, IsPath, IsOnCycle}
+
+abbrev pub state : Search → ℕ → State
+state s v = slice_index_or s.states v Unseen
+
+-- the node at a place of the path
+abbrev pub at : Search → ℕ → ℕ
+at s i = slice_index s.path i
+
+abbrev pub IsLast : List Mark → Mark → Type 0
+IsLast marks m = (front : List Mark) × (marks ≡ front ++ m ∷ [])
+
+abbrev pub HasLast : List Mark → (Mark → Type 0) → Type 0
+HasLast marks P = (m : Mark) × IsLast marks m × P m
+
+-- each group that begins at place i or before begins at j or before
+abbrev pub IsNotBefore : Search → ℕ → ℕ → Type 0
+IsNotBefore s i j = (m : Mark) → Contains s.marks m → m.place ≤ i → m.place ≤ j
+
+abbrev pub Reaches : List (List ℕ) → ℕ → ℕ → Type 0
+Reaches needs u v = (u ≡ v) ⊎ IsPath needs u v
+
+-- where a need of the node at place i is: it is settled, or on the path in the group or behind it, or it waits, or it
+-- is the one that is looked at
+pub data IsKnown (s : Search) (loose : Option ℕ) (i v : ℕ) : Type 0 where
+  settled : (b : Bool) → state s v ≡ Settled b → IsKnown s loose i v
+  on_path : (p : ℕ) → state s v ≡ OnPath p → IsNotBefore s i p → IsKnown s loose i v
+  waits : (l : ℕ) → l < length s.waiting → slice_index s.waiting l ≡ v → ((m : Mark) → Contains s.marks m → m.place ≤ i → m.waiting ≤ l) → IsKnown s loose i v
+  looked_at : loose ≡ Some v → IsKnown s loose i v
+
+-- whose need a waiting one is: that of a node in the same group
+pub record HasSource (needs : List (List ℕ)) (s : Search) (l : ℕ) : Type 0 where
+  pub place : ℕ
+  pub within : place < length s.path
+  pub edge : IsEdge needs (at s place) (slice_index s.waiting l)
+  pub same_group : (m : Mark) → Contains s.marks m → (m.place ≤ place ↔ m.waiting ≤ l)
+
+-- a settled node is on a cycle exactly if its state says so
+pub record IsRight (needs : List (List ℕ)) (u : ℕ) (b : Bool) : Type 0 where
+  pub cycle : b ≡ true → IsOnCycle needs u
+  pub none : b ≡ false → IsOnCycle needs u → ⊥
+
+abbrev pub IsBelow : Mark → Mark → Type 0
+IsBelow m n = (m.place < n.place) × (m.waiting ≤ n.waiting)
+
+pub record IsSound (needs : List (List ℕ)) (s : Search) (loose : Option ℕ) : Type 0 where
+  pub count : length s.states ≡ length needs
+  pub placed : (u i : ℕ) → state s u ≡ OnPath i → (i < length s.path) × (at s i ≡ u)
+  pub standing : (i : ℕ) → i < length s.path → state s (at s i) ≡ OnPath i
+  pub closed : (u v : ℕ) (b : Bool) → state s u ≡ Settled b → IsEdge needs u v → (d : Bool) × (state s v ≡ Settled d)
+  pub right : (u : ℕ) (b : Bool) → state s u ≡ Settled b → IsRight needs u b
+  pub marked : (m : Mark) → Contains s.marks m → (m.place < length s.path) × (m.waiting ≤ length s.waiting)
+  pub rising : AllPairs IsBelow s.marks
+  pub covered : (i : ℕ) → i < length s.path → (m : Mark) × Contains s.marks m × (m.place ≤ i)
+  pub forward : (i j : ℕ) → i ≤ j → j < length s.path → Reaches needs (at s i) (at s j)
+  pub back : (i j : ℕ) → i ≤ j → j < length s.path → IsNotBefore s j i → Reaches needs (at s j) (at s i)
+  pub known : (i v : ℕ) → i < length s.path → IsEdge needs (at s i) v → IsKnown s loose i v
+  pub source : (l : ℕ) → l < length s.waiting → HasSource needs s l
+
+-- each node of the path leads to v
+abbrev pub Leads : List (List ℕ) → Search → ℕ → Type 0
+Leads needs s v = (i : ℕ) → i < length s.path → IsPath needs (at s i) v
+
+-- v begins a group of its own at the end of the path, and its needs wait
+abbrev pub entered : List (List ℕ) → ℕ → Search → Search
+entered needs v s =
+    record {
+      states = slice_set s.states v (OnPath (length s.path));
+      path = s.path ++ v ∷ [];
+      waiting = s.waiting ++ slice_index_or needs v [];
+      marks = s.marks ++ record { place = length s.path; waiting = length s.waiting } ∷ [];
+    }
+
+-- what there is to do yet for nodes that aren't seen
+abbrev pub cost : List ℕ → State → ℕ
+cost ns Unseen = length ns + 2
+cost ns (OnPath i) = 0
+cost ns (Settled b) = 0
+
+abbrev pub costs : List (List ℕ) → List State → ℕ
+costs [] states = 0
+costs (ns ∷ needs) [] = 0
+costs (ns ∷ needs) (x ∷ states) = cost ns x + costs needs states
+
+abbrev pub to_do : List (List ℕ) → Search → ℕ
+to_do needs s = costs needs s.states + length s.waiting + length s.marks
+
+-- from one state of the search to a later one
+pub record GoesOn (needs : List (List ℕ)) (s t : Search) (bound : ℕ) : Type 0 where
+  pub sound : IsSound needs t None
+  pub seen : (v : ℕ) → state s v ≢ Unseen → state t v ≢ Unseen
+  pub less : to_do needs t < bound
+
+abbrev pub Steps : List (List ℕ) → Search → Search → Type 0
+Steps needs s t = GoesOn needs s t (to_do needs s)
+
+abbrev pub Follows : List (List ℕ) → Search → Search → Type 0
+Follows needs s t = GoesOn needs s t (to_do needs s + 1)
+
+abbrev pub is_on_cycle : State → Bool
+is_on_cycle Unseen = false
+is_on_cycle (OnPath i) = false
+is_on_cycle (Settled b) = b
+
+-- whether the nodes of a whole group lie on cycles
+pub record IsCyclic (needs : List (List ℕ)) (group : List ℕ) (b : Bool) : Type 0 where
+  pub several : 2 ≤ length group → b ≡ true
+  pub alone : length group ≡ 1 → (IsTrue b ↔ IsEdge needs (slice_index group 0) (slice_index group 0))

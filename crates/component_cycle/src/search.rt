@@ -1,0 +1,224 @@
+// The nodes of the path stand in groups, and those of a group lead to each other. From each group on the path an edge
+// leads into the next. A need of the last group is looked at: an unseen node becomes a group at the end of the path,
+// and a node on the path makes one group of all from its own on. Once the last group has no need left, it is settled:
+// all that its nodes lead to is settled, so that it is a whole strongly connected component.
+ghost use Rattle.std.specs.Prelude.{◌≡◌, ◌≢◌, ◌≤◌, ◌<◌, ◌↔◌, ◌⊎◌, ℕ, List, [], ◌++◌, length, IsTrue, IfOk, OnOk, MatchOption, true, false, All, Contains, drop, slice_index, slice_index_or, replicate, position};
+ghost use Rattle.component_cycle.specs.declared.search.State.{State};
+ghost use Rattle.component_cycle.specs.declared.search.Mark.{Mark};
+ghost use Rattle.component_cycle.specs.Cycle.{IsGraph};
+ghost use Rattle.component_cycle.specs.Search.{IsSound, IsLast, HasLast, Follows, Leads, entered, costs, state, Steps, IsCyclic, is_on_cycle};
+
+use plan_types::{List, NoMemory};
+use std::alloc::Global;
+
+/// What is known of a node.
+#[derive(Clone, Copy, Drop)]
+pub(crate) enum State {
+    Unseen,
+    /// Its place on the path.
+    OnPath(usize),
+    /// Whether it lies on a cycle.
+    Settled(bool),
+}
+
+/// Where a group begins on the path, and where its needs begin among those that wait.
+#[derive(Clone, Copy, Drop)]
+pub(crate) struct Mark {
+    pub place: usize,
+    pub waiting: usize,
+}
+
+#[derive(Drop)]
+pub(crate) struct Search {
+    pub states: List<State>,
+    pub path: List<usize>,
+    pub waiting: List<usize>,
+    pub marks: List<Mark>,
+}
+
+impl Search {
+    pub(crate) fn new(alloc: Global, nodes: usize) -> Result<Search, NoMemory>
+        ensures { IfOk result (λ s. s ≡ record { states = replicate nodes State.Unseen; path = []; waiting = []; marks = [] }) }
+    {
+        Ok(Search {
+            states: List::from_vec(vec![in alloc; State::Unseen; nodes]?),
+            path: List::new(alloc),
+            waiting: List::new(alloc),
+            marks: List::new(alloc),
+        })
+    }
+
+    // Makes a node the last group of the path.
+    fn enter(&mut self, needs: &[List<usize>], node: usize) -> Result<(), NoMemory>
+        requires node { node < length needs.now }
+        requires count { length self.old.states ≡ length needs.now }
+        ensures { OnOk result (self.new ≡ entered needs.now node self.old) }
+    {
+        self.marks.push(Mark {
+            place: self.path.len(),
+            waiting: self.waiting.len(),
+        })?;
+        self.states.set(node, State::OnPath(self.path.len()));
+        self.path.push(node)?;
+        push_all(&mut self.waiting, needs[node].as_slice())
+    }
+
+    /// Settles a node, and all that it leads to.
+    pub(crate) fn settle(&mut self, needs: &[List<usize>], root: usize) -> Result<(), NoMemory>
+        requires graph { IsGraph needs.now }
+        requires root { root < length needs.now }
+        requires sound { IsSound needs.now self.old None }
+        requires marks { self.old.marks ≡ [] }
+        ensures sound { OnOk result (IsSound needs.now self.new None) }
+        ensures marks { OnOk result (self.new.marks ≡ []) }
+        ensures root { OnOk result (state self.new root ≢ State.Unseen) }
+        ensures seen { OnOk result ((v : ℕ) → state self.old v ≢ State.Unseen → state self.new v ≢ State.Unseen) }
+    {
+        if !self.is_unseen(root) {
+            return Ok(());
+        }
+        self.enter(needs, root)?;
+        while let Some(mark) = self.last_mark() {
+            self.step(needs, mark)?;
+        }
+        Ok(())
+    }
+
+    fn is_unseen(&self, node: usize) -> bool
+        requires { node < length self.now.states }
+        ensures { IsTrue result ↔ (state self.now node ≡ State.Unseen) }
+    {
+        match self.states.as_slice()[node] {
+            State::Unseen => true,
+            State::OnPath(_) => false,
+            State::Settled(_) => false,
+        }
+    }
+
+    fn last_mark(&self) -> Option<Mark>
+        ensures { MatchOption result (self.now.marks ≡ []) (λ m. IsLast self.now.marks m) }
+    {
+        self.marks.as_slice().last().copied()
+    }
+
+    // Whether the last group begins behind a place.
+    fn begins_behind(&self, place: usize) -> bool
+        ensures behind { result ≡ true → HasLast self.now.marks (λ m. place < m.place) }
+        ensures not_behind { result ≡ false → (self.now.marks ≡ []) ⊎ HasLast self.now.marks (λ m. m.place ≤ place) }
+    {
+        match self.last_mark() {
+            Some(mark) => mark.place > place,
+            None => false,
+        }
+    }
+
+    // Looks at a need of the last group, or settles the group where none waits.
+    fn step(&mut self, needs: &[List<usize>], mark: Mark) -> Result<(), NoMemory>
+        requires graph { IsGraph needs.now }
+        requires sound { IsSound needs.now self.old None }
+        requires mark { IsLast self.old.marks mark }
+        ensures { OnOk result (Steps needs.now self.old self.new) }
+    {
+        if self.waiting.len() <= mark.waiting {
+            self.close(needs, mark);
+            return Ok(());
+        }
+        match self.waiting.pop() {
+            Some(node) => self.look_at(needs, node),
+            None => unreachable!(),
+        }
+    }
+
+    // Looks at a node to which the last group leads. Where it stands on the path, all from its place on are one group.
+    fn look_at(&mut self, needs: &[List<usize>], node: usize) -> Result<(), NoMemory>
+        requires sound { IsSound needs.now self.old (Some node) }
+        requires leads { Leads needs.now self.old node }
+        requires node { node < length needs.now }
+        ensures { OnOk result (Follows needs.now self.old self.new) }
+    {
+        match self.states.as_slice()[node] {
+            State::Unseen => self.enter(needs, node),
+            State::OnPath(place) => {
+                while self.begins_behind(place) {
+                    self.marks.pop();
+                }
+                Ok(())
+            }
+            State::Settled(_) => Ok(()),
+        }
+    }
+
+    // Settles the last group.
+    fn close(&mut self, needs: &[List<usize>], mark: Mark)
+        requires sound { IsSound needs.now self.old None }
+        requires mark { IsLast self.old.marks mark }
+        requires none { length self.old.waiting ≤ mark.waiting }
+        ensures { Steps needs.now self.old self.new }
+    {
+        let group = behind(&self.path, mark.place);
+        let on_cycle = is_cyclic(needs, group);
+        settle_all(&mut self.states, group, on_cycle);
+        self.path.truncate(mark.place);
+        self.marks.pop();
+    }
+
+    /// The first node that is settled as one on a cycle.
+    pub(crate) fn first_on_cycle(&self) -> Option<usize>
+        ensures { result ≡ position is_on_cycle self.now.states }
+    {
+        self.states
+            .as_slice()
+            .iter()
+            .position(|state| is_on_cycle(*state))
+    }
+}
+
+// The path from a place on.
+fn behind(path: &List<usize>, place: usize) -> &[usize]
+    requires { place ≤ length path.now }
+    ensures { result.now ≡ drop place path.now }
+{
+    &path.as_slice()[place..]
+}
+
+fn is_on_cycle(state: State) -> bool
+    ensures { result ≡ is_on_cycle state }
+{
+    match state {
+        State::Unseen => false,
+        State::OnPath(_) => false,
+        State::Settled(on_cycle) => on_cycle,
+    }
+}
+
+// Whether the nodes of a whole group lie on cycles: it has several, or one that needs itself.
+fn is_cyclic(needs: &[List<usize>], group: &[usize]) -> bool
+    requires { All (λ v. v < length needs.now) group.now }
+    ensures { IsCyclic needs.now group.now result }
+{
+    match group {
+        [node] => needs[*node].as_slice().contains(node),
+        _ => true,
+    }
+}
+
+fn settle_all(states: &mut List<State>, nodes: &[usize], on_cycle: bool)
+    requires inside { All (λ v. v < length states.old) nodes.now }
+    ensures count { length states.new ≡ length states.old }
+    ensures settled { (i : ℕ) → i < length nodes.now → slice_index_or states.new (slice_index nodes.now i) State.Unseen ≡ State.Settled on_cycle }
+    ensures others { (v : ℕ) → (Contains nodes.now v → ⊥) → slice_index_or states.new v State.Unseen ≡ slice_index_or states.old v State.Unseen }
+    ensures costs { (needs : List (List ℕ)) → length states.old ≡ length needs → ((i : ℕ) → i < length nodes.now → slice_index_or states.old (slice_index nodes.now i) State.Unseen ≢ State.Unseen) → costs needs states.new ≡ costs needs states.old }
+{
+    for node in nodes {
+        states.set(*node, State::Settled(on_cycle));
+    }
+}
+
+fn push_all(list: &mut List<usize>, more: &[usize]) -> Result<(), NoMemory>
+    ensures { OnOk result (list.new ≡ list.old ++ more.now) }
+{
+    for item in more {
+        list.push(*item)?;
+    }
+    Ok(())
+}
