@@ -11,6 +11,7 @@ mod print;
 mod read;
 
 pub use laws::{one_fault, one_tree, round_trip, tree_or_fault};
+pub use lines::trim;
 pub use print::print_elements;
 pub use read::read_elements;
 

@@ -1,0 +1,4 @@
+pub mod Trees
+pub mod Steps
+pub mod Files
+pub mod One
