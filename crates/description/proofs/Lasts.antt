@@ -1,0 +1,28 @@
+-- What is said last.
+use Rattle.std.proofs.Common.{◌≡◌, List, [], ◌∷◌, ◌++◌, ap, ◌∙◌, refl, flat_map}
+use Rattle.std.specs.Prelude.{Option, Some, None}
+use Rattle.std.proofs.lemmas.Grind.{flat_map-append}
+use Rattle.std.proofs.lemmas.List.{append-nil}
+use Rattle.description.specs.Declarations.{last, later}
+
+pub last-append : {A : Type 0} (xs ys : List A) → last (xs ++ ys) ≡ later (last xs) (last ys)
+last-append [] [] = refl
+last-append [] (y ∷ ys) = none-before (last (y ∷ ys))
+  where
+    none-before : {A : Type 0} (o : Option A) → o ≡ later None o
+    none-before None = refl
+    none-before (Some x) = refl
+last-append (x ∷ []) [] = refl
+last-append (x ∷ []) (y ∷ ys) = some-behind x y ys
+  where
+    over : {A : Type 0} (a b : Option A) (x : A) → later a (later (Some x) b) ≡ later (Some x) b
+    over a None x = refl
+    over a (Some y) x = refl
+
+    some-behind : {A : Type 0} (x y : A) (ys : List A) → last (y ∷ ys) ≡ later (Some x) (last (y ∷ ys))
+    some-behind x y [] = refl
+    some-behind x y (z ∷ ys) = some-behind x z ys
+last-append (x ∷ z ∷ xs) ys = last-append (z ∷ xs) ys
+
+pub last-more : {A B : Type 0} (f : A → List B) (xs : List A) (x : A) → last (flat_map f (xs ++ x ∷ [])) ≡ later (last (flat_map f xs)) (last (f x))
+last-more f xs x = ap last (flat_map-append f xs (x ∷ [])) ∙ last-append (flat_map f xs) (flat_map f (x ∷ [])) ∙ ap (λ l. later (last (flat_map f xs)) (last l)) (append-nil (f x))

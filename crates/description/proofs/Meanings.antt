@@ -1,0 +1,134 @@
+-- What bodies stand for, as they grow and as stanzas are added behind those that they import.
+use Rattle.std.proofs.Common.{◌≡◌, ℕ, ◌<◌, ◌≤◌, Bool, true, false, ◌&&◌, length, List, [], ◌∷◌, ◌++◌, map, flat_map, get_or, take, sym, ap, ◌∙◌, refl, arith, length-append}
+use Rattle.std.specs.Prelude.{None, Some, nat_lt}
+use Rattle.std.specs.List.{list_all}
+use Rattle.std.proofs.lemmas.Bool.Decides.{nat_tests}
+use Rattle.std.proofs.lemmas.Grind.{common_steps, flat_map-append}
+use Rattle.std.proofs.lemmas.List.{append-nil, get_or_past, get_or-map}
+use Rattle.std.proofs.lemmas.List.Folds.{list_all-append}
+use Rattle.std.proofs.lemmas.Option.{slice_get_read}
+use Rattle.plan_types.specs.declared.condition.Cond.{Cond}
+use Rattle.description_parts.specs.declared.part.Part.{Part}
+use Rattle.description.specs.Faults.{bad_visibility}
+use Rattle.description.specs.First.{earlier, first}
+use Rattle.description.specs.Imports.{Stanzas, parts_of, under}
+use Rattle.description.specs.Names.{number_of}
+use Rattle.description.specs.Standing.{Means, Knows, body_parts, first_bad, is_below, step_parts, table}
+use Rattle.description.specs.declared.stanzas.Body.{Body}
+use Rattle.description.specs.declared.stanzas.Stanzas as tables
+use Rattle.description.specs.declared.stanzas.Step.{Step}
+use Rattle.description.specs.declared.stanzas.Step.TheVariants as step
+use Rattle.description.proofs.Firsts.{first-append}
+use Rattle.description.proofs.Known.{by_number, by_none}
+use Rattle.description.proofs.Turns.{told_at, in_front, length-in_turn, in_turn-append}
+
+pub first_bad-append : (xs ys : List Part) → first_bad (xs ++ ys) ≡ earlier (first_bad xs) (first_bad ys)
+first_bad-append xs ys = ap first (flat_map-append bad_visibility xs ys) ∙ first-append (flat_map bad_visibility xs) (flat_map bad_visibility ys)
+
+none_within : (c : Cond) (branches : List Cond) (parts : List Part) → flat_map bad_visibility (map (under (c ∷ branches)) parts) ≡ []
+none_within c branches [] = refl
+none_within c branches (part ∷ parts) = none_within c branches parts
+
+pub bad_inside : (c : Cond) (branches : List Cond) (parts : List Part) → first_bad (map (under (c ∷ branches)) parts) ≡ None
+bad_inside c branches parts = ap first (none_within c branches parts)
+
+pub under_none : (parts : List Part) → map (under []) parts ≡ parts
+under_none [] = refl
+under_none (part ∷ parts) = ap (λ v. part ∷ v) (under_none parts)
+
+pub bad_outside : (branches : List Cond) (parts : List Part) → branches ≡ [] → first_bad (map (under branches) parts) ≡ first_bad parts
+bad_outside branches parts none = rw none (ap first_bad (under_none parts))
+
+pub bad_within : (branches : List Cond) (parts : List Part) → (branches ≡ [] → ⊥) → first_bad (map (under branches) parts) ≡ None
+bad_within [] parts some = absurd (some refl)
+bad_within (c ∷ branches) parts some = bad_inside c branches parts
+
+pub both : {a b : Bool} → a ≡ true → b ≡ true → (a && b) ≡ true
+both p q = λ i. p i && q i
+
+pub left : (a b : Bool) → (a && b) ≡ true → a ≡ true
+left true b e = refl
+left false b e = e
+
+pub right : (a b : Bool) → (a && b) ≡ true → b ≡ true
+right true b e = e
+right false b e = absurd (cc e)
+
+-- a step more
+pub means_more : (stanzas : List Body) (old new : Body) (said parts : List Part) (one : Step) → new.steps.items ≡ old.steps.items ++ one ∷ [] →
+    step_parts (table stanzas) one ≡ parts → is_below (length stanzas) one ≡ true → new.bad_visibility ≡ earlier old.bad_visibility (first_bad parts) →
+    Means stanzas old said → Means stanzas new (said ++ parts)
+means_more stanzas old new said parts one steps is below bad means = record {
+  parts =
+      ap (flat_map (step_parts (table stanzas))) steps
+      ∙ flat_map-append (step_parts (table stanzas)) old.steps.items (one ∷ [])
+      ∙ (λ i. means.parts i ++ (append-nil (step_parts (table stanzas) one) ∙ is) i);
+  bad = bad ∙ ap (λ v. earlier v (first_bad parts)) means.bad ∙ sym (first_bad-append said parts);
+  within =
+      ap (list_all (is_below (length stanzas))) steps
+      ∙ list_all-append (is_below (length stanzas)) old.steps.items (one ∷ [])
+      ∙ both means.within (both below refl);
+}
+
+-- nothing more
+pub means_same : (stanzas : List Body) (body : Body) (said parts : List Part) → parts ≡ [] → Means stanzas body said → Means stanzas body (said ++ parts)
+means_same stanzas body said parts none means = rw none (rw (append-nil said) means)
+
+-- the stanza of a number
+module _ (known : Stanzas) (stanzas : tables.Stanzas) (knows : Knows known stanzas) (name : List ℕ) where
+  pub not_there : number_of stanzas.names name ≡ None → parts_of known name ≡ []
+  not_there e = knows.found name ∙ by_none knows.ones name (ap (λ v. number_of v name) (sym knows.names) ∙ e)
+
+  pub there : (n : ℕ) → number_of stanzas.names name ≡ Some n → get_or (table stanzas.bodies.items) n [] ≡ parts_of known name
+  there n e =
+      ap (λ v. get_or v n []) knows.parts
+      ∙ sym (by_number knows.ones name n (ap (λ v. number_of v name) (sym knows.names) ∙ e))
+      ∙ sym (knows.found name)
+
+  pub not_within : (n : ℕ) → number_of stanzas.names name ≡ Some n → length stanzas.bodies.items ≤ n → parts_of known name ≡ []
+  not_within n e h =
+      sym (there n e) ∙ get_or_past (table stanzas.bodies.items) n [] (let l = length-in_turn body_parts [] stanzas.bodies.items in omega arith)
+
+  pub empty_there : (n : ℕ) (body : Body) → number_of stanzas.names name ≡ Some n → n < length stanzas.bodies.items → body ≡ get_or stanzas.bodies.items n body → body.steps.items ≡ [] → parts_of known name ≡ []
+  empty_there n body e h is none =
+      sym (there n e) ∙ told_at body_parts [] n stanzas.bodies.items body (slice_get_read stanzas.bodies.items (length stanzas.bodies.items) n body refl h is) ∙ ap (flat_map (step_parts (table (take n stanzas.bodies.items)))) none
+
+  pub bad_there : (n : ℕ) (body : Body) → number_of stanzas.names name ≡ Some n → n < length stanzas.bodies.items → body ≡ get_or stanzas.bodies.items n body → body.bad_visibility ≡ first_bad (parts_of known name)
+  bad_there n body e h is =
+      let bodies = stanzas.bodies.items in
+      let l = length-in_turn body_parts [] bodies in
+      sym (ap (λ (v : Body). v.bad_visibility) (sym is))
+      ∙ sym (get_or-map (λ (v : Body). v.bad_visibility) bodies n body None h)
+      ∙ ap (λ v. get_or v n None) knows.bad
+      ∙ get_or-map first_bad (table bodies) n [] None (omega arith)
+      ∙ ap first_bad (there n e)
+
+-- stanzas behind those that a body imports
+module _ (stanzas more : List Body) where
+  step_kept : (one : Step) → is_below (length stanzas) one ≡ true → step_parts (table (stanzas ++ more)) one ≡ step_parts (table stanzas) one
+  step_kept (step.Part part) below = refl
+  step_kept (step.Import n branches) below =
+      ap (λ v. map (under branches.now) (get_or v n [])) (in_turn-append body_parts [] stanzas more)
+      ∙ ap (map (under branches.now)) (in_front body_parts [] n (table stanzas) more (before below))
+    where
+      before : nat_lt n (length stanzas) ≡ true → n < length (table stanzas)
+      before e = let l = length-in_turn body_parts [] stanzas in grind (arith, common_steps, nat_tests)
+
+  step_below : (one : Step) → is_below (length stanzas) one ≡ true → is_below (length (stanzas ++ more)) one ≡ true
+  step_below (step.Part part) below = refl
+  step_below (step.Import n branches) below = let l = length-append stanzas more in grind (arith, common_steps, nat_tests)
+
+  pub steps_kept : (steps : List Step) → list_all (is_below (length stanzas)) steps ≡ true → flat_map (step_parts (table (stanzas ++ more))) steps ≡ flat_map (step_parts (table stanzas)) steps
+  steps_kept [] e = refl
+  steps_kept (one ∷ steps) e =
+      let here = is_below (length stanzas) one in let rest = list_all (is_below (length stanzas)) steps in
+      λ i. step_kept one (left here rest e) i ++ steps_kept steps (right here rest e) i
+
+  pub steps_below : (steps : List Step) → list_all (is_below (length stanzas)) steps ≡ true → list_all (is_below (length (stanzas ++ more))) steps ≡ true
+  steps_below [] e = refl
+  steps_below (one ∷ steps) e =
+      let here = is_below (length stanzas) one in let rest = list_all (is_below (length stanzas)) steps in
+      both (step_below one (left here rest e)) (steps_below steps (right here rest e))
+
+pub below_is : (n m : ℕ) → n < m → nat_lt n m ≡ true
+below_is n m h = grind (arith, common_steps, nat_tests)

@@ -1,0 +1,13 @@
+use Rattle.std.proofs.Common.{arith}
+use Rattle.description.specs.Components.{guarded}
+use Rattle.description.specs.Standing.{placed_part}
+use Rattle.description.proofs.Pushed.{some_pushed, each_pushed}
+use Rattle.description.proofs.component.deps.Goals as goal
+
+pub loop-one-preserved : goal.loop-one-preserved
+loop-one-preserved c own sections tells =
+    some_pushed placed_part (guarded own sections) c.args.placed.now c.loop-one.one-index c.one-item.result c.loop-one.deps (omega arith) c.one-item.is
+    (c.in_ok-push_deps.ensures own sections tells) (c.loop-one.invariant own sections tells)
+
+pub returns : goal.returns
+returns c own sections tells = each_pushed placed_part (guarded own sections) c.args.placed.now c.loop-one.one-index c.loop-one.deps (omega arith) (c.loop-one.invariant own sections tells)

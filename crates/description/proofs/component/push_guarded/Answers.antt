@@ -1,0 +1,17 @@
+use Rattle.std.proofs.Common.{arith}
+use Rattle.plan_types.specs.declared.dependency.Dep.{Dep}
+use Rattle.description_parts.specs.Branch.{all_of}
+use Rattle.description.specs.Declarations.{meant}
+use Rattle.description.proofs.Pushed.{one_pushed, all_pushed}
+use Rattle.description.proofs.component.push_guarded.Goals as goal
+
+pub loop-dep-preserved : goal.loop-dep-preserved
+loop-dep-preserved c own sections tells =
+    let dep = c.in_ok-dep.ensures own sections tells in
+    let when = c.in_ok-when.ensures in
+    one_pushed (λ (dep : Dep). record { when = all_of c.args.branches.now; dep = meant own sections dep }) c.args.found.now c.loop-dep.dep-index c.dep-item.result _ c.loop-dep.deps (omega arith) c.dep-item.is
+    (λ i. record { when = when i; dep = dep i }) c.in_ok-push.ensures.ok (c.loop-dep.invariant own sections tells)
+
+pub returns : goal.returns
+returns c own sections tells =
+    all_pushed (λ (dep : Dep). record { when = all_of c.args.branches.now; dep = meant own sections dep }) c.args.found.now c.loop-dep.dep-index c.loop-dep.deps (omega arith) (c.loop-dep.invariant own sections tells)

@@ -1,0 +1,19 @@
+use Rattle.std.proofs.Common.{◌∙◌, ap, sym}
+use Rattle.std.proofs.lemmas.List.{drop_all}
+use Rattle.std.specs.List.{list_all}
+use Rattle.description.specs.Declarations.{is_known}
+use Rattle.description.proofs.NameList.{all-next, all-stops}
+use Rattle.description.proofs.faults.are_known.Goals as goal
+
+pub returns-then-not-is_known : goal.returns-then-not-is_known
+returns-then-not-is_known c own all tells =
+    all-stops (is_known own all) c.args.deps.now c.loop-dep.dep-index c.dep-item.result c.loop-dep-test.true (sym c.dep-item.is) (sym (c.is_known.ensures own all tells) ∙ c.if-not-is_known.true)
+    ∙ c.loop-dep.invariant own all tells
+
+pub loop-dep-preserved : goal.loop-dep-preserved
+loop-dep-preserved c own all tells =
+    all-next (is_known own all) c.args.deps.now c.loop-dep.dep-index c.dep-item.result c.loop-dep-test.true (sym c.dep-item.is) (sym (c.is_known.ensures own all tells) ∙ c.if-not-is_known.false)
+    ∙ c.loop-dep.invariant own all tells
+
+pub returns : goal.returns
+returns c own all tells = ap (list_all (is_known own all)) (sym (drop_all c.loop-dep.dep-index c.args.deps.now c.loop-dep-test.false)) ∙ c.loop-dep.invariant own all tells

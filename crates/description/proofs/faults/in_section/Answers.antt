@@ -1,0 +1,11 @@
+use Rattle.std.proofs.Common.{◌∙◌, ap, sym, flat_map}
+use Rattle.description.specs.Faults.{at, in_part, of_name}
+use Rattle.description.specs.First.{first}
+use Rattle.description.proofs.Firsts.{first-append, earlier-of}
+use Rattle.description.proofs.faults.in_section.Goals as goal
+
+pub returns : goal.returns
+returns c own all tells =
+    let section = c.args.section.now in
+    earlier-of c.earlier.ensures (c.of_name-named.ensures own all tells) (c.in_parts-inside.ensures own all tells ∙ ap (λ p. first (flat_map (in_part own all) p)) c.as_slice.ensures)
+    ∙ sym (first-append (at section.line (of_name own section)) (flat_map (in_part own all) section.parts))

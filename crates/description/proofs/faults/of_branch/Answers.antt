@@ -1,0 +1,10 @@
+use Rattle.std.proofs.Common.{◌∙◌, sym}
+use Rattle.plan_types.specs.declared.refusal.Cause.TheVariants as causes
+use Rattle.description.specs.Faults.{of_condition, unless}
+use Rattle.description.proofs.Firsts.{at-append, earlier-of}
+use Rattle.description.proofs.faults.of_branch.Goals as goal
+
+pub returns : goal.returns
+returns c own all tells =
+    earlier-of c.earlier.ensures (c.of_condition-condition.ensures own all tells) c.unless-place.ensures
+    ∙ sym (at-append c.args.line (of_condition all c.args.condition.now) (unless c.args.fits causes.ElseWithoutIf))

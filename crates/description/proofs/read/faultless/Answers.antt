@@ -1,0 +1,28 @@
+use Rattle.std.proofs.Common.{ℕ, sym, subst, ap, ◌∙◌}
+use Rattle.std.specs.declared.result.Result.TheVariants.{Err}
+use Rattle.plan_types.specs.Refusal.{RefusesAt}
+use Rattle.plan_types.specs.declared.refusal.Cause.{Cause}
+use Rattle.component_cycle.specs.Cycle.{IsFirstOnCycle}
+use Rattle.description.specs.Cycles.{needs}
+use Rattle.description.specs.Declarations.{own_name}
+use Rattle.description.specs.Description.{Comes, version_of}
+use Rattle.description.specs.Tables.{Stand, Tells, is_at, shown, shown_version}
+use Rattle.description.proofs.Coming.{comes-circular}
+use Rattle.description.proofs.read.faultless.Goals as goal
+
+pub returns-in-Some-2-clause-fault : goal.returns-in-Some-2-clause-fault
+returns-in-Some-2-clause-fault c =
+    let file = c.args.file.now in
+    let d = c.in_ok-described.described in
+    let number = c.in-Some-2.number in
+    let At : ℕ → Cause → Type 0 = λ line cause. Tells c.args.declared.now (own_name file.heads) file.sections → Stand file.sections c.args.bodies.now
+    → Comes c.args.spec file c.args.digest (own_name file.heads) (version_of file.heads) (Err (is_at line cause)) in
+    subst (RefusesAt At) (sym c.circular.ensures) (λ tells stand.
+    comes-circular c.args.spec file c.args.digest c.in-Some.name.now c.in-Some-version_of.version.now (own_name file.heads) (version_of file.heads) d
+    c.as_slice-in-Some-2.result.now c.in_ok-number.field-0 number
+    (sym tells.name ∙ ap shown c.in-Some.is)
+    (ap version_of (sym c.as_slice.ensures) ∙ sym c.version_of.ensures ∙ ap shown_version c.in-Some-version_of.is)
+    (c.in_ok-described.ensures (c.in_ok-components.ensures (own_name file.heads) file.sections tells stand))
+    c.as_slice-in-Some-2.ensures
+    (subst (λ cs. IsFirstOnCycle (needs cs) c.in_ok-number.field-0) (c.as_slice-2.ensures ∙ sym c.as_slice-in-Some-2.ensures) c.in_ok-number.ensures)
+    c.in-Some-2.is)

@@ -1,0 +1,121 @@
+-- The description of a file's elements, or their first fault.
+use Rattle.std.specs.Prelude.{◌≡◌, ℕ, slice_get, if◌then◌else◌, List, [], ◌∷◌, flat_map, codes, Option, Some, None}
+use Rattle.std.specs.declared.result.Result.{Result}
+use Rattle.std.specs.declared.result.Result.TheVariants.{Ok, Err}
+use Rattle.plan_types.specs.Bytes.{joined_text}
+use Rattle.plan_types.specs.declared.description.Component.{Component}
+use Rattle.plan_types.specs.declared.description.Description.{Description}
+use Rattle.plan_types.specs.declared.element.Element.{Element}
+use Rattle.plan_types.specs.declared.range.Spec.{Spec}
+use Rattle.plan_types.specs.declared.range.Spec.TheVariants.{V2_4, V3_0}
+use Rattle.plan_types.specs.declared.refusal.Cause.TheVariants.{MissingField, WrongCabalVersion, ComponentCycle}
+use Rattle.plan_types.specs.declared.version.Version.{Version}
+use Rattle.component_cycle.specs.Cycle.{IsFirstOnCycle}
+use Rattle.description_parts.specs.File.{IsFile}
+use Rattle.description_parts.specs.Tree.{Tree, end, field, section, tree_of}
+use Rattle.description_parts.specs.declared.part.File.{File}
+use Rattle.description_parts.specs.declared.part.Head.{Head}
+use Rattle.description_parts.specs.declared.part.Head.TheVariants as head
+use Rattle.description_parts.specs.declared.part.HeadField.{HeadField}
+use Rattle.description_parts.specs.declared.part.Part.{Part}
+use Rattle.description_parts.specs.declared.part.Said.{Said}
+use Rattle.description_parts.specs.declared.part.Said.TheVariants as said
+use Rattle.description_parts.specs.declared.part.Section.{Section}
+use Rattle.description.specs.Components.{components}
+use Rattle.description.specs.Cycles.{needs}
+use Rattle.description.specs.Declarations.{last, own_name}
+use Rattle.description.specs.Faults.{faults}
+use Rattle.description.specs.First.{first}
+use Rattle.description.specs.Flags.{as_list, flags}
+use Rattle.description.specs.Names.{same}
+use Rattle.description.specs.Setup.{is_custom, setup}
+use Rattle.description.specs.declared.first.At.{At}
+
+-- a field that has to be there has no line
+abbrev pub missing : At
+missing = record { line = 0; cause = MissingField }
+
+abbrev pub spec_of : ℕ → List ℕ → Result Spec At
+spec_of line text =
+    if same text (codes "2.4") then Ok V2_4
+    else if same text (codes "3.0") then Ok V3_0
+    else Err (record { line = line; cause = WrongCabalVersion })
+
+-- the first element states the cabal-version
+abbrev pub cabal_version : Tree → Result Spec At
+cabal_version end = Err missing
+cabal_version (field line name values behind) = if same name (codes "cabal-version") then spec_of line (joined_text values) else Err missing
+cabal_version (section line name args items behind) = Err missing
+
+abbrev pub version_said : Head → List Version
+version_said (head.Name name) = []
+version_said (head.Version version) = as_list version
+version_said (head.BuildType custom) = []
+
+-- the last version that is of its form
+abbrev pub version_of : List HeadField → Option Version
+version_of heads = last (flat_map (λ field. version_said field.head) heads)
+
+abbrev pub is_build_tools : Said → List ℕ → List ℕ
+is_build_tools (said.Import names fits) line = []
+is_build_tools (said.Depends deps) line = []
+is_build_tools (said.Buildable value) line = []
+is_build_tools (said.Visibility value) line = []
+is_build_tools (said.Default value) line = []
+is_build_tools (said.Manual value) line = []
+is_build_tools said.BuildTools line = line
+is_build_tools (said.Branch condition fits) line = []
+is_build_tools said.Misplaced line = []
+
+-- the line of a field that is accepted unread
+abbrev pub warning : Part → List ℕ
+warning part = is_build_tools part.said (part.line ∷ [])
+
+abbrev pub warnings : List Section → List ℕ
+warnings sections = flat_map (λ section. flat_map warning section.parts) sections
+
+abbrev pub components_of : File → List Component
+components_of file = components (own_name file.heads) file.sections
+
+abbrev pub description : Spec → File → List ℕ → List ℕ → Version → Description
+description spec file digest name version = record {
+  spec = spec;
+  name = name;
+  version = version;
+  custom = is_custom file;
+  flags = flags file.sections;
+  components = components_of file;
+  setup = setup file;
+  digest = digest;
+  warnings = warnings file.sections;
+}
+
+-- the line of a component
+abbrev pub line_of : List Component → ℕ → ℕ
+line_of components n = elim (slice_get components n) [ None ↦ 0 | Some c ↦ c.line ]
+
+-- components that need each other are a fault at the first of them
+abbrev pub unless_circular : Option ℕ → Description → Result Description At
+unless_circular None d = Ok d
+unless_circular (Some n) d = Err (record { line = line_of d.components n; cause = ComponentCycle })
+
+-- what a file without a fault by itself comes to
+abbrev pub Comes : Spec → File → List ℕ → Option (List ℕ) → Option Version → Result Description At → Type 0
+Comes spec file digest None version outcome = outcome ≡ Err missing
+Comes spec file digest (Some name) None outcome = outcome ≡ Err missing
+Comes spec file digest (Some name) (Some version) outcome =
+    let d = description spec file digest name version in
+    (circular : Option ℕ) × IsFirstOnCycle (needs d.components) circular × (outcome ≡ unless_circular circular d)
+
+-- The faults of the file come first, then a name or version that is missing, then a cycle of components.
+abbrev pub ComesTo : Spec → File → List ℕ → Option At → Result Description At → Type 0
+ComesTo spec file digest (Some at) outcome = outcome ≡ Err at
+ComesTo spec file digest None outcome = Comes spec file digest (own_name file.heads) (version_of file.heads) outcome
+
+abbrev pub OfVersion : Result Spec At → List Element → List ℕ → Result Description At → Type 0
+OfVersion (Err at) items digest outcome = outcome ≡ Err at
+OfVersion (Ok spec) items digest outcome = (file : File) × IsFile spec items file × ComesTo spec file digest (first (faults file)) outcome
+
+-- the elements have this description, or this first fault
+abbrev pub Describes : List Element → List ℕ → Result Description At → Type 0
+Describes items digest outcome = OfVersion (cabal_version (tree_of items)) items digest outcome

@@ -1,0 +1,98 @@
+-- What the definitions give on small files.
+use Rattle.std.specs.Prelude.{◌≡◌, ℕ, true, false, List, [], ◌∷◌, refl, codes, Some}
+use Rattle.std.specs.declared.result.Result.TheVariants.{Err}
+use Rattle.plan_types.specs.declared.condition.Cond.{Cond}
+use Rattle.plan_types.specs.declared.condition.Cond.TheVariants.{Always, Flag, Not, And}
+use Rattle.plan_types.specs.declared.dependency.Dep.{Dep}
+use Rattle.plan_types.specs.declared.dependency.DepKind.TheVariants as dep_kind
+use Rattle.plan_types.specs.declared.dependency.LibName.TheVariants.{Main, Named}
+use Rattle.plan_types.specs.declared.description.CompKind.TheVariants.{Library}
+use Rattle.plan_types.specs.declared.description.FlagDecl.{FlagDecl}
+use Rattle.plan_types.specs.declared.range.Range.TheVariants.{Any}
+use Rattle.plan_types.specs.declared.refusal.Cause.{Cause}
+use Rattle.plan_types.specs.declared.refusal.Cause.TheVariants.{BadField, BadName, DuplicateName, UnknownFlag, UnknownStanza, WrongCabalVersion}
+use Rattle.description_parts.specs.declared.part.Part.{Part}
+use Rattle.description_parts.specs.declared.part.Said.{Said}
+use Rattle.description_parts.specs.declared.part.Said.TheVariants as said
+use Rattle.description_parts.specs.declared.part.Section.{Section}
+use Rattle.description_parts.specs.declared.part.SectionKind.{SectionKind}
+use Rattle.description_parts.specs.declared.part.SectionKind.TheVariants as kinds
+use Rattle.description_parts.specs.Tree.{end, field}
+use Rattle.description.specs.Components.{buildable, is_public}
+use Rattle.description.specs.Declarations.{meaning, meant}
+use Rattle.description.specs.Description.{cabal_version, missing}
+use Rattle.description.specs.Faults.{repeated, unknown_stanzas}
+use Rattle.description.specs.First.{first}
+use Rattle.description.specs.Flags.{by_name}
+use Rattle.description.specs.Imports.{with_imports_replaced}
+use Rattle.description.specs.declared.declarations.Meaning.TheVariants.{Other, Own}
+use Rattle.description.specs.declared.faults.Class.TheVariants.{Component}
+use Rattle.description.specs.declared.first.At.{At}
+
+abbrev fault : ℕ → Cause → At
+fault line cause = record { line = line; cause = cause }
+
+abbrev part : ℕ → List Cond → Said → Part
+part line branches what = record { line = line; branches = branches; said = what }
+
+abbrev section : ℕ → SectionKind → List ℕ → List Part → Section
+section line kind name parts = record { line = line; kind = kind; name = name; parts = parts }
+
+abbrev a : Cond
+a = Flag (codes "a")
+
+abbrev b : Cond
+b = Flag (codes "b")
+
+-- the least line, and on one line the cause that is listed before the others
+the_least_line : first (fault 7 BadName ∷ fault 5 UnknownFlag ∷ fault 5 BadField ∷ []) ≡ Some (fault 5 BadField)
+the_least_line = refl
+
+-- a stanza under `a` that is imported under `b`
+imported : with_imports_replaced
+    (section 4 kinds.Common (codes "s") (part 5 (a ∷ []) (said.Buildable (Some false)) ∷ [])
+    ∷ section 6 (kinds.Component Library) [] (part 7 (b ∷ []) (said.Import (codes "s" ∷ []) true) ∷ part 8 [] said.BuildTools ∷ []) ∷ [])
+    ≡ section 4 kinds.Common (codes "s") (part 5 (a ∷ []) (said.Buildable (Some false)) ∷ [])
+    ∷ section 6 (kinds.Component Library) [] (part 5 (b ∷ a ∷ []) (said.Buildable (Some false)) ∷ part 8 [] said.BuildTools ∷ []) ∷ []
+imported = refl
+
+not_buildable_twice : buildable (part 5 (b ∷ a ∷ []) (said.Buildable (Some false)) ∷ part 6 [] (said.Buildable (Some true)) ∷ part 7 [] (said.Buildable (Some false)) ∷ [])
+    ≡ And (Not (And b a)) (Not Always)
+not_buildable_twice = refl
+
+the_last_word : is_public (part 5 [] (said.Visibility (Some true)) ∷ part 6 (a ∷ []) (said.Visibility (Some false)) ∷ []) ≡ true
+the_last_word = refl
+
+abbrev sections : List Section
+sections = section 4 (kinds.Component Library) (codes "sub") [] ∷ []
+
+abbrev on : List ℕ → Dep
+on name = record { line = 9; kind = dep_kind.Library; «package» = name; libs = Main ∷ []; exe = []; range = Any; internal = false }
+
+another_package : meaning (Some (codes "main")) sections (on (codes "base")) ≡ Other
+another_package = refl
+
+the_own_package : meaning (Some (codes "main")) sections (on (codes "main")) ≡ Own
+the_own_package = refl
+
+an_own_library : meant (Some (codes "main")) sections (on (codes "sub"))
+    ≡ record { line = 9; kind = dep_kind.Library; «package» = codes "main"; libs = Named (codes "sub") ∷ []; exe = []; range = Any; internal = true }
+an_own_library = refl
+
+a_second_library : repeated Component [] (section 4 (kinds.Component Library) [] [] ∷ section 5 (kinds.Component Library) [] [] ∷ []) ≡ fault 5 DuplicateName ∷ []
+a_second_library = refl
+
+a_stanza_behind : unknown_stanzas [] (section 4 (kinds.Component Library) [] (part 5 [] (said.Import (codes "s" ∷ []) true) ∷ []) ∷ section 6 kinds.Common (codes "s") [] ∷ []) ≡ fault 5 UnknownStanza ∷ []
+a_stanza_behind = refl
+
+abbrev flag : List ℕ → FlagDecl
+flag name = record { line = 4; name = name; default = true; manual = false }
+
+flags_by_name : by_name (flag (codes "b") ∷ flag (codes "a") ∷ []) ≡ flag (codes "a") ∷ flag (codes "b") ∷ []
+flags_by_name = refl
+
+another_version : cabal_version (field 1 (codes "cabal-version") (codes "3.4" ∷ []) end) ≡ Err (fault 1 WrongCabalVersion)
+another_version = refl
+
+no_version : cabal_version (field 1 (codes "name") (codes "main" ∷ []) end) ≡ Err missing
+no_version = refl

@@ -1,0 +1,15 @@
+pub mod WholeCondition
+pub mod Names
+pub mod First
+pub mod Declarations
+pub mod Imports
+pub mod Components
+pub mod Faults
+pub mod Flags
+pub mod Setup
+pub mod Cycles
+pub mod Numbers
+pub mod Description
+pub mod Standing
+pub mod Tables
+pub mod Examples

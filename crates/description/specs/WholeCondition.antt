@@ -1,0 +1,9 @@
+-- When a dependency counts.
+use Rattle.plan_types.specs.declared.condition.Cond.{Cond}
+use Rattle.plan_types.specs.declared.condition.Cond.TheVariants.{And}
+use Rattle.plan_types.specs.declared.description.Component.{Component}
+use Rattle.plan_types.specs.declared.description.GuardedDep.{GuardedDep}
+
+-- its component is buildable, and its branches are taken
+abbrev pub whole_condition : Component → GuardedDep → Cond
+whole_condition component guarded = And component.buildable guarded.when

@@ -1,0 +1,164 @@
+ghost use Rattle.std.specs.Prelude.{◌≡◌, ℕ, List, ◌∷◌, [], ◌++◌, map, flat_map, Option, IfOk, OnOk};
+ghost use Rattle.plan_types.specs.declared.dependency.Dep.{Dep};
+ghost use Rattle.description_parts.specs.Branch.{all_of};
+ghost use Rattle.description_parts.specs.declared.part.Section.{Section};
+ghost use Rattle.description.specs.Components.{barrier, buildable, component, components, guarded, is_public, unbuildable_said, visibility_of};
+ghost use Rattle.description.specs.Declarations.{meant};
+ghost use Rattle.description.specs.Flags.{last_or};
+ghost use Rattle.description.specs.Standing.{placed_part, built_component, table};
+ghost use Rattle.description.specs.Tables.{Tells, Stand};
+
+use crate::declarations::Declared;
+use crate::stanzas::{Bodies, Built, Placed, Stanzas, push_copies};
+use description_parts::{Said, all_of};
+use plan_types::{Boxed, Component, Cond, Dep, GuardedDep, List, NoMemory};
+use std::alloc::Global;
+
+/// The components, in file order.
+pub fn components(
+    alloc: Global,
+    declared: &Declared,
+    bodies: &Bodies,
+) -> Result<List<Component>, NoMemory>
+    ensures { IfOk result (λ found. (own : Option (List ℕ)) (sections : List Section) → Tells declared.now own sections → Stand sections bodies.now
+        → found ≡ components own sections) }
+{
+    let mut components = List::new(alloc);
+    for one in bodies.built.as_slice() {
+        components.push(component(alloc, declared, &bodies.stanzas, one)?)?;
+    }
+    Ok(components)
+}
+
+fn component<'a>(
+    alloc: Global,
+    declared: &Declared,
+    stanzas: &Stanzas<'a>,
+    built: &Built<'a>,
+) -> Result<Component, NoMemory>
+    ensures { IfOk result (λ found. (own : Option (List ℕ)) (sections : List Section) → Tells declared.now own sections
+        → found ≡ component own sections (built_component (table stanzas.now.bodies.items) built.now).section built.now.kind) }
+{
+    let placed = stanzas.replaced(alloc, &built.body)?;
+    let name = built.section.name.copy()?;
+    let public = built.is_named_library() && is_public(placed.as_slice());
+    let buildable = buildable(alloc, placed.as_slice())?;
+    let deps = deps(alloc, declared, placed.as_slice())?;
+    Ok(Component {
+        line: built.section.line,
+        kind: built.kind,
+        name,
+        public,
+        buildable,
+        deps,
+    })
+}
+
+/// The last `visibility` outside of branches counts.
+fn is_public(placed: &[Placed]) -> bool
+    ensures { result ≡ is_public (map placed_part placed.now) }
+{
+    let mut public = false;
+    for one in placed {
+        public = visibility(one, public);
+    }
+    public
+}
+
+/// What a part says of who may use a library, or else this.
+fn visibility(placed: &Placed, public: bool) -> bool
+    ensures { result ≡ last_or public (visibility_of (placed_part placed.now)) }
+{
+    match placed.part.said {
+        Said::Visibility(Some(said)) if placed.branches.is_empty() => said,
+        _ => public,
+    }
+}
+
+/// No branch with `buildable: False` is taken.
+fn buildable(alloc: Global, placed: &[Placed]) -> Result<Cond, NoMemory>
+    ensures { IfOk result (λ cond. cond ≡ buildable (map placed_part placed.now)) }
+{
+    let mut conds = List::new(alloc);
+    for one in placed {
+        push_barrier(alloc, &mut conds, one)?;
+    }
+    all_of(alloc, conds)
+}
+
+fn push_barrier(alloc: Global, conds: &mut List<Cond>, placed: &Placed) -> Result<(), NoMemory>
+    ensures { OnOk result (conds.new ≡ conds.old ++ barrier (placed_part placed.now)) }
+{
+    if is_unbuildable(&placed.part.said) {
+        let branches = condition(alloc, &placed.branches)?;
+        let inner = Boxed::new(alloc, branches)?;
+        conds.push(Cond::Not(inner))?;
+    }
+    Ok(())
+}
+
+fn is_unbuildable(said: &Said) -> bool
+    ensures { result ≡ unbuildable_said said.now }
+{
+    match said {
+        Said::Buildable(Some(value)) => !*value,
+        _ => false,
+    }
+}
+
+/// All branches in which a part stands are taken.
+fn condition(alloc: Global, branches: &List<Cond>) -> Result<Cond, NoMemory>
+    ensures { IfOk result (λ cond. cond ≡ all_of branches.now) }
+{
+    let mut conds = List::new(alloc);
+    push_copies(alloc, &mut conds, branches.as_slice())?;
+    all_of(alloc, conds)
+}
+
+fn deps(alloc: Global, declared: &Declared, placed: &[Placed]) -> Result<List<GuardedDep>, NoMemory>
+    ensures { IfOk result (λ deps. (own : Option (List ℕ)) (sections : List Section) → Tells declared.now own sections
+        → deps ≡ flat_map (guarded own sections) (map placed_part placed.now)) }
+{
+    let mut deps = List::new(alloc);
+    for one in placed {
+        push_deps(alloc, &mut deps, declared, one)?;
+    }
+    Ok(deps)
+}
+
+fn push_deps(
+    alloc: Global,
+    deps: &mut List<GuardedDep>,
+    declared: &Declared,
+    placed: &Placed,
+) -> Result<(), NoMemory>
+    ensures { OnOk result ((own : Option (List ℕ)) (sections : List Section) → Tells declared.now own sections
+        → deps.new ≡ deps.old ++ guarded own sections (placed_part placed.now)) }
+{
+    let Said::Depends(said) = &placed.part.said else {
+        return Ok(());
+    };
+    let Ok(found) = said else {
+        return Ok(());
+    };
+    push_guarded(alloc, deps, declared, found.as_slice(), &placed.branches)?;
+    Ok(())
+}
+
+fn push_guarded(
+    alloc: Global,
+    deps: &mut List<GuardedDep>,
+    declared: &Declared,
+    found: &[Dep],
+    branches: &List<Cond>,
+) -> Result<(), NoMemory>
+    ensures { OnOk result ((own : Option (List ℕ)) (sections : List Section) → Tells declared.now own sections
+        → deps.new ≡ deps.old ++ map (λ dep. record { when = all_of branches.now; dep = meant own sections dep }) found.now) }
+{
+    for dep in found {
+        let dep = declared.meant(alloc, dep)?;
+        let when = condition(alloc, branches)?;
+        deps.push(GuardedDep { when, dep })?;
+    }
+    Ok(())
+}

@@ -1,0 +1,291 @@
+ghost use Rattle.std.specs.Prelude.{◌≡◌, ◌++◌, ℕ, List, Option, flat_map, IfOk, IfErr, OnOk};
+ghost use Rattle.std.specs.declared.result.Result.TheVariants.{Ok, Err};
+ghost use Rattle.plan_types.specs.Refusal.{RefusesAt};
+ghost use Rattle.description_parts.specs.Tree.{Tree, in_front, tree_of};
+ghost use Rattle.description_parts.specs.declared.part.Section.{Section};
+ghost use Rattle.description.specs.Declarations.{last, later, own_name};
+ghost use Rattle.description.specs.Components.{components};
+ghost use Rattle.description.specs.Description.{Comes, ComesTo, Describes, cabal_version, components_of, description, line_of, version_of, version_said, spec_of, warning, warnings};
+ghost use Rattle.description.specs.Faults.{faults};
+ghost use Rattle.description.specs.First.{first};
+ghost use Rattle.description.specs.Tables.{Stand, Tells, is_at, shown_version};
+
+use crate::component::components;
+use crate::cycle::first_circular;
+use crate::declarations::Declared;
+use crate::faults::first_fault;
+use crate::first::{At, earlier};
+use crate::flags::flags;
+use crate::setup::{is_custom, setup_deps};
+use crate::stanzas::{Bodies, bodies_of, first_bad_visibility, total_size};
+use description_parts::{File, Head, HeadField, Part, Said, Section, read_file};
+use plan_types::{
+    Cause, Component, Description, Element, Fault, List, NoMemory, Spec, Text, Version, joined_text,
+};
+use std::alloc::Global;
+
+/// The description that the elements of a file give, or their first fault. The digest is kept as it is.
+///
+/// The cabal-version decides how the rest is read. Then comes the fault of the least line, then a name or version that
+/// is missing, with the line 0, and then a cycle of components.
+pub fn read_description(
+    alloc: Global,
+    items: &List<Element>,
+    digest: Text,
+) -> Result<Description, Fault>
+    ensures description { IfOk result (λ d. Describes items.now digest (Ok d)) }
+    ensures fault { IfErr result (RefusesAt (λ line cause. Describes items.now digest (Err (is_at line cause)))) }
+{
+    let spec = cabal_version(alloc, items.as_slice())?;
+    let file = read_file(alloc, spec, items.as_slice())?;
+    let described = described(alloc, spec, &file, digest)?;
+    Ok(described)
+}
+
+fn missing() -> Fault
+    ensures { result ≡ Fault.At 0 Cause.MissingField }
+{
+    Fault::At {
+        line: 0,
+        cause: Cause::MissingField,
+    }
+}
+
+/// What the first element states.
+fn cabal_version(alloc: Global, items: &[Element]) -> Result<Spec, Fault>
+    ensures spec { IfOk result (λ spec. cabal_version (tree_of items.now) ≡ Ok spec) }
+    ensures fault { IfErr result (RefusesAt (λ line cause. cabal_version (tree_of items.now) ≡ Err (is_at line cause))) }
+{
+    match items {
+        [] => Err(missing()),
+        [first, ..] => stated(alloc, first),
+    }
+}
+
+fn stated(alloc: Global, first: &Element) -> Result<Spec, Fault>
+    ensures spec { IfOk result (λ spec. (behind : Tree) → cabal_version (in_front first.now behind) ≡ Ok spec) }
+    ensures fault { IfErr result (RefusesAt (λ line cause. (behind : Tree) → cabal_version (in_front first.now behind) ≡ Err (is_at line cause))) }
+{
+    match first {
+        Element::Field { line, name, values } => {
+            if name.as_str() == "cabal-version" {
+                let text = joined_text(alloc, values.as_slice())?;
+                spec_of(*line, text.as_str())
+            } else {
+                Err(missing())
+            }
+        }
+        Element::Section {
+            line: _,
+            name: _,
+            args: _,
+            items: _,
+        } => Err(missing()),
+    }
+}
+
+fn spec_of(line: u32, text: &str) -> Result<Spec, Fault>
+    ensures spec { IfOk result (λ spec. spec_of line text.now ≡ Ok spec) }
+    ensures fault { IfErr result (λ fault. (fault ≡ Fault.At line Cause.WrongCabalVersion) × (spec_of line text.now ≡ Err (is_at line Cause.WrongCabalVersion))) }
+{
+    match text {
+        "2.4" => Ok(Spec::V2_4),
+        "3.0" => Ok(Spec::V3_0),
+        _ => Err(Fault::At {
+            line,
+            cause: Cause::WrongCabalVersion,
+        }),
+    }
+}
+
+fn described(alloc: Global, spec: Spec, file: &File, digest: Text) -> Result<Description, Fault>
+    ensures description { IfOk result (λ d. ComesTo spec file.now digest (first (faults file.now)) (Ok d)) }
+    ensures fault { IfErr result (RefusesAt (λ line cause. ComesTo spec file.now digest (first (faults file.now)) (Err (is_at line cause)))) }
+{
+    let declared = Declared::of(alloc, file)?;
+    let bodies = bodies_of(alloc, file.sections.as_slice())?;
+    judged(alloc, spec, file, digest, &declared, &bodies)
+}
+
+/// What a file comes to, by the tables of what it declares and imports.
+fn judged(
+    alloc: Global,
+    spec: Spec,
+    file: &File,
+    digest: Text,
+    declared: &Declared,
+    bodies: &Bodies,
+) -> Result<Description, Fault>
+    ensures description { IfOk result (λ d. Tells declared.now (own_name file.now.heads) file.now.sections → Stand file.now.sections bodies.now
+        → ComesTo spec file.now digest (first (faults file.now)) (Ok d)) }
+    ensures fault { IfErr result (RefusesAt (λ line cause. Tells declared.now (own_name file.now.heads) file.now.sections → Stand file.now.sections bodies.now
+        → ComesTo spec file.now digest (first (faults file.now)) (Err (is_at line cause)))) }
+{
+    let first = first_of_file(alloc, file, declared, bodies)?;
+    match first {
+        Some(at) => Err(at.fault()),
+        None => faultless(alloc, spec, file, digest, declared, bodies),
+    }
+}
+
+/// The first of the faults of a file, those that come with imports among them.
+fn first_of_file(
+    alloc: Global,
+    file: &File,
+    declared: &Declared,
+    bodies: &Bodies,
+) -> Result<Option<At>, NoMemory>
+    ensures { IfOk result (λ found. Tells declared.now (own_name file.now.heads) file.now.sections → Stand file.now.sections bodies.now → found ≡ first (faults file.now)) }
+{
+    let written = first_fault(alloc, file, declared)?;
+    Ok(earlier(written, first_bad_visibility(bodies)))
+}
+
+/// What a file without a fault by itself comes to.
+fn faultless(
+    alloc: Global,
+    spec: Spec,
+    file: &File,
+    digest: Text,
+    declared: &Declared,
+    bodies: &Bodies,
+) -> Result<Description, Fault>
+    ensures description { IfOk result (λ d. Tells declared.now (own_name file.now.heads) file.now.sections → Stand file.now.sections bodies.now
+        → Comes spec file.now digest (own_name file.now.heads) (version_of file.now.heads) (Ok d)) }
+    ensures fault { IfErr result (RefusesAt (λ line cause. Tells declared.now (own_name file.now.heads) file.now.sections → Stand file.now.sections bodies.now
+        → Comes spec file.now digest (own_name file.now.heads) (version_of file.now.heads) (Err (is_at line cause)))) }
+{
+    let Some(name) = declared.name else {
+        return Err(missing());
+    };
+    let Some(version) = version_of(file.heads.as_slice()) else {
+        return Err(missing());
+    };
+    let components = components_in(alloc, declared, bodies)?;
+    let described = whole(alloc, spec, file, digest, name, version, components)?;
+    match first_circular(alloc, described.components.as_slice())? {
+        Some(number) => Err(circular(described.components.as_slice(), number)),
+        None => Ok(described),
+    }
+}
+
+fn components_in(
+    alloc: Global,
+    declared: &Declared,
+    bodies: &Bodies,
+) -> Result<List<Component>, NoMemory>
+    ensures { IfOk result (λ found. (own : Option (List ℕ)) (sections : List Section) → Tells declared.now own sections → Stand sections bodies.now
+        → found ≡ components own sections) }
+{
+    room(alloc, total_size(bodies))?;
+    let found = components(alloc, declared, bodies)?;
+    Ok(found)
+}
+
+/// Asks at once for about the memory that so many parts take, and gives it back. Imports may describe more than any
+/// machine holds, which is to be said before its memory is filled.
+fn room(alloc: Global, parts: u64) -> Result<(), NoMemory> {
+    let _room: Vec<u64> = Vec::with_capacity(alloc, parts.saturating_mul(64) as usize)?;
+    Ok(())
+}
+
+fn whole(
+    alloc: Global,
+    spec: Spec,
+    file: &File,
+    digest: Text,
+    name: &Text,
+    version: &Version,
+    components: List<Component>,
+) -> Result<Description, NoMemory>
+    ensures { IfOk result (λ d. components ≡ components_of file.now → d ≡ description spec file.now digest name.now version.now) }
+{
+    let name = name.copy()?;
+    let version = version.copy(alloc)?;
+    let flags = flags(alloc, file.sections.as_slice())?;
+    let setup = setup_deps(alloc, file)?;
+    let warnings = warnings(alloc, file.sections.as_slice())?;
+    Ok(Description {
+        spec,
+        name,
+        version,
+        custom: is_custom(file),
+        flags,
+        components,
+        setup,
+        digest,
+        warnings,
+    })
+}
+
+/// The fault at a component that lies on a cycle.
+fn circular(components: &[Component], number: usize) -> Fault
+    ensures { result ≡ Fault.At (line_of components.now number) Cause.ComponentCycle }
+{
+    let line = match components.get(number) {
+        Some(component) => component.line,
+        None => 0,
+    };
+    Fault::At {
+        line,
+        cause: Cause::ComponentCycle,
+    }
+}
+
+/// The last version that is of its form.
+fn version_of(heads: &[HeadField]) -> Option<&Version>
+    ensures { shown_version result ≡ version_of heads.now }
+{
+    let mut version = None;
+    for field in heads {
+        version = later(version, version_said(&field.head));
+    }
+    version
+}
+
+fn version_said(head: &Head) -> Option<&Version>
+    ensures { shown_version result ≡ last (version_said head.now) }
+{
+    match head {
+        Head::Version(Some(version)) => Some(version),
+        _ => None,
+    }
+}
+
+fn later<'a>(before: Option<&'a Version>, said: Option<&'a Version>) -> Option<&'a Version>
+    ensures { shown_version result ≡ later (shown_version before.entry) (shown_version said.entry) }
+{
+    match said {
+        Some(version) => Some(version),
+        None => before,
+    }
+}
+
+/// The line of each `build-tools`.
+fn warnings(alloc: Global, sections: &[Section]) -> Result<List<u32>, NoMemory>
+    ensures { IfOk result (λ lines. lines ≡ warnings sections.now) }
+{
+    let mut lines = List::new(alloc);
+    for section in sections {
+        push_warnings(section.parts.as_slice(), &mut lines)?;
+    }
+    Ok(lines)
+}
+
+fn push_warnings(parts: &[Part], lines: &mut List<u32>) -> Result<(), NoMemory>
+    ensures { OnOk result (lines.new ≡ lines.old ++ flat_map warning parts.now) }
+{
+    for part in parts {
+        push_warning(part, lines)?;
+    }
+    Ok(())
+}
+
+fn push_warning(part: &Part, lines: &mut List<u32>) -> Result<(), NoMemory>
+    ensures { OnOk result (lines.new ≡ lines.old ++ warning part.now) }
+{
+    match part.said {
+        Said::BuildTools => lines.push(part.line),
+        _ => Ok(()),
+    }
+}

@@ -1,0 +1,414 @@
+ghost use Rattle.std.specs.Prelude.{◌≡◌, ℕ, ◌+◌, ◌<◌, ◌≤◌, if◌then◌else◌, None, List, [], ◌∷◌, ◌++◌, length, get_or, map, flat_map, IfOk, OnOk};
+ghost use Rattle.description_parts.specs.declared.part.Part.{Part};
+ghost use Rattle.description_parts.specs.declared.part.Section.{Section};
+ghost use Rattle.description.specs.Components.{is_named_library};
+ghost use Rattle.description.specs.Faults.{bad_visibilities, bad_visibility};
+ghost use Rattle.description.specs.First.{first};
+ghost use Rattle.description.specs.Imports.{all_replaced, parts_of, under, with_imports_replaced};
+ghost use Rattle.description.specs.Standing.{IsMore, Knows, Means, Standing, body_parts, costs, first_bad, frames_cost, frames_parts, left_cost, left_parts, placed_part, table};
+ghost use Rattle.description.specs.Tables.{Stand};
+
+use crate::first::{At, earlier};
+use crate::names::Names;
+use description_parts::{Part, Said, Section, SectionKind};
+use plan_types::{Cause, CompKind, Cond, List, NoMemory, Text};
+use std::alloc::Global;
+
+/// A part, or an import of a common stanza by its number.
+#[derive(Clone, Copy)]
+enum Step<'a> {
+    Part(&'a Part),
+    Import {
+        stanza: usize,
+        branches: &'a List<Cond>,
+    },
+}
+
+/// A section whose imports are numbers.
+#[derive(Drop)]
+pub struct Body<'a> {
+    steps: Vec<Step<'a>>,
+    /// How many parts there are once its imports are replaced, at most 2^64 - 1.
+    size: u64,
+    /// The first `visibility` outside of branches that is neither public nor private, imported ones among them.
+    bad_visibility: Option<At>,
+}
+
+/// The common stanzas so far, by name. None imports itself or a later one.
+#[derive(Drop)]
+pub struct Stanzas<'a> {
+    names: Names<'a>,
+    bodies: Vec<Body<'a>>,
+}
+
+/// A part, and the conditions of the branches in which it stands once imports are replaced.
+#[derive(Drop)]
+pub struct Placed<'a> {
+    pub branches: List<Cond>,
+    pub part: &'a Part,
+}
+
+/// What is left of a section or stanza, under these conditions, and the stanzas before it.
+#[derive(Drop)]
+struct Frame<'b, 'a> {
+    branches: List<Cond>,
+    stanzas: &'b [Body<'a>],
+    steps: &'b [Step<'a>],
+}
+
+impl<'a> Stanzas<'a> {
+    pub fn new(alloc: Global) -> Stanzas<'a>
+        ensures { Knows [] result }
+    {
+        Stanzas {
+            names: Names::new(alloc),
+            bodies: Vec::new(alloc),
+        }
+    }
+
+    /// Adds a common stanza.
+    pub fn add(&mut self, name: &'a Text, body: Body<'a>) -> Result<(), NoMemory>
+        ensures knows { OnOk result ((known : List (List ℕ × List Part)) (parts : List Part) → Knows known self.old → Means self.old.bodies.items body.entry parts
+            → Knows (known ++ (name.now, parts) ∷ []) self.new) }
+        ensures more { OnOk result (IsMore self.old.bodies.items self.new.bodies.items) }
+    {
+        let new = self.names.insert(name.as_str())?;
+        if new {
+            self.bodies.push(body)?;
+        }
+        Ok(())
+    }
+
+    /// The body of a section that stands behind these stanzas.
+    pub fn body(&self, alloc: Global, parts: &'a [Part]) -> Result<Body<'a>, NoMemory>
+        ensures { IfOk result (λ body. (known : List (List ℕ × List Part)) → Knows known self.now → Means self.now.bodies.items body (all_replaced known parts.now)) }
+    {
+        let mut body = Body {
+            steps: Vec::new(alloc),
+            size: 0,
+            bad_visibility: None,
+        };
+        for part in parts {
+            self.push(&mut body, part)?;
+        }
+        Ok(body)
+    }
+
+    fn push(&self, body: &mut Body<'a>, part: &'a Part) -> Result<(), NoMemory>
+        ensures { OnOk result ((known : List (List ℕ × List Part)) (said : List Part) → Knows known self.now → Means self.now.bodies.items body.old said
+            → Means self.now.bodies.items body.new (said ++ all_replaced known (part.now ∷ []))) }
+    {
+        match &part.said {
+            Said::Import { names, .. } => {
+                self.import(body, names.as_slice(), &part.branches)?;
+                Ok(())
+            }
+            _ => {
+                body.push_part(part)?;
+                Ok(())
+            }
+        }
+    }
+
+    fn import(
+        &self,
+        body: &mut Body<'a>,
+        names: &[Text],
+        branches: &'a List<Cond>,
+    ) -> Result<(), NoMemory>
+        ensures { OnOk result ((known : List (List ℕ × List Part)) (said : List Part) → Knows known self.now → Means self.now.bodies.items body.old said
+            → Means self.now.bodies.items body.new (said ++ flat_map (λ name. map (under branches.now) (parts_of known name)) names.now)) }
+    {
+        for name in names {
+            self.import_one(body, name, branches)?;
+        }
+        Ok(())
+    }
+
+    // A stanza in which nothing stands is passed over, so that each step leads to a part.
+    fn import_one(
+        &self,
+        body: &mut Body<'a>,
+        name: &Text,
+        branches: &'a List<Cond>,
+    ) -> Result<(), NoMemory>
+        ensures { OnOk result ((known : List (List ℕ × List Part)) (said : List Part) → Knows known self.now → Means self.now.bodies.items body.old said
+            → Means self.now.bodies.items body.new (said ++ map (under branches.now) (parts_of known name.now))) }
+    {
+        let Some(stanza) = self.names.number_of(name.as_str()) else {
+            return Ok(());
+        };
+        let Some(imported) = self.bodies.get(stanza) else {
+            return Ok(());
+        };
+        if imported.steps.as_slice().is_empty() {
+            return Ok(());
+        }
+        body.push_import(stanza, imported, branches)?;
+        Ok(())
+    }
+
+    /// The parts of a body with its imports replaced.
+    pub fn replaced<'b>(
+        &'b self,
+        alloc: Global,
+        body: &'b Body<'a>,
+    ) -> Result<Vec<Placed<'a>>, NoMemory>
+        ensures { IfOk result (λ placed. map placed_part placed.items ≡ body_parts (table self.now.bodies.items) body.now) }
+    {
+        let mut placed = Vec::new(alloc);
+        let mut frames = Vec::new(alloc);
+        frames.push(Frame {
+            branches: List::new(alloc),
+            stanzas: self.bodies.as_slice(),
+            steps: body.steps.as_slice(),
+        })?;
+        while let Some(frame) = frames.pop() {
+            let Frame {
+                branches,
+                stanzas,
+                steps,
+            } = frame;
+            go_on(alloc, branches, stanzas, steps, &mut frames, &mut placed)?;
+        }
+        Ok(placed)
+    }
+}
+
+// The walk is a stack and no recursion, since stanzas may import one another to any depth. What is left of a body waits below the stanza that it imports.
+fn go_on<'b, 'a>(
+    alloc: Global,
+    branches: List<Cond>,
+    stanzas: &'b [Body<'a>],
+    steps: &'b [Step<'a>],
+    frames: &mut Vec<Frame<'b, 'a>>,
+    placed: &mut Vec<Placed<'a>>,
+) -> Result<(), NoMemory>
+    ensures parts { OnOk result (map placed_part placed.new.items ++ frames_parts frames.new.items
+        ≡ map placed_part placed.old.items ++ (left_parts branches stanzas.now steps.now ++ frames_parts frames.old.items)) }
+    ensures cost { OnOk result (frames_cost frames.new.items < frames_cost frames.old.items + left_cost stanzas.now steps.now) }
+{
+    let [step, rest @ ..] = steps else {
+        return Ok(());
+    };
+    match step {
+        Step::Part(part) => {
+            let inner = joined(alloc, &branches, &part.branches)?;
+            placed.push(Placed {
+                branches: inner,
+                part: *part,
+            })?;
+            frames.push(Frame {
+                branches,
+                stanzas,
+                steps: rest,
+            })?;
+            Ok(())
+        }
+        Step::Import {
+            stanza,
+            branches: own,
+        } => {
+            let inner = joined(alloc, &branches, own)?;
+            frames.push(Frame {
+                branches,
+                stanzas,
+                steps: rest,
+            })?;
+            enter(frames, stanzas, *stanza, inner)?;
+            Ok(())
+        }
+    }
+}
+
+// A stanza imports those before it alone, so the walk ends.
+fn enter<'b, 'a>(
+    frames: &mut Vec<Frame<'b, 'a>>,
+    stanzas: &'b [Body<'a>],
+    stanza: usize,
+    branches: List<Cond>,
+) -> Result<(), NoMemory>
+    ensures parts { OnOk result (frames_parts frames.new.items ≡ map (under branches) (get_or (table stanzas.now) stanza []) ++ frames_parts frames.old.items) }
+    ensures cost { OnOk result (frames_cost frames.new.items ≤ frames_cost frames.old.items + (1 + get_or (costs stanzas.now) stanza 0)) }
+{
+    let Some(body) = stanzas.get(stanza) else {
+        return Ok(());
+    };
+    frames.push(Frame {
+        branches,
+        stanzas: &stanzas[..stanza],
+        steps: body.steps.as_slice(),
+    })?;
+    Ok(())
+}
+
+impl<'a> Body<'a> {
+    pub fn size(&self) -> u64 {
+        self.size
+    }
+
+    pub fn bad_visibility(&self) -> Option<At>
+        ensures { result ≡ self.now.bad_visibility }
+    {
+        self.bad_visibility
+    }
+
+    fn push_part(&mut self, part: &'a Part) -> Result<(), NoMemory>
+        ensures { OnOk result ((stanzas : List Body) (said : List Part) → Means stanzas self.old said → Means stanzas self.new (said ++ part.now ∷ [])) }
+    {
+        self.steps.push(Step::Part(part))?;
+        self.size = self.size.saturating_add(1);
+        self.bad_visibility = earlier(self.bad_visibility, bad_visibility(part));
+        Ok(())
+    }
+
+    fn push_import(
+        &mut self,
+        stanza: usize,
+        imported: &Body<'a>,
+        branches: &'a List<Cond>,
+    ) -> Result<(), NoMemory>
+        ensures { OnOk result ((stanzas : List Body) (said parts : List Part) → Means stanzas self.old said → stanza < length stanzas
+            → get_or (table stanzas) stanza [] ≡ parts → imported.now.bad_visibility ≡ first_bad parts
+            → Means stanzas self.new (said ++ map (under branches.now) parts)) }
+    {
+        self.steps.push(Step::Import { stanza, branches })?;
+        self.size = self.size.saturating_add(imported.size);
+        self.bad_visibility = earlier(self.bad_visibility, imported.bad_within(branches));
+        Ok(())
+    }
+
+    // The first bad visibility where the body stands in these branches.
+    fn bad_within(&self, branches: &List<Cond>) -> Option<At>
+        ensures { (parts : List Part) → self.now.bad_visibility ≡ first_bad parts → result ≡ first_bad (map (under branches.now) parts) }
+    {
+        if branches.is_empty() {
+            self.bad_visibility
+        } else {
+            None
+        }
+    }
+}
+
+fn bad_visibility(part: &Part) -> Option<At>
+    ensures { result ≡ first (bad_visibility part.now) }
+{
+    match part.said {
+        Said::Visibility(None) if part.branches.is_empty() => Some(At {
+            line: part.line,
+            cause: Cause::BadField,
+        }),
+        _ => None,
+    }
+}
+
+/// The conditions of outer branches, and then those of inner ones.
+fn joined(alloc: Global, outer: &List<Cond>, inner: &List<Cond>) -> Result<List<Cond>, NoMemory>
+    ensures { IfOk result (λ conds. conds ≡ outer.now ++ inner.now) }
+{
+    let mut conds = List::new(alloc);
+    push_copies(alloc, &mut conds, outer.as_slice())?;
+    push_copies(alloc, &mut conds, inner.as_slice())?;
+    Ok(conds)
+}
+
+/// Puts copies of more conditions behind these.
+pub fn push_copies(alloc: Global, conds: &mut List<Cond>, more: &[Cond]) -> Result<(), NoMemory>
+    ensures { OnOk result (conds.new ≡ conds.old ++ more.now) }
+{
+    for cond in more {
+        conds.push(cond.copy(alloc)?)?;
+    }
+    Ok(())
+}
+
+/// A component's section, and its body.
+#[derive(Drop)]
+pub struct Built<'a> {
+    pub section: &'a Section,
+    pub kind: CompKind,
+    pub body: Body<'a>,
+}
+
+/// The components of a file, and the stanzas that they import.
+#[derive(Drop)]
+pub struct Bodies<'a> {
+    pub stanzas: Stanzas<'a>,
+    pub built: Vec<Built<'a>>,
+}
+
+/// The bodies of the components of a file.
+pub fn bodies_of<'a>(alloc: Global, sections: &'a [Section]) -> Result<Bodies<'a>, NoMemory>
+    ensures { IfOk result (Stand sections.now) }
+{
+    let mut bodies = Bodies {
+        stanzas: Stanzas::new(alloc),
+        built: Vec::new(alloc),
+    };
+    for section in sections {
+        add(alloc, section, &mut bodies)?;
+    }
+    Ok(bodies)
+}
+
+fn add<'a>(alloc: Global, section: &'a Section, bodies: &mut Bodies<'a>) -> Result<(), NoMemory>
+    ensures { OnOk result ((sections : List Section) → Standing sections bodies.old → Standing (sections ++ section.now ∷ []) bodies.new) }
+{
+    let parts = section.parts.as_slice();
+    match section.kind {
+        SectionKind::Common => {
+            let body = bodies.stanzas.body(alloc, parts)?;
+            bodies.stanzas.add(&section.name, body)?;
+            Ok(())
+        }
+        SectionKind::Component(kind) => {
+            let body = bodies.stanzas.body(alloc, parts)?;
+            bodies.built.push(Built {
+                section,
+                kind,
+                body,
+            })?;
+            Ok(())
+        }
+        SectionKind::Flag | SectionKind::Setup => Ok(()),
+    }
+}
+
+/// The first bad visibility of a library with a name of its own.
+pub fn first_bad_visibility(bodies: &Bodies) -> Option<At>
+    ensures { (sections : List Section) → Stand sections bodies.now → result ≡ first (flat_map bad_visibilities (with_imports_replaced sections)) }
+{
+    let mut first = None;
+    for one in bodies.built.as_slice() {
+        first = earlier(first, one.bad_visibility());
+    }
+    first
+}
+
+impl<'a> Built<'a> {
+    /// Whether it is a library with a name of its own.
+    pub fn is_named_library(&self) -> bool
+        ensures { result ≡ is_named_library self.now.kind self.now.section.now.name }
+    {
+        self.kind == CompKind::Library && !self.section.name.as_str().is_empty()
+    }
+
+    fn bad_visibility(&self) -> Option<At>
+        ensures { result ≡ (if is_named_library self.now.kind self.now.section.now.name then self.now.body.bad_visibility else None) }
+    {
+        if self.is_named_library() {
+            self.body.bad_visibility()
+        } else {
+            None
+        }
+    }
+}
+
+/// How many parts the components have in all, at most 2^64 - 1.
+pub fn total_size(bodies: &Bodies) -> u64 {
+    let mut size: u64 = 0;
+    for one in bodies.built.as_slice() {
+        size = size.saturating_add(one.body.size());
+    }
+    size
+}
