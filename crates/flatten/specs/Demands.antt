@@ -1,0 +1,71 @@
+-- What the components of a description ask of other packages.
+use Rattle.std.specs.Prelude.{ℕ, Bool, true, not, nat_lt, Option, List, [], ◌∷◌, ◌++◌, length, map, filter, find, flat_map}
+use Rattle.std.specs.Option.{option_map}
+use Rattle.plan_types.specs.declared.condition.Env.{Env}
+use Rattle.plan_types.specs.declared.condition.FlagSet.{FlagSet}
+use Rattle.plan_types.specs.declared.dependency.Dep.{Dep}
+use Rattle.plan_types.specs.declared.description.CompKind.{CompKind}
+use Rattle.plan_types.specs.declared.description.CompKind.TheVariants.{Library, Executable, Test, Bench, Foreign}
+use Rattle.plan_types.specs.declared.description.Component.{Component}
+use Rattle.plan_types.specs.declared.description.Description.{Description}
+use Rattle.plan_types.specs.declared.description.GuardedDep.{GuardedDep}
+use Rattle.plan_types.specs.declared.index.FlatDep.{FlatDep}
+use Rattle.plan_types.specs.declared.index.Literal.{Literal}
+use Rattle.plan_types.specs.declared.index.PartName.TheVariants.{Flag, Tests, Benches}
+use Rattle.conditionals.specs.Paths.{Path, paths_of, clean_paths}
+use Rattle.description.specs.WholeCondition.{whole_condition}
+
+-- a dependency on another package, and the component in which it stands
+pub record Outward : Type 0 where
+  pub component : Component
+  pub guarded : GuardedDep
+
+abbrev pub outward_of : Component → GuardedDep → Outward
+outward_of component guarded = record { component = component; guarded = guarded }
+
+-- those of these dependencies that aren't on the package itself
+abbrev pub external : List GuardedDep → List GuardedDep
+external = filter (λ guarded. not guarded.dep.internal)
+
+abbrev pub outward_in : Component → List Outward
+outward_in component = map (outward_of component) (external component.deps)
+
+-- all dependencies on other packages, in file order of the components
+abbrev pub outward : Description → List Outward
+outward d = flat_map outward_in d.components
+
+-- all paths on which a dependency counts, also those that set a flag both ways
+abbrev pub paths_at : Env → Outward → List Path
+paths_at env at = paths_of env (whole_condition at.component at.guarded) true
+
+-- what has to be on for a component of a kind to be built at all
+abbrev pub stanza_of : CompKind → List Literal
+stanza_of Library = []
+stanza_of Executable = []
+stanza_of Test = record { part = Tests; on = true } ∷ []
+stanza_of Bench = record { part = Benches; on = true } ∷ []
+stanza_of Foreign = []
+
+abbrev pub literal_of : FlagSet → Literal
+literal_of setting = record { part = Flag setting.name; on = setting.on }
+
+-- a dependency under one path
+abbrev pub flat_of : CompKind → Dep → Path → FlatDep
+flat_of kind dep path = record { when = stanza_of kind ++ map literal_of path; dep = dep }
+
+abbrev pub demands_at : Env → Outward → List FlatDep
+demands_at env at = map (flat_of at.component.kind at.guarded.dep) (clean_paths (paths_at env at))
+
+abbrev pub demands_of : Env → Description → List FlatDep
+demands_of env d = flat_map (demands_at env) (outward d)
+
+-- more paths than are taken
+abbrev pub is_beyond : Env → Outward → Bool
+is_beyond env at = nat_lt 256 (length (paths_at env at))
+
+-- the line of the first of these that has too many paths
+abbrev pub first_among : Env → List Outward → Option ℕ
+first_among env all = option_map (λ at. at.guarded.dep.line) (find (is_beyond env) all)
+
+abbrev pub first_beyond : Env → Description → Option ℕ
+first_beyond env d = first_among env (outward d)

@@ -1,0 +1,9 @@
+pub mod Demands
+pub mod Counting
+pub mod Exposure
+pub mod Conditions
+pub mod OwnComponents
+pub mod GoalOrder
+pub mod Sound
+pub mod Examples
+pub mod SoundExamples

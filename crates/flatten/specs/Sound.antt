@@ -1,0 +1,166 @@
+-- What makes an index sound in an environment, so that a plan can be made from it.
+use Rattle.std.specs.Prelude.{◌≡◌, ℕ, Bool, true, false, not, ◌&&◌, ◌||◌, None, List, [], ◌∷◌, ◌++◌, length, map, filter, flat_map, if◌then◌else◌}
+use Rattle.std.specs.List.{list_any, list_all, AllByRecursion, IsDistinct}
+use Rattle.std.specs.List.Sorted.{IsStrictlySortedBy}
+use Rattle.std.specs.declared.cmp.Ordering.{Ordering}
+use Rattle.std.specs.Ordering.{nat_cmp, ordering_then}
+use Rattle.std.specs.Cmp.Lexicographic.{slice_cmp}
+use Rattle.plan_types.specs.declared.condition.Cond.{Cond}
+use Rattle.plan_types.specs.declared.condition.Env.{Env}
+use Rattle.plan_types.specs.declared.dependency.Dep.{Dep}
+use Rattle.plan_types.specs.declared.dependency.DepKind.{DepKind}
+use Rattle.plan_types.specs.declared.dependency.DepKind.TheVariants.{Library, Tool, Setup}
+use Rattle.plan_types.specs.declared.description.Description.{Description}
+use Rattle.plan_types.specs.declared.index.Body.{Body}
+use Rattle.plan_types.specs.declared.index.Body.TheVariants.{Source, Installed}
+use Rattle.plan_types.specs.declared.index.Entry.{Entry}
+use Rattle.plan_types.specs.declared.index.Exposed.{Exposed}
+use Rattle.plan_types.specs.declared.index.FlatDep.{FlatDep}
+use Rattle.plan_types.specs.declared.index.Index.{Index}
+use Rattle.plan_types.specs.declared.index.Instance.{Instance}
+use Rattle.plan_types.specs.declared.index.Origin.{Origin}
+use Rattle.plan_types.specs.declared.index.Origin.TheVariants as origin
+use Rattle.plan_types.specs.declared.index.Package.{Package}
+use Rattle.plan_types.specs.Members.{order}
+use Rattle.plan_types.specs.Name.{is_package_name, is_flag_name}
+use Rattle.version_range.specs.Version.{is_version, has_versions}
+use Rattle.conditionals.specs.Value.{same}
+use Rattle.flatten.specs.Conditions.{asks_well}
+use Rattle.flatten.specs.Demands.{outward, demands_of, first_beyond}
+use Rattle.flatten.specs.Exposure.{exposed}
+use Rattle.flatten.specs.GoalOrder.{goal_order}
+use Rattle.flatten.specs.OwnComponents.{is_library, finds_all, HasNoCycle}
+
+-- ---- a description
+
+-- what the components depend on, internal dependencies included
+abbrev pub component_deps : Description → List Dep
+component_deps d = flat_map (λ component. map (λ guarded. guarded.dep) component.deps) d.components
+
+abbrev pub is_of_components : DepKind → Bool
+is_of_components Library = true
+is_of_components Tool = true
+is_of_components Setup = false
+
+abbrev pub is_of_setup : DepKind → Bool
+is_of_setup Library = false
+is_of_setup Tool = false
+is_of_setup Setup = true
+
+abbrev pub conditions : Description → List Cond
+conditions d = flat_map (λ component. component.buildable ∷ map (λ guarded. guarded.when) component.deps) d.components
+
+abbrev pub declares_flag : Description → List ℕ → Bool
+declares_flag d name = list_any (λ flag. same flag.name name) d.flags
+
+-- an internal dependency is on the package itself, and on components that it has
+abbrev pub is_own : Description → Dep → Bool
+is_own d dep = if dep.internal then same dep.«package» d.name && finds_all dep.kind dep d.components else true
+
+pub record IsDescription (d : Description) : Type 0 where
+  -- flags in the order of their names, each once
+  pub flags_rise : IsStrictlySortedBy (slice_cmp nat_cmp) (map (λ flag. flag.name) d.flags)
+  pub flag_names : list_all (λ flag. is_flag_name flag.name) d.flags ≡ true
+  -- no two components have one name, whatever their kinds, and no library that of the package
+  pub components_once : IsDistinct same (map (λ component. component.name) d.components)
+  pub libraries_apart : list_all (λ component. not (is_library component.kind && same component.name d.name)) d.components ≡ true
+  pub component_kinds : list_all (λ dep. is_of_components dep.kind) (component_deps d) ≡ true
+  pub setup_kinds : list_all (λ dep. is_of_setup dep.kind && not dep.internal) d.setup ≡ true
+  pub conditions_ask_well : list_all (asks_well (declares_flag d)) (conditions d) ≡ true
+  pub ranges_have_versions : list_all (λ dep. has_versions dep.range) (component_deps d ++ d.setup) ≡ true
+  pub own_components : list_all (is_own d) (component_deps d) ≡ true
+  pub no_cycle : HasNoCycle d.components
+
+-- ---- what an index knows
+
+abbrev pub has_package : Index → List ℕ → Bool
+has_package index name = list_any (λ p. same p.name name) index.packages
+
+-- the packages that a description asks for: those of its components, and those of its setup script
+abbrev pub asked_packages : Description → List (List ℕ)
+asked_packages d = map (λ at. at.guarded.dep.«package») (outward d) ++ map (λ dep. dep.«package») d.setup
+
+abbrev pub is_installed : Body → Bool
+is_installed (Source description flat exposed) = false
+is_installed (Installed record_of needs) = true
+
+abbrev pub is_unit : List ℕ → Entry → Bool
+is_unit id entry = is_installed entry.body && same entry.instance.unit id
+
+-- the index has a package of this name that is local, or has the unit
+abbrev pub has_unit : Index → List ℕ → List ℕ → Bool
+has_unit index id name = list_any (λ p. same p.name name && (p.local || list_any (is_unit id) p.entries)) index.packages
+
+-- each unit of the first list is known, by the name of its package in the second
+abbrev pub has_units : Index → List (List ℕ) → List (List ℕ) → Bool
+has_units index [] [] = true
+has_units index [] (name ∷ names) = false
+has_units index (id ∷ ids) [] = false
+has_units index (id ∷ ids) (name ∷ names) = has_unit index id name && has_units index ids names
+
+-- ---- an entry
+
+-- what is kept beside a description is what it asks for and offers in this environment
+pub record IsSource (env : Env) (index : Index) (d : Description) (flat : List FlatDep) (offer : Exposed) : Type 0 where
+  pub description : IsDescription d
+  pub packages : list_all (has_package index) (asked_packages d) ≡ true
+  pub none_beyond : first_beyond env d ≡ None
+  pub demands : flat ≡ demands_of env d
+  pub offers : offer ≡ exposed env d
+
+abbrev pub IsBody : Env → Index → Body → Type 0
+IsBody env index (Source d flat offer) = IsSource env index d flat offer
+IsBody env index (Installed unit needs) = has_units index unit.depends needs ≡ true
+
+abbrev pub source_origin : Bool → Origin
+source_origin true = origin.Local
+source_origin false = origin.Source
+
+-- the instance that a body makes, in a package that is local or isn't
+abbrev pub instance_of : Bool → Body → Instance
+instance_of local (Source d flat offer) = record { name = d.name; version = d.version; origin = source_origin local; unit = [] }
+instance_of local (Installed unit needs) = record { name = unit.name; version = unit.version; origin = origin.Installed; unit = unit.id }
+
+pub record IsEntry (env : Env) (index : Index) (p : Package) (entry : Entry) : Type 0 where
+  pub instance_is : entry.instance ≡ instance_of p.local entry.body
+  pub named : entry.instance.name ≡ p.name
+  pub version : is_version entry.instance.version.parts ≡ true
+  pub body : IsBody env index entry.body
+
+-- ---- a package
+
+abbrev pub releases : Package → List Entry
+releases p = filter (λ entry. not (is_installed entry.body)) p.entries
+
+abbrev pub units : Package → List Entry
+units p = filter (λ entry. is_installed entry.body) p.entries
+
+-- by version, and then by the bytes of their ids
+abbrev pub unit_order : Entry → Entry → Ordering
+unit_order a b = ordering_then (order a.instance.version.parts b.instance.version.parts) (slice_cmp nat_cmp a.instance.unit b.instance.unit)
+
+-- The releases come first, in rising order of versions, of which none is there twice. Then come the units,
+-- of which no two have one id.
+pub record IsInOrder (p : Package) : Type 0 where
+  pub releases_first : p.entries ≡ releases p ++ units p
+  pub versions_rise : IsStrictlySortedBy order (map (λ entry. entry.instance.version.parts) (releases p))
+  pub units_rise : IsStrictlySortedBy unit_order (units p)
+  pub units_once : IsDistinct same (map (λ entry. entry.instance.unit) (units p))
+
+-- one release and nothing else
+pub record IsOneRelease (p : Package) : Type 0 where
+  pub one : length p.entries ≡ 1
+  pub no_units : units p ≡ []
+
+pub record IsPackage (env : Env) (index : Index) (p : Package) : Type 0 where
+  pub name : is_package_name p.name ≡ true
+  pub in_order : IsInOrder p
+  pub local_is_one : p.local ≡ true → IsOneRelease p
+  pub entries : AllByRecursion (IsEntry env index p) p.entries
+
+-- ---- the index
+
+pub record IsSound (env : Env) (index : Index) : Type 0 where
+  pub goal_order : IsStrictlySortedBy goal_order index.packages
+  pub each_once : IsDistinct same (map (λ p. p.name) index.packages)
+  pub packages : AllByRecursion (IsPackage env index) index.packages

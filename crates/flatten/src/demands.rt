@@ -1,0 +1,138 @@
+ghost use Rattle.std.specs.Prelude.{◌≡◌, ◌++◌, [], ◌∷◌, true, false, IfOk, IfErr, OnOk, Some, None, map, flat_map};
+ghost use Rattle.plan_types.specs.Refusal.{RefusesAt};
+ghost use Rattle.plan_types.specs.declared.refusal.Cause.TheVariants.{TooManyPaths};
+ghost use Rattle.description.specs.WholeCondition.{whole_condition};
+ghost use Rattle.flatten.specs.Demands.{demands_of, demands_at, first_beyond, is_beyond, outward_of, outward_in, first_among, stanza_of, flat_of, literal_of};
+
+use conditionals::{count_paths, paths};
+use plan_types::{
+    Boxed, Cause, CompKind, Component, Cond, Dep, Description, Env, Fault, FlagSet, FlatDep,
+    GuardedDep, List, Literal, NoMemory, PartName,
+};
+use std::alloc::Global;
+
+const MOST_PATHS: u64 = 256;
+
+/// The dependencies of all components on other packages, in order, each once for each way to set flags so
+/// that it counts. The first one with more than 256 ways is refused, at its line.
+pub fn demands_of(alloc: Global, d: &Description, env: &Env) -> Result<List<FlatDep>, Fault>
+    ensures demands { IfOk result (λ flat. (first_beyond env.now d.now ≡ None)
+        × (flat ≡ demands_of env.now d.now)) }
+    ensures refused { IfErr result (RefusesAt (λ line cause. (cause ≡ TooManyPaths)
+        × (first_beyond env.now d.now ≡ Some line))) }
+{
+    let mut flat = List::new(alloc);
+    for component in d.components.as_slice() {
+        push_component(alloc, &mut flat, component, env)?;
+    }
+    Ok(flat)
+}
+
+fn push_component(
+    alloc: Global,
+    flat: &mut List<FlatDep>,
+    component: &Component,
+    env: &Env,
+) -> Result<(), Fault>
+    ensures none_beyond { OnOk result (first_among env.now (outward_in component.now) ≡ None) }
+    ensures demands { OnOk result (flat.new
+        ≡ flat.old ++ flat_map (demands_at env.now) (outward_in component.now)) }
+    ensures refused { IfErr result (RefusesAt (λ line cause. (cause ≡ TooManyPaths)
+        × (first_among env.now (outward_in component.now) ≡ Some line))) }
+{
+    for guarded in component.deps.as_slice() {
+        if !guarded.dep.internal {
+            push_demands(alloc, flat, component, guarded, env)?;
+        }
+    }
+    Ok(())
+}
+
+// What one dependency asks for.
+fn push_demands(
+    alloc: Global,
+    flat: &mut List<FlatDep>,
+    component: &Component,
+    guarded: &GuardedDep,
+    env: &Env,
+) -> Result<(), Fault>
+    ensures within { OnOk result (is_beyond env.now (outward_of component.now guarded.now) ≡ false) }
+    ensures demands { OnOk result (flat.new
+        ≡ flat.old ++ demands_at env.now (outward_of component.now guarded.now)) }
+    ensures refused { IfErr result (RefusesAt (λ line cause. (cause ≡ TooManyPaths)
+        × (line ≡ guarded.now.dep.line) × (is_beyond env.now (outward_of component.now guarded.now) ≡ true))) }
+{
+    let whole = whole_condition(alloc, component, guarded)?;
+    if MOST_PATHS < count_paths(&whole, env, true) {
+        return Err(Fault::At {
+            line: guarded.dep.line,
+            cause: Cause::TooManyPaths,
+        });
+    }
+    for path in paths(alloc, &whole, env, true)?.into_vec() {
+        flat.push(flat_of(alloc, component.kind, path, &guarded.dep)?)?;
+    }
+    Ok(())
+}
+
+fn whole_condition(
+    alloc: Global,
+    component: &Component,
+    guarded: &GuardedDep,
+) -> Result<Cond, NoMemory>
+    ensures { IfOk result (λ whole. whole ≡ whole_condition component.now guarded.now) }
+{
+    let buildable = component.buildable.copy(alloc)?;
+    let when = guarded.when.copy(alloc)?;
+    let buildable = Boxed::new(alloc, buildable)?;
+    let when = Boxed::new(alloc, when)?;
+    Ok(Cond::And(buildable, when))
+}
+
+// A dependency under one way to set flags.
+fn flat_of(
+    alloc: Global,
+    kind: CompKind,
+    path: List<FlagSet>,
+    dep: &Dep,
+) -> Result<FlatDep, NoMemory>
+    ensures { IfOk result (λ flat. flat ≡ flat_of kind dep.now path) }
+{
+    let mut when = stanza_of(alloc, kind)?;
+    push_settings(&mut when, path)?;
+    let dep = dep.copy(alloc)?;
+    Ok(FlatDep { when, dep })
+}
+
+// What has to be on for a component to be built at all.
+fn stanza_of(alloc: Global, kind: CompKind) -> Result<List<Literal>, NoMemory>
+    ensures { IfOk result (λ stanza. stanza ≡ stanza_of kind) }
+{
+    match kind {
+        CompKind::Library => Ok(List::new(alloc)),
+        CompKind::Executable => Ok(List::new(alloc)),
+        CompKind::Foreign => Ok(List::new(alloc)),
+        CompKind::Test => on(alloc, PartName::Tests),
+        CompKind::Bench => on(alloc, PartName::Benches),
+    }
+}
+
+fn on(alloc: Global, part: PartName) -> Result<List<Literal>, NoMemory>
+    ensures { IfOk result (λ literals. literals ≡ record { part = part; on = true } ∷ []) }
+{
+    let mut literals = List::new(alloc);
+    literals.push(Literal { part, on: true })?;
+    Ok(literals)
+}
+
+fn push_settings(when: &mut List<Literal>, path: List<FlagSet>) -> Result<(), NoMemory>
+    ensures { OnOk result (when.new ≡ when.old ++ map literal_of path) }
+{
+    for setting in path.into_vec() {
+        when.push(Literal {
+            part: PartName::Flag(setting.name),
+            on: setting.on,
+        })?;
+    }
+    Ok(())
+}
