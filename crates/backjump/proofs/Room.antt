@@ -4,14 +4,14 @@ use Rattle.std.specs.Prelude.{IsTrue}
 use Rattle.std.specs.List.{Contains, All}
 use Rattle.std.proofs.lemmas.Bool.{false≢true}
 use Rattle.std.proofs.lemmas.List.Elements.{All-contains}
-use Rattle.choice_problem.specs.declared.variable.Var.{Var}
+use Rattle.qualified_goals.specs.declared.variable.Var.{Var}
 use Rattle.choice_problem.specs.declared.problem.Choice.{Choice}
-use Rattle.choice_problem.specs.Variable.{same_var}
+use Rattle.qualified_goals.specs.Variable.{same_var}
 use Rattle.choice_problem.specs.Problem.{Problem, IsChoice, Lawful}
 use Rattle.choice_problem.specs.Trail.{value_in}
 use Rattle.choice_problem.specs.Active.{least_open}
 use Rattle.choice_problem.specs.Lists.{contains-head, contains-left, contains-right, without}
-use Rattle.choice_problem.specs.SameVariable.{same_var-refl}
+use Rattle.qualified_goals.specs.SameVariable.{same_var-refl}
 use Rattle.validation.specs.Standing.{AreNew, none, on}
 use Rattle.validation.proofs.Standings.{least-known}
 use Rattle.choice_tree.specs.Tree.{choice_at}

@@ -1,6 +1,6 @@
 -- The set of a point whose values have all failed.
 use Rattle.std.proofs.Common.{◌≡◌, List, [], ◌∷◌, ap, ◌∙◌}
-use Rattle.choice_problem.specs.declared.variable.Var.{Var}
+use Rattle.qualified_goals.specs.declared.variable.Var.{Var}
 use Rattle.choice_problem.specs.ConflictSet.{with_var, set_of, union}
 use Rattle.choice_problem.proofs.Sets.{rising-set_of, set_of-rising}
 

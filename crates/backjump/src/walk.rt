@@ -1,5 +1,5 @@
 ghost use Rattle.std.specs.Prelude.{◌≡◌, ◌≢◌, ◌+◌, ◌*◌, ◌<◌, ◌≤◌, ℕ, List, [], ◌∷◌, ◌++◌, length, IfOk, OnErr, OnOk, nat_lt, ◌&&◌};
-ghost use Rattle.choice_problem.specs.declared.variable.Var.{Var};
+ghost use Rattle.qualified_goals.specs.declared.variable.Var.{Var};
 ghost use Rattle.choice_problem.specs.Problem.{Problem};
 ghost use Rattle.choice_problem.specs.Active.{reason};
 ghost use Rattle.choice_problem.specs.Answer.{answer_of, outcome_of, is_reached};

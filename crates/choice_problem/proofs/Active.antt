@@ -5,16 +5,16 @@ use Rattle.std.specs.List.{Contains, All, filter, flat_map, list_all}
 use Rattle.std.proofs.lemmas.Bool.{false≢true}
 use Rattle.std.proofs.lemmas.List.{append-nil}
 use Rattle.std.proofs.lemmas.List.Elements.{All-contains}
-use Rattle.choice_problem.specs.declared.variable.Var.{Var}
+use Rattle.qualified_goals.specs.declared.variable.Var.{Var}
 use Rattle.choice_problem.specs.declared.problem.Choice.{Choice}
 use Rattle.choice_problem.specs.declared.problem.Demand.{Demand}
-use Rattle.choice_problem.specs.Variable.{same_var}
+use Rattle.qualified_goals.specs.Variable.{same_var}
 use Rattle.choice_problem.specs.Problem.{Problem, IsChoice, IsDemand, IsRoot, IsOwned, Lawful}
 use Rattle.choice_problem.specs.Assignment.{Assignment, is_made, is_yes}
 use Rattle.choice_problem.specs.General.{Request, request_of, general}
 use Rattle.choice_problem.specs.Trail.{value_in, demands_after, opens, next_var}
 use Rattle.choice_problem.specs.Active.{turns_yes, made_active, active_from, active, is_waited_for, least_open, vars_of, asks_for, vars_of_first, reason}
-use Rattle.choice_problem.specs.SameVariable.{same_var-is, same_var-refl}
+use Rattle.qualified_goals.specs.SameVariable.{same_var-is, same_var-refl}
 use Rattle.choice_problem.specs.Lists.{contains-head, contains-tail, contains-none, contains-cases, contains-left, contains-right, contains-append, contains-flat_map, flat_map-contains, contains-map, map-contains, contains-filter, and-left, and-right, and-both, all-at, all-from}
 use Rattle.choice_problem.proofs.Order.{least-is, least-same}
 use Rattle.choice_problem.proofs.Trails.{value_in-made, value_in-kept, is_made-is, is_made-from, none-is, demand-after, after-general, after-plain, owner-made}

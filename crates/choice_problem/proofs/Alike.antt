@@ -3,7 +3,7 @@ use Rattle.std.proofs.Common.{◌≡◌, ◌↔◌, ℕ, zero, suc, ◌<◌, Boo
 use Rattle.std.specs.Prelude.{is_none, IsSome, IsTrue, IsFalse}
 use Rattle.std.specs.List.{Contains, All, filter}
 use Rattle.std.proofs.lemmas.List.Elements.{All-nil, All-push}
-use Rattle.choice_problem.specs.declared.variable.Var.{Var}
+use Rattle.qualified_goals.specs.declared.variable.Var.{Var}
 use Rattle.choice_problem.specs.declared.problem.Choice.{Choice}
 use Rattle.choice_problem.specs.Assignment.{Assignment, is_one_of}
 use Rattle.choice_problem.specs.Problem.{IsChoice}

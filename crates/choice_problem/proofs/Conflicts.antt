@@ -4,10 +4,10 @@ use Rattle.std.specs.Prelude.{is_some, find}
 use Rattle.std.specs.List.{Contains, All, flat_map}
 use Rattle.std.proofs.lemmas.Bool.{false≢true}
 use Rattle.std.proofs.lemmas.List.Elements.{All-contains, Contains-get_or}
-use Rattle.choice_problem.specs.declared.variable.Var.{Var}
+use Rattle.qualified_goals.specs.declared.variable.Var.{Var}
 use Rattle.choice_problem.specs.declared.problem.Choice.{Choice}
 use Rattle.choice_problem.specs.declared.problem.Demand.{Demand}
-use Rattle.choice_problem.specs.Variable.{same_var}
+use Rattle.qualified_goals.specs.Variable.{same_var}
 use Rattle.choice_problem.specs.Problem.{Problem, IsChoice, IsDemand, Lawful}
 use Rattle.choice_problem.specs.Assignment.{Assignment, is_one_of, is_yes, is_met}
 use Rattle.choice_problem.specs.General.{request_of, owner_of, general}
@@ -17,7 +17,7 @@ use Rattle.choice_problem.specs.Active.{made_active, active, vars_of}
 use Rattle.choice_problem.specs.ConflictSet.{has, set_of}
 use Rattle.choice_problem.specs.Conflict.{named_by, set_of_first, barred_set, refuses, refused_set, is_broken, broken_set, Edge, edges_from, edges_by, edges_of, leads, lies_on_cycle, circular, set_of_all, cycle_set, first_set, conflict}
 use Rattle.choice_problem.specs.Sound.{MakesWithin, ConflictsAreSound}
-use Rattle.choice_problem.specs.SameVariable.{same_var-is, same_var-refl}
+use Rattle.qualified_goals.specs.SameVariable.{same_var-is, same_var-refl}
 use Rattle.choice_problem.specs.Lists.{contains-head, contains-tail, contains-none, contains-cases, contains-left, contains-flat_map, flat_map-contains, map-contains, contains-filter, filter-none, and-left, and-right}
 use Rattle.choice_problem.proofs.Sets.{contains-has, has-set_of}
 use Rattle.choice_problem.proofs.Trails.{value_in-new, demand-general}

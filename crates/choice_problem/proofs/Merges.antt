@@ -2,12 +2,12 @@
 use Rattle.std.proofs.Common.{◌≡◌, ◌+◌, ◌<◌, ◌≤◌, suc, arith, length, Bool, true, false, cond, ◌||◌, List, [], ◌∷◌, ◌++◌, Some, None, refl, sym, ap, ◌∙◌, subst, inl, inr}
 use Rattle.std.specs.List.{Contains}
 use Rattle.std.proofs.lemmas.Bool.{false≢true}
-use Rattle.choice_problem.specs.declared.variable.Var.{Var}
-use Rattle.choice_problem.specs.Variable.{same_var}
-use Rattle.choice_problem.specs.SameVariable.{same_var-is, same_var-refl}
-use Rattle.choice_problem.specs.ConflictSet.{is_before, is_rising, has, union, front_of, behind}
+use Rattle.qualified_goals.specs.declared.variable.Var.{Var}
+use Rattle.qualified_goals.specs.Variable.{same_var, is_before}
+use Rattle.qualified_goals.specs.SameVariable.{same_var-is, same_var-refl}
+use Rattle.choice_problem.specs.ConflictSet.{is_rising, has, union, front_of, behind}
 use Rattle.choice_problem.specs.Lists.{contains-head, contains-none, contains-cases, and-both}
-use Rattle.choice_problem.proofs.Order.{before-itself, before-back, before-neither, not-before-trans}
+use Rattle.qualified_goals.proofs.Order.{before-itself, before-back, before-neither, not-before-trans}
 use Rattle.choice_problem.proofs.Sets.{has-contains, has-union, rising-tail, rising-below, rising-set_of, rising-same, contains-has, or-same}
 use Rattle.choice_problem.proofs.Paths.{or-cases, or-right}
 

@@ -2,12 +2,12 @@
 use Rattle.std.proofs.Common.{◌≡◌, suc, ◌+◌, ◌<◌, ◌≤◌, arith, length, get_or, insert, Bool, true, false, cond, ◌&&◌, ◌||◌, List, [], ◌∷◌, ◌++◌, refl, sym, ap, ◌∙◌, subst, inl, inr, add-one}
 use Rattle.std.specs.List.{Contains}
 use Rattle.std.proofs.lemmas.Bool.{false≢true}
-use Rattle.choice_problem.specs.declared.variable.Var.{Var}
-use Rattle.choice_problem.specs.Variable.{same_var}
-use Rattle.choice_problem.specs.SameVariable.{same_var-is, same_var-refl}
-use Rattle.choice_problem.specs.ConflictSet.{is_before, is_rising, has, with_var, set_of, union, place_of}
+use Rattle.qualified_goals.specs.declared.variable.Var.{Var}
+use Rattle.qualified_goals.specs.Variable.{same_var, is_before}
+use Rattle.qualified_goals.specs.SameVariable.{same_var-is, same_var-refl}
+use Rattle.choice_problem.specs.ConflictSet.{is_rising, has, with_var, set_of, union, place_of}
 use Rattle.choice_problem.specs.Lists.{contains-head, contains-tail, contains-none, contains-cases, and-left, and-right, and-both}
-use Rattle.choice_problem.proofs.Order.{before-itself, before-trans, before-back, before-neither}
+use Rattle.qualified_goals.proofs.Order.{before-itself, before-trans, before-back, before-neither}
 use Rattle.choice_problem.proofs.Paths.{or-right}
 
 pub same-not : (v w : Var) → (v ≡ w → ⊥) → same_var v w ≡ false

@@ -5,16 +5,16 @@ use Rattle.std.specs.List.{Contains, All, filter, flat_map, list_all}
 use Rattle.std.proofs.lemmas.Bool.{false≢true, eqb-true, eq-eqb}
 use Rattle.std.proofs.lemmas.List.Elements.{All-contains, Contains-get_or}
 use Rattle.std.proofs.lemmas.List.{map-append, append-nil}
-use Rattle.choice_problem.specs.declared.variable.Var.{Var}
+use Rattle.qualified_goals.specs.declared.variable.Var.{Var}
 use Rattle.choice_problem.specs.declared.problem.Choice.{Choice}
 use Rattle.choice_problem.specs.declared.problem.Demand.{Demand}
-use Rattle.choice_problem.specs.Variable.{same_var}
+use Rattle.qualified_goals.specs.Variable.{same_var}
 use Rattle.choice_problem.specs.Problem.{ProblemOf, Problem, IsChoice, IsDemand, IsRoot, IsOwned, Lawful}
 use Rattle.choice_problem.specs.Assignment.{Assignment, is_one_of, is_made, is_yes}
 use Rattle.choice_problem.specs.General.{Request, General, IsRootRequest, IsOwnedRequest, LawfulGeneral, owner_of, request_of, general}
 use Rattle.choice_problem.specs.Holds.{HoldsWithin}
 use Rattle.choice_problem.specs.Trail.{value_in, demands_after, opens, next_var, with_next, with_value, choice_of, trail_from}
-use Rattle.choice_problem.specs.SameVariable.{same_var-is, same_var-refl}
+use Rattle.qualified_goals.specs.SameVariable.{same_var-is, same_var-refl}
 use Rattle.choice_problem.specs.Lists.{contains-head, contains-tail, contains-none, contains-cases, contains-left, contains-right, contains-append, contains-flat_map, flat_map-contains, contains-map, map-contains, without, contains-filter, filter-none, and-left, and-right, all-at, all-from}
 use Rattle.choice_problem.proofs.Order.{least-is, least-none}
 

@@ -1,9 +1,9 @@
 -- The demands that are active after some choices, in order, and what they open.
 use Rattle.std.specs.Prelude.{Bool, not, ◌&&◌, List, [], ◌∷◌, ◌++◌, Option, Some, None, is_none, filter, find, map}
-use Rattle.choice_problem.specs.declared.variable.Var.{Var}
+use Rattle.qualified_goals.specs.declared.variable.Var.{Var}
 use Rattle.choice_problem.specs.declared.problem.Choice.{Choice}
 use Rattle.choice_problem.specs.declared.problem.Demand.{Demand}
-use Rattle.choice_problem.specs.Variable.{same_var}
+use Rattle.qualified_goals.specs.Variable.{same_var}
 use Rattle.choice_problem.specs.Assignment.{is_yes}
 use Rattle.choice_problem.specs.Problem.{Problem}
 use Rattle.choice_problem.specs.Trail.{value_in, demands_after, least_from}

@@ -1,10 +1,10 @@
 -- The conflict of one choice of an open variable: the set of the first rule that it breaks.
 use Rattle.std.specs.Prelude.{ℕ, zero, suc, Bool, cond, not, ◌&&◌, ◌||◌, List, [], ◌∷◌, ◌++◌, length, Option, Some, None, is_some, filter, find, flat_map}
 use Rattle.std.specs.List.{list_any}
-use Rattle.choice_problem.specs.declared.variable.Var.{Var}
+use Rattle.qualified_goals.specs.declared.variable.Var.{Var}
 use Rattle.choice_problem.specs.declared.problem.Choice.{Choice}
 use Rattle.choice_problem.specs.declared.problem.Demand.{Demand}
-use Rattle.choice_problem.specs.Variable.{same_var}
+use Rattle.qualified_goals.specs.Variable.{same_var}
 use Rattle.choice_problem.specs.Assignment.{is_one_of, is_met}
 use Rattle.choice_problem.specs.Problem.{Problem}
 use Rattle.choice_problem.specs.Trail.{value_in}

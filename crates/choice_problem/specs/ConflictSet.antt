@@ -1,12 +1,8 @@
 -- Sets of variables, as lists in goal order with each variable once.
 use Rattle.std.specs.Prelude.{ℕ, ◌+◌, Bool, true, cond, ◌&&◌, List, [], ◌∷◌, ◌++◌, Option, Some, None}
 use Rattle.std.specs.List.{list_any}
-use Rattle.std.specs.Ordering.{is_lt}
-use Rattle.choice_problem.specs.declared.variable.Var.{Var}
-use Rattle.choice_problem.specs.Variable.{var_cmp, same_var}
-
-abbrev pub is_before : Var → Var → Bool
-is_before v w = is_lt (var_cmp v w)
+use Rattle.qualified_goals.specs.declared.variable.Var.{Var}
+use Rattle.qualified_goals.specs.Variable.{same_var, is_before}
 
 -- each variable stands before the next
 abbrev pub is_rising : List Var → Bool

@@ -1,9 +1,9 @@
 -- The definitions on small problems, computed.
 use Rattle.std.specs.Prelude.{◌≡◌, ℕ, true, false, cond, ◌||◌, nat_eq, List, [], ◌∷◌, Option, Some, None, refl}
 use Rattle.plan_types.specs.declared.limit.Limit.TheVariants.{Unlimited, At}
-use Rattle.choice_problem.specs.declared.variable.Qual.TheVariants.{Top}
-use Rattle.choice_problem.specs.declared.variable.Part.TheVariants.{Package, Flag}
-use Rattle.choice_problem.specs.declared.variable.Var.{Var}
+use Rattle.qualified_goals.specs.declared.variable.Qual.TheVariants.{Top}
+use Rattle.qualified_goals.specs.declared.variable.Part.TheVariants.{Package, Flag}
+use Rattle.qualified_goals.specs.declared.variable.Var.{Var}
 use Rattle.choice_problem.specs.declared.problem.Choice.{Choice}
 use Rattle.choice_problem.specs.declared.problem.Demand.{Demand}
 use Rattle.choice_problem.specs.declared.written.WrittenVar.{WrittenVar}

@@ -1,6 +1,6 @@
 -- What an assignment holds within, and sets that admit none.
 use Rattle.std.specs.Prelude.{◌≡◌, ℕ, Bool, IsTrue, IsFalse, Some}
-use Rattle.choice_problem.specs.declared.variable.Var.{Var}
+use Rattle.qualified_goals.specs.declared.variable.Var.{Var}
 use Rattle.choice_problem.specs.declared.problem.Choice.{Choice}
 use Rattle.choice_problem.specs.Assignment.{Assignment, is_one_of}
 use Rattle.choice_problem.specs.Problem.{IsChoice, IsDemand}

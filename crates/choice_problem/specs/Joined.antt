@@ -1,6 +1,6 @@
 -- Problems that differ in how the conditions of their demands are written, and in nothing that is valid.
 use Rattle.std.specs.Prelude.{◌≡◌, ◌↔◌, Bool, true}
-use Rattle.choice_problem.specs.declared.variable.Var.{Var}
+use Rattle.qualified_goals.specs.declared.variable.Var.{Var}
 use Rattle.choice_problem.specs.Assignment.{Assignment}
 use Rattle.choice_problem.specs.Problem.{IsDemand}
 use Rattle.choice_problem.specs.General.{Request, General}

@@ -1,4 +1,3 @@
-pub mod Variable
 pub mod Problem
 pub mod Assignment
 pub mod General
@@ -13,6 +12,5 @@ pub mod Answer
 pub mod Sound
 pub mod Written
 pub mod Lists
-pub mod SameVariable
 pub mod WrittenLaws
 pub mod Examples

@@ -1,9 +1,9 @@
 -- The trail of an assignment: its choices in the order in which demands open their variables.
 use Rattle.std.specs.Prelude.{ℕ, zero, suc, Bool, cond, ◌&&◌, List, [], ◌∷◌, ◌++◌, Option, Some, None, is_none, filter, map, flat_map}
 use Rattle.std.specs.Ordering.{is_lt}
-use Rattle.choice_problem.specs.declared.variable.Var.{Var}
+use Rattle.qualified_goals.specs.declared.variable.Var.{Var}
 use Rattle.choice_problem.specs.declared.problem.Choice.{Choice}
-use Rattle.choice_problem.specs.Variable.{var_cmp, same_var}
+use Rattle.qualified_goals.specs.Variable.{var_cmp, same_var}
 use Rattle.choice_problem.specs.Assignment.{Assignment}
 use Rattle.choice_problem.specs.Problem.{ProblemOf}
 use Rattle.choice_problem.specs.General.{Request, General}

@@ -1,6 +1,6 @@
 -- Whole valid assignments, and the first of them.
 use Rattle.std.specs.Prelude.{◌≡◌, ◌↔◌, ℕ, IsSome, List, ◌∷◌, ◌++◌, Contains, map}
-use Rattle.choice_problem.specs.declared.variable.Var.{Var}
+use Rattle.qualified_goals.specs.declared.variable.Var.{Var}
 use Rattle.choice_problem.specs.declared.problem.Choice.{Choice}
 use Rattle.choice_problem.specs.Assignment.{Assignment}
 use Rattle.choice_problem.specs.General.{General}

@@ -1,11 +1,11 @@
 -- Problems written out as lists.
 use Rattle.std.specs.Prelude.{◌≢◌, ℕ, zero, suc, Bool, true, false, cond, not, ◌&&◌, nat_eq, nat_lt, List, [], ◌∷◌, length, filter, All, AllPairs}
 use Rattle.std.specs.List.{list_all, list_any}
-use Rattle.choice_problem.specs.declared.variable.Var.{Var}
+use Rattle.qualified_goals.specs.declared.variable.Var.{Var}
 use Rattle.choice_problem.specs.declared.problem.Choice.{Choice}
 use Rattle.choice_problem.specs.declared.problem.Demand.{Demand}
 use Rattle.choice_problem.specs.declared.written.WrittenVar.{WrittenVar}
-use Rattle.choice_problem.specs.Variable.{qual_cmp, is_equal, same_var}
+use Rattle.qualified_goals.specs.Variable.{qual_cmp, is_equal, same_var}
 use Rattle.choice_problem.specs.Problem.{Problem, IsOrderBelow, IsRoot, IsOwned}
 
 -- whether a number is one of these

@@ -5,15 +5,15 @@ use Rattle.std.proofs.Common.{sym, ap, ◌∙◌, subst, inl, inr, arith}
 use Rattle.std.proofs.lemmas.Bool.{false≢true, eqb-true, eq-eqb, cases_lt, ltb-true, lt-ltb}
 use Rattle.std.proofs.lemmas.List.{length-map}
 use Rattle.std.proofs.lemmas.List.Elements.{All-contains, Contains-get_or}
-use Rattle.choice_problem.specs.declared.variable.Var.{Var}
+use Rattle.qualified_goals.specs.declared.variable.Var.{Var}
 use Rattle.choice_problem.specs.declared.problem.Choice.{Choice}
 use Rattle.choice_problem.specs.declared.problem.Demand.{Demand}
 use Rattle.choice_problem.specs.declared.written.WrittenVar.{WrittenVar}
-use Rattle.choice_problem.specs.Variable.{qual_cmp, is_equal, same_var}
+use Rattle.qualified_goals.specs.Variable.{qual_cmp, is_equal, same_var}
 use Rattle.choice_problem.specs.Problem.{Problem, IsOrderBelow, IsBeside, IsRoot, IsOwned, Lawful}
 use Rattle.choice_problem.specs.Written.{is_among, is_listed, order_of, begins_with, problem_of, AreLawful, has_each_below, is_once, is_order, are_listed_once, is_beside, is_empty, is_condition, are_lawful}
 use Rattle.choice_problem.specs.Lists.{contains-head, contains-tail, contains-none, contains-cases, contains-filter, map-contains, and-left, and-right, and-both, all-at, all-from}
-use Rattle.choice_problem.specs.SameVariable.{is_equal-is, qual-is, qual-refl, same_var-is, same_var-refl}
+use Rattle.qualified_goals.specs.SameVariable.{is_equal-is, qual-is, qual-refl, same_var-is, same_var-refl}
 
 abbrev choice_with : Var → ℕ → Choice
 choice_with v n = record { var = v; val = n }

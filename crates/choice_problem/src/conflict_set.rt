@@ -1,7 +1,8 @@
 ghost use Rattle.std.specs.Prelude.{◌≡◌, [], IfOk, OnOk, IsTrue, if◌then◌else◌};
-ghost use Rattle.choice_problem.specs.ConflictSet.{is_before, is_rising, has, with_var, set_of, union, place_of, front_of, behind};
+ghost use Rattle.qualified_goals.specs.Variable.{is_before};
+ghost use Rattle.choice_problem.specs.ConflictSet.{is_rising, has, with_var, set_of, union, place_of, front_of, behind};
 
-use crate::{Var, is_same};
+use crate::{Var, is_before, is_same};
 use plan_types::{List, NoMemory};
 use std::alloc::Global;
 use std::marker::Model;
@@ -14,7 +15,7 @@ pub struct ConflictSet {
 
 impl Model for ConflictSet {
     ghost use Rattle.std.specs.Prelude.{List, IsTrue};
-    ghost use Rattle.choice_problem.specs.declared.variable.Var.{Var};
+    ghost use Rattle.qualified_goals.specs.declared.variable.Var.{Var};
     ghost use Rattle.choice_problem.specs.ConflictSet.{is_rising};
 
     ghost Value = { List Var };
@@ -85,12 +86,6 @@ fn place_of(vars: &[Var], v: Var) -> usize
         }
     }
     vars.len()
-}
-
-fn is_before(v: Var, w: Var) -> bool
-    ensures { result ≡ is_before v w }
-{
-    v.cmp(&w).is_lt()
 }
 
 fn add(vars: &mut Vec<Var>, v: Var) -> Result<(), NoMemory>

@@ -9,7 +9,6 @@ mod laws;
 mod outcome;
 mod problem;
 mod steps;
-mod variable;
 mod written;
 
 pub use conflict_set::ConflictSet;
@@ -20,6 +19,6 @@ pub use laws::{
 pub use outcome::{Counts, Outcome};
 pub use plan_types::Limit;
 pub use problem::{Choice, Choices, Demand};
+pub use qualified_goals::{Names, Part, Qual, Var, is_before, is_same};
 pub use steps::Steps;
-pub use variable::{Part, Qual, Var, is_same};
 pub use written::{Written, WrittenVar};

@@ -1,6 +1,6 @@
 -- The nodes of a path, and what they have given.
 use Rattle.std.specs.Prelude.{◌≡◌, ℕ, ◌+◌, ◌-◌, ◌<◌, ◌≤◌, List, [], ◌∷◌, ◌++◌, length, drop, slice_index, All}
-use Rattle.choice_problem.specs.declared.variable.Var.{Var}
+use Rattle.qualified_goals.specs.declared.variable.Var.{Var}
 use Rattle.choice_problem.specs.declared.problem.Choice.{Choice}
 use Rattle.choice_problem.specs.Trail.{choice_of}
 use Rattle.choice_tree.specs.declared.tree.Node.{Node}

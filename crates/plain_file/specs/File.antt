@@ -22,14 +22,19 @@ abbrev pub these_needs : Option (List Need) → Result (List Need) LineFault
 these_needs None = unbuilt_at 5
 these_needs (Some needs) = Ok needs
 
+-- the needs, where nothing follows
+abbrev pub ended : List Need → Bytes → Result (List Need) LineFault
+ended needs rest = do
+  nothing ← nothing_at 6 rest
+  Ok needs
+
 -- the fifth line, where there is one, names what the package asks for
 unfoldable pub needs_at : Bytes → Bytes → Result (List Need) LineFault
 needs_at own text =
     if is_empty text then Ok [] else (do
       read ← line_after 5 (codes "  build-depends:") text
       needs ← these_needs (needs_of own read.0)
-      nothing ← nothing_at 6 read.1
-      Ok needs)
+      ended needs read.1)
 
 -- the plain file that a text is, or the fault at the first line that isn't as in one
 unfoldable pub plain_file : Place → Bytes → Result PlainFile LineFault

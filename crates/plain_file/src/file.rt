@@ -4,7 +4,7 @@ ghost use Rattle.std.specs.Option.{option_map};
 ghost use Rattle.std.specs.Str.{IsAscii};
 ghost use Rattle.plain_file.specs.Line.{Gives, is_empty, line_with};
 ghost use Rattle.plain_file.specs.Version.{is_version};
-ghost use Rattle.plain_file.specs.File.{is_name_at, is_version_at, needs_at, plain_file};
+ghost use Rattle.plain_file.specs.File.{ended, is_name_at, is_version_at, needs_at, plain_file};
 
 use crate::line::{line_after, nothing_at, unbuilt_at};
 use crate::need::{Need, is_name, needs_of};
@@ -127,6 +127,14 @@ fn needs_at(alloc: Global, own: &[u8], text: &[u8]) -> Result<List<Need>, Fault>
     let Some(needs) = needs_of(alloc, own, value)? else {
         return Err(unbuilt_at(5));
     };
+    ended(needs, rest)
+}
+
+// These needs, where nothing follows the line that asks for them.
+fn ended(needs: List<Need>, rest: &[u8]) -> Result<List<Need>, Fault>
+    ensures gives { Gives (λ needs. needs) result (ended needs rest.now) }
+    ensures same { IfOk result (λ these. these ≡ needs) }
+{
     nothing_at(rest, 6)?;
     Ok(needs)
 }

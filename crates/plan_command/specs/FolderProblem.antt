@@ -4,12 +4,12 @@ use Rattle.std.specs.Prelude.{ℕ, zero, suc, ◌+◌, Bool, true, false, ◌&&�
 use Rattle.std.specs.List.{position_or_len}
 use Rattle.std.specs.Ordering.{nat_cmp, is_lt}
 use Rattle.std.specs.Cmp.Lexicographic.{slice_cmp}
-use Rattle.choice_problem.specs.declared.variable.Qual.TheVariants.{Top}
-use Rattle.choice_problem.specs.declared.variable.Part.TheVariants.{Package as package_part}
-use Rattle.choice_problem.specs.declared.variable.Var.{Var}
+use Rattle.qualified_goals.specs.declared.variable.Qual.TheVariants.{Top}
+use Rattle.qualified_goals.specs.declared.variable.Part.TheVariants.{Package as package_part}
+use Rattle.qualified_goals.specs.declared.variable.Var.{Var}
 use Rattle.choice_problem.specs.declared.problem.Choice.{Choice}
 use Rattle.choice_problem.specs.declared.problem.Demand.{Demand}
-use Rattle.choice_problem.specs.Variable.{same_var}
+use Rattle.qualified_goals.specs.Variable.{same_var}
 use Rattle.choice_problem.specs.Problem.{Problem}
 use Rattle.outside_folder.specs.Files.{Bytes}
 use Rattle.plain_file.specs.declared.need.Bound.{Bound}

@@ -1,7 +1,7 @@
 -- The answer of a folder, and what a run leaves in the sink.
 use Rattle.std.specs.Prelude.{◌≡◌, ◌⊎◌, false, List, codes, Result, Ok, Err, Option, Some, None, MatchBool}
 use Rattle.plan_types.specs.declared.refusal.Cause.TheVariants.{NoPackages, TooLarge, Unbuilt}
-use Rattle.choice_problem.specs.declared.variable.Var.{Var}
+use Rattle.qualified_goals.specs.declared.variable.Var.{Var}
 use Rattle.choice_problem.specs.declared.outcome.Counts.{Counts}
 use Rattle.choice_problem.specs.Assignment.{Assignment}
 use Rattle.choice_problem.specs.General.{general}

@@ -1,11 +1,11 @@
 -- Places of demands that are listed, and those of the demands that name a variable.
 use Rattle.std.proofs.Common.{◌≡◌, ℕ, zero, suc, ◌+◌, ◌<◌, arith, length, get_or, Bool, true, false, cond, ◌&&◌, ◌||◌, List, [], ◌∷◌, ◌++◌, map, filter, refl, sym, ap, ◌∙◌, subst, append_assoc, length-append}
 use Rattle.std.proofs.Math.Seq.{get_or-append_seam}
-use Rattle.choice_problem.specs.declared.variable.Var.{Var}
+use Rattle.qualified_goals.specs.declared.variable.Var.{Var}
 use Rattle.choice_problem.specs.declared.problem.Choice.{Choice}
 use Rattle.choice_problem.specs.declared.problem.Demand.{Demand}
-use Rattle.choice_problem.specs.Variable.{same_var}
-use Rattle.choice_problem.specs.SameVariable.{same_var-is}
+use Rattle.qualified_goals.specs.Variable.{same_var}
+use Rattle.qualified_goals.specs.SameVariable.{same_var-is}
 use Rattle.validation.specs.Chain.{places_on}
 use Rattle.validation.specs.Stack.{no_demand, demand_at, demands_at, mention_of, are_naming, names, waits_by, waits_from, AllBelow}
 use Rattle.validation.proofs.Walks.{places-append}

@@ -3,11 +3,11 @@ use Rattle.std.proofs.Common.{◌≡◌, ℕ, zero, suc, ◌<◌, arith, length,
 use Rattle.std.specs.List.{Contains, list_any, slice_get}
 use Rattle.std.specs.Option.{option_to_list}
 use Rattle.std.proofs.lemmas.List.{map-append}
-use Rattle.choice_problem.specs.declared.variable.Var.{Var}
+use Rattle.qualified_goals.specs.declared.variable.Var.{Var}
 use Rattle.choice_problem.specs.declared.problem.Choice.{Choice}
 use Rattle.choice_problem.specs.declared.problem.Demand.{Demand}
-use Rattle.choice_problem.specs.Variable.{same_var}
-use Rattle.choice_problem.specs.SameVariable.{same_var-is, same_var-refl}
+use Rattle.qualified_goals.specs.Variable.{same_var}
+use Rattle.qualified_goals.specs.SameVariable.{same_var-is, same_var-refl}
 use Rattle.choice_problem.specs.Active.{asks_for}
 use Rattle.choice_problem.specs.Conflict.{Edge, edges_from, edges_by, edges_of}
 use Rattle.choice_problem.specs.ConflictSet.{has}

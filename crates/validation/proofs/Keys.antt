@@ -7,13 +7,13 @@ use Rattle.std.specs.declared.cmp.Ordering.{Ordering}
 use Rattle.std.specs.declared.cmp.Ordering.TheVariants.{Less, Equal, Greater}
 use Rattle.std.proofs.lemmas.Bool.{false≢true}
 use Rattle.indexmap.specs.IndexSet.{insert_key}
-use Rattle.choice_problem.specs.contracts.variable.VarPartialEq.TheImpl.{eq-value}
-use Rattle.choice_problem.specs.contracts.variable.VarOrd.TheImpl.{cmp-value}
-use Rattle.choice_problem.specs.contracts.variable.VarOrd.TheImpl.Laws.{matches_eq-law}
-use Rattle.choice_problem.specs.declared.variable.Var.{Var}
-use Rattle.choice_problem.specs.Variable.{var_cmp, is_equal, same_var}
+use Rattle.qualified_goals.specs.contracts.variable.VarPartialEq.TheImpl.{eq-value}
+use Rattle.qualified_goals.specs.contracts.variable.VarOrd.TheImpl.{cmp-value}
+use Rattle.qualified_goals.specs.contracts.variable.VarOrd.TheImpl.Laws.{matches_eq-law}
+use Rattle.qualified_goals.specs.declared.variable.Var.{Var}
+use Rattle.qualified_goals.specs.Variable.{var_cmp, is_equal, same_var}
 use Rattle.choice_problem.specs.ConflictSet.{has}
-use Rattle.choice_problem.specs.SameVariable.{same_var-is, same_var-refl}
+use Rattle.qualified_goals.specs.SameVariable.{same_var-is, same_var-refl}
 use Rattle.choice_problem.specs.Lists.{and-left, and-right, and-both, without}
 use Rattle.choice_problem.proofs.Sets.{has-append}
 use Rattle.choice_problem.proofs.Paths.{or-left, or-right}

@@ -4,13 +4,14 @@ use Rattle.std.specs.Result.{is_err}
 use Rattle.std.specs.List.{slice_get, remove}
 use Rattle.std.specs.List.Sorted.{IsPartitionedBy}
 use Rattle.std.proofs.lemmas.Bool.{false≢true}
-use Rattle.choice_problem.specs.declared.variable.Var.{Var}
-use Rattle.choice_problem.specs.Variable.{same_var}
-use Rattle.choice_problem.specs.SameVariable.{same_var-is, same_var-refl}
+use Rattle.qualified_goals.specs.declared.variable.Var.{Var}
+use Rattle.qualified_goals.specs.Variable.{same_var, is_before}
+use Rattle.qualified_goals.specs.SameVariable.{same_var-is, same_var-refl}
 use Rattle.choice_problem.specs.Trail.{least_from}
-use Rattle.choice_problem.specs.ConflictSet.{is_before, is_rising, has, with_var, place_of}
+use Rattle.choice_problem.specs.ConflictSet.{is_rising, has, with_var, place_of}
 use Rattle.choice_problem.specs.Lists.{contains-head, contains-cases, and-left, and-right, and-both}
-use Rattle.choice_problem.proofs.Order.{before-itself, before-trans, before-back, least-one}
+use Rattle.qualified_goals.proofs.Order.{before-itself, before-trans, before-back}
+use Rattle.choice_problem.proofs.Order.{least-one}
 use Rattle.choice_problem.proofs.Sets.{has-contains, rising-tail, rising-below, insert-place}
 use Rattle.validation.specs.Open.{without}
 

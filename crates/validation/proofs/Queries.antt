@@ -1,11 +1,11 @@
 -- What a stack is asked: the demands on a variable, the first that passes a test, and the least that is open.
 use Rattle.std.proofs.Common.{◌≡◌, ℕ, zero, suc, ◌<◌, arith, length, get_or, drop, Bool, true, false, not, cond, ◌&&◌, ◌||◌, List, [], ◌∷◌, Some, None, is_none, is_some, find, map, filter, refl, sym, ap, ◌∙◌, subst}
 use Rattle.std.specs.List.{slice_get}
-use Rattle.choice_problem.specs.declared.variable.Var.{Var}
+use Rattle.qualified_goals.specs.declared.variable.Var.{Var}
 use Rattle.choice_problem.specs.declared.problem.Choice.{Choice}
 use Rattle.choice_problem.specs.declared.problem.Demand.{Demand}
-use Rattle.choice_problem.specs.Variable.{same_var}
-use Rattle.choice_problem.specs.SameVariable.{same_var-is}
+use Rattle.qualified_goals.specs.Variable.{same_var}
+use Rattle.qualified_goals.specs.SameVariable.{same_var-is}
 use Rattle.choice_problem.specs.Assignment.{is_one_of}
 use Rattle.choice_problem.specs.Trail.{value_in, least_from}
 use Rattle.choice_problem.specs.Active.{is_waited_for, asks_for}

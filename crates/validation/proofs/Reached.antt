@@ -3,11 +3,11 @@ use Rattle.std.proofs.Common.{◌≡◌, ℕ, zero, suc, ◌+◌, ◌<◌, ◌�
 use Rattle.std.specs.List.{Contains}
 use Rattle.std.proofs.lemmas.Bool.{false≢true}
 use Rattle.std.proofs.lemmas.List.{take-append-le, length-map}
-use Rattle.choice_problem.specs.declared.variable.Var.{Var}
-use Rattle.choice_problem.specs.Variable.{same_var}
+use Rattle.qualified_goals.specs.declared.variable.Var.{Var}
+use Rattle.qualified_goals.specs.Variable.{same_var}
 use Rattle.choice_problem.specs.ConflictSet.{has}
 use Rattle.choice_problem.specs.Conflict.{Edge, leads}
-use Rattle.choice_problem.specs.SameVariable.{same_var-is}
+use Rattle.qualified_goals.specs.SameVariable.{same_var-is}
 use Rattle.choice_problem.specs.Lists.{contains-head, contains-tail, contains-left, contains-right, map-contains}
 use Rattle.choice_problem.proofs.Sets.{has-contains, contains-has}
 use Rattle.choice_problem.proofs.Paths.{Way, start, step, or-cases, or-left, or-right, any-at, any-found, leads-way, way-leads}

@@ -3,13 +3,13 @@ use Rattle.std.proofs.Common.{◌≡◌, ◌↔◌, ℕ, zero, suc, ◌+◌, ◌
 use Rattle.std.specs.Prelude.{option_to_list, flat_map, filter}
 use Rattle.std.specs.List.{Contains, list_any}
 use Rattle.std.proofs.lemmas.Bool.{false≢true}
-use Rattle.choice_problem.specs.declared.variable.Var.{Var}
+use Rattle.qualified_goals.specs.declared.variable.Var.{Var}
 use Rattle.choice_problem.specs.declared.problem.Choice.{Choice}
 use Rattle.choice_problem.specs.declared.problem.Demand.{Demand}
 use Rattle.choice_problem.specs.ConflictSet.{has, set_of}
 use Rattle.choice_problem.specs.Conflict.{Edge, leads, edges_from, edges_by, edges_of, named_by, lies_on_cycle, circular, set_of_all}
-use Rattle.choice_problem.specs.Variable.{same_var}
-use Rattle.choice_problem.specs.SameVariable.{same_var-is, same_var-refl}
+use Rattle.qualified_goals.specs.Variable.{same_var}
+use Rattle.qualified_goals.specs.SameVariable.{same_var-is, same_var-refl}
 use Rattle.choice_problem.specs.Lists.{contains-head, contains-none, contains-cases, contains-append, contains-right, contains-flat_map, flat_map-contains, contains-filter, filter-none}
 use Rattle.choice_problem.proofs.Paths.{Way, start, step, way-join, way-edge, any-at, any-found, filter-contains, leads-way, way-leads}
 use Rattle.validation.specs.Cycles.{HasEdge, AreAncestors, leads_to_any, first_of_condition, owner_of, owners_on_cycles}

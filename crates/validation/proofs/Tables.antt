@@ -5,9 +5,9 @@ use Rattle.std.specs.Map.{lookup}
 use Rattle.std.specs.Ordering.{is_eq}
 use Rattle.std.specs.declared.cmp.Ordering.{Ordering}
 use Rattle.std.specs.declared.cmp.Ordering.TheVariants.{Less, Equal, Greater}
-use Rattle.choice_problem.specs.declared.variable.Var.{Var}
-use Rattle.choice_problem.specs.Variable.{var_cmp, same_var, is_equal}
-use Rattle.choice_problem.specs.contracts.variable.VarOrd.TheImpl.{cmp-value}
+use Rattle.qualified_goals.specs.declared.variable.Var.{Var}
+use Rattle.qualified_goals.specs.Variable.{var_cmp, same_var, is_equal}
+use Rattle.qualified_goals.specs.contracts.variable.VarOrd.TheImpl.{cmp-value}
 use Rattle.validation.specs.Table.{entry}
 
 equal-eq : (o : Ordering) → is_eq o ≡ is_equal o

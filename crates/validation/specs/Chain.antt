@@ -1,7 +1,7 @@
 -- Mentions of variables, each linked with the one before it of the same variable.
 use Rattle.std.specs.Prelude.{◌≡◌, ℕ, suc, cond, List, [], ◌∷◌, ◌++◌, Option, Some, None, map, filter}
-use Rattle.choice_problem.specs.declared.variable.Var.{Var}
-use Rattle.choice_problem.specs.Variable.{same_var}
+use Rattle.qualified_goals.specs.declared.variable.Var.{Var}
+use Rattle.qualified_goals.specs.Variable.{same_var}
 use Rattle.validation.specs.declared.chain.Mention.{Mention}
 use Rattle.validation.specs.declared.chain.Link.{Link}
 use Rattle.validation.specs.Table.{entry}

@@ -1,7 +1,7 @@
 -- Which edges there are, what leads to one of some variables by them, and the keys of a search.
 use Rattle.std.specs.Prelude.{◌≡◌, Bool, cond, List, [], ◌∷◌, ◌++◌, Option, Some, None, option_to_list, length, filter, flat_map}
 use Rattle.std.specs.List.{Contains, list_any}
-use Rattle.choice_problem.specs.declared.variable.Var.{Var}
+use Rattle.qualified_goals.specs.declared.variable.Var.{Var}
 use Rattle.choice_problem.specs.declared.problem.Choice.{Choice}
 use Rattle.choice_problem.specs.declared.problem.Demand.{Demand}
 use Rattle.choice_problem.specs.ConflictSet.{has}

@@ -1,7 +1,7 @@
 -- Variables that are open, and how many have room to be put back.
 use Rattle.std.specs.Prelude.{◌+◌, ◌≤◌, ℕ, not, List, IsTrue, length, filter}
-use Rattle.choice_problem.specs.Variable.{same_var}
-use Rattle.choice_problem.specs.declared.variable.Var.{Var}
+use Rattle.qualified_goals.specs.Variable.{same_var}
+use Rattle.qualified_goals.specs.declared.variable.Var.{Var}
 use Rattle.choice_problem.specs.ConflictSet.{is_rising}
 
 pub record Room : Type 0 where

@@ -1,12 +1,12 @@
 -- What a stack of choices stands for, and how what it holds hangs together.
 use Rattle.std.specs.Prelude.{◌≡◌, ℕ, suc, ◌-◌, ◌<◌, ◌≤◌, Bool, true, cond, ◌&&◌, List, [], ◌∷◌, ◌++◌, length, take, map, filter, Option, None, is_none, slice_index_or, option_to_list, flat_map}
 use Rattle.std.specs.List.{list_any}
-use Rattle.choice_problem.specs.declared.variable.Var.{Var}
-use Rattle.choice_problem.specs.declared.variable.Qual.TheVariants.{Top}
-use Rattle.choice_problem.specs.declared.variable.Part.TheVariants.{Package}
+use Rattle.qualified_goals.specs.declared.variable.Var.{Var}
+use Rattle.qualified_goals.specs.declared.variable.Qual.TheVariants.{Top}
+use Rattle.qualified_goals.specs.declared.variable.Part.TheVariants.{Package}
 use Rattle.choice_problem.specs.declared.problem.Choice.{Choice}
 use Rattle.choice_problem.specs.declared.problem.Demand.{Demand}
-use Rattle.choice_problem.specs.Variable.{same_var}
+use Rattle.qualified_goals.specs.Variable.{same_var}
 use Rattle.choice_problem.specs.Assignment.{is_yes}
 use Rattle.choice_problem.specs.Trail.{value_in, least_from}
 use Rattle.choice_problem.specs.Active.{is_waited_for}

@@ -2,8 +2,8 @@
 use Rattle.std.specs.Prelude.{ℕ, cond, List, Option, Some, None}
 use Rattle.std.specs.Map.{lookup}
 use Rattle.std.specs.BTreeMap.{is_at}
-use Rattle.choice_problem.specs.declared.variable.Var.{Var}
-use Rattle.choice_problem.specs.Variable.{var_cmp, same_var}
+use Rattle.qualified_goals.specs.declared.variable.Var.{Var}
+use Rattle.qualified_goals.specs.Variable.{var_cmp, same_var}
 
 -- what the entries have at a variable
 abbrev pub entry : List (Var × ℕ) → Var → Option ℕ

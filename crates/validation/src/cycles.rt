@@ -1,6 +1,6 @@
 ghost use Rattle.std.specs.Prelude.{◌≡◌, ◌<◌, ◌↔◌, [], ◌∷◌, ◌++◌, true, Some, IfOk, OnOk, IfSome, List, length, take, drop, slice_get, option_to_list, flat_map};
 ghost use Rattle.std.specs.List.{Contains};
-ghost use Rattle.choice_problem.specs.declared.variable.Var.{Var};
+ghost use Rattle.qualified_goals.specs.declared.variable.Var.{Var};
 ghost use Rattle.choice_problem.specs.declared.problem.Demand.{Demand};
 ghost use Rattle.choice_problem.specs.ConflictSet.{has};
 ghost use Rattle.choice_problem.specs.Conflict.{edges_of, named_by, lies_on_cycle, circular, set_of_all};

@@ -1,11 +1,11 @@
 ghost use Rattle.std.specs.Prelude.{◌≡◌, ◌+◌, ◌<◌, ◌||◌, ◌&&◌, not, [], IsTrue, OnOk, OnErr, false, ◌≤◌, vec_len, vec_capacity};
-ghost use Rattle.choice_problem.specs.declared.variable.Var.{Var};
-ghost use Rattle.choice_problem.specs.Variable.{same_var};
+ghost use Rattle.qualified_goals.specs.declared.variable.Var.{Var};
+ghost use Rattle.qualified_goals.specs.Variable.{same_var, is_before};
 ghost use Rattle.choice_problem.specs.Trail.{least_from};
-ghost use Rattle.choice_problem.specs.ConflictSet.{is_before, is_rising, has, with_var, place_of};
+ghost use Rattle.choice_problem.specs.ConflictSet.{is_rising, has, with_var, place_of};
 ghost use Rattle.validation.specs.Open.{Room, without};
 
-use choice_problem::{Var, is_same};
+use choice_problem::{Var, is_before, is_same};
 use plan_types::NoMemory;
 use std::alloc::Global;
 use std::marker::Model;
@@ -115,12 +115,6 @@ fn place_of(vars: &[Var], v: Var) -> usize
     ensures { result ≡ place_of v vars.now }
 {
     vars.partition_point(|w| is_before(*w, v))
-}
-
-fn is_before(v: Var, w: Var) -> bool
-    ensures { result ≡ is_before v w }
-{
-    v.cmp(&w).is_lt()
 }
 
 fn stands_at(vars: &[Var], place: usize, v: Var) -> bool

@@ -1,5 +1,5 @@
 ghost use Rattle.std.specs.Prelude.{◌≡◌, Some, None, OnOk, OnErr, is_some};
-ghost use Rattle.choice_problem.specs.declared.variable.Var.{Var};
+ghost use Rattle.qualified_goals.specs.declared.variable.Var.{Var};
 ghost use Rattle.validation.specs.Table.{entry, with_entry, without_entry};
 
 use choice_problem::Var;
@@ -16,7 +16,7 @@ pub(crate) struct Table {
 
 impl Model for Table {
     ghost use Rattle.std.specs.Prelude.{ℕ, List};
-    ghost use Rattle.choice_problem.specs.declared.variable.Var.{Var};
+    ghost use Rattle.qualified_goals.specs.declared.variable.Var.{Var};
 
     ghost Value = { List (Var × ℕ) };
 

@@ -1,5 +1,5 @@
 use Rattle.std.proofs.Common.{◌≡◌, ◌<◌, true, length, get_or, sym, ap, ◌∙◌, arith, insert}
-use Rattle.choice_problem.specs.Variable.{same_var}
+use Rattle.qualified_goals.specs.Variable.{same_var}
 use Rattle.choice_problem.specs.ConflictSet.{place_of}
 use Rattle.choice_problem.proofs.Sets.{place-within, with_var-there, insert-place}
 use Rattle.choice_problem.proofs.conflict_set.add.Goals as goal

@@ -1,6 +1,6 @@
 use Rattle.std.proofs.Common.{◌≡◌, List, None, ◌++◌, ◌∷◌, [], Some, length, sym, ap, ◌∙◌, arith, append_assoc}
 use Rattle.std.proofs.lemmas.List.{append-nil}
-use Rattle.choice_problem.specs.declared.variable.Var.{Var}
+use Rattle.qualified_goals.specs.declared.variable.Var.{Var}
 use Rattle.choice_problem.specs.ConflictSet.{is_rising, union, front_of, behind}
 use Rattle.choice_problem.proofs.Sets.{rising-set_of}
 use Rattle.choice_problem.proofs.Merges.{behind-rising, behind-shorter, union-front, union-none}

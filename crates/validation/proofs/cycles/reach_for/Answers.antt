@@ -1,6 +1,6 @@
 use Rattle.std.proofs.Common.{◌∷◌, [], IfSome, sym, subst}
 use Rattle.choice_problem.specs.Conflict.{edges_of}
-use Rattle.choice_problem.specs.SameVariable.{same_var-is}
+use Rattle.qualified_goals.specs.SameVariable.{same_var-is}
 use Rattle.validation.specs.Cycles.{AreAncestors}
 use Rattle.validation.proofs.cycles.reach_for.Goals as goal
 

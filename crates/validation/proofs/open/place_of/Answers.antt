@@ -1,6 +1,6 @@
 use Rattle.std.proofs.Common.{arith, rules}
 use Rattle.std.proofs.lemmas.List.Sorted.{IsPartitionPoint-from_clause}
-use Rattle.choice_problem.specs.ConflictSet.{is_before}
+use Rattle.qualified_goals.specs.Variable.{is_before}
 use Rattle.validation.proofs.Opens.{rising-parted, parted-place}
 use Rattle.validation.proofs.open.place_of.Goals as goal
 

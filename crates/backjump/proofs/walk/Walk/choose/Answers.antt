@@ -1,6 +1,6 @@
 -- the choice is kept, or its conflict fails the value
 use Rattle.std.proofs.Common.{◌≡◌, ◌+◌, ◌++◌, ◌∷◌, [], List, Option, Some, None, ap, sym, ◌∙◌, subst, refl}
-use Rattle.choice_problem.specs.declared.variable.Var.{Var}
+use Rattle.qualified_goals.specs.declared.variable.Var.{Var}
 use Rattle.choice_problem.specs.Trail.{choice_of}
 use Rattle.choice_problem.specs.Conflict.{conflict}
 use Rattle.validation.specs.declared.verdict.Verdict.TheVariants.{Accepted, Conflict}

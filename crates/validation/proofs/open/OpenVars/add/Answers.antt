@@ -1,5 +1,5 @@
 use Rattle.std.proofs.Common.{◌≡◌, ◌∙◌, ap, ◌||◌, length, arith}
-use Rattle.choice_problem.specs.Variable.{same_var}
+use Rattle.qualified_goals.specs.Variable.{same_var}
 use Rattle.choice_problem.specs.ConflictSet.{is_rising, has, with_var}
 use Rattle.choice_problem.proofs.Sets.{has-with_var, rising-with_var}
 use Rattle.validation.specs.Open.{Room}

@@ -1,5 +1,5 @@
 use Rattle.std.proofs.Common.{◌≡◌, ◌∙◌, ap, not, ◌&&◌, length, true, arith}
-use Rattle.choice_problem.specs.Variable.{same_var}
+use Rattle.qualified_goals.specs.Variable.{same_var}
 use Rattle.choice_problem.specs.ConflictSet.{is_rising, has}
 use Rattle.validation.specs.Open.{Room}
 use Rattle.validation.proofs.Opens.{rising-without, has-without, length-taken}

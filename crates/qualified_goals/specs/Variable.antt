@@ -1,13 +1,13 @@
 -- Variables, which are equal where they name the same part of a package under one qualifier.
 use Rattle.std.specs.Prelude.{Bool, true, false}
-use Rattle.std.specs.Ordering.{nat_cmp, ordering_then}
+use Rattle.std.specs.Ordering.{nat_cmp, ordering_then, is_lt}
 use Rattle.std.specs.declared.cmp.Ordering.{Ordering}
 use Rattle.std.specs.declared.cmp.Ordering.TheVariants.{Less, Equal, Greater}
-use Rattle.choice_problem.specs.declared.variable.Qual.{Qual}
-use Rattle.choice_problem.specs.declared.variable.Qual.TheVariants.{Top, Setup, Exe}
-use Rattle.choice_problem.specs.declared.variable.Part.{Part}
-use Rattle.choice_problem.specs.declared.variable.Part.TheVariants.{Package, Flag, Tests, Benches}
-use Rattle.choice_problem.specs.declared.variable.Var.{Var}
+use Rattle.qualified_goals.specs.declared.variable.Qual.{Qual}
+use Rattle.qualified_goals.specs.declared.variable.Qual.TheVariants.{Top, Setup, Exe}
+use Rattle.qualified_goals.specs.declared.variable.Part.{Part}
+use Rattle.qualified_goals.specs.declared.variable.Part.TheVariants.{Package, Flag, Tests, Benches}
+use Rattle.qualified_goals.specs.declared.variable.Var.{Var}
 
 -- top level, then setups by package, then tools by package and tool
 abbrev pub qual_cmp : Qual → Qual → Ordering
@@ -48,3 +48,7 @@ is_equal Greater = false
 -- whether two variables are one
 abbrev pub same_var : Var → Var → Bool
 same_var v w = is_equal (var_cmp v w)
+
+-- whether a variable comes before another one
+abbrev pub is_before : Var → Var → Bool
+is_before v w = is_lt (var_cmp v w)

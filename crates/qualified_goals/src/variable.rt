@@ -1,5 +1,5 @@
 ghost use Rattle.std.specs.Prelude.{◌≡◌};
-ghost use Rattle.choice_problem.specs.Variable.{same_var};
+ghost use Rattle.qualified_goals.specs.Variable.{same_var, is_before};
 
 /// Where a package is chosen: at top level, in the setup of a package, or for a tool of a package.
 #[derive(Clone, Copy, Debug, Drop, PartialEq, Eq, PartialOrd, Ord, Hash)]
@@ -33,4 +33,11 @@ pub fn is_same(v: Var, w: Var) -> bool
     ensures { result ≡ same_var v w }
 {
     v.cmp(&w).is_eq()
+}
+
+/// Whether a variable comes before another one in goal order.
+pub fn is_before(v: Var, w: Var) -> bool
+    ensures { result ≡ is_before v w }
+{
+    v.cmp(&w).is_lt()
 }

@@ -6,12 +6,12 @@ use Rattle.std.specs.declared.cmp.Ordering.TheVariants.{Less, Equal, Greater}
 use Rattle.std.proofs.lemmas.Bool.{false≢true}
 use Rattle.std.proofs.lemmas.Cmp.{nat_cmp_total}
 use Rattle.std.proofs.lemmas.Map.Lookups.{exact_unsigned}
-use Rattle.choice_problem.specs.declared.variable.Qual.{Qual}
-use Rattle.choice_problem.specs.declared.variable.Qual.TheVariants.{Top, Setup, Exe}
-use Rattle.choice_problem.specs.declared.variable.Part.{Part}
-use Rattle.choice_problem.specs.declared.variable.Part.TheVariants.{Package, Flag, Tests, Benches}
-use Rattle.choice_problem.specs.declared.variable.Var.{Var}
-use Rattle.choice_problem.specs.Variable.{qual_cmp, part_cmp, var_cmp, is_equal, same_var}
+use Rattle.qualified_goals.specs.declared.variable.Qual.{Qual}
+use Rattle.qualified_goals.specs.declared.variable.Qual.TheVariants.{Top, Setup, Exe}
+use Rattle.qualified_goals.specs.declared.variable.Part.{Part}
+use Rattle.qualified_goals.specs.declared.variable.Part.TheVariants.{Package, Flag, Tests, Benches}
+use Rattle.qualified_goals.specs.declared.variable.Var.{Var}
+use Rattle.qualified_goals.specs.Variable.{qual_cmp, part_cmp, var_cmp, is_equal, same_var}
 
 pub is_equal-is : (o : Ordering) → is_equal o ≡ true → o ≡ Equal
 is_equal-is Less h = absurd (false≢true h)

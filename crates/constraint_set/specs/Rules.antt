@@ -1,0 +1,90 @@
+-- What is kept of constraints: by packages and parts what is asked of them, in the order of the constraints, and where.
+use Rattle.std.specs.Prelude.{◌≡◌, ℕ, Bool, true, false, not, ◌&&◌, List, [], ◌∷◌, map, flat_map, nat_eq, if◌then◌else◌}
+use Rattle.indexmap.specs.IndexMap.{IndexMap}
+use Rattle.plan_types.specs.Members.{members}
+use Rattle.plan_types.specs.declared.constraint.Constraint.{Constraint}
+use Rattle.plan_types.specs.declared.constraint.What.{What}
+use Rattle.plan_types.specs.declared.constraint.What.TheVariants.{Range as OfRange, Installed as OfUnit, Source as OfSource, Flags, Tests, Benches}
+use Rattle.plan_types.specs.declared.index.Instance.{Instance}
+use Rattle.qualified_goals.specs.declared.variable.Qual.{Qual}
+use Rattle.qualified_goals.specs.declared.variable.Part.{Part}
+use Rattle.qualified_goals.specs.declared.variable.Part.TheVariants.{Package, Flag, Tests as TestPart, Benches as BenchPart}
+use Rattle.qualified_goals.specs.Names.{NameTable}
+use Rattle.constraint_set.specs.Bars.{is_on, is_unit, is_value, values_of}
+use Rattle.constraint_set.specs.Lists.{items_at}
+use Rattle.constraint_set.specs.Place.{place_of, place_holds}
+use Rattle.constraint_set.specs.declared.place.Place.{Place}
+use Rattle.constraint_set.specs.declared.rules.Wanted.{Wanted}
+use Rattle.constraint_set.specs.declared.rules.Wanted.TheVariants.{Range, Installed, Source}
+use Rattle.constraint_set.specs.declared.rules.Rule.{Rule}
+use Rattle.constraint_set.specs.declared.rules.Setting.{Setting}
+use Rattle.constraint_set.specs.declared.rules.PartOf.{PartOf}
+use Rattle.constraint_set.specs.declared.rules.Rules.{Rules}
+
+abbrev pub excluded : Wanted → Instance → Bool
+excluded (Range range) i = not (members range i.version)
+excluded Installed i = not (is_unit i.origin)
+excluded Source i = is_unit i.origin
+
+abbrev pub rule_bars : Qual → Instance → Rule → Bool
+rule_bars qual i rule = place_holds rule.place qual && excluded rule.wanted i
+
+abbrev pub is_set : Qual → Bool → Setting → Bool
+is_set qual on setting = place_holds setting.place qual && is_value setting.on on
+
+abbrev pub is_part : Part → Part → Bool
+is_part Package Package = true
+is_part Package (Flag g) = false
+is_part Package TestPart = false
+is_part Package BenchPart = false
+is_part (Flag f) Package = false
+is_part (Flag f) (Flag g) = nat_eq f g
+is_part (Flag f) TestPart = false
+is_part (Flag f) BenchPart = false
+is_part TestPart Package = false
+is_part TestPart (Flag g) = false
+is_part TestPart TestPart = true
+is_part TestPart BenchPart = false
+is_part BenchPart Package = false
+is_part BenchPart (Flag g) = false
+is_part BenchPart TestPart = false
+is_part BenchPart BenchPart = true
+
+abbrev pub is_part_of : PartOf → PartOf → Bool
+is_part_of a b = nat_eq a.«package» b.«package» && is_part a.part b.part
+
+-- the settings that stand beside a part of a package
+abbrev pub settings_at : {S : Type 0} → IndexMap PartOf (List Setting) S → ℕ → Part → List Setting
+settings_at parts p part = items_at is_part_of parts (record { «package» = p; part = part })
+
+-- what a constraint asks of its package
+abbrev pub wanted_of : What → List Wanted
+wanted_of (OfRange range) = Range range ∷ []
+wanted_of OfUnit = Installed ∷ []
+wanted_of OfSource = Source ∷ []
+wanted_of (Flags sets) = []
+wanted_of Tests = []
+wanted_of Benches = []
+
+abbrev pub rules_as : Place → List Wanted → List Rule
+rules_as place wanted = map (λ w. record { place = place; wanted = w }) wanted
+
+abbrev pub settings_as : Place → List Bool → List Setting
+settings_as place values = map (λ on. record { place = place; on = on }) values
+
+abbrev pub rules_of : NameTable → Constraint → List Rule
+rules_of names c = rules_as (place_of names c.scope) (wanted_of c.what)
+
+abbrev pub settings_of : NameTable → Part → Constraint → List Setting
+settings_of names part c = settings_as (place_of names c.scope) (values_of names c.what part)
+
+-- those where the constraint is on the package
+abbrev pub rules_on : NameTable → ℕ → Constraint → List Rule
+rules_on names p c = if is_on names c p then rules_of names c else []
+
+abbrev pub settings_on : NameTable → ℕ → Part → Constraint → List Setting
+settings_on names p part c = if is_on names c p then settings_of names part c else []
+
+pub record RulesAre (names : NameTable) (constraints : List Constraint) (rules : Rules) : Type 0 where
+  pub packages_are : (p : ℕ) → items_at nat_eq rules.packages p ≡ flat_map (rules_on names p) constraints
+  pub parts_are : (p : ℕ) (part : Part) → settings_at rules.parts p part ≡ flat_map (settings_on names p part) constraints

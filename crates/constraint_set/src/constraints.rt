@@ -1,0 +1,167 @@
+ghost use Rattle.std.specs.Prelude.{◌≡◌, ◌&&◌, ◌||◌, not, true, false, nat_eq, IfOk};
+ghost use Rattle.std.specs.List.{list_any};
+ghost use Rattle.plan_types.specs.Members.{members};
+ghost use Rattle.plan_types.specs.declared.project.Project.{Project};
+ghost use Rattle.qualified_goals.specs.Names.{NameTable, is_listed};
+ghost use Rattle.version_range.specs.Version.{has_versions};
+ghost use Rattle.version_range.specs.Cuts.{Relaxes, inside};
+ghost use Rattle.constraint_set.specs.Bars.{bars, bars_part, boot_libraries, is_unit, is_value, names_flag, wants};
+ghost use Rattle.constraint_set.specs.Lists.{items_at};
+ghost use Rattle.constraint_set.specs.Relaxed.{relaxes};
+ghost use Rattle.constraint_set.specs.Rules.{is_set, rule_bars, settings_at};
+ghost use Rattle.constraint_set.specs.Stands.{StandsFor};
+
+use crate::lists::items_at;
+use crate::relaxing::{copied, relaxes};
+use crate::rules::{PartOf, Rules, Setting, is_unit};
+use plan_types::{Instance, List, NoMemory, Project, Range, Relax};
+use qualified_goals::{Names, Part, Var};
+use std::alloc::Global;
+use version_range::Cuts;
+
+/// What the constraints of a project bar, and what it relaxes. What is asked of a package or a part stands beside
+/// its number, so that a test looks at nothing else.
+#[derive(Debug, Drop)]
+pub struct Constraints {
+    rules: Rules,
+    newer: List<Relax>,
+    older: List<Relax>,
+    tests: bool,
+    benchmarks: bool,
+    boot_installs: bool,
+}
+
+impl Constraints {
+    /// The constraints of a project, by the numbers of the names that they speak of.
+    pub fn of(alloc: Global, project: &Project, names: &Names) -> Result<Constraints, NoMemory>
+        ensures { IfOk result (λ kept. StandsFor project.now names.now kept) }
+    {
+        let rules = Rules::of(alloc, project.constraints.as_slice(), names)?;
+        let newer = copied(alloc, project.newer.as_slice())?;
+        let older = copied(alloc, project.older.as_slice())?;
+        Ok(Constraints {
+            rules,
+            newer,
+            older,
+            tests: project.tests,
+            benchmarks: project.benchmarks,
+            boot_installs: project.boot_installs,
+        })
+    }
+
+    /// Whether an instance of the package of a variable may not be chosen.
+    pub fn bars(&self, v: Var, instance: &Instance) -> bool
+        ensures { (project : Project) (names : NameTable) → StandsFor project names self.now → result ≡ bars project names v instance.now }
+    {
+        self.rules_bar(v, instance) || self.is_boot(instance)
+    }
+
+    /// Whether a flag or a stanza may not have this value.
+    pub fn bars_part(&self, v: Var, on: bool) -> bool
+        ensures { (project : Project) (names : NameTable) → StandsFor project names self.now → result ≡ bars_part project names v on }
+    {
+        self.is_asked(v, !on) || (self.wants(v.part) && !on)
+    }
+
+    /// Whether some constraint on the package of a variable, whatever its scope, gives the flag this value.
+    pub fn names_flag(&self, v: Var, on: bool) -> bool
+        ensures { (project : Project) (names : NameTable) → StandsFor project names self.now → result ≡ names_flag project names v on }
+    {
+        self.is_named(v, on)
+    }
+
+    /// The versions that a dependency of an instance allows, once its range is relaxed.
+    pub fn relaxed(
+        &self,
+        alloc: Global,
+        owner: &Instance,
+        dep: &str,
+        range: &Range,
+    ) -> Result<Cuts, NoMemory>
+        requires { has_versions range.now ≡ true }
+        ensures { (project : Project) (names : NameTable) → StandsFor project names self.now →
+            IfOk result (λ cuts. Relaxes (relaxes project.newer owner.now dep.now) (relaxes project.older owner.now dep.now) (members range.now) (inside cuts)) }
+    {
+        let newer = relaxes(self.newer.as_slice(), owner, dep);
+        let older = relaxes(self.older.as_slice(), owner, dep);
+        let mut cuts = Cuts::of(alloc, range)?;
+        let_newer(&mut cuts, newer);
+        let_older(&mut cuts, older);
+        Ok(cuts)
+    }
+
+    fn rules_bar(&self, v: Var, instance: &Instance) -> bool
+        ensures { result ≡ list_any (rule_bars v.qual instance.now) (items_at nat_eq self.now.rules.packages v.«package») }
+    {
+        items_at(&self.rules.packages, &v.package)
+            .iter()
+            .any(|rule| rule.bars(v.qual, instance))
+    }
+
+    fn is_boot(&self, instance: &Instance) -> bool
+        ensures { result ≡ (is_listed boot_libraries instance.now.name && not (is_unit instance.now.origin) && not self.now.boot_installs) }
+    {
+        is_boot_library(instance.name.as_str()) && !is_unit(instance) && !self.boot_installs
+    }
+
+    fn is_asked(&self, v: Var, on: bool) -> bool
+        ensures { result ≡ list_any (is_set v.qual on) (settings_at self.now.rules.parts v.«package» v.part) }
+    {
+        self.settings(v)
+            .iter()
+            .any(|setting| setting.asks(v.qual, on))
+    }
+
+    fn is_named(&self, v: Var, on: bool) -> bool
+        ensures { result ≡ list_any (λ s. is_value s.on on) (settings_at self.now.rules.parts v.«package» v.part) }
+    {
+        self.settings(v).iter().any(|setting| setting.is(on))
+    }
+
+    fn settings(&self, v: Var) -> &[Setting]
+        ensures { result.now ≡ settings_at self.now.rules.parts v.«package» v.part }
+    {
+        let part = PartOf {
+            package: v.package,
+            part: v.part,
+        };
+        items_at(&self.rules.parts, &part)
+    }
+
+    // Whether the project asks for a stanza of every package.
+    fn wants(&self, part: Part) -> bool
+        ensures { result ≡ wants self.now.tests self.now.benchmarks part }
+    {
+        match part {
+            Part::Package | Part::Flag(_) => false,
+            Part::Tests => self.tests,
+            Part::Benches => self.benchmarks,
+        }
+    }
+}
+
+// The libraries that come with the compiler.
+fn is_boot_library(name: &str) -> bool
+    ensures { result ≡ is_listed boot_libraries name.now }
+{
+    matches!(
+        name,
+        "base" | "ghc-bignum" | "ghc-prim" | "integer-gmp" | "integer-simple" | "template-haskell"
+    )
+}
+
+fn let_newer(cuts: &mut Cuts, newer: bool)
+    ensures { Relaxes newer false (inside cuts.old) (inside cuts.new) }
+{
+    if newer {
+        cuts.relax_upper();
+    }
+}
+
+fn let_older(cuts: &mut Cuts, older: bool)
+    ensures { Relaxes false older (inside cuts.old) (inside cuts.new) }
+{
+    if older {
+        cuts.relax_lower();
+    }
+}

@@ -1,0 +1,203 @@
+ghost use Rattle.std.specs.Prelude.{◌≡◌, ◌++◌, [], ◌∷◌, ◌&&◌, ℕ, OnOk, IfOk, nat_eq, if◌then◌else◌};
+ghost use Rattle.qualified_goals.specs.declared.variable.Part.{Part};
+ghost use Rattle.qualified_goals.specs.declared.variable.Part.TheVariants.{Flag, Tests, Benches};
+ghost use Rattle.constraint_set.specs.Bars.{is_unit, is_value, set_values};
+ghost use Rattle.constraint_set.specs.Lists.{items_at};
+ghost use Rattle.constraint_set.specs.Place.{place_of};
+ghost use Rattle.constraint_set.specs.Rules.{excluded, is_part, is_set, rule_bars, rules_of, rules_on, settings_as, settings_at, settings_of, settings_on, RulesAre};
+
+use crate::lists::{Lists, push_at};
+use crate::place::Place;
+use indexmap::IndexMap;
+use plan_types::{Constraint, FlagSet, Instance, NoMemory, Origin, Range, What};
+use qualified_goals::{Names, Part, Qual};
+use std::alloc::Global;
+
+/// What is asked of the instance of a package.
+#[derive(Debug, Drop)]
+pub(crate) enum Wanted {
+    Range(Range),
+    Installed,
+    Source,
+}
+
+/// What a constraint asks of a package, and where.
+#[derive(Debug, Drop)]
+pub(crate) struct Rule {
+    pub place: Place,
+    pub wanted: Wanted,
+}
+
+/// The value that a constraint asks of a part, and where.
+#[derive(Clone, Copy, Debug, Drop)]
+pub(crate) struct Setting {
+    pub place: Place,
+    pub on: bool,
+}
+
+/// A flag or a stanza of a package.
+#[derive(Clone, Copy, Debug, Drop, PartialEq, Eq, Hash)]
+pub(crate) struct PartOf {
+    pub package: u64,
+    pub part: Part,
+}
+
+/// What constraints ask, by the packages and parts that they are on.
+#[derive(Debug, Drop)]
+pub(crate) struct Rules {
+    pub packages: Lists<u64, Rule>,
+    pub parts: Lists<PartOf, Setting>,
+}
+
+impl Wanted {
+    fn excludes(&self, instance: &Instance) -> bool
+        ensures { result ≡ excluded self.now instance.now }
+    {
+        match self {
+            Wanted::Range(range) => !range.has(&instance.version),
+            Wanted::Installed => !is_unit(instance),
+            Wanted::Source => is_unit(instance),
+        }
+    }
+}
+
+pub(crate) fn is_unit(instance: &Instance) -> bool
+    ensures { result ≡ is_unit instance.now.origin }
+{
+    match instance.origin {
+        Origin::Installed => true,
+        Origin::Local | Origin::Source => false,
+    }
+}
+
+impl Rule {
+    pub(crate) fn bars(&self, qual: Qual, instance: &Instance) -> bool
+        ensures { result ≡ rule_bars qual instance.now self.now }
+    {
+        self.place.holds(qual) && self.wanted.excludes(instance)
+    }
+}
+
+impl Setting {
+    pub(crate) fn asks(&self, qual: Qual, on: bool) -> bool
+        ensures { result ≡ is_set qual on self.now }
+    {
+        self.place.holds(qual) && self.is(on)
+    }
+
+    pub(crate) fn is(&self, on: bool) -> bool
+        ensures { result ≡ is_value self.now.on on }
+    {
+        self.on == on
+    }
+}
+
+impl Rules {
+    /// What some constraints ask.
+    pub(crate) fn of(
+        alloc: Global,
+        constraints: &[Constraint],
+        names: &Names,
+    ) -> Result<Rules, NoMemory>
+        ensures { IfOk result (λ rules. RulesAre names.now constraints.now rules) }
+    {
+        let mut rules = Rules {
+            packages: IndexMap::new(alloc),
+            parts: IndexMap::new(alloc),
+        };
+        for constraint in constraints {
+            rules.add_constraint(alloc, names, constraint)?;
+        }
+        Ok(rules)
+    }
+
+    // A constraint on a package that isn't in the index has no effect.
+    fn add_constraint(
+        &mut self,
+        alloc: Global,
+        names: &Names,
+        constraint: &Constraint,
+    ) -> Result<(), NoMemory>
+        ensures packages { OnOk result ((p : ℕ) → items_at nat_eq self.new.packages p ≡ items_at nat_eq self.old.packages p ++ rules_on names.now p constraint.now) }
+        ensures parts { OnOk result ((p : ℕ) (part : Part) → settings_at self.new.parts p part ≡ settings_at self.old.parts p part ++ settings_on names.now p part constraint.now) }
+    {
+        match names.package(&constraint.package) {
+            Some(package) => self.add(alloc, names, package, constraint),
+            None => Ok(()),
+        }
+    }
+
+    fn add(
+        &mut self,
+        alloc: Global,
+        names: &Names,
+        package: u64,
+        constraint: &Constraint,
+    ) -> Result<(), NoMemory>
+        ensures packages { OnOk result ((p : ℕ) → items_at nat_eq self.new.packages p ≡ items_at nat_eq self.old.packages p ++ (if nat_eq «package» p then rules_of names.now constraint.now else [])) }
+        ensures parts { OnOk result ((p : ℕ) (part : Part) → settings_at self.new.parts p part ≡ settings_at self.old.parts p part ++ (if nat_eq «package» p then settings_of names.now part constraint.now else [])) }
+    {
+        let place = Place::of(names, &constraint.scope);
+        match &constraint.what {
+            What::Range(range) => {
+                let range = range.copy(alloc)?;
+                self.add_rule(alloc, package, place, Wanted::Range(range))
+            }
+            What::Installed => self.add_rule(alloc, package, place, Wanted::Installed),
+            What::Source => self.add_rule(alloc, package, place, Wanted::Source),
+            What::Flags(sets) => self.add_flags(alloc, names, package, place, sets.as_slice()),
+            What::Tests => self.add_setting(alloc, package, Part::Tests, place, true),
+            What::Benches => self.add_setting(alloc, package, Part::Benches, place, true),
+        }
+    }
+
+    fn add_rule(
+        &mut self,
+        alloc: Global,
+        package: u64,
+        place: Place,
+        wanted: Wanted,
+    ) -> Result<(), NoMemory>
+        ensures packages { OnOk result ((p : ℕ) → items_at nat_eq self.new.packages p ≡ items_at nat_eq self.old.packages p ++ (if nat_eq «package» p then record { place = place; wanted = wanted } ∷ [] else [])) }
+        ensures parts { OnOk result (self.new.parts ≡ self.old.parts) }
+    {
+        push_at(alloc, &mut self.packages, package, Rule { place, wanted })
+    }
+
+    fn add_setting(
+        &mut self,
+        alloc: Global,
+        package: u64,
+        part: Part,
+        place: Place,
+        on: bool,
+    ) -> Result<(), NoMemory>
+        ensures packages { OnOk result (self.new.packages ≡ self.old.packages) }
+        ensures parts { OnOk result ((p : ℕ) (other : Part) → settings_at self.new.parts p other ≡ settings_at self.old.parts p other ++ (if nat_eq «package» p && is_part part other then record { place = place; on = on } ∷ [] else [])) }
+    {
+        let key = PartOf { package, part };
+        let setting = Setting { place, on };
+        push_at(alloc, &mut self.parts, key, setting)?;
+        Ok(())
+    }
+
+    // A flag that no description declares has no variable.
+    fn add_flags(
+        &mut self,
+        alloc: Global,
+        names: &Names,
+        package: u64,
+        place: Place,
+        sets: &[FlagSet],
+    ) -> Result<(), NoMemory>
+        ensures packages { OnOk result (self.new.packages ≡ self.old.packages) }
+        ensures parts { OnOk result ((p : ℕ) (part : Part) → settings_at self.new.parts p part ≡ settings_at self.old.parts p part ++ (if nat_eq «package» p then settings_as place (set_values names.now sets.now part) else [])) }
+    {
+        for set in sets {
+            if let Some(flag) = names.flag(&set.name) {
+                self.add_setting(alloc, package, Part::Flag(flag), place, set.on)?;
+            }
+        }
+        Ok(())
+    }
+}
