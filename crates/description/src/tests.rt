@@ -26,6 +26,9 @@ cabal-version: 3.0;name: main;version: 1;common c;  visibility: x;library a;  im
 cabal-version: 2.4;name: main;version: 1;library a;executable b;  build-depends: a, c\tmain Always c Always\n";
 
 fn described(alloc: Global, text: &str) -> Result<Description, Fault> {
+    if text.len() > 1_048_576 {
+        return Err(Fault::NoMemory);
+    }
     let items = read_elements(alloc, text.as_bytes())?;
     read_description(alloc, &items, Text::new(alloc))
 }
