@@ -20,7 +20,7 @@ use Rattle.plan_types.specs.declared.range.Range.TheVariants.{Any}
 use Rattle.conditionals.specs.Layers.{value-Never, value-Flag, value-And, paths-Flag, paths-And, paths-Or}
 use Rattle.flatten.specs.Demands.{demands_at, outward_in, outward_of}
 use Rattle.flatten.specs.Exposure.{is_unbuildable, libs_of}
-use Rattle.flatten.specs.GoalOrder.{goal_order}
+use Rattle.qualified_goals.specs.Names.{package_cmp}
 use Rattle.flatten.specs.OwnComponents.{Leads, at_once, by_way_of, needs}
 use Rattle.flatten.specs.Sound.{has_package, has_units}
 
@@ -85,13 +85,13 @@ public_one = refl
 abbrev empty : List ℕ → Bool → Package
 empty name local = record { name = name; local = local; extra = false; entries = [] }
 
-base_first : goal_order (empty (codes "base") false) (empty (codes "a") true) ≡ Less
+base_first : package_cmp (empty (codes "base") false) (empty (codes "a") true) ≡ Less
 base_first = refl
 
-local_before_others : goal_order (empty (codes "z") true) (empty (codes "a") false) ≡ Less
+local_before_others : package_cmp (empty (codes "z") true) (empty (codes "a") false) ≡ Less
 local_before_others = refl
 
-by_bytes : goal_order (empty (codes "Z") false) (empty (codes "a") false) ≡ Less
+by_bytes : package_cmp (empty (codes "Z") false) (empty (codes "a") false) ≡ Less
 by_bytes = refl
 
 -- ---- components that need each other

@@ -3,7 +3,6 @@ pub mod Counting
 pub mod Exposure
 pub mod Conditions
 pub mod OwnComponents
-pub mod GoalOrder
 pub mod Sound
 pub mod Examples
 pub mod SoundExamples

@@ -28,7 +28,7 @@ use Rattle.conditionals.specs.Value.{same}
 use Rattle.flatten.specs.Conditions.{asks_well}
 use Rattle.flatten.specs.Demands.{outward, demands_of, first_beyond}
 use Rattle.flatten.specs.Exposure.{exposed}
-use Rattle.flatten.specs.GoalOrder.{goal_order}
+use Rattle.qualified_goals.specs.Names.{AreInGoalOrder}
 use Rattle.flatten.specs.OwnComponents.{is_library, finds_all, HasNoCycle}
 
 -- ---- a description
@@ -161,6 +161,5 @@ pub record IsPackage (env : Env) (index : Index) (p : Package) : Type 0 where
 -- ---- the index
 
 pub record IsSound (env : Env) (index : Index) : Type 0 where
-  pub goal_order : IsStrictlySortedBy goal_order index.packages
-  pub each_once : IsDistinct same (map (λ p. p.name) index.packages)
+  pub in_goal_order : AreInGoalOrder index.packages
   pub packages : AllByRecursion (IsPackage env index) index.packages

@@ -125,8 +125,7 @@ main_is_in = record {
 both_are_sound : IsSound linux both
 unfolding IsDistinct IsStrictlySortedBy
 both_are_sound = record {
-  goal_order = ((refl, tt), (tt, tt));
-  each_once = ((refl, tt), (tt, tt));
+  in_goal_order = record { rising = ((refl, tt), (tt, tt)); once = ((refl, tt), (tt, tt)) };
   packages = (base_is_well, (main_is_in, tt));
 }
 
