@@ -67,8 +67,15 @@ fn cond_cause(cause: Cause) -> Cause
         | Cause::UnknownComponent
         | Cause::ComponentCycle
         | Cause::TooManyPaths
+        | Cause::Unsupported
+        | Cause::NoMatch
+        | Cause::TwoCabalFiles
         | Cause::NoPackages
         | Cause::TooLarge
+        | Cause::WrongPlace
+        | Cause::BadRecord
+        | Cause::DuplicateLocal
+        | Cause::DuplicateUnit
         | Cause::TooMany
         | Cause::Unbuilt => Cause::BadCond,
     }

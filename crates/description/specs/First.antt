@@ -28,10 +28,17 @@ rank causes.ElseWithoutIf = 18
 rank causes.UnknownComponent = 19
 rank causes.ComponentCycle = 20
 rank causes.TooManyPaths = 21
-rank causes.NoPackages = 22
-rank causes.TooLarge = 23
-rank causes.TooMany = 24
-rank causes.Unbuilt = 25
+rank causes.Unsupported = 22
+rank causes.NoMatch = 23
+rank causes.TwoCabalFiles = 24
+rank causes.NoPackages = 25
+rank causes.TooLarge = 26
+rank causes.WrongPlace = 27
+rank causes.BadRecord = 28
+rank causes.DuplicateLocal = 29
+rank causes.DuplicateUnit = 30
+rank causes.TooMany = 31
+rank causes.Unbuilt = 32
 
 -- the lesser line comes first, and on one line the cause of the lesser rank
 abbrev pub is_before : At → At → Bool

@@ -56,10 +56,17 @@ fn rank(cause: Cause) -> u8
         Cause::UnknownComponent => 19,
         Cause::ComponentCycle => 20,
         Cause::TooManyPaths => 21,
-        Cause::NoPackages => 22,
-        Cause::TooLarge => 23,
-        Cause::TooMany => 24,
-        Cause::Unbuilt => 25,
+        Cause::Unsupported => 22,
+        Cause::NoMatch => 23,
+        Cause::TwoCabalFiles => 24,
+        Cause::NoPackages => 25,
+        Cause::TooLarge => 26,
+        Cause::WrongPlace => 27,
+        Cause::BadRecord => 28,
+        Cause::DuplicateLocal => 29,
+        Cause::DuplicateUnit => 30,
+        Cause::TooMany => 31,
+        Cause::Unbuilt => 32,
     }
 }
 

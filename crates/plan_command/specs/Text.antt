@@ -2,7 +2,7 @@
 use Rattle.std.specs.Prelude.{ℕ, ◌==◌, List, [], ◌∷◌, ◌++◌, length, slice_index_or, flat_map, codes, if◌then◌else◌}
 use Rattle.std.specs.Fmt.{decimal}
 use Rattle.plan_types.specs.declared.refusal.Cause.{Cause}
-use Rattle.plan_types.specs.declared.refusal.Cause.TheVariants.{NotUtf8, StrayBrace, UnclosedBrace, BadName, TooDeep, BadVersion, BadRange, NeedsVersion, BadCond, BadDepend, BadConstraint, MissingField, WrongCabalVersion, BadField, DuplicateName, UnknownStanza, UnknownFlag, ImportNotFirst, ElseWithoutIf, UnknownComponent, ComponentCycle, TooManyPaths, NoPackages, TooLarge, TooMany, Unbuilt}
+use Rattle.plan_types.specs.declared.refusal.Cause.TheVariants.{NotUtf8, StrayBrace, UnclosedBrace, BadName, TooDeep, BadVersion, BadRange, NeedsVersion, BadCond, BadDepend, BadConstraint, MissingField, WrongCabalVersion, BadField, DuplicateName, UnknownStanza, UnknownFlag, ImportNotFirst, ElseWithoutIf, UnknownComponent, ComponentCycle, TooManyPaths, Unsupported, NoMatch, TwoCabalFiles, NoPackages, TooLarge, WrongPlace, BadRecord, DuplicateLocal, DuplicateUnit, TooMany, Unbuilt}
 use Rattle.plan_types.specs.declared.refusal.Refusal.{Refusal}
 use Rattle.qualified_goals.specs.declared.variable.Var.{Var}
 use Rattle.choice_problem.specs.declared.problem.Choice.{Choice}
@@ -34,8 +34,15 @@ cause_name ElseWithoutIf = codes "ElseWithoutIf"
 cause_name UnknownComponent = codes "UnknownComponent"
 cause_name ComponentCycle = codes "ComponentCycle"
 cause_name TooManyPaths = codes "TooManyPaths"
+cause_name Unsupported = codes "Unsupported"
+cause_name NoMatch = codes "NoMatch"
+cause_name TwoCabalFiles = codes "TwoCabalFiles"
 cause_name NoPackages = codes "NoPackages"
 cause_name TooLarge = codes "TooLarge"
+cause_name WrongPlace = codes "WrongPlace"
+cause_name BadRecord = codes "BadRecord"
+cause_name DuplicateLocal = codes "DuplicateLocal"
+cause_name DuplicateUnit = codes "DuplicateUnit"
 cause_name TooMany = codes "TooMany"
 cause_name Unbuilt = codes "Unbuilt"
 

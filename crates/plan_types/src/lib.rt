@@ -36,6 +36,6 @@ pub use memory::NoMemory;
 pub use name::{is_component_name, is_flag_name, is_package_name};
 pub use project::{Project, ProjectEntry, Settings};
 pub use range::{Range, Spec};
-pub use refusal::{Cause, Fault, Refusal, TextFault};
+pub use refusal::{Cause, Fault, Halt, Refusal, TextFault};
 pub use text::Text;
 pub use version::Version;

@@ -1,4 +1,5 @@
 ghost use Rattle.plan_types.specs.declared.refusal.Fault.TheVariants.{NoMemory as fault_no_memory};
+ghost use Rattle.plan_types.specs.declared.refusal.Halt.TheVariants.{NoMemory as halt_no_memory};
 ghost use Rattle.plan_types.specs.declared.refusal.TextFault.TheVariants.{NoMemory as text_fault_no_memory};
 ghost use Rattle.std.specs.Prelude.{◌≡◌};
 
@@ -51,10 +52,24 @@ pub enum Cause {
     ComponentCycle,
     /// More than 256 ways to set the flags of a dependency's condition.
     TooManyPaths,
+    /// Of a project: it is Cabal's, and this planner leaves it out.
+    Unsupported,
+    /// An entry of a project gives no file.
+    NoMatch,
+    /// A directory of a project has more than one `.cabal` file.
+    TwoCabalFiles,
     /// There is no local package.
     NoPackages,
     /// A file has more than 1,048,576 bytes.
     TooLarge,
+    /// A file of the index states another name or version than its path.
+    WrongPlace,
+    /// The record of an installed unit can't be read.
+    BadRecord,
+    /// A local package has the name of an earlier one.
+    DuplicateLocal,
+    /// A unit has the id of an earlier one.
+    DuplicateUnit,
     /// There are more files, or more bytes in them, than are read.
     TooMany,
     /// It is Cabal's, and this program can't read it yet.
@@ -73,6 +88,23 @@ impl From<NoMemory> for Fault {
 
     fn from(_: NoMemory) -> Self {
         Fault::NoMemory
+    }
+}
+
+/// What ends a step of a run before its answer.
+#[derive(Debug, PartialEq, Eq, Drop)]
+pub enum Halt {
+    NoMemory,
+    /// The outside failed.
+    Failed,
+    Refused(Refusal),
+}
+
+impl From<NoMemory> for Halt {
+    ghost from_gives = { λ _ halt. halt ≡ halt_no_memory };
+
+    fn from(_: NoMemory) -> Self {
+        Halt::NoMemory
     }
 }
 
