@@ -1,4 +1,5 @@
 pub mod Appending
+pub mod Leaving
 pub mod Orders
 pub mod Prefixes
 pub mod Whole

@@ -3,6 +3,7 @@
 //! tells its content, so that a contract can say what is made of it; the real ones don't.
 #![tactic(auto)]
 
+mod calls;
 mod folder;
 mod mem_folder;
 mod mem_sink;
@@ -10,6 +11,7 @@ mod real_folder;
 mod real_sink;
 mod sink;
 
+pub use calls::{Content, Trouble, list_names, read_content};
 pub use folder::{FILE_LIMIT, Folder, FolderFault, Name};
 pub use mem_folder::{MemFault, MemFile, MemFolder};
 pub use mem_sink::MemSink;

@@ -1,7 +1,7 @@
 -- The numbers that were resolved are those of the needs.
 use Rattle.std.proofs.Common.{◌≡◌, ℕ, List, [], get_or, map, ap, ◌∙◌}
 use Rattle.std.proofs.Math.ListN.{get_or-map}
-use Rattle.package_index.specs.declared.index.Package.{Package}
+use Rattle.plain_index.specs.declared.index.Package.{Package}
 use Rattle.plan_command.specs.FolderProblem.{no_package, no_file, releases_of, release_at}
 use Rattle.plan_command.specs.Resolved.{target_of, targets_of, targets_of_package, table_of, targets_at}
 

@@ -5,8 +5,8 @@ use Rattle.outside_folder.specs.Files.{Bytes, Files}
 use Rattle.plain_file.specs.declared.file.PlainFile.{PlainFile}
 use Rattle.plain_file.specs.File.{plain_file}
 use Rattle.plain_file.specs.Line.{LineFault}
-use Rattle.package_index.specs.declared.index.Reading.{Reading}
-use Rattle.package_index.specs.Index.{IsReading}
+use Rattle.plain_index.specs.declared.index.Reading.{Reading}
+use Rattle.plain_index.specs.Index.{IsReading}
 use Rattle.plan_command.specs.declared.answer.Answer.{Answer}
 use Rattle.plan_command.specs.declared.output.Output.{Output}
 use Rattle.plan_command.specs.Answer.{read_of, is_plan, usage, output_of}

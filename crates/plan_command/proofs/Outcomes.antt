@@ -13,10 +13,10 @@ use Rattle.outside_folder.specs.Sink.{Appends}
 use Rattle.plain_file.specs.declared.file.PlainFile.{PlainFile}
 use Rattle.plain_file.specs.File.{plain_file}
 use Rattle.plain_file.specs.Line.{LineFault}
-use Rattle.package_index.specs.declared.index.Package.{Package}
-use Rattle.package_index.specs.declared.index.Reading.{Reading}
-use Rattle.package_index.specs.declared.index.Reading.TheVariants.{Refused, Read}
-use Rattle.package_index.specs.Index.{IsReading}
+use Rattle.plain_index.specs.declared.index.Package.{Package}
+use Rattle.plain_index.specs.declared.index.Reading.{Reading}
+use Rattle.plain_index.specs.declared.index.Reading.TheVariants.{Refused, Read}
+use Rattle.plain_index.specs.Index.{IsReading}
 use Rattle.plan_command.specs.declared.answer.Answer.{Answer}
 use Rattle.plan_command.specs.declared.output.Output.{Output}
 use Rattle.plan_command.specs.declared.status.Status.{Status}

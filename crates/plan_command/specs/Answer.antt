@@ -5,7 +5,7 @@ use Rattle.choice_problem.specs.declared.outcome.Outcome.{Outcome}
 use Rattle.choice_problem.specs.declared.outcome.Outcome.TheVariants as outcome
 use Rattle.outside_folder.specs.Files.{Bytes, Files, file_at}
 use Rattle.outside_folder.specs.Folder.{within_limit}
-use Rattle.package_index.specs.declared.index.Package.{Package}
+use Rattle.plain_index.specs.declared.index.Package.{Package}
 use Rattle.plain_file.specs.Line.{is_text}
 use Rattle.plan_command.specs.declared.answer.Answer.{Answer}
 use Rattle.plan_command.specs.declared.answer.Answer.TheVariants.{Refused, Searched}

@@ -17,7 +17,7 @@ use Rattle.plain_file.specs.declared.need.Bound.TheVariants.{Any, Equal, AtLeast
 use Rattle.plain_file.specs.declared.need.Need.{Need}
 use Rattle.plain_file.specs.declared.file.PlainFile.{PlainFile}
 use Rattle.plain_file.specs.Line.{is_text}
-use Rattle.package_index.specs.declared.index.Package.{Package}
+use Rattle.plain_index.specs.declared.index.Package.{Package}
 
 -- the numbers below n, rising and falling
 abbrev pub rising : ℕ → List ℕ

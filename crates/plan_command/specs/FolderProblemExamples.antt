@@ -6,7 +6,7 @@ use Rattle.plain_file.specs.declared.need.Bound.{Bound}
 use Rattle.plain_file.specs.declared.need.Bound.TheVariants.{Any, AtLeast}
 use Rattle.plain_file.specs.declared.need.Need.{Need}
 use Rattle.plain_file.specs.declared.file.PlainFile.{PlainFile}
-use Rattle.package_index.specs.declared.index.Package.{Package}
+use Rattle.plain_index.specs.declared.index.Package.{Package}
 use Rattle.plan_command.specs.FolderProblem.{number_of, variable, is_known, is_below, problem_of}
 use Rattle.plan_command.specs.Text.{trail_text}
 

@@ -13,7 +13,7 @@ use Rattle.qualified_goals.specs.Variable.{same_var}
 use Rattle.choice_problem.specs.Problem.{IsOrderBelow, IsRoot, IsOwned, IsBounded, Lawful}
 use Rattle.choice_problem.specs.Lists.{contains-head, contains-tail, contains-none, contains-cases, contains-left, contains-right, contains-map, map-contains, and-left, and-right, and-both}
 use Rattle.qualified_goals.specs.SameVariable.{same_var-is, same_var-refl}
-use Rattle.package_index.specs.declared.index.Package.{Package}
+use Rattle.plain_index.specs.declared.index.Package.{Package}
 use Rattle.plan_command.specs.FolderProblem.{rising, falling, variable, is_known, number_of, releases_of, release_at, root_of, demand_of, problem_of}
 
 length-rising : (n : ℕ) → length (rising n) ≡ n

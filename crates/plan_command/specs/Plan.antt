@@ -3,7 +3,7 @@ use Rattle.std.specs.Prelude.{List}
 use Rattle.plan_types.specs.declared.limit.Limit.{Limit}
 use Rattle.plan_types.specs.declared.limit.Limit.TheVariants.{At}
 use Rattle.choice_problem.specs.Answer.{answer_of, outcome_of}
-use Rattle.package_index.specs.declared.index.Package.{Package}
+use Rattle.plain_index.specs.declared.index.Package.{Package}
 use Rattle.plan_command.specs.declared.answer.Answer.{Answer}
 use Rattle.plan_command.specs.declared.answer.Answer.TheVariants.{Searched}
 use Rattle.plan_command.specs.FolderProblem.{problem_of}

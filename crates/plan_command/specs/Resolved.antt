@@ -2,7 +2,7 @@
 use Rattle.std.specs.Prelude.{ℕ, List, [], slice_index_or, map}
 use Rattle.plain_file.specs.declared.need.Need.{Need}
 use Rattle.plain_file.specs.declared.file.PlainFile.{PlainFile}
-use Rattle.package_index.specs.declared.index.Package.{Package}
+use Rattle.plain_index.specs.declared.index.Package.{Package}
 use Rattle.plan_command.specs.FolderProblem.{number_of}
 
 abbrev pub target_of : List Package → Need → ℕ

@@ -8,7 +8,7 @@ use Rattle.qualified_goals.specs.declared.variable.Var.{Var}
 use Rattle.choice_problem.specs.declared.problem.Choice.{Choice}
 use Rattle.choice_problem.specs.declared.outcome.Counts.{Counts}
 use Rattle.outside_folder.specs.Files.{Bytes}
-use Rattle.package_index.specs.declared.index.Package.{Package}
+use Rattle.plain_index.specs.declared.index.Package.{Package}
 use Rattle.plan_command.specs.FolderProblem.{no_package, release_at}
 
 abbrev pub cause_name : Cause → Bytes

@@ -8,7 +8,7 @@ use crate::output::{Output, output_of_folder};
 use crate::text::USAGE;
 use choice_problem::{ends_right, limit_only_gives_up};
 use outside_folder::{Folder, Sink, write_all};
-use package_index::Trouble;
+use plain_index::Trouble;
 use plan_types::Text;
 use std::alloc::Global;
 

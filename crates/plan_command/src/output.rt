@@ -11,7 +11,7 @@ use crate::answer::{Answer, answer_of_folder};
 use crate::text::{text_of_conflict, text_of_giving_up, text_of_plan, text_of_refusal};
 use backjump::Outcome;
 use outside_folder::Folder;
-use package_index::{Package, Trouble, one_reading};
+use plain_index::{Package, Trouble, one_reading};
 use plan_types::{NoMemory, Text};
 use std::alloc::Global;
 

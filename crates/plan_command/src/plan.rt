@@ -7,7 +7,7 @@ use crate::answer::Answer;
 use crate::folder_problem::FolderProblem;
 use backjump::{Outcome, search};
 use choice_problem::{Limit, Steps};
-use package_index::Package;
+use plain_index::Package;
 use plan_types::{List, NoMemory};
 use std::alloc::Global;
 use std::marker::Brand;

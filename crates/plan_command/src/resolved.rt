@@ -8,7 +8,7 @@ ghost use Rattle.plan_command.specs.Resolved.{target_of, targets_of, targets_of_
 
 use crate::folder_problem::{meeting, number_of, numbers_of, releases_of, variable};
 use choice_problem::{Choice, Demand};
-use package_index::Package;
+use plain_index::Package;
 use plain_file::{Need, PlainFile};
 use plan_types::{List, NoMemory, Text};
 use std::alloc::Global;

@@ -5,7 +5,7 @@ ghost use Rattle.outside_folder.specs.Faults.{Rose};
 ghost use Rattle.plan_command.specs.Root.{root_names, is_hidden, is_cabal_file, is_project_part, cabal_file, unbuilt_name};
 
 use outside_folder::{Folder, FolderFault, Name};
-use package_index::Trouble;
+use plain_index::Trouble;
 use plan_types::List;
 use std::alloc::Global;
 

@@ -5,7 +5,7 @@ ghost use Rattle.plan_command.specs.Text.{cause_name, where_of, refusal_line, re
 
 use crate::folder_problem::releases_of;
 use choice_problem::{Choice, ConflictSet, Counts, Var};
-use package_index::Package;
+use plain_index::Package;
 use plan_types::{Cause, List, NoMemory, Refusal, Text};
 use std::alloc::Global;
 

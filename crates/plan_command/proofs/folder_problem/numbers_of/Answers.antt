@@ -7,7 +7,7 @@ use Rattle.std.specs.Ordering.{nat_cmp, is_eq}
 use Rattle.std.specs.Cmp.Lexicographic.{slice_cmp}
 use Rattle.std.proofs.lemmas.Map.Text.{is_eq-slice_cmp}
 use Rattle.plain_file.specs.Line.{is_text}
-use Rattle.package_index.specs.declared.index.Package.{Package}
+use Rattle.plain_index.specs.declared.index.Package.{Package}
 use Rattle.plan_command.specs.FolderProblem.{number_of}
 use Rattle.plan_command.proofs.folder_problem.numbers_of.Goals as goal
 

@@ -1,0 +1,35 @@
+-- What calls on a folder leave of it, and what is found at a path.
+use Rattle.std.specs.Prelude.{◌≡◌, ℕ, ◌≤◌, nat_lt, length, Option, Some, None, if◌then◌else◌}
+use Rattle.plan_types.specs.declared.refusal.Halt.{Halt}
+use Rattle.plan_types.specs.declared.refusal.Halt.TheVariants as halt
+use Rattle.outside_folder.specs.declared.calls.Trouble.{Trouble}
+use Rattle.outside_folder.specs.declared.calls.Trouble.TheVariants.{Failed, NoMemory}
+use Rattle.outside_folder.specs.declared.calls.Content.{Content}
+use Rattle.outside_folder.specs.declared.calls.Content.TheVariants.{Missing, TooLarge, Bytes as Holds}
+use Rattle.outside_folder.specs.Faults.{Rose}
+use Rattle.outside_folder.specs.Files.{Bytes, Files, file_at}
+use Rattle.outside_folder.specs.Folder.{file_limit}
+
+-- The files that are told stay, the count of faults doesn't fall, and it rose where the calls failed.
+pub record Leaves (files : Option Files) (faults : ℕ) (files_after : Option Files) (faults_after : ℕ) (failed : Type 0) : Type 0 where
+  pub same_files : files_after ≡ files
+  pub later : faults ≤ faults_after
+  pub rose : failed → Rose faults faults_after
+
+abbrev pub content_of : Option Bytes → Content
+content_of None = Missing
+content_of (Some bytes) = if nat_lt file_limit (length bytes) then TooLarge else Holds bytes
+
+-- what a read finds at a path
+abbrev pub content_at : Files → Bytes → Content
+content_at files path = content_of (file_at files path)
+
+-- a file that was read isn't too large
+abbrev pub IsWithin : Content → Type 0
+IsWithin Missing = Unit {0}
+IsWithin TooLarge = Unit {0}
+IsWithin (Holds bytes) = length bytes ≤ file_limit
+
+abbrev pub halt_of : Trouble → Halt
+halt_of Failed = halt.Failed
+halt_of NoMemory = halt.NoMemory

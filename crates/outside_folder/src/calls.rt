@@ -1,0 +1,84 @@
+// A folder's answers as the layers above take them: what is at a path, or that the run ends.
+ghost use Rattle.std.specs.Prelude.{◌≡◌, IfOk, IfSome, IsErrOf};
+ghost use Rattle.outside_folder.specs.declared.calls.Trouble.TheVariants.{NoMemory as trouble_no_memory};
+ghost use Rattle.outside_folder.specs.Calls.{IsWithin, Leaves, content_at, halt_of};
+ghost use Rattle.outside_folder.specs.Files.{listing};
+ghost use Rattle.outside_folder.specs.Folder.{IsInOrder};
+
+use crate::{Folder, FolderFault, Name};
+use plan_types::{Halt, List, NoMemory};
+use std::alloc::Global;
+
+/// What ends a run at the moment at which it happens.
+#[derive(Clone, Copy, Debug, PartialEq, Eq)]
+pub enum Trouble {
+    /// The folder failed.
+    Failed,
+    NoMemory,
+}
+
+impl From<NoMemory> for Trouble {
+    ghost from_gives = { λ _ trouble. trouble ≡ trouble_no_memory };
+
+    fn from(_: NoMemory) -> Self {
+        Trouble::NoMemory
+    }
+}
+
+impl From<Trouble> for Halt {
+    ghost from_gives = { λ trouble halt. halt ≡ halt_of trouble };
+
+    fn from(trouble: Trouble) -> Self {
+        match trouble {
+            Trouble::Failed => Halt::Failed,
+            Trouble::NoMemory => Halt::NoMemory,
+        }
+    }
+}
+
+/// What is at a path.
+#[derive(Debug, PartialEq, Eq, Drop)]
+pub enum Content {
+    /// No file.
+    Missing,
+    /// A file of more than 1,048,576 bytes.
+    TooLarge,
+    Bytes(List<u8>),
+}
+
+/// The names in a directory, in byte order, each once; `None` where there is no such directory.
+pub fn list_names<F: Folder>(
+    alloc: Global,
+    folder: &mut F,
+    dir: &str,
+) -> Result<Option<List<Name>>, Trouble>
+    ensures told { IfSome (F.tells folder.old) (λ files. IfOk result (λ names. names ≡ listing files dir.now)) }
+    ensures order { IfOk result (λ names. IfSome names IsInOrder) }
+    ensures folder { Leaves (F.tells folder.old) (F.faults folder.old) (F.tells folder.new) (F.faults folder.new) (IsErrOf result Trouble.Failed) }
+{
+    match folder.list(alloc, dir) {
+        Ok(names) => Ok(names),
+        Err(FolderFault::Failed) => Err(Trouble::Failed),
+        Err(FolderFault::NoMemory) => Err(Trouble::NoMemory),
+        Err(FolderFault::TooLarge) => unreachable!(),
+    }
+}
+
+/// What is at a path.
+pub fn read_content<F: Folder>(
+    alloc: Global,
+    folder: &mut F,
+    path: &str,
+) -> Result<Content, Trouble>
+    ensures told { IfSome (F.tells folder.old) (λ files. IfOk result (λ content. content ≡ content_at files path.now)) }
+    ensures within { IfOk result IsWithin }
+    ensures folder { Leaves (F.tells folder.old) (F.faults folder.old) (F.tells folder.new) (F.faults folder.new) (IsErrOf result Trouble.Failed) }
+{
+    match folder.read(alloc, path) {
+        Ok(None) => Ok(Content::Missing),
+        Ok(Some(bytes)) => Ok(Content::Bytes(bytes)),
+        Err(FolderFault::TooLarge) => Ok(Content::TooLarge),
+        Err(FolderFault::Failed) => Err(Trouble::Failed),
+        Err(FolderFault::NoMemory) => Err(Trouble::NoMemory),
+    }
+}
