@@ -1,5 +1,8 @@
 pub mod Appending
 pub mod Leaving
+pub mod Listings
 pub mod Orders
+pub mod Places
 pub mod Prefixes
+pub mod Trees
 pub mod Whole

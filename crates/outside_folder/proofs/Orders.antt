@@ -14,3 +14,7 @@ texts-as_names (e ∷ es) = ap (λ texts. e.0 ∷ texts) (texts-as_names es)
 
 pub names_in_order : (entries : List (Bytes × Bool)) → IsStrictlySortedBy (slice_cmp nat_cmp) (keys_of entries) → IsInOrder (as_names entries)
 names_in_order entries ordered = subst (IsStrictlySortedBy (slice_cmp nat_cmp)) (sym (texts-as_names entries)) ordered
+
+pub none_in_order : IsInOrder []
+unfolding IsStrictlySortedBy
+none_in_order = tt

@@ -1,8 +1,52 @@
 -- Files in memory.
-use Rattle.std.specs.Prelude.{List, map}
+use Rattle.std.specs.Prelude.{ℕ, Bool, Option, [], ◌≡◌, ◌≢◌, ◌<◌, List, length, map, take, slice_index, slice_index_or, None, Some, IsSome, String}
+use Rattle.std.specs.BTreeMap.{BTreeMap, get_by_text}
+use Rattle.std.specs.declared.alloc.Global.{Global}
 use Rattle.outside_folder.specs.declared.mem_folder.MemFile.{MemFile}
-use Rattle.outside_folder.specs.Files.{Files}
+use Rattle.plan_types.specs.declared.text.Text.{Text}
+use Rattle.outside_folder.specs.Files.{Bytes, Files, file_at, name_in, names_in, slash, with_name}
 
 -- the paths and bytes of files
 abbrev pub told : List MemFile → Files
 told files = map (λ file. (file.path, file.bytes)) files
+
+-- the table gives the place of the file at each path
+abbrev pub Placed : List MemFile → BTreeMap (String Global) ℕ → Type 0
+Placed files places = (path : Bytes) → (get_by_text places path ≡ None → file_at (told files) path ≡ None)
+    × ((place : ℕ) → get_by_text places path ≡ Some place → (place < length files) × ((d : MemFile) → file_at (told files) path ≡ Some (slice_index_or files place d).bytes))
+
+-- no two have the same path
+abbrev pub AreDistinct : List MemFile → Type 0
+AreDistinct files = (i j : ℕ) (d : MemFile) → i < j → j < length files → (slice_index_or files i d).path ≢ (slice_index_or files j d).path
+
+-- so many bytes of a path are those of a directory in which it lies
+abbrev pub IsFront : Bytes → ℕ → Type 0
+IsFront path n = (n < length path) × (slice_index path n ≡ slash)
+
+-- no file stands where the path has a directory
+abbrev pub IsFree : BTreeMap (String Global) ℕ → Bytes → Type 0
+IsFree places path = (n : ℕ) → IsFront path n → get_by_text places (take n path) ≡ None
+
+abbrev pub IsUnderFile : BTreeMap (String Global) ℕ → Bytes → Type 0
+IsUnderFile places path = (n : ℕ) × IsFront path n × IsSome (get_by_text places (take n path))
+
+-- a table of the names in each directory
+abbrev pub Dirs : Type 0
+Dirs = BTreeMap (String Global) (BTreeMap Text Bool)
+
+abbrev pub entries_of : Option (BTreeMap Text Bool) → List (Bytes × Bool)
+entries_of None = []
+entries_of (Some names) = names.entries
+
+abbrev pub names_at : Dirs → Bytes → List (Bytes × Bool)
+names_at dirs dir = entries_of (get_by_text dirs dir)
+
+-- the table gives the names in each directory
+abbrev pub Listed : List MemFile → Dirs → Type 0
+Listed files dirs = (dir : Bytes) → names_at dirs dir ≡ names_in (told files) dir
+
+-- of the directories whose paths have so many bytes, each has the name by which the path goes on from it, too
+abbrev pub AddsAt : Dirs → Dirs → Bytes → ℕ → Type 0
+AddsAt old new path end =
+    ((dir : Bytes) → length dir ≡ end → names_at new dir ≡ with_name (names_at old dir) (name_in dir path))
+    × ((dir : Bytes) → length dir ≢ end → names_at new dir ≡ names_at old dir)

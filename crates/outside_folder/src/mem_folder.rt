@@ -1,12 +1,13 @@
-ghost use Rattle.std.specs.Prelude.{◌≡◌, ◌≤◌, ◌^◌, ◌-◌, ◌↔◌, [], Some, IfOk, IfSome, IsSome, OnOk, IsOk, IfErr, IsErrOf, IsTrue, IsFalse};
-ghost use Rattle.std.specs.List.{list_any};
+ghost use Rattle.std.specs.Prelude.{◌≡◌, ◌≤◌, ◌^◌, ◌-◌, ◌⊎◌, ◌↔◌, [], true, false, MatchOption, MatchBool, None, Some, ℕ, List, ◌<◌, length, take, if◌then◌else◌, IfOk, IfSome, IsSome, OnOk, IsOk, IfErr, IsErrOf, IsTrue, IsFalse};
+ghost use Rattle.std.specs.BTreeMap.{get_by_text};
+ghost use Rattle.std.specs.Str.{bytes_eq};
 ghost use Rattle.std.specs.Option.{option_copied, option_map};
-ghost use Rattle.outside_folder.specs.Files.{is_tree, is_path, clashes, after, inside, first_name, name_in, with_name, names_in, file_at, listing};
-ghost use Rattle.outside_folder.specs.MemFile.{told};
+ghost use Rattle.outside_folder.specs.declared.mem_folder.MemFault.TheVariants.{NoMemory as mem_fault_no_memory};
+ghost use Rattle.outside_folder.specs.Files.{is_tree, is_path, after, inside, first_name, name_in, with_name, as_names, unless_missing, file_at};
+ghost use Rattle.outside_folder.specs.MemFile.{told, Placed, Listed, AddsAt, names_at, AreDistinct, IsFront, IsFree, IsUnderFile};
 ghost use Rattle.outside_folder.specs.Folder.{Lists, Reads, IsInOrder, IsWithinLimit};
 ghost use Rattle.outside_folder.specs.Faults.{Rose, among, ceiling_of, fails_next, next_count};
 
-use crate::folder::as_names;
 use crate::{FILE_LIMIT, Folder, FolderFault, Name};
 use plan_types::{List, NoMemory, Text};
 use std::alloc::Global;
@@ -30,15 +31,29 @@ pub enum MemFault {
     BadTree,
 }
 
+impl From<NoMemory> for MemFault {
+    ghost from_gives = { λ _ fault. fault ≡ mem_fault_no_memory };
+
+    fn from(_: NoMemory) -> Self {
+        MemFault::NoMemory
+    }
+}
+
 /// A folder in memory, which tells its files. The calls with these numbers fail, lists and reads
 /// counted together from 1.
 #[derive(Drop)]
 pub struct MemFolder {
     files: List<MemFile>,
+    /// The place of each file, by its path.
+    places: BTreeMap<String, usize>,
+    /// The names in each directory.
+    dirs: BTreeMap<String, BTreeMap<Text, bool>>,
     fail_at: List<u64>,
     calls: u64,
     faults: u64,
     ghost tree: { IsTrue (is_tree (told files)) },
+    ghost placed: { Placed files places },
+    ghost listed: { Listed files dirs },
     ghost counted: { faults ≤ calls },
     ghost bounded: { faults ≤ ceiling_of fail_at },
 }
@@ -46,19 +61,26 @@ pub struct MemFolder {
 impl MemFolder {
     ghost use Rattle.outside_folder.specs.MemFolder.{mem_files, mem_calls, mem_fail_at, mem_faults};
 
-    pub fn new(files: List<MemFile>, fail_at: List<u64>) -> Result<MemFolder, MemFault>
+    pub fn new(
+        alloc: Global,
+        files: List<MemFile>,
+        fail_at: List<u64>,
+    ) -> Result<MemFolder, MemFault>
         ensures files { IfOk result (λ folder. mem_files folder ≡ told files) }
         ensures fail_at { IfOk result (λ folder. mem_fail_at folder ≡ fail_at) }
         ensures no_calls { IfOk result (λ folder. mem_calls folder ≡ 0) }
         ensures no_faults { IfOk result (λ folder. mem_faults folder ≡ 0) }
-        ensures tree { IsOk result ↔ IsTrue (is_tree (told files)) }
-        ensures bad_tree { IfErr result (λ fault. fault ≡ MemFault.BadTree) }
+        ensures tree { IsOk result → IsTrue (is_tree (told files)) }
+        ensures bad_tree { IsErrOf result MemFault.BadTree → is_tree (told files) ≡ false }
     {
-        if !is_tree(files.as_slice()) {
+        let Some(places) = tree_places(alloc, files.as_slice())? else {
             return Err(MemFault::BadTree);
-        }
+        };
+        let dirs = dirs_of(alloc, files.as_slice())?;
         Ok(MemFolder {
             files,
+            places,
+            dirs,
             fail_at,
             calls: 0,
             faults: 0,
@@ -120,7 +142,7 @@ impl Folder for MemFolder {
         if self.fails() {
             return Err(FolderFault::Failed);
         }
-        Ok(listing(alloc, self.files.as_slice(), dir)?)
+        Ok(listing(alloc, &self.dirs, dir)?)
     }
 
     fn read(&mut self, alloc: Global, path: &str) -> Result<Option<List<u8>>, FolderFault>
@@ -143,7 +165,7 @@ impl Folder for MemFolder {
         if self.fails() {
             Err(FolderFault::Failed)
         } else {
-            bytes_at(alloc, self.files.as_slice(), path)
+            bytes_at(alloc, self.files.as_slice(), &self.places, path)
         }
     }
 }
@@ -155,12 +177,18 @@ pub(crate) fn is_among(numbers: &[u64], number: u64) -> bool
 }
 
 // A copy of the file at a path.
-fn bytes_at(alloc: Global, files: &[MemFile], path: &str) -> Result<Option<List<u8>>, FolderFault>
+fn bytes_at(
+    alloc: Global,
+    files: &[MemFile],
+    places: &BTreeMap<String, usize>,
+    path: &str,
+) -> Result<Option<List<u8>>, FolderFault>
+    requires { Placed files.now places.now }
     ensures told { Reads (Some (told files.now)) path.now result }
     ensures within { IfOk result IsWithinLimit }
     ensures not_failed { IsErrOf result FolderFault.Failed → ⊥ }
 {
-    match find(files, path) {
+    match find(files, places, path) {
         None => Ok(None),
         Some(bytes) => {
             if bytes.len() > FILE_LIMIT {
@@ -177,36 +205,150 @@ fn copy_of(alloc: Global, bytes: &[u8]) -> Result<List<u8>, NoMemory>
     Ok(List::from_vec(bytes.to_vec(alloc)?))
 }
 
-fn find<'a>(files: &'a [MemFile], path: &str) -> Option<&'a [u8]>
+fn find<'a>(files: &'a [MemFile], places: &BTreeMap<String, usize>, path: &str) -> Option<&'a [u8]>
+    requires { Placed files.now places.now }
     ensures { option_copied result ≡ file_at (told files.now) path.now }
 {
-    for file in files {
-        if file.path.as_str() == path {
-            return Some(file.bytes.as_slice());
-        }
-    }
-    None
+    let place = place_at(places, path)?;
+    Some(files[place].bytes.as_slice())
 }
 
-fn listing(alloc: Global, files: &[MemFile], dir: &str) -> Result<Option<List<Name>>, NoMemory>
-    ensures told { IfOk result (λ names. names ≡ listing (told files.now) dir.now) }
+fn place_at(places: &BTreeMap<String, usize>, path: &str) -> Option<usize>
+    ensures { result ≡ get_by_text places.now path.now }
+{
+    places.get(path).copied()
+}
+
+fn listing(
+    alloc: Global,
+    dirs: &BTreeMap<String, BTreeMap<Text, bool>>,
+    dir: &str,
+) -> Result<Option<List<Name>>, NoMemory>
+    ensures told { IfOk result (λ names. names ≡ unless_missing dir.now (names_at dirs.now dir.now)) }
     ensures order { IfOk result (λ names. IfSome names IsInOrder) }
 {
-    let names = names_in(alloc, files, dir)?;
+    let names = names_of(alloc, dirs, dir)?;
     if names.is_empty() && !dir.is_empty() {
         return Ok(None);
     }
-    Ok(Some(as_names(alloc, names)?))
+    Ok(Some(names))
 }
 
-fn names_in(alloc: Global, files: &[MemFile], dir: &str) -> Result<BTreeMap<Text, bool>, NoMemory>
-    ensures { IfOk result (λ names. names.entries ≡ names_in (told files.now) dir.now) }
+fn names_of(
+    alloc: Global,
+    dirs: &BTreeMap<String, BTreeMap<Text, bool>>,
+    dir: &str,
+) -> Result<List<Name>, NoMemory>
+    ensures names { IfOk result (λ listed. listed ≡ as_names (names_at dirs.now dir.now)) }
+    ensures order { IfOk result IsInOrder }
 {
-    let mut names = BTreeMap::new(alloc);
-    for file in files {
-        add_name(alloc, &mut names, name_in(dir, file.path.as_str()))?;
+    match dirs.get(dir) {
+        Some(names) => copied_names(alloc, names),
+        None => Ok(List::new(alloc)),
     }
-    Ok(names)
+}
+
+fn copied_names(alloc: Global, names: &BTreeMap<Text, bool>) -> Result<List<Name>, NoMemory>
+    ensures names { IfOk result (λ listed. listed ≡ as_names names.now.entries) }
+    ensures order { IfOk result IsInOrder }
+{
+    let mut listed = List::new(alloc);
+    for (text, folder) in names.iter() {
+        let text = text.copy()?;
+        listed.push(Name {
+            text,
+            folder: *folder,
+        })?;
+    }
+    Ok(listed)
+}
+
+// The names in each directory in which a file lies.
+fn dirs_of(
+    alloc: Global,
+    files: &[MemFile],
+) -> Result<BTreeMap<String, BTreeMap<Text, bool>>, NoMemory>
+    ensures { IfOk result (λ dirs. Listed files.now dirs) }
+{
+    let mut dirs = BTreeMap::new(alloc);
+    for file in files {
+        add_path(alloc, &mut dirs, file.path.as_str())?;
+    }
+    Ok(dirs)
+}
+
+// Adds the name by which a path goes on, in each directory in which it lies.
+fn add_path(
+    alloc: Global,
+    dirs: &mut BTreeMap<String, BTreeMap<Text, bool>>,
+    path: &str,
+) -> Result<(), NoMemory>
+    ensures { OnOk result ((dir : List ℕ) → names_at dirs.new dir ≡ with_name (names_at dirs.old dir) (name_in dir path.now)) }
+{
+    add_in(alloc, dirs, "", path)?;
+    for end in 1..path.len() {
+        add_at(alloc, dirs, path, end)?;
+    }
+    Ok(())
+}
+
+// The same for the one directory that ends at a place.
+fn add_at(
+    alloc: Global,
+    dirs: &mut BTreeMap<String, BTreeMap<Text, bool>>,
+    path: &str,
+    end: usize,
+) -> Result<(), NoMemory>
+    requires begun { 0 < end }
+    requires within { end < length path.now }
+    ensures { OnOk result (AddsAt dirs.old dirs.new path.now end) }
+{
+    if path.as_bytes()[end] != b'/' {
+        return Ok(());
+    }
+    let (dir, _) = path.split_at(end);
+    add_in(alloc, dirs, dir, path)
+}
+
+// The same for one directory.
+fn add_in(
+    alloc: Global,
+    dirs: &mut BTreeMap<String, BTreeMap<Text, bool>>,
+    dir: &str,
+    path: &str,
+) -> Result<(), NoMemory>
+    ensures { OnOk result ((other : List ℕ) → names_at dirs.new other ≡ (if bytes_eq dir.now other then with_name (names_at dirs.old dir.now) (name_in dir.now path.now) else names_at dirs.old other)) }
+{
+    let mut names = taken_names(alloc, dirs, dir);
+    add_name(alloc, &mut names, name_in(dir, path))?;
+    put_names(alloc, dirs, dir, names)
+}
+
+// The names of a directory, which are taken out.
+fn taken_names(
+    alloc: Global,
+    dirs: &mut BTreeMap<String, BTreeMap<Text, bool>>,
+    dir: &str,
+) -> BTreeMap<Text, bool>
+    ensures names { result.entries ≡ names_at dirs.old dir.now }
+    ensures others { (other : List ℕ) → bytes_eq dir.now other ≡ false → names_at dirs.new other ≡ names_at dirs.old other }
+{
+    match dirs.remove(dir) {
+        Some(names) => names,
+        None => BTreeMap::new(alloc),
+    }
+}
+
+fn put_names(
+    alloc: Global,
+    dirs: &mut BTreeMap<String, BTreeMap<Text, bool>>,
+    dir: &str,
+    names: BTreeMap<Text, bool>,
+) -> Result<(), NoMemory>
+    ensures { OnOk result ((other : List ℕ) → names_at dirs.new other ≡ (if bytes_eq dir.now other then names.entries else names_at dirs.old other)) }
+{
+    dirs.insert(String::from_str(alloc, dir)?, names)?;
+    Ok(())
 }
 
 fn add_name(
@@ -260,17 +402,81 @@ fn after<'a>(front: &str, path: &'a str) -> Option<&'a str>
     path.strip_prefix(front)
 }
 
-fn is_tree(files: &[MemFile]) -> bool
+// The place of each file, where the files make a tree.
+fn tree_places(
+    alloc: Global,
+    files: &[MemFile],
+) -> Result<Option<BTreeMap<String, usize>>, NoMemory>
+    ensures { IfOk result (λ found. MatchOption found (is_tree (told files.now) ≡ false) (λ places. IsTrue (is_tree (told files.now)) × Placed files.now places)) }
+{
+    let Some(places) = places_of(alloc, files)? else {
+        return Ok(None);
+    };
+    if stand_apart(files, &places) {
+        Ok(Some(places))
+    } else {
+        Ok(None)
+    }
+}
+
+// The place of each file, where no two have the same path.
+fn places_of(alloc: Global, files: &[MemFile]) -> Result<Option<BTreeMap<String, usize>>, NoMemory>
+    ensures { IfOk result (λ found. MatchOption found (is_tree (told files.now) ≡ false) (λ places. AreDistinct files.now × Placed files.now places)) }
+{
+    let mut places = BTreeMap::new(alloc);
+    for place in 0..files.len() {
+        let path = files[place].path.as_str();
+        if place_at(&places, path).is_some() {
+            return Ok(None);
+        }
+        places.insert(String::from_str(alloc, path)?, place)?;
+    }
+    Ok(Some(places))
+}
+
+// Whether each path is one, and no file stands where a path has a directory.
+fn stand_apart(files: &[MemFile], places: &BTreeMap<String, usize>) -> bool
+    requires distinct { AreDistinct files.now }
+    requires placed { Placed files.now places.now }
     ensures { result ≡ is_tree (told files.now) }
 {
-    let mut rest = files;
-    while let [file, others @ ..] = rest {
-        if !is_path(file.path.as_bytes()) || clashes_with_any(file.path.as_str(), others) {
+    for file in files {
+        if !fits(places, file.path.as_str()) {
             return false;
         }
-        rest = others;
     }
     true
+}
+
+// Whether a path is one, and no file stands where it has a directory.
+fn fits(places: &BTreeMap<String, usize>, path: &str) -> bool
+    ensures { MatchBool result ((is_path path.now ≡ true) × IsFree places.now path.now) ((is_path path.now ≡ false) ⊎ IsUnderFile places.now path.now) }
+{
+    is_path(path.as_bytes()) && !has_file_above(places, path)
+}
+
+// Whether there is a file where a path has a directory.
+fn has_file_above(places: &BTreeMap<String, usize>, path: &str) -> bool
+    ensures { MatchBool result (IsUnderFile places.now path.now) (IsFree places.now path.now) }
+{
+    for end in 0..path.len() {
+        if is_file_above(places, path, end) {
+            return true;
+        }
+    }
+    false
+}
+
+// Whether a path has a slash at this place, and a file stands before it.
+fn is_file_above(places: &BTreeMap<String, usize>, path: &str, end: usize) -> bool
+    requires { end < length path.now }
+    ensures { MatchBool result (IsFront path.now end × IsSome (get_by_text places.now (take end path.now))) (IsFront path.now end → get_by_text places.now (take end path.now) ≡ None) }
+{
+    if path.as_bytes()[end] != b'/' {
+        return false;
+    }
+    let (front, _) = path.split_at(end);
+    place_at(places, front).is_some()
 }
 
 fn is_path(path: &[u8]) -> bool
@@ -278,23 +484,6 @@ fn is_path(path: &[u8]) -> bool
 {
     path.split(|byte| *byte == b'/')
         .all(|name| !name.is_empty())
-}
-
-fn clashes_with_any(path: &str, files: &[MemFile]) -> bool
-    ensures { result ≡ list_any (λ other. clashes path.now other.0) (told files.now) }
-{
-    for file in files {
-        if clashes(path, file.path.as_str()) {
-            return true;
-        }
-    }
-    false
-}
-
-fn clashes(one: &str, other: &str) -> bool
-    ensures { result ≡ clashes one.now other.now }
-{
-    one == other || inside(one, other).is_some() || inside(other, one).is_some()
 }
 
 #[cfg(test)]
@@ -315,7 +504,7 @@ mod tests {
             files.push(MemFile { path, bytes })?;
         }
         let fail_at = List::from_vec(fail_at.to_vec(alloc)?);
-        Ok(MemFolder::new(files, fail_at))
+        Ok(MemFolder::new(alloc, files, fail_at))
     }
 
     // The names, with a `/` behind those of directories, each with a space behind it.
@@ -402,6 +591,31 @@ mod tests {
     }
 
     #[test]
+    fn many_files(rt: HostRuntime) -> Result<(), Fail> {
+        let mut paths = Vec::new(rt.alloc());
+        for number in 0..20_001u32 {
+            let path = format!(in rt.alloc(); "index/p{number}/1/p.cabal")?;
+            paths.push(path)?;
+        }
+        let mut files = List::new(rt.alloc());
+        for path in &paths {
+            let path = Text::from_str(rt.alloc(), path.as_str())?;
+            let bytes = List::new(rt.alloc());
+            files.push(MemFile { path, bytes })?;
+        }
+        let mut folder = MemFolder::new(rt.alloc(), files, List::new(rt.alloc()))?;
+        match folder.list(rt.alloc(), "index")? {
+            None => assert!(rt; false),
+            Some(names) => assert_eq!(rt; names.len(), 20_001),
+        }
+        for path in &paths {
+            let bytes = folder.read(rt.alloc(), path.as_str())?;
+            assert!(rt; bytes.is_some(), "{path}");
+        }
+        Ok(())
+    }
+
+    #[test]
     fn reads_up_to_the_limit(rt: HostRuntime) -> Result<(), Fail> {
         for (length, fits) in [(1_048_576, true), (1_048_577, false)] {
             let mut files = List::new(rt.alloc());
@@ -409,7 +623,7 @@ mod tests {
                 path: Text::from_str(rt.alloc(), "a")?,
                 bytes: List::from_vec(vec![in rt.alloc(); 7u8; length]?),
             })?;
-            let mut folder = MemFolder::new(files, List::new(rt.alloc()))?;
+            let mut folder = MemFolder::new(rt.alloc(), files, List::new(rt.alloc()))?;
             match folder.read(rt.alloc(), "a") {
                 Ok(_) => assert!(rt; fits),
                 Err(fault) => {

@@ -28,7 +28,7 @@ fn folder_of(alloc: Global, files: &[(&str, &str)], fail_at: &[u64]) -> Result<M
             bytes: List::from_vec(text.as_bytes().to_vec(alloc)?),
         })?;
     }
-    Ok(MemFolder::new(listed, List::from_vec(fail_at.to_vec(alloc)?))?)
+    Ok(MemFolder::new(alloc, listed, List::from_vec(fail_at.to_vec(alloc)?))?)
 }
 
 // Each package's name and versions, with a space before each version and a line end behind the last.

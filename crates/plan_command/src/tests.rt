@@ -70,7 +70,7 @@ fn folder_of(alloc: Global, files: &[(&str, &str)], fail_at: &[u64]) -> Result<M
             bytes: List::from_vec(text.as_bytes().to_vec(alloc)?),
         })?;
     }
-    Ok(MemFolder::new(listed, numbers(alloc, fail_at)?)?)
+    Ok(MemFolder::new(alloc, listed, numbers(alloc, fail_at)?)?)
 }
 
 #[derive(Clone, Copy)]
@@ -262,7 +262,7 @@ fn a_file_one_byte_too_large_is_refused(rt: HostRuntime) -> Result<(), Fail> {
             path: Text::from_str(alloc, path)?,
             bytes: List::from_vec(vec![in alloc; b' '; length]?),
         })?;
-        let mut folder = MemFolder::new(files, numbers(alloc, &[])?)?;
+        let mut folder = MemFolder::new(alloc, files, numbers(alloc, &[])?)?;
         let mut out = MemSink::new(alloc, 1000, 1000, numbers(alloc, &[])?)?;
         let status = run(alloc, words.as_slice(), &mut folder, &mut out);
         assert_eq!(rt; status, Status::Refused);

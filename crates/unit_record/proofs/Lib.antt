@@ -1,0 +1,5 @@
+pub mod Cuts
+pub mod Pushed
+pub mod Steps
+pub mod One
+pub mod Sound

@@ -1,0 +1,113 @@
+-- The record of an installed unit.
+use Rattle.std.specs.Prelude.{◌≡◌, ◌⊎◌, ℕ, Bool, true, false, if◌then◌else◌, List, [], ◌∷◌, flat_map, Option, Some, None, Result, Ok, Err}
+use Rattle.std.specs.List.{list_any}
+use Rattle.plan_types.specs.declared.element.Element.{Element}
+use Rattle.plan_types.specs.declared.index.UnitRecord.{UnitRecord}
+use Rattle.plan_types.specs.declared.refusal.Cause.{Cause}
+use Rattle.plan_types.specs.declared.version.Version.{Version}
+use Rattle.cabal_lexer.specs.Fault.{IsTree, IsFault}
+use Rattle.unit_record.specs.Fields.{Field, Say, top_fields}
+use Rattle.unit_record.specs.declared.field.Said.{Said}
+use Rattle.unit_record.specs.declared.field.Said.TheVariants.{Name, Version as VersionOf, Id, Depends, LibName, Unread}
+use Rattle.unit_record.specs.declared.told.Told.{Told}
+
+abbrev pub is_lib_name : Said → Bool
+is_lib_name (Name name) = false
+is_lib_name (VersionOf version) = false
+is_lib_name (Id id) = false
+is_lib_name (Depends ids) = false
+is_lib_name LibName = true
+is_lib_name Unread = false
+
+abbrev pub name_of : Said → Option (List ℕ)
+name_of (Name name) = name
+name_of (VersionOf version) = None
+name_of (Id id) = None
+name_of (Depends ids) = None
+name_of LibName = None
+name_of Unread = None
+
+abbrev pub version_of : Said → Option Version
+version_of (Name name) = None
+version_of (VersionOf version) = version
+version_of (Id id) = None
+version_of (Depends ids) = None
+version_of LibName = None
+version_of Unread = None
+
+abbrev pub id_of : Said → Option (List ℕ)
+id_of (Name name) = None
+id_of (VersionOf version) = None
+id_of (Id id) = id
+id_of (Depends ids) = None
+id_of LibName = None
+id_of Unread = None
+
+abbrev pub depends_of : Said → List (List ℕ)
+depends_of (Name name) = []
+depends_of (VersionOf version) = []
+depends_of (Id id) = []
+depends_of (Depends ids) = ids
+depends_of LibName = []
+depends_of Unread = []
+
+abbrev pub is_missing : {A : Type 0} → Option A → Bool
+is_missing None = true
+is_missing (Some a) = false
+
+-- whether a value isn't of its form
+abbrev pub is_bad : Said → Bool
+is_bad (Name name) = is_missing name
+is_bad (VersionOf version) = is_missing version
+is_bad (Id id) = is_missing id
+is_bad (Depends ids) = false
+is_bad LibName = false
+is_bad Unread = false
+
+-- the line of the first field with a bad value; lines rise from field to field
+abbrev pub first_bad : List Field → Option ℕ
+first_bad [] = None
+first_bad (field ∷ fields) = if is_bad field.said then Some field.line else first_bad fields
+
+abbrev pub or_else : {A : Type 0} → Option A → Option A → Option A
+or_else None other = other
+or_else (Some a) other = Some a
+
+-- what the last field that says such a thing says
+abbrev pub last : {A : Type 0} → (Said → Option A) → List Field → Option A
+last of [] = None
+last of (field ∷ fields) = or_else (last of fields) (of field.said)
+
+-- what fields tell together
+abbrev pub told : List Field → Told
+told fields =
+    record {
+      left_out = list_any (λ field. is_lib_name field.said) fields;
+      bad = first_bad fields;
+      name = last name_of fields;
+      version = last version_of fields;
+      id = last id_of fields;
+      depends = flat_map (λ field. depends_of field.said) fields;
+    }
+
+-- a record, where nothing is missing
+abbrev pub complete : Option (List ℕ) → Option Version → Option (List ℕ) → List (List ℕ) → Result (Option UnitRecord) ℕ
+complete (Some name) (Some version) (Some id) depends = Ok (Some (record { name = name; version = version; id = id; depends = depends }))
+complete (Some name) (Some version) None depends = Err 0
+complete (Some name) None id depends = Err 0
+complete None version id depends = Err 0
+
+-- a record, where no value is bad
+abbrev pub sound : Option ℕ → Result (Option UnitRecord) ℕ → Result (Option UnitRecord) ℕ
+sound None found = found
+sound (Some line) found = Err line
+
+-- The record of a sublibrary is left out, whatever else stands in it.
+abbrev pub outcome : Told → Result (Option UnitRecord) ℕ
+outcome told = if told.left_out then Ok None else sound told.bad (complete told.name told.version told.id told.depends)
+
+-- The bytes are this record, or none, or can't be read at a line: that of the fault of the layout, where there is no tree.
+abbrev pub IsRecord : List ℕ → Result (Option UnitRecord) ℕ → Type 0
+IsRecord bytes found =
+    ((line : ℕ) × (cause : Cause) × IsFault bytes line cause × (found ≡ Err line))
+    ⊎ ((items : List Element) × (fields : List Field) × IsTree bytes items × Say (top_fields items) fields × (found ≡ outcome (told fields)))

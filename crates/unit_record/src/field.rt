@@ -1,0 +1,111 @@
+// A field of a record, and what it says.
+ghost use Rattle.std.specs.Prelude.{◌≡◌, IfOk};
+ghost use Rattle.plan_types.specs.Bytes.{joined_text};
+ghost use Rattle.unit_record.specs.Fields.{FieldSays, IsVersion, field_word, package_name, unit_id};
+
+use crate::words::{is_unit_id, words};
+use plan_types::{List, NoMemory, Text, TextFault, Version, is_package_name, joined_text};
+use std::alloc::Global;
+use version_range::read_version;
+
+/// Fields that are read.
+#[derive(Clone, Copy, Debug, PartialEq, Eq)]
+pub enum FieldWord {
+    Name,
+    Version,
+    Id,
+    Depends,
+    LibName,
+    Unread,
+}
+
+/// What a field says.
+#[derive(Debug, Drop)]
+pub enum Said {
+    /// None where its value isn't of its form. The same holds for the next two.
+    Name(Option<Text>),
+    Version(Option<Version>),
+    Id(Option<Text>),
+    Depends(List<Text>),
+    /// The unit is a sublibrary.
+    LibName,
+    Unread,
+}
+
+fn field_word(name: &str) -> FieldWord
+    ensures { result ≡ field_word name.now }
+{
+    match name {
+        "name" => FieldWord::Name,
+        "version" => FieldWord::Version,
+        "id" => FieldWord::Id,
+        "depends" => FieldWord::Depends,
+        "lib-name" => FieldWord::LibName,
+        _ => FieldWord::Unread,
+    }
+}
+
+/// What a field of this name and these values says.
+pub fn said_by(alloc: Global, name: &Text, values: &List<Text>) -> Result<Said, NoMemory>
+    ensures { IfOk result (FieldSays (field_word name.now) (joined_text values.now)) }
+{
+    said_as(alloc, field_word(name.as_str()), values)
+}
+
+// The values of a field that is unread aren't joined.
+fn said_as(alloc: Global, word: FieldWord, values: &List<Text>) -> Result<Said, NoMemory>
+    ensures { IfOk result (FieldSays word (joined_text values.now)) }
+{
+    match word {
+        FieldWord::Name => {
+            let text = joined_text(alloc, values.as_slice())?;
+            Ok(Said::Name(package_name(text)))
+        }
+        FieldWord::Version => {
+            let text = joined_text(alloc, values.as_slice())?;
+            let version = version(alloc, &text)?;
+            Ok(Said::Version(version))
+        }
+        FieldWord::Id => {
+            let text = joined_text(alloc, values.as_slice())?;
+            Ok(Said::Id(unit_id(text)))
+        }
+        FieldWord::Depends => {
+            let text = joined_text(alloc, values.as_slice())?;
+            let ids = words(alloc, text.as_str())?;
+            Ok(Said::Depends(ids))
+        }
+        FieldWord::LibName => Ok(Said::LibName),
+        FieldWord::Unread => Ok(Said::Unread),
+    }
+}
+
+fn package_name(text: Text) -> Option<Text>
+    ensures { result ≡ package_name text }
+{
+    if is_package_name(text.as_bytes()) {
+        Some(text)
+    } else {
+        None
+    }
+}
+
+fn version(alloc: Global, text: &Text) -> Result<Option<Version>, NoMemory>
+    ensures { IfOk result (IsVersion text.now) }
+{
+    match read_version(alloc, text.as_bytes()) {
+        Ok(version) => Ok(Some(version)),
+        Err(TextFault::Bad(_)) => Ok(None),
+        Err(TextFault::NoMemory) => Err(NoMemory),
+    }
+}
+
+fn unit_id(text: Text) -> Option<Text>
+    ensures { result ≡ unit_id text }
+{
+    if is_unit_id(text.as_bytes()) {
+        Some(text)
+    } else {
+        None
+    }
+}
