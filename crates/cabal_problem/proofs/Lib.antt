@@ -1,0 +1,7 @@
+mod Growing
+mod OrderTests
+mod Findings
+mod Made
+mod NewProblem
+mod Whole
+mod WholeLaws

@@ -1,0 +1,189 @@
+-- The problem with whole conditions keeps the laws.
+use Rattle.std.proofs.Common.{◌≡◌, ◌<◌, Bool, true, false, not, ◌&&◌, ◌||◌, nat_eq, List, [], ◌∷◌, ◌++◌, length, map, Some, None, refl, sym, ap, ◌∙◌, subst, inl, inr}
+use Rattle.std.specs.Prelude.{Contains}
+use Rattle.std.specs.List.{filter, list_all}
+use Rattle.std.proofs.lemmas.Bool.{false≢true, eqb-true}
+use Rattle.std.proofs.lemmas.List.Elements.{All-contains, Contains-get_or}
+use Rattle.plan_types.specs.declared.condition.Env.{Env}
+use Rattle.plan_types.specs.declared.dependency.Dep.{Dep}
+use Rattle.plan_types.specs.declared.dependency.DepKind.TheVariants as kind
+use Rattle.plan_types.specs.declared.description.Description.{Description}
+use Rattle.plan_types.specs.declared.description.GuardedDep.{GuardedDep}
+use Rattle.plan_types.specs.declared.index.Body.{Body}
+use Rattle.plan_types.specs.declared.index.Body.TheVariants.{Source, Installed}
+use Rattle.plan_types.specs.declared.index.Entry.{Entry}
+use Rattle.plan_types.specs.declared.index.Exposed.{Exposed}
+use Rattle.plan_types.specs.declared.index.FlatDep.{FlatDep}
+use Rattle.plan_types.specs.declared.index.Index.{Index}
+use Rattle.plan_types.specs.declared.index.Package.{Package}
+use Rattle.plan_types.specs.declared.project.Project.{Project}
+use Rattle.conditionals.specs.Paths.{is_wanted}
+use Rattle.conditionals.specs.Value.{value}
+use Rattle.description.specs.WholeCondition.{whole_condition}
+use Rattle.flatten.specs.Counting.{are_met, flags_of}
+use Rattle.flatten.specs.Demands.{Outward, outward, outward_in, outward_of, external, stanza_of}
+use Rattle.flatten.specs.Sound.{IsSound, IsSource, IsBody, component_deps, is_of_components}
+use Rattle.qualified_goals.specs.declared.variable.Qual.TheVariants.{Setup}
+use Rattle.qualified_goals.specs.declared.variable.Part.{Part}
+use Rattle.qualified_goals.specs.declared.variable.Part.TheVariants.{Package as ThePackage, Flag, Tests, Benches}
+use Rattle.qualified_goals.specs.Names.{NameTable, AreNumbers}
+use Rattle.choice_problem.specs.declared.problem.Choice.{Choice}
+use Rattle.choice_problem.specs.declared.problem.Demand.{Demand}
+use Rattle.choice_problem.specs.Assignment.{Assignment, is_made, is_one_of}
+use Rattle.choice_problem.specs.Problem.{IsChoice, IsOwned, IsRoot, Lawful}
+use Rattle.choice_problem.specs.General.{Request, General, LawfulGeneral, IsOwnedRequest, IsRootRequest, owner_of, request_of}
+use Rattle.choice_problem.specs.Lists.{contains-none, contains-append, contains-left, contains-map, contains-filter, contains-flat_map, and-left, all-at}
+use Rattle.cabal_problem.specs.declared.tables.Relaxed.{Relaxed}
+use Rattle.cabal_problem.specs.declared.tables.Tables.{Tables}
+use Rattle.cabal_problem.specs.Places.{entries_of, entry_at, no_entry}
+use Rattle.cabal_problem.specs.Variables.{domain_of, is_custom, is_qual}
+use Rattle.cabal_problem.specs.ListedDemands.{body_demands, demands_of, flat_demands, has_stanzas, part_demands, relaxed_at, setup_demands, setup_if, unit_demands}
+use Rattle.cabal_problem.specs.Laws.{all-where, any-from, known-below, known-qual, target-known}
+use Rattle.cabal_problem.specs.Lawful.{is_lawful}
+use Rattle.cabal_problem.specs.Problem.{problem_of}
+use Rattle.cabal_problem.specs.WholeDemands.{Lets, body_requests, can_ask, front_demands, part_requests, parts_under, requests_of, setup_request, setup_requests, whole_problem, whole_request}
+use Rattle.cabal_problem.proofs.Findings.{IsOutward, entry-sound, in-component-deps, kind-found, outward-package, package-found, setup-found}
+
+owner-chosen : (A : Assignment) (owner : Choice) → is_made A owner ≡ true → A owner.var ≡ Some owner.val
+owner-chosen A owner h =
+    elim (A owner.var) as (λ o. is_one_of o (owner.val ∷ []) ≡ true → o ≡ Some owner.val) [
+      | None ↦ λ k. absurd (false≢true k)
+      | Some n ↦ λ k. elim (nat_eq n owner.val) as (λ b. nat_eq n owner.val ≡ b → b || false ≡ true → Some n ≡ Some owner.val) [
+        | true ↦ λ e j. ap Some (eqb-true n owner.val e)
+        | false ↦ λ e j. absurd (false≢true j)
+      ] refl k
+    ] h
+
+outward-at : (d : Description) (at : Outward) → Contains (outward d) at → IsOutward d at.guarded.dep
+outward-at d at h =
+    let component = contains-flat_map outward_in d.components at h in
+    let guarded = contains-map (outward_of component.0) (external component.0.deps) at component.2 in
+    let kept = contains-filter (λ (g : GuardedDep). not g.dep.internal) component.0.deps guarded.0 guarded.1 in
+    record {
+      component = component.0;
+      guarded = guarded.0;
+      in_components = component.1;
+      in_deps = kept.0;
+      is_outward = subst (λ o. Contains (outward d) o) (sym guarded.2) h;
+      external_is = kept.1;
+      dep_is = ap (λ (o : Outward). o.guarded.dep) guarded.2;
+    }
+
+module _ (env : Env) (index : Index) (project : Project) (names : NameTable) (tables : Tables) (lets : Lets)
+    (sound : IsSound env index) (numbers : AreNumbers index.packages names) (is_lawful_problem : Lawful (problem_of index.packages project names tables)) where
+  abbrev packages : List Package
+  packages = index.packages
+
+  abbrev whole : General
+  whole = whole_problem env packages project names tables.orders lets
+
+  -- a listed demand is one of an owner as a request too
+  owned-request : (owner : Choice) (one : Demand) → IsOwned (problem_of packages project names tables) owner one → IsOwnedRequest whole owner (request_of one)
+  owned-request owner one is =
+      record {
+        owner_is = ap owner_of is.condition;
+        target = is.target;
+        chosen = λ A yes. owner-chosen A owner (and-left (is_made A owner) (list_all (is_made A) is.others) (sym (ap (λ when. list_all (is_made A) when) is.condition) ∙ yes));
+      }
+
+  whole-owned : (owner : Choice) (e : Entry) (d : Description) (flats : List FlatDep) (offer : Exposed) → is_qual packages names owner.var.qual ≡ true
+      → Contains (entries_of packages owner.var.«package») e → e.body ≡ Source d flats offer → IsSource env index d flats offer
+      → (at : Outward) → Contains (outward d) at → IsOwnedRequest whole owner (whole_request env packages names owner (lets e.instance) at)
+  whole-owned owner e d flats offer q there body source at h =
+      let dep = at.guarded.dep in
+      let is = outward-at d at h in
+      let found = outward-package index names numbers env d flats offer source dep is in
+      let comp = all-at (λ (other : Dep). is_of_components other.kind) (component_deps d) is.guarded.dep source.description.component_kinds (in-component-deps d is.component is.guarded is.in_components is.in_deps) in
+      let has = kind-found index names numbers owner.var.«package» e d flats offer is.guarded is.component is.guarded.dep.kind refl there body is.in_components is.in_deps is.external_is comp
+      (subst (λ (other : Dep). Rattle.flatten.specs.Sound.has_package index other.«package» ≡ true) (sym is.dep_is) found) in
+      record {
+        owner_is = refl;
+        target = target-known packages names owner.var dep.kind dep.«package» q (package-found index names numbers dep.«package» found)
+            (subst (λ (other : Dep). Rattle.cabal_problem.specs.Lawful.has_qual_for packages names owner.var.«package» other.kind other.«package» ≡ true) is.dep_is has);
+        chosen = λ A yes. owner-chosen A owner (and-left (is_made A owner) (are_met (parts_under names owner A) (stanza_of at.component.kind)
+            && is_wanted true (value env (flags_of (parts_under names owner A)) (whole_condition at.component at.guarded))) yes);
+      }
+
+  script-owned : (owner : Choice) (e : Entry) (d : Description) (flats : List FlatDep) (offer : Exposed) → is_qual packages names owner.var.qual ≡ true
+      → (d.custom ≡ true → is_qual packages names (Setup owner.var.«package») ≡ true) → IsSource env index d flats offer
+      → (custom : Bool) → d.custom ≡ custom → (r : Request) → Contains (setup_requests custom (map (setup_request packages names owner (lets e.instance)) d.setup)) r → IsOwnedRequest whole owner r
+  script-owned owner e d flats offer q has source false same r h = absurd (contains-none r h)
+  script-owned owner e d flats offer q has source true same r h =
+      let found = contains-map (setup_request packages names owner (lets e.instance)) d.setup r h in
+      let dep = found.0 in
+      subst (λ s. IsOwnedRequest whole owner s) found.2
+      (record {
+        owner_is = refl;
+        target = target-known packages names owner.var kind.Setup dep.«package» q (setup-found index names numbers env d flats offer source dep found.1) (has same);
+        chosen = λ A yes. owner-chosen A owner yes;
+      })
+
+  -- the listed demands of a choice are owned
+  abbrev AreOwned : Choice → Type 0
+  AreOwned owner = (one : Demand) → Contains (demands_of packages project names tables.relaxed owner) one → IsOwned (problem_of packages project names tables) owner one
+
+  abbrev AreBodyOwned : Choice → Relaxed → Body → Type 0
+  AreBodyOwned owner relaxed body = (one : Demand) → Contains (body_demands packages project names owner relaxed body) one → IsOwned (problem_of packages project names tables) owner one
+
+  body-requests-owned : (owner : Choice) (e : Entry) (relaxed : Relaxed) (body : Body) → is_qual packages names owner.var.qual ≡ true → Contains (entries_of packages owner.var.«package») e → e.body ≡ body
+      → IsBody env index body → AreBodyOwned owner relaxed body → (r : Request) → Contains (body_requests env packages project names lets owner e.instance body) r → IsOwnedRequest whole owner r
+  body-requests-owned owner e relaxed (Source d flats offer) q there same source owned r h =
+      let front = front_demands packages project names owner d in
+      let deps = flat_demands packages names owner relaxed.deps flats in
+      let setups = setup_if d.custom (setup_demands packages names owner relaxed.setup d.setup) in
+      let request = whole_request env packages names owner (lets e.instance) in
+      let requests = map request (filter (can_ask (has_stanzas packages owner.var)) (outward d)) in
+      let scripts = setup_requests d.custom (map (setup_request packages names owner (lets e.instance)) d.setup) in
+      elim (contains-append (requests_of front ++ requests) scripts r h) [
+        | inl own ↦ elim (contains-append (requests_of front) requests r own) [
+          | inl f ↦
+              let one = contains-map request_of front r f in
+              subst (λ s. IsOwnedRequest whole owner s) one.2
+              (owned-request owner one.0 (owned one.0 (contains-left (front ++ deps) setups one.0 (contains-left front deps one.0 one.1))))
+          | inr k ↦
+              let at = contains-map request (filter (can_ask (has_stanzas packages owner.var)) (outward d)) r k in
+              subst (λ s. IsOwnedRequest whole owner s) at.2
+              (whole-owned owner e d flats offer q there same source at.0 (contains-filter (can_ask (has_stanzas packages owner.var)) (outward d) at.0 at.1).0)
+        ]
+        | inr s ↦
+            let has = λ (custom : d.custom ≡ true). any-from (λ (f : Entry). is_custom f.body) (entries_of packages owner.var.«package») e there (ap is_custom same ∙ custom) in
+            script-owned owner e d flats offer q has source d.custom refl r s
+      ]
+  body-requests-owned owner e relaxed (Installed unit needs) q there same units owned r h =
+      let one = contains-map request_of (unit_demands packages names owner unit.depends needs) r h in
+      subst (λ s. IsOwnedRequest whole owner s) one.2 (owned-request owner one.0 (owned one.0 one.1))
+
+  part-requests-owned : (owner : Choice) (requests : List Request) (part : Part) → (part ≡ ThePackage → (r : Request) → Contains requests r → IsOwnedRequest whole owner r)
+      → (r : Request) → Contains (part_requests requests part) r → IsOwnedRequest whole owner r
+  part-requests-owned owner requests ThePackage h r k = h refl r k
+  part-requests-owned owner requests (Flag f) h r k = absurd (contains-none r k)
+  part-requests-owned owner requests Tests h r k = absurd (contains-none r k)
+  part-requests-owned owner requests Benches h r k = absurd (contains-none r k)
+
+  owned-listed : (owner : Choice) → IsChoice (problem_of packages project names tables) owner → AreOwned owner
+  owned-listed owner is one k =
+      All-contains (IsOwned (problem_of packages project names tables) owner) (demands_of packages project names tables.relaxed owner) one (is_lawful_problem.demands owner is) k
+
+  requests-owned : (owner : Choice) → IsChoice whole owner → (r : Request) → Contains (whole.demands owner) r → IsOwnedRequest whole owner r
+  requests-owned owner is =
+      let p = owner.var.«package» in
+      let e = entry_at (entries_of packages p) owner.val in
+      let below = known-below packages names owner.var is.variable in
+      let relaxed = relaxed_at tables.relaxed p owner.val in
+      part-requests-owned owner (body_requests env packages project names lets owner e.instance e.body) owner.var.part (λ part.
+      let value : owner.val < length (entries_of packages p) = subst (λ k. owner.val < domain_of packages p k) part is.value in
+      let there = Contains-get_or (entries_of packages p) owner.val no_entry value in
+      let demands = body_demands packages project names owner relaxed e.body in
+      body-requests-owned owner e relaxed e.body (known-qual packages names owner.var is.variable) there refl (entry-sound index names numbers env sound p below e there).body
+      (λ one k. owned-listed owner (record { variable = is.variable; value = is.value }) one (subst (λ q. Contains (part_demands demands q) one) (sym part) k)))
+
+  pub whole-lawful : LawfulGeneral whole
+  whole-lawful = record {
+    bounded = record { variables = is_lawful_problem.bounded.variables; count = is_lawful_problem.bounded.count; each = is_lawful_problem.bounded.each };
+    order = λ v known trail choices. is_lawful_problem.order v known trail (λ k d below. let c = choices k d below in record { variable = c.variable; value = c.value });
+    roots = all-where (IsRootRequest whole) whole.roots (λ r h.
+        let one = contains-map request_of (problem_of packages project names tables).roots r h in
+        let is = All-contains (IsRoot (problem_of packages project names tables)) (problem_of packages project names tables).roots one.0 is_lawful_problem.roots one.1 in
+        subst (λ s. IsRootRequest whole s) one.2 (record { owner = ap owner_of is.condition; target = is.target }));
+    demands = λ owner is. all-where (IsOwnedRequest whole owner) (whole.demands owner) (requests-owned owner is);
+  }

@@ -1,0 +1,6 @@
+use Rattle.std.proofs.Math.Logic.{∥∥₁_elim}
+use mathlib.Core.Bool.{Bool-set}
+use Rattle.cabal_problem.proofs.cabal_problem.CabalProblem.bars_part.Goals as goal
+
+pub returns : goal.returns
+returns c = ∥∥₁_elim c.args.self.now.stands (Bool-set _ _) (λ stands. c.bars_part.ensures c.args.self.now.settings.now.project c.args.self.now.names stands)

@@ -1,0 +1,15 @@
+use Rattle.std.proofs.Common.{◌≡◌, true, sym, subst}
+use Rattle.cabal_problem.specs.Tables.{AreTables, packages_have_versions}
+use Rattle.cabal_problem.proofs.NewProblem.{made-lawful}
+use Rattle.cabal_problem.proofs.Findings.{all-versions}
+use Rattle.cabal_problem.proofs.cabal_problem.CabalProblem.new.Goals as goal
+
+pub of-requires-3-clause-versions : goal.of-requires-3-clause-versions
+of-requires-3-clause-versions c =
+    subst (λ ps. packages_have_versions ps ≡ true) (sym c.as_slice.ensures) (all-versions c.args.settings.now.env c.args.index c.requires.sound)
+
+pub invariant_of-result-clause-lawful : goal.invariant_of-result-clause-lawful
+invariant_of-result-clause-lawful c =
+    let project = c.args.settings.now.project in
+    made-lawful c.args.settings.now.env c.args.index project c.in_ok-names.names c.in_ok-tables.tables c.requires.sound c.requires.extra c.in_ok-names.ensures.names
+    (subst (λ ps. AreTables ps project c.in_ok-tables.tables) c.as_slice.ensures c.in_ok-tables.ensures)

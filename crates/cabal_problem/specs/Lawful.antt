@@ -1,0 +1,60 @@
+-- The test that the problem of an index and a project keeps the laws.
+use Rattle.std.specs.Prelude.{ℕ, Bool, true, ◌&&◌, nat_eq, nat_lt, List, [], length, slice_index_or}
+use Rattle.std.specs.List.{list_all}
+use Rattle.plan_types.specs.declared.dependency.DepKind.{DepKind}
+use Rattle.plan_types.specs.declared.dependency.DepKind.TheVariants as kind
+use Rattle.plan_types.specs.declared.description.Description.{Description}
+use Rattle.plan_types.specs.declared.index.Body.{Body}
+use Rattle.plan_types.specs.declared.index.Body.TheVariants.{Source, Installed}
+use Rattle.plan_types.specs.declared.index.FlatDep.{FlatDep}
+use Rattle.plan_types.specs.declared.index.Package.{Package}
+use Rattle.plan_types.specs.declared.project.Project.{Project}
+use Rattle.qualified_goals.specs.declared.variable.Qual.TheVariants.{Top, Setup, Exe}
+use Rattle.qualified_goals.specs.declared.variable.Part.TheVariants.{Flag}
+use Rattle.qualified_goals.specs.Names.{Name, NameTable}
+use Rattle.choice_problem.specs.Written.{is_order}
+use Rattle.cabal_problem.specs.declared.tables.Tables.{Tables}
+use Rattle.cabal_problem.specs.Places.{rising, package_at, entries_of, number, flag_number}
+use Rattle.cabal_problem.specs.Variables.{is_part, is_qual}
+
+-- a package has this name
+abbrev pub is_found : List Package → NameTable → Name → Bool
+is_found packages names name = nat_lt (number packages names name) (length packages)
+
+-- under the qualifier of a dependency of such a kind there are variables
+abbrev pub has_qual_for : List Package → NameTable → ℕ → DepKind → Name → Bool
+has_qual_for packages names p kind.Library name = true
+has_qual_for packages names p kind.Tool name = is_qual packages names (Exe p (number packages names name))
+has_qual_for packages names p kind.Setup name = is_qual packages names (Setup p)
+
+abbrev pub flat_finds : List Package → NameTable → ℕ → FlatDep → Bool
+flat_finds packages names p flat = is_found packages names flat.dep.«package» && has_qual_for packages names p flat.dep.kind flat.dep.«package»
+
+-- all that a description asks for is known
+abbrev pub source_finds : List Package → NameTable → ℕ → Description → List FlatDep → Bool
+source_finds packages names p d flats =
+    list_all (λ decl. is_part names Top (package_at packages p) (Flag (flag_number names decl.name))) d.flags
+    && (list_all (flat_finds packages names p) flats && list_all (λ dep. is_found packages names dep.«package») d.setup)
+
+abbrev pub body_finds : List Package → NameTable → ℕ → Body → Bool
+body_finds packages names p (Source d flats exposed) = source_finds packages names p d flats
+body_finds packages names p (Installed record_of needs) = list_all (is_found packages names) needs
+
+abbrev pub package_finds : List Package → NameTable → ℕ → Bool
+package_finds packages names p = list_all (λ e. body_finds packages names p e.body) (entries_of packages p)
+
+abbrev pub packages_find : List Package → NameTable → Bool
+packages_find packages names = list_all (package_finds packages names) (rising (length packages))
+
+abbrev pub extras_are_found : List Package → Project → NameTable → Bool
+extras_are_found packages project names = list_all (λ named. is_found packages names named.name) project.extra
+
+-- each instance of a package stands once in its order
+abbrev pub is_order_at : List Package → List (List ℕ) → ℕ → Bool
+is_order_at packages orders p = nat_eq (length (slice_index_or orders p [])) (length (entries_of packages p)) && is_order (slice_index_or orders p [])
+
+abbrev pub are_orders : List Package → List (List ℕ) → Bool
+are_orders packages orders = list_all (is_order_at packages orders) (rising (length packages))
+
+abbrev pub is_lawful : List Package → Project → NameTable → Tables → Bool
+is_lawful packages project names tables = (packages_find packages names && extras_are_found packages project names) && are_orders packages tables.orders

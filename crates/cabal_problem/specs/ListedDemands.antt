@@ -1,0 +1,210 @@
+-- The demands that are searched: roots, and those of each choice, in their order. A dependency stands once for each way to
+-- set flags so that it counts.
+use Rattle.std.specs.Prelude.{ℕ, Bool, true, false, not, ◌&&◌, ◌||◌, List, [], ◌∷◌, ◌++◌, length, map, filter, slice_index_or}
+use Rattle.std.specs.List.{list_all}
+use Rattle.plan_types.specs.declared.dependency.Dep.{Dep}
+use Rattle.plan_types.specs.declared.dependency.DepKind.{DepKind}
+use Rattle.plan_types.specs.declared.dependency.DepKind.TheVariants as kind
+use Rattle.plan_types.specs.declared.dependency.Named.{Named}
+use Rattle.plan_types.specs.declared.description.Description.{Description}
+use Rattle.plan_types.specs.declared.description.FlagDecl.{FlagDecl}
+use Rattle.plan_types.specs.declared.index.Body.{Body}
+use Rattle.plan_types.specs.declared.index.Body.TheVariants.{Source, Installed}
+use Rattle.plan_types.specs.declared.index.FlatDep.{FlatDep}
+use Rattle.plan_types.specs.declared.index.Literal.{Literal}
+use Rattle.plan_types.specs.declared.index.Package.{Package}
+use Rattle.plan_types.specs.declared.index.PartName.{PartName}
+use Rattle.plan_types.specs.declared.index.PartName.TheVariants as literal
+use Rattle.plan_types.specs.declared.project.Project.{Project}
+use Rattle.plan_types.specs.declared.range.Range.TheVariants.{Nothing}
+use Rattle.plan_types.specs.declared.version.Version.{Version}
+use Rattle.version_range.specs.Cuts.{inside}
+use Rattle.conditionals.specs.Paths.{is_same}
+use Rattle.qualified_goals.specs.declared.variable.Qual.{Qual}
+use Rattle.qualified_goals.specs.declared.variable.Qual.TheVariants.{Top, Setup, Exe}
+use Rattle.qualified_goals.specs.declared.variable.Part.{Part}
+use Rattle.qualified_goals.specs.declared.variable.Part.TheVariants.{Package as ThePackage, Flag, Tests, Benches}
+use Rattle.qualified_goals.specs.declared.variable.Var.{Var}
+use Rattle.qualified_goals.specs.Names.{Name, NameTable}
+use Rattle.choice_problem.specs.declared.problem.Choice.{Choice}
+use Rattle.choice_problem.specs.declared.problem.Demand.{Demand}
+use Rattle.constraint_set.specs.Bars.{names_flag}
+use Rattle.cabal_problem.specs.declared.tables.Relaxed.{Relaxed}
+use Rattle.cabal_problem.specs.Places.{rising, package_at, entries_of, entry_at, number, flag_number}
+use Rattle.cabal_problem.specs.Variables.{is_top, has_kind, is_suite, is_benchmark, bit}
+use Rattle.cabal_problem.specs.Values.{package_var}
+use Rattle.cabal_problem.specs.Allowed.{allowed_by, allowed_in, allowed_unit}
+
+-- ---- what all demands of a choice share
+
+-- a part of the owner's package, under its qualifier
+abbrev pub part_beside : Choice → Part → Var
+part_beside owner part = record { qual = owner.var.qual; «package» = owner.var.«package»; part = part }
+
+-- where a package is chosen on which the owner depends so
+abbrev pub qual_for : DepKind → Var → ℕ → Qual
+qual_for kind.Library owner t = owner.qual
+qual_for kind.Tool owner t = Exe owner.«package» t
+qual_for kind.Setup owner t = Setup owner.«package»
+
+abbrev pub target_for : List Package → NameTable → Var → DepKind → Name → Var
+target_for packages names owner kind name = package_var (qual_for kind owner (number packages names name)) (number packages names name)
+
+abbrev pub dep_demand : List Package → NameTable → Choice → List Choice → DepKind → (Version → Bool) → Dep → Demand
+dep_demand packages names owner when kind lets dep = record {
+  when = when;
+  target = target_for packages names owner.var kind dep.«package»;
+  allowed = allowed_by kind lets dep (entries_of packages (number packages names dep.«package»));
+}
+
+-- ---- flags and stanzas
+
+-- A manual flag may have its default, and the values that constraints give it.
+abbrev pub flag_allows : Project → NameTable → Var → FlagDecl → Bool → Bool
+flag_allows project names v decl on = (not decl.manual || is_same decl.default on) || names_flag project names v on
+
+abbrev pub one_if : Bool → ℕ → List ℕ
+one_if true n = n ∷ []
+one_if false n = []
+
+abbrev pub flag_values : Project → NameTable → Var → FlagDecl → List ℕ
+flag_values project names v decl = one_if (flag_allows project names v decl false) 0 ++ one_if (flag_allows project names v decl true) 1
+
+abbrev pub flag_demand : Project → NameTable → Choice → FlagDecl → Demand
+flag_demand project names owner decl =
+    let v = part_beside owner (Flag (flag_number names decl.name)) in
+    record { when = owner ∷ []; target = v; allowed = flag_values project names v decl }
+
+abbrev pub stanza_demand : Choice → Part → Demand
+stanza_demand owner stanza = record { when = owner ∷ []; target = part_beside owner stanza; allowed = 0 ∷ 1 ∷ [] }
+
+abbrev pub stanza_if : Bool → Choice → Part → List Demand
+stanza_if true owner stanza = stanza_demand owner stanza ∷ []
+stanza_if false owner stanza = []
+
+-- whether the stanzas of the owner's package have variables
+abbrev pub has_stanzas : List Package → Var → Bool
+has_stanzas packages owner = is_top owner.qual && (package_at packages owner.«package»).local
+
+-- ---- dependencies
+
+abbrev pub part_of : NameTable → PartName → Part
+part_of names (literal.Flag name) = Flag (flag_number names name)
+part_of names literal.Tests = Tests
+part_of names literal.Benches = Benches
+
+abbrev pub choice_beside : NameTable → Choice → Literal → Choice
+choice_beside names owner literal = record { var = part_beside owner (part_of names literal.part); val = bit literal.on }
+
+abbrev pub when_of : NameTable → Choice → List Literal → List Choice
+when_of names owner literals = owner ∷ map (choice_beside names owner) literals
+
+-- a literal on a stanza counts only where the stanza has a variable
+abbrev pub has_part : Bool → PartName → Bool
+has_part stanzas (literal.Flag name) = true
+has_part stanzas literal.Tests = stanzas
+has_part stanzas literal.Benches = stanzas
+
+abbrev pub can_count : Bool → FlatDep → Bool
+can_count stanzas flat = list_all (λ literal. has_part stanzas literal.part) flat.when
+
+-- what stands at a place behind the last
+abbrev pub no_dep : Dep
+no_dep = record { line = 0; kind = kind.Library; «package» = []; libs = []; exe = []; range = Nothing; internal = false }
+
+abbrev pub no_flat : FlatDep
+no_flat = record { when = []; dep = no_dep }
+
+abbrev pub flat_at : List FlatDep → ℕ → FlatDep
+flat_at flats k = slice_index_or flats k no_flat
+
+abbrev pub setup_at : List Dep → ℕ → Dep
+setup_at deps k = slice_index_or deps k no_dep
+
+-- the versions in the relaxed range of the dependency at a place
+abbrev pub lets_at : List (List Version) → ℕ → Version → Bool
+lets_at cuts k = inside (slice_index_or cuts k [])
+
+abbrev pub flat_demand : List Package → NameTable → Choice → List (List Version) → List FlatDep → ℕ → Demand
+flat_demand packages names owner cuts flats k =
+    dep_demand packages names owner (when_of names owner (flat_at flats k).when) (flat_at flats k).dep.kind (lets_at cuts k) (flat_at flats k).dep
+
+abbrev pub flat_demands : List Package → NameTable → Choice → List (List Version) → List FlatDep → List Demand
+flat_demands packages names owner cuts flats =
+    map (flat_demand packages names owner cuts flats) (filter (λ k. can_count (has_stanzas packages owner.var) (flat_at flats k)) (rising (length flats)))
+
+abbrev pub setup_demand : List Package → NameTable → Choice → List (List Version) → List Dep → ℕ → Demand
+setup_demand packages names owner cuts deps k = dep_demand packages names owner (owner ∷ []) kind.Setup (lets_at cuts k) (setup_at deps k)
+
+abbrev pub setup_demands : List Package → NameTable → Choice → List (List Version) → List Dep → List Demand
+setup_demands packages names owner cuts deps = map (setup_demand packages names owner cuts deps) (rising (length deps))
+
+abbrev pub setup_if : Bool → List Demand → List Demand
+setup_if true demands = demands
+setup_if false demands = []
+
+-- a unit needs that very unit of the package that is named beside it
+abbrev pub unit_demand_on : List Package → NameTable → Choice → Name → Name → Demand
+unit_demand_on packages names owner id need = record {
+  when = owner ∷ [];
+  target = package_var owner.var.qual (number packages names need);
+  allowed = allowed_unit id (package_at packages (number packages names need));
+}
+
+abbrev pub unit_demand : List Package → NameTable → Choice → List Name → List Name → ℕ → Demand
+unit_demand packages names owner ids needs k = unit_demand_on packages names owner (slice_index_or ids k []) (slice_index_or needs k [])
+
+abbrev pub unit_demands : List Package → NameTable → Choice → List Name → List Name → List Demand
+unit_demands packages names owner ids needs = map (unit_demand packages names owner ids needs) (rising (length needs))
+
+-- ---- a choice
+
+abbrev pub source_demands : List Package → Project → NameTable → Choice → Relaxed → Description → List FlatDep → List Demand
+source_demands packages project names owner relaxed d flats =
+    map (flag_demand project names owner) d.flags
+    ++ stanza_if (has_stanzas packages owner.var && has_kind is_suite d) owner Tests
+    ++ stanza_if (has_stanzas packages owner.var && has_kind is_benchmark d) owner Benches
+    ++ flat_demands packages names owner relaxed.deps flats
+    ++ setup_if d.custom (setup_demands packages names owner relaxed.setup d.setup)
+
+-- what an instance asks for that is chosen
+abbrev pub body_demands : List Package → Project → NameTable → Choice → Relaxed → Body → List Demand
+body_demands packages project names owner relaxed (Source d flats exposed) = source_demands packages project names owner relaxed d flats
+body_demands packages project names owner relaxed (Installed record_of needs) = unit_demands packages names owner record_of.depends needs
+
+abbrev pub no_relaxed : Relaxed
+no_relaxed = record { deps = []; setup = [] }
+
+abbrev pub relaxed_at : List (List Relaxed) → ℕ → ℕ → Relaxed
+relaxed_at relaxed p i = slice_index_or (slice_index_or relaxed p []) i no_relaxed
+
+-- flags and stanzas ask for nothing
+abbrev pub part_demands : List Demand → Part → List Demand
+part_demands demands ThePackage = demands
+part_demands demands (Flag f) = []
+part_demands demands Tests = []
+part_demands demands Benches = []
+
+abbrev pub demands_of : List Package → Project → NameTable → List (List Relaxed) → Choice → List Demand
+demands_of packages project names relaxed owner =
+    let p = owner.var.«package» in
+    part_demands (body_demands packages project names owner (relaxed_at relaxed p owner.val) (entry_at (entries_of packages p) owner.val).body) owner.var.part
+
+-- ---- roots
+
+-- a local package may have any of its instances
+abbrev pub local_root : List Package → ℕ → Demand
+local_root packages p = record { when = []; target = package_var Top p; allowed = rising (length (entries_of packages p)) }
+
+abbrev pub local_roots : List Package → List Demand
+local_roots packages = map (local_root packages) (filter (λ p. (package_at packages p).local) (rising (length packages)))
+
+abbrev pub extra_root : List Package → NameTable → Named → Demand
+extra_root packages names extra = record {
+  when = [];
+  target = package_var Top (number packages names extra.name);
+  allowed = allowed_in extra.range (entries_of packages (number packages names extra.name));
+}
+
+abbrev pub roots_of : List Package → Project → NameTable → List Demand
+roots_of packages project names = local_roots packages ++ map (extra_root packages names) project.extra

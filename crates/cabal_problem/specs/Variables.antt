@@ -1,0 +1,111 @@
+-- The variables of an index, and how many values each has.
+use Rattle.std.specs.Prelude.{ℕ, Bool, true, false, not, ◌&&◌, nat_eq, nat_lt, List, length}
+use Rattle.std.specs.List.{list_any}
+use Rattle.plan_types.specs.declared.dependency.DepKind.{DepKind}
+use Rattle.plan_types.specs.declared.dependency.DepKind.TheVariants.{Library, Tool, Setup as SetupDep}
+use Rattle.plan_types.specs.declared.description.CompKind.{CompKind}
+use Rattle.plan_types.specs.declared.description.CompKind.TheVariants as kind
+use Rattle.plan_types.specs.declared.description.Component.{Component}
+use Rattle.plan_types.specs.declared.description.Description.{Description}
+use Rattle.plan_types.specs.declared.description.GuardedDep.{GuardedDep}
+use Rattle.plan_types.specs.declared.index.Body.{Body}
+use Rattle.plan_types.specs.declared.index.Body.TheVariants.{Source, Installed}
+use Rattle.plan_types.specs.declared.index.Package.{Package}
+use Rattle.qualified_goals.specs.declared.variable.Qual.{Qual}
+use Rattle.qualified_goals.specs.declared.variable.Qual.TheVariants.{Top, Setup, Exe}
+use Rattle.qualified_goals.specs.declared.variable.Part.{Part}
+use Rattle.qualified_goals.specs.declared.variable.Part.TheVariants.{Package as ThePackage, Flag, Tests, Benches}
+use Rattle.qualified_goals.specs.declared.variable.Var.{Var}
+use Rattle.qualified_goals.specs.Names.{NameTable, number_of, declared_by}
+use Rattle.constraint_set.specs.Bars.{is_number}
+use Rattle.cabal_problem.specs.Places.{package_at, entries_of}
+
+-- ---- qualifiers
+
+abbrev pub is_top : Qual → Bool
+is_top Top = true
+is_top (Setup p) = false
+is_top (Exe p t) = false
+
+-- a source instance with a setup script of its own
+abbrev pub is_custom : Body → Bool
+is_custom (Source description flat exposed) = description.custom
+is_custom (Installed record_of needs) = false
+
+abbrev pub is_tool : DepKind → Bool
+is_tool Library = false
+is_tool Tool = true
+is_tool SetupDep = false
+
+-- a dependency on an executable of the package with this number
+abbrev pub is_tool_of : NameTable → ℕ → GuardedDep → Bool
+is_tool_of names t guarded = not guarded.dep.internal && is_tool guarded.dep.kind && is_number (number_of names.packages guarded.dep.«package») t
+
+abbrev pub component_asks : NameTable → ℕ → Component → Bool
+component_asks names t component = list_any (is_tool_of names t) component.deps
+
+-- a source instance that depends on such a tool, under whatever condition
+abbrev pub asks_for_tool : NameTable → ℕ → Body → Bool
+asks_for_tool names t (Source description flat exposed) = list_any (component_asks names t) description.components
+asks_for_tool names t (Installed record_of needs) = false
+
+-- top level, the setup of a package that has one, and the tools that a package depends on
+abbrev pub is_qual : List Package → NameTable → Qual → Bool
+is_qual packages names Top = true
+is_qual packages names (Setup p) = list_any (λ e. is_custom e.body) (entries_of packages p)
+is_qual packages names (Exe p t) = list_any (λ e. asks_for_tool names t e.body) (entries_of packages p)
+
+-- ---- parts
+
+abbrev pub declares : NameTable → ℕ → Body → Bool
+declares names f body = list_any (λ decl. is_number (number_of names.flags decl.name) f) (declared_by body)
+
+abbrev pub is_suite : CompKind → Bool
+is_suite kind.Library = false
+is_suite kind.Executable = false
+is_suite kind.Test = true
+is_suite kind.Bench = false
+is_suite kind.Foreign = false
+
+abbrev pub is_benchmark : CompKind → Bool
+is_benchmark kind.Library = false
+is_benchmark kind.Executable = false
+is_benchmark kind.Test = false
+is_benchmark kind.Bench = true
+is_benchmark kind.Foreign = false
+
+-- a component of such a kind
+abbrev pub has_kind : (CompKind → Bool) → Description → Bool
+has_kind is_wanted d = list_any (λ component. is_wanted component.kind) d.components
+
+abbrev pub body_has_kind : (CompKind → Bool) → Body → Bool
+body_has_kind is_wanted (Source description flat exposed) = has_kind is_wanted description
+body_has_kind is_wanted (Installed record_of needs) = false
+
+-- the package, the flags that its source instances declare, and at top level the stanzas of a local package
+abbrev pub is_part : NameTable → Qual → Package → Part → Bool
+is_part names q p ThePackage = true
+is_part names q p (Flag f) = list_any (λ e. declares names f e.body) p.entries
+is_part names q p Tests = is_top q && p.local && list_any (λ e. body_has_kind is_suite e.body) p.entries
+is_part names q p Benches = is_top q && p.local && list_any (λ e. body_has_kind is_benchmark e.body) p.entries
+
+-- ---- variables
+
+abbrev pub is_known : List Package → NameTable → Var → Bool
+is_known packages names v =
+    is_qual packages names v.qual && (nat_lt v.«package» (length packages) && is_part names v.qual (package_at packages v.«package») v.part)
+
+-- the values of a package are its instances; a flag or a stanza is off or on
+abbrev pub domain_of : List Package → ℕ → Part → ℕ
+domain_of packages p ThePackage = length (entries_of packages p)
+domain_of packages p (Flag f) = 2
+domain_of packages p Tests = 2
+domain_of packages p Benches = 2
+
+-- whether a value of a flag or a stanza is on
+abbrev pub is_on : ℕ → Bool
+is_on n = nat_eq n 1
+
+abbrev pub bit : Bool → ℕ
+bit true = 1
+bit false = 0

@@ -1,0 +1,17 @@
+//! The problem of choices that an index and the settings of a plan make: which instance of each package is chosen, with
+//! which flags and stanzas, under which qualifier. It tells which variables there are, which of their values are barred,
+//! in which order they are tried, and what each choice asks for.
+#![tactic(auto)]
+
+mod allowed;
+mod cabal_problem;
+mod demands;
+mod laws;
+mod places;
+mod roots;
+mod tables;
+mod values;
+mod variables;
+
+pub use cabal_problem::CabalProblem;
+pub use laws::{listed_as_whole, valid_as_whole};
