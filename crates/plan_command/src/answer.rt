@@ -9,8 +9,8 @@ use crate::plan::searched;
 use crate::root::{cabal_file, root_names, unbuilt_name};
 use backjump::Outcome;
 use outside_folder::{Folder, FolderFault};
-use plain_index::{Package, Reading, Trouble, read_index};
 use plain_file::{PlainFile, plain_file};
+use plain_index::{Package, Reading, Trouble, read_index};
 use plan_types::{Cause, Fault, List, NoMemory, Refusal, Text};
 use std::alloc::Global;
 

@@ -8,8 +8,8 @@ ghost use Rattle.plan_command.specs.Resolved.{table_of};
 
 use crate::resolved::{demands_of, table_of, targets_at};
 use choice_problem::{Choice, Choices, Demand, Part, Qual, Var};
-use plain_index::Package;
 use plain_file::{Bound, Need, PlainFile};
+use plain_index::Package;
 use plan_types::{List, NoMemory, Text, Version};
 use std::alloc::Global;
 use std::collections::BTreeMap;

@@ -8,8 +8,8 @@ ghost use Rattle.plan_command.specs.Resolved.{target_of, targets_of, targets_of_
 
 use crate::folder_problem::{meeting, number_of, numbers_of, releases_of, variable};
 use choice_problem::{Choice, Demand};
-use plain_index::Package;
 use plain_file::{Need, PlainFile};
+use plain_index::Package;
 use plan_types::{List, NoMemory, Text};
 use std::alloc::Global;
 use std::collections::BTreeMap;
