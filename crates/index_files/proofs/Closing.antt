@@ -1,0 +1,204 @@
+-- The closure, name by name.
+use Rattle.std.proofs.Common.{◌≡◌, ℕ, ◌+◌, ◌<◌, ◌≤◌, Bool, true, false, List, [], ◌∷◌, ◌++◌, zero, suc, length, map, get_or, refl, sym, ◌∙◌, ap, subst, arith, length-append}
+use Rattle.std.specs.Prelude.{flat_map}
+use Rattle.std.specs.List.{AllByRecursion, IsDistinct, list_all}
+use Rattle.std.proofs.lemmas.Bool.Decides.{nat_tests}
+use Rattle.std.proofs.lemmas.List.{append_assoc, append-nil}
+use Rattle.std.proofs.lemmas.List.Sums.{sum_by-append}
+use Rattle.std.proofs.lemmas.Grind.{flat_map-append}
+use Rattle.conditionals.specs.Value.{same}
+use Rattle.outside_folder.specs.Files.{Bytes, Files}
+use Rattle.index_files.specs.Closure.{Ground, HasVersions, IsBeyond, IsPart, IsReached, IsVisit, IsWhole, ReadsAs, Visit, are_too_many, by_name, found_of, is_local, mentioned, names_of, root, roots, visited_files}
+use Rattle.index_files.specs.File.{Counts, count_all, count_of, size_all, size_of}
+use Rattle.index_files.specs.Names.{is_listed}
+use Rattle.index_files.specs.Steps.{AreJudged, AreKept, ArePartly, IsOneTooMany, IsVisited, pair_up}
+use Rattle.index_files.specs.Totals.{is_too_many}
+use Rattle.index_files.specs.declared.closure.Found.{Found}
+use Rattle.index_files.specs.declared.file.File.{File}
+use Rattle.index_files.specs.declared.release.Release.{Release}
+use Rattle.index_files.specs.declared.totals.Totals.{Totals}
+use Rattle.index_files.proofs.Lists.{all_more, map_append}
+use Rattle.index_files.proofs.Pairs.{pair_front, pair_grows, pair_more, pair_names, pair_none}
+use Rattle.index_files.proofs.Put.{all-last, all-put, all-still, and-left, and-right, both-true, each-all-still, listed-last, listed-left, put_all, put-all-distinct, put-all-each, put-all-grows}
+
+-- ---- members
+
+each-listed : (P : Bytes → Type 0) (all xs : List Bytes) → ((x : Bytes) → is_listed all x ≡ true → P x) → list_all (is_listed all) xs ≡ true → AllByRecursion P xs
+each-listed P all [] f h = tt
+each-listed P all (x ∷ xs) f h = (f x (and-left (is_listed all x) _ h), each-listed P all xs f (and-right (is_listed all x) _ h))
+
+-- what stands behind others is listed with them
+all-behind : (front back : List Bytes) → list_all (is_listed (front ++ back)) back ≡ true
+all-behind front [] = refl
+all-behind front (x ∷ back) =
+    let joined = append_assoc front (x ∷ []) back in
+    let here = ap (λ ys. is_listed ys x) (sym joined) ∙ listed-left (front ++ x ∷ []) back x (listed-last front x) in
+    let behind = ap (λ ys. list_all (is_listed ys) back) (sym joined) ∙ all-behind (front ++ x ∷ []) back in
+    both-true _ _ here behind
+
+at-place : (P : Bytes → Type 0) (xs : List Bytes) (i : ℕ) → i < length xs → AllByRecursion P xs → P (get_or xs i [])
+at-place P [] i l h = absurd (grind (arith, l))
+at-place P (x ∷ xs) zero l h = h.0
+at-place P (x ∷ xs) (suc i) l h = at-place P xs i (omega (arith, l)) h.1
+
+module _ (ground : Ground) where
+  abbrev closes : List Bytes → Found → Bool
+  closes names f = list_all (is_listed names) (mentioned ground f)
+
+  -- ---- what holds in any folder
+
+  pub kept-first : (names : List Bytes) → names ≡ put_all [] (roots ground) → AreKept ground names (pair_up names [])
+  unfolding IsDistinct
+  kept-first names e = subst (AreKept ground names) (sym (pair_none names)) (record {
+    once = subst (IsDistinct same) (sym e) (put-all-distinct [] (roots ground) tt);
+    begun = ap (λ ns. list_all (is_listed ns) (roots ground)) e ∙ all-put [] (roots ground);
+    closed = refl;
+    judged = tt;
+  })
+
+  module _ (names new : List Bytes) (read : List (List Release)) (r : List Release) (within : length read < length names) where
+    abbrev pub here : Found
+    here = record { name = get_or names (length read) []; releases = r }
+
+    module _ (put : new ≡ put_all names (mentioned ground here)) where
+      pub paired : pair_up new (read ++ r ∷ []) ≡ pair_up names read ++ here ∷ []
+      paired =
+          let g = put-all-grows names (mentioned ground here) in
+          let l = length-append read (r ∷ []) in
+          ap (λ ns. pair_up ns (read ++ r ∷ [])) (put ∙ g.1) ∙ pair_grows names g.0 (read ++ r ∷ []) (omega (arith, l, within)) ∙ pair_more names read r within
+
+      pub kept-next : AreKept ground names (pair_up names read) → AreJudged ground.env (get_or names (length read) []) r → AreKept ground new (pair_up new (read ++ r ∷ []))
+      kept-next k j = subst (λ found. AreKept ground new found) (sym paired) (subst (λ ns. AreKept ground ns (pair_up names read ++ here ∷ [])) (sym put) (record {
+        once = put-all-distinct names (mentioned ground here) k.once;
+        begun = all-still names (mentioned ground here) (roots ground) k.begun;
+        closed = all-last (closes (put_all names (mentioned ground here))) (pair_up names read) here
+            (each-all-still (mentioned ground) names (mentioned ground here) (pair_up names read) k.closed)
+            (all-put names (mentioned ground here));
+        judged = all_more (λ (f : Found). AreJudged ground.env f.name f.releases) (pair_up names read) here k.judged j;
+      }))
+
+      pub within-next : length (read ++ r ∷ []) ≤ length new
+      within-next =
+          let g = put-all-grows names (mentioned ground here) in
+          let l = length-append read (r ∷ []) in
+          let m = ap length (put ∙ g.1) ∙ length-append names g.0 in
+          omega (arith, l, m, within)
+
+      -- ---- where the folder tells its files
+
+      module _ (files : Files) (before mid after : Totals) where
+        pub partly-next : ArePartly ground files before mid names (pair_up names read) → IsVisited ground files (get_or names (length read) []) mid after r
+            → ArePartly ground files before after new (pair_up new (read ++ r ∷ []))
+        partly-next p v =
+            let visit : Visit = record { name = get_or names (length read) []; dirs = v.dirs; releases = r } in
+            let reached-here = at-place (IsReached ground files) names (length read) within p.reached in
+            let more = each-listed (IsReached ground files) (mentioned ground here) (mentioned ground here) (λ x h. by_name visit x reached-here v.visit h) (all-behind [] (mentioned ground here)) in
+            let all = flat_map-append (visited_files ground files) p.visits (visit ∷ []) ∙ ap (λ fs. flat_map (visited_files ground files) p.visits ++ fs) (append-nil (visited_files ground files visit)) in
+            let c = ap count_all all ∙ sum_by-append count_of (flat_map (visited_files ground files) p.visits) (visited_files ground files visit) in
+            let s = ap size_all all ∙ sum_by-append size_of (flat_map (visited_files ground files) p.visits) (visited_files ground files visit) in
+            let cf = p.counts.files in let cb = p.counts.bytes in let vf = v.counts.files in let vb = v.counts.bytes in
+            record {
+              visits = p.visits ++ visit ∷ [];
+              found_is = paired ∙ ap (λ fs. fs ++ here ∷ []) p.found_is ∙ sym (map_append found_of p.visits (visit ∷ []));
+              read = all_more (IsVisit ground files) p.visits visit p.read v.visit;
+              reached = subst (AllByRecursion (IsReached ground files)) (sym put) (put-all-each (IsReached ground files) names (mentioned ground here) p.reached more);
+              counts = record { files = omega (arith, c, cf, vf); bytes = omega (arith, s, cb, vb) };
+            }
+
+  module _ (files : Files) where
+    pub partly-first : (names : List Bytes) (totals : Totals) → names ≡ put_all [] (roots ground) → ArePartly ground files totals totals names (pair_up names [])
+    partly-first names totals e = record {
+      visits = [];
+      found_is = pair_none names;
+      read = tt;
+      reached = subst (AllByRecursion (IsReached ground files)) (sym e)
+          (put-all-each (IsReached ground files) [] (roots ground) tt (each-listed (IsReached ground files) (roots ground) (roots ground) (λ x h. root x h) (all-behind [] (roots ground))));
+      counts = record { files = omega arith; bytes = omega arith };
+    }
+
+    -- ---- the end
+
+    closed-visits : (names : List Bytes) (visits : List Visit) → list_all (closes names) (map found_of visits) ≡ true → list_all (λ (v : Visit). closes names (found_of v)) visits ≡ true
+    closed-visits names [] h = refl
+    closed-visits names (v ∷ visits) h = both-true _ _ (and-left (closes names (found_of v)) _ h) (closed-visits names visits (and-right (closes names (found_of v)) _ h))
+
+    reached-visits : (visits : List Visit) → AllByRecursion (IsReached ground files) (names_of visits) → AllByRecursion (λ (v : Visit). IsReached ground files v.name) visits
+    reached-visits [] h = tt
+    reached-visits (v ∷ visits) h = (h.0, reached-visits visits h.1)
+
+    names-found : (visits : List Visit) → map (λ (f : Found). f.name) (map found_of visits) ≡ names_of visits
+    names-found [] = refl
+    names-found (v ∷ visits) = ap (λ ns. v.name ∷ ns) (names-found visits)
+
+    few-are : (m n j k : ℕ) → m ≡ j → n ≡ k → m ≤ 20000 → n ≤ 268435456 → is_too_many j k ≡ false
+    few-are m n j k e f a b = grind (arith, nat_tests)
+
+    pub whole : (names : List Bytes) (read : List (List Release)) (before after : Totals) → length names ≤ length read → AreKept ground names (pair_up names read) → ArePartly ground files before after names (pair_up names read)
+        → after.files ≤ 20000 → after.bytes ≤ 268435456 → IsWhole ground files before.files before.bytes (pair_up names read)
+    whole names read before after all k p few_files few_bytes =
+        let same-names : names ≡ names_of p.visits = sym (pair_names names read all) ∙ ap (map (λ (f : Found). f.name)) p.found_is ∙ names-found p.visits in
+        record {
+          visits = p.visits;
+          closure = record {
+            once = subst (IsDistinct same) same-names k.once;
+            begun = ap (λ ns. list_all (is_listed ns) (roots ground)) (sym same-names) ∙ k.begun;
+            closed = ap (λ ns. list_all (λ (v : Visit). closes ns (found_of v)) p.visits) (sym same-names)
+                ∙ closed-visits names p.visits (ap (list_all (closes names)) (sym p.found_is) ∙ k.closed);
+            reached = reached-visits p.visits (subst (AllByRecursion (IsReached ground files)) same-names p.reached);
+            read = p.read;
+          };
+          few = few-are after.files after.bytes _ _ p.counts.files p.counts.bytes few_files few_bytes;
+          found_is = p.found_is;
+        }
+
+    -- ---- too many
+
+    distinct-front : (xs ys : List Bytes) → IsDistinct same (xs ++ ys) → IsDistinct same xs
+    unfolding IsDistinct
+    distinct-front [] ys h = tt
+    distinct-front (x ∷ xs) ys h = (front xs h.0, distinct-front xs ys h.1)
+      where
+        front : (zs : List Bytes) → AllByRecursion (λ y. same x y ≡ false) (zs ++ ys) → AllByRecursion (λ y. same x y ≡ false) zs
+        front [] h = tt
+        front (z ∷ zs) h = (h.0, front zs h.1)
+
+    part-of : (visit : Visit) (b : Bool) → ReadsAs ground files visit b → HasVersions ground files visit b
+    part-of visit true h = h.no_versions
+    part-of visit false h = h.versions
+
+    parts-of : (visits : List Visit) → AllByRecursion (IsReached ground files) (names_of visits) → AllByRecursion (IsVisit ground files) visits → AllByRecursion (IsPart ground files) visits
+    parts-of [] h k = tt
+    parts-of (v ∷ visits) h k = (record { reached = h.0; versions = part-of v (is_local ground v.name) k.0 }, parts-of visits h.1 k.1)
+
+    each-front : (P : Bytes → Type 0) (xs ys : List Bytes) → AllByRecursion P (xs ++ ys) → AllByRecursion P xs
+    each-front P [] ys h = tt
+    each-front P (x ∷ xs) ys h = (h.0, each-front P xs ys h.1)
+
+    module _ (names : List Bytes) (read : List (List Release)) (before mid : Totals) (within : length read < length names) where
+      pub beyond : AreKept ground names (pair_up names read) → ArePartly ground files before mid names (pair_up names read) → IsOneTooMany ground files (get_or names (length read) []) mid
+          → IsBeyond ground files before.files before.bytes
+      beyond k p v =
+          let name = get_or names (length read) [] in
+          let visit : Visit = record { name = name; dirs = v.read.dirs; releases = [] } in
+          let l = length-append read ([] ∷ []) in
+          let front = pair_front names (read ++ [] ∷ []) (omega (arith, l, within)) in
+          let found-names : map (λ (f : Found). f.name) (pair_up names (read ++ [] ∷ [])) ≡ names_of (p.visits ++ visit ∷ []) =
+          ap (map (λ (f : Found). f.name)) (pair_more names read [] within ∙ ap (λ fs. fs ++ record { name = name; releases = [] } ∷ []) p.found_is ∙ sym (map_append found_of p.visits (visit ∷ [])))
+          ∙ names-found (p.visits ++ visit ∷ []) in
+          let is = front.1 ∙ ap (λ ns. ns ++ front.0) found-names in
+          let reached-all = each-front (IsReached ground files) (names_of (p.visits ++ visit ∷ [])) front.0 (subst (AllByRecursion (IsReached ground files)) is p.reached) in
+          let reached-old = each-front (IsReached ground files) (names_of p.visits) (name ∷ []) (subst (AllByRecursion (IsReached ground files)) (map_append (λ (v : Visit). v.name) p.visits (visit ∷ [])) reached-all) in
+          let here : HasVersions ground files visit (is_local ground name) = subst (HasVersions ground files visit) (sym v.apart) v.read.versions in
+          let all = flat_map-append (visited_files ground files) p.visits (visit ∷ []) ∙ ap (λ fs. flat_map (visited_files ground files) p.visits ++ fs) (append-nil (visited_files ground files visit)) in
+          let c = ap count_all all ∙ sum_by-append count_of (flat_map (visited_files ground files) p.visits) (visited_files ground files visit) in
+          let s = ap size_all all ∙ sum_by-append size_of (flat_map (visited_files ground files) p.visits) (visited_files ground files visit) in
+          let cf = p.counts.files in let cb = p.counts.bytes in
+          let e : mid.files + count_all (visited_files ground files visit) ≡ before.files + count_all (flat_map (visited_files ground files) (p.visits ++ visit ∷ [])) = omega (arith, c, cf) in
+          let f : mid.bytes + size_all (visited_files ground files visit) ≡ before.bytes + size_all (flat_map (visited_files ground files) (p.visits ++ visit ∷ [])) = omega (arith, s, cb) in
+          record {
+            parts = p.visits ++ visit ∷ [];
+            once = distinct-front (names_of (p.visits ++ visit ∷ [])) front.0 (subst (IsDistinct same) is k.once);
+            inside = all_more (IsPart ground files) p.visits visit (parts-of p.visits reached-old p.read)
+                (record { reached = at-place (IsReached ground files) names (length read) within p.reached; versions = here });
+            many = (λ i. is_too_many (sym e i) (sym f i)) ∙ v.read.many;
+          }

@@ -1,0 +1,82 @@
+-- One more name of the closure, as it was found.
+use Rattle.std.proofs.Common.{◌≡◌, ℕ, ◌<◌, ◌≤◌, ◌+◌, List, [], ◌∷◌, ◌++◌, length, map, get_or, Option, Some, None, refl, sym, ◌∙◌, ap, subst, arith, length-append}
+use Rattle.std.proofs.lemmas.List.{length-map}
+use Rattle.outside_folder.specs.Files.{Bytes, Files}
+use Rattle.index_files.specs.Closure.{Ground, IsBeyond, IsWhole, mentioned}
+use Rattle.index_files.specs.Steps.{AreJudged, AreKept, ArePartly, Finds, IsOneTooMany, IsVisited, pair_up}
+use Rattle.index_files.specs.declared.closure.Found.{Found}
+use Rattle.index_files.specs.declared.release.Release.{Release}
+use Rattle.index_files.specs.declared.totals.Totals.{Totals}
+use Rattle.index_files.proofs.Closing.{beyond, here, kept-first, kept-next, paired, partly-first, partly-next, whole, within-next}
+use Rattle.index_files.proofs.Lists.{map_append}
+use Rattle.index_files.proofs.Pairs.{pair_names, pair_none}
+use Rattle.index_files.proofs.Put.{put_all}
+
+abbrev pub releases_in : List Found → List (List Release)
+releases_in found = map (λ (f : Found). f.releases) found
+
+module _ (ground : Ground) (names new : List Bytes) (found : List Found) (within : length found < length names) (pairs : found ≡ pair_up names (releases_in found)) where
+  many : length (releases_in found) ≡ length found
+  many = length-map found (λ (f : Found). f.releases)
+
+  before : length (releases_in found) < length names
+  before = subst (λ n. n < length names) (sym many) within
+
+  same-name : get_or names (length found) [] ≡ get_or names (length (releases_in found)) []
+  same-name = ap (λ n. get_or names n []) (sym many)
+
+  module _ (one : Found) (f : Finds ground (get_or names (length found) []) names new one) where
+    name-is : one.name ≡ get_or names (length (releases_in found)) []
+    name-is = f.name_is ∙ same-name
+
+    one-is : one ≡ record { name = get_or names (length (releases_in found)) []; releases = one.releases }
+    one-is = λ i. record { name = name-is i; releases = one.releases }
+
+    put-is : new ≡ put_all names (mentioned ground (record { name = get_or names (length (releases_in found)) []; releases = one.releases }))
+    put-is = f.put ∙ ap (λ x. put_all names (mentioned ground x)) one-is
+
+    joined : found ++ one ∷ [] ≡ pair_up new (releases_in found ++ one.releases ∷ [])
+    joined = (λ i. pairs i ++ one-is i ∷ []) ∙ sym (paired ground names new (releases_in found) one.releases before put-is)
+
+    pub pairs-on : found ++ one ∷ [] ≡ pair_up new (releases_in (found ++ one ∷ []))
+    pairs-on = joined ∙ ap (pair_up new) (sym (map_append (λ (f : Found). f.releases) found (one ∷ [])))
+
+    pub within-on : length (found ++ one ∷ []) ≤ length new
+    within-on =
+        let w = within-next ground names new (releases_in found) one.releases before put-is in
+        let a = length-append (releases_in found) (one.releases ∷ []) in
+        let b = length-append found (one ∷ []) in
+        let m = many in
+        omega (arith, w, a, b, m)
+
+    pub kept-on : AreKept ground names found → AreKept ground new (found ++ one ∷ [])
+    kept-on k = subst (AreKept ground new) (sym joined)
+        (kept-next ground names new (releases_in found) one.releases before put-is (subst (AreKept ground names) pairs k) (subst (λ n. AreJudged ground.env n one.releases) name-is f.judged))
+
+    pub partly-on : (files : Files) (start mid after : Totals) → ArePartly ground files start mid names found → IsVisited ground files (get_or names (length found) []) mid after one.releases
+        → ArePartly ground files start after new (found ++ one ∷ [])
+    partly-on files start mid after p v = subst (ArePartly ground files start after new) (sym joined)
+        (partly-next ground names new (releases_in found) one.releases before put-is files start mid after (subst (ArePartly ground files start mid names) pairs p)
+        (subst (λ n. IsVisited ground files n mid after one.releases) same-name v))
+
+  pub beyond-here : (files : Files) (start mid : Totals) → AreKept ground names found → ArePartly ground files start mid names found → IsOneTooMany ground files (get_or names (length found) []) mid
+      → IsBeyond ground files start.files start.bytes
+  beyond-here files start mid k p v =
+      beyond ground files names (releases_in found) start mid before (subst (AreKept ground names) pairs k) (subst (ArePartly ground files start mid names) pairs p)
+      (subst (λ n. IsOneTooMany ground files n mid) same-name v)
+
+module _ (ground : Ground) (names : List Bytes) (found : List Found) (all : length names ≤ length found) (pairs : found ≡ pair_up names (releases_in found)) where
+  enough : length names ≤ length (releases_in found)
+  enough = subst (λ n. length names ≤ n) (sym (length-map found (λ (f : Found). f.releases))) all
+
+  pub all-names : map (λ (f : Found). f.name) found ≡ names
+  all-names = ap (map (λ (f : Found). f.name)) pairs ∙ pair_names names (releases_in found) enough
+
+  pub kept-all : AreKept ground names found → AreKept ground (map (λ (f : Found). f.name) found) found
+  kept-all k = subst (λ ns. AreKept ground ns found) (sym all-names) k
+
+  pub whole-all : (files : Files) (start after : Totals) → AreKept ground names found → ArePartly ground files start after names found → after.files ≤ 20000 → after.bytes ≤ 268435456
+      → IsWhole ground files start.files start.bytes found
+  whole-all files start after k p few_files few_bytes =
+      subst (IsWhole ground files start.files start.bytes) (sym pairs)
+      (whole ground files names (releases_in found) start after enough (subst (AreKept ground names) pairs k) (subst (ArePartly ground files start after names) pairs p) few_files few_bytes)

@@ -1,0 +1,96 @@
+-- What is so of packages and units that were taken one after the other.
+use Rattle.std.proofs.Common.{◌≡◌, ℕ, Bool, true, false, List, [], ◌∷◌, ◌++◌, map, Option, Some, None, Result, Ok, Err, refl, sym, ◌∙◌, ap, subst}
+use Rattle.std.specs.Prelude.{position}
+use Rattle.std.specs.List.{AllByRecursion, IsDistinct, list_all}
+use Rattle.description.proofs.Places.{position-none}
+use Rattle.description.specs.declared.first.At.{At}
+use Rattle.conditionals.specs.Value.{same}
+use Rattle.outside_folder.specs.Files.{Bytes}
+use Rattle.plan_types.specs.declared.condition.Env.{Env}
+use Rattle.plan_types.specs.declared.index.UnitRecord.{UnitRecord}
+use Rattle.plan_types.specs.declared.refusal.Refusal.{Refusal}
+use Rattle.source_file.specs.declared.source.Source.{Source}
+use Rattle.index_files.specs.InTurn.{GoesOn, InTurn}
+use Rattle.index_files.specs.Locals.{AreLocals, FileComes, local_name, local_names, unless_there, with_file, with_local}
+use Rattle.index_files.specs.Readings.{AreFromFiles, IsFromFile}
+use Rattle.index_files.specs.Units as units
+use Rattle.index_files.specs.Units.{AreUnits, IsFormed, RecordComes, is_formed, place_of, unit_id, unit_ids, unit_name, with_found, with_record, with_unit}
+use Rattle.index_files.specs.declared.file.File.{File}
+use Rattle.index_files.specs.declared.local.Local.{Local}
+use Rattle.index_files.specs.declared.unit.Unit.{Unit}
+use Rattle.index_files.proofs.Lists.{all_more, map_append}
+use Rattle.index_files.proofs.Put.{and-left, and-right, distinct-last}
+
+ok-or : {A : Type 0} → A → Result A Refusal → A
+ok-or a (Ok x) = x
+ok-or a (Err y) = a
+
+same-ok : {A : Type 0} (a b : A) (r s : Result A Refusal) → r ≡ Ok a → s ≡ Ok b → r ≡ s → a ≡ b
+unfolding ok-or
+same-ok a b r s p q e = ap (ok-or a) (sym p ∙ e ∙ q)
+
+not-err : {A : Type 0} (a : A) (r : Refusal) (s : Result A Refusal) → s ≡ Ok a → s ≡ Err r → ⊥
+not-err a r s p q = let h = sym p ∙ q in cc h
+
+distinct-keys : {X : Type 0} (key : X → Bytes) (xs : List X) (x : X) → IsDistinct same (map key xs) → position (same (key x)) (map key xs) ≡ None → IsDistinct same (map key (xs ++ x ∷ []))
+distinct-keys key xs x h none = subst (IsDistinct same) (sym (map_append key xs (x ∷ []))) (distinct-last (map key xs) (key x) h (position-none (same (key x)) (map key xs) none))
+
+-- ---- local packages
+
+module _ (env : Env) where
+  with-one : (taken : List Local) (local : Local) → AreFromFiles env taken → IsFromFile env local → (place : Option ℕ) → position (same (local_name local)) (local_names taken) ≡ place
+      → (Rest : List Local → Type 0) (ls : List Local) → ((next : List Local) → AreFromFiles env next → Rest next → AreFromFiles env ls) → GoesOn {T = List Local} (unless_there place taken local) Rest (Ok ls) → AreFromFiles env ls
+  with-one taken local a f None e Rest ls go h = go (taken ++ local ∷ [])
+      (record { once = distinct-keys local_name taken local a.once e; read = all_more (IsFromFile env) taken local a.read f }) h
+  with-one taken local a f (Some place) e Rest ls go h = absurd (not-err ls _ _ refl h)
+
+  with-read : (taken : List Local) (file : File) (o : Result Source At) → AreFromFiles env taken → FileComes env file o
+      → (Rest : List Local → Type 0) (ls : List Local) → ((next : List Local) → AreFromFiles env next → Rest next → AreFromFiles env ls) → GoesOn {T = List Local} (with_file taken file o) Rest (Ok ls) → AreFromFiles env ls
+  with-read taken file (Ok source) a c Rest ls go h =
+      let local : Local = record { path = file.path; source = source } in
+      with-one taken local a (file, c) (position (same (local_name local)) (local_names taken)) refl Rest ls go h
+  with-read taken file (Err at) a c Rest ls go h = absurd (not-err ls _ _ refl h)
+
+  from-files : (files : List File) (taken ls : List Local) → AreFromFiles env taken → InTurn (FileComes env) with_file taken files (Ok ls) → AreFromFiles env ls
+  from-files [] taken ls a h = subst (AreFromFiles env) (sym (same-ok ls taken _ _ refl refl h)) a
+  from-files (file ∷ files) taken ls a h =
+      with-read taken file h.0 a h.1 (λ next. InTurn (FileComes env) with_file next files (Ok ls)) ls (λ next b k. from-files files next ls b k) h.2
+
+  none-yet : AreFromFiles env []
+  unfolding IsDistinct
+  none-yet = record { once = tt; read = tt }
+
+  pub locals-from-files : (files : List File) (ls : List Local) → AreLocals env files (Ok ls) → AreFromFiles env ls
+  locals-from-files files ls h = from-files files [] ls none-yet h
+
+-- ---- units
+
+abbrev AreOnce : List Unit → Type 0
+AreOnce us = IsDistinct same (unit_ids us)
+
+one-unit : (taken : List Unit) (u : Unit) → AreOnce taken → (place : Option ℕ) → place_of taken (unit_id u) ≡ place
+    → (Rest : List Unit → Type 0) (us : List Unit) → ((next : List Unit) → AreOnce next → Rest next → AreOnce us) → GoesOn {T = List Unit} (units.unless_there place taken u) Rest (Ok us) → AreOnce us
+one-unit taken u a None e Rest us go h = go (taken ++ u ∷ []) (distinct-keys unit_id taken u a e) h
+one-unit taken u a (Some place) e Rest us go h = absurd (not-err us _ _ refl h)
+
+one-record : (taken : List Unit) (file : File) (o : Result (Option UnitRecord) At) → AreOnce taken
+    → (Rest : List Unit → Type 0) (us : List Unit) → ((next : List Unit) → AreOnce next → Rest next → AreOnce us) → GoesOn {T = List Unit} (with_record taken file o) Rest (Ok us) → AreOnce us
+one-record taken file (Ok None) a Rest us go h = go taken a h
+one-record taken file (Ok (Some r)) a Rest us go h =
+    let u : Unit = record { path = file.path; record_of = r } in
+    one-unit taken u a (place_of taken (unit_id u)) refl Rest us go h
+one-record taken file (Err at) a Rest us go h = absurd (not-err us _ _ refl h)
+
+from-records : (files : List File) (taken us : List Unit) → AreOnce taken → InTurn RecordComes with_record taken files (Ok us) → AreOnce us
+from-records [] taken us a h = subst AreOnce (sym (same-ok us taken _ _ refl refl h)) a
+from-records (file ∷ files) taken us a h = one-record taken file h.0 a (λ next. InTurn RecordComes with_record next files (Ok us)) us (λ next b k. from-records files next us b k) h.2
+
+pub units-once : (files : List File) (us : List Unit) → AreUnits files (Ok us) → IsDistinct same (unit_ids us)
+unfolding IsDistinct
+units-once files us h = from-records files [] us tt h
+
+pub all-formed : (us : List Unit) → list_all is_formed us ≡ true → AllByRecursion IsFormed us
+all-formed [] h = tt
+all-formed (u ∷ us) h =
+    let here = and-left (is_formed u) (list_all is_formed us) h in
+    (record { name = and-left _ _ here; version = and-right _ _ here }, all-formed us (and-right (is_formed u) (list_all is_formed us) h))

@@ -1,0 +1,50 @@
+-- What is put behind others, and of what a list is made one by one.
+use Rattle.std.proofs.Common.{◌≡◌, ℕ, ◌+◌, ◌<◌, ◌≤◌, Bool, true, false, List, [], ◌∷◌, ◌++◌, length, map, take, get_or, Option, Some, None, refl, sym, ◌∙◌, ap, subst, append_assoc, append-nil, if◌then◌else◌, arith}
+use Rattle.std.specs.Prelude.{position}
+use Rattle.std.specs.List.{list_any}
+use Rattle.indexmap.specs.IndexSet.{insert_key}
+use Rattle.conditionals.specs.Value.{same}
+use Rattle.description.proofs.Places.{position-none}
+use Rattle.description_parts.specs.File.{IsVersion}
+use Rattle.plan_types.specs.declared.condition.Env.{Env}
+use Rattle.plan_types.specs.declared.version.Version.{Version}
+use Rattle.outside_folder.specs.Files.{Bytes}
+use Rattle.outside_folder.specs.declared.folder.Name.{Name}
+use Rattle.index_files.specs.Releases.{AddsRelease, AddsVersion, AreReleases, AreVersions, IsRelease, version_dir}
+use Rattle.index_files.specs.declared.file.File.{File}
+use Rattle.index_files.specs.declared.release.Release.{Release}
+use Rattle.index_files.specs.declared.versions.VersionDir.{VersionDir}
+use Rattle.index_files.proofs.Lists.{map_append}
+
+-- a key that has no place is put last
+pub put-new : {X : Type 0} (key : X → Bytes) (xs : List X) (x : X) (keys new : List Bytes) (n : Bytes) (ys : List X)
+    → keys ≡ map key xs → position (same (key x)) (map key xs) ≡ None → n ≡ key x → new ≡ insert_key same keys n → ys ≡ xs ++ x ∷ [] → new ≡ map key ys
+put-new key xs x keys new n ys are none is put all =
+    put ∙ ap (insert_key same keys) is ∙ ap (λ ks. insert_key same ks (key x)) are
+    ∙ ap (λ b. if b then map key xs else map key xs ++ key x ∷ []) (position-none (same (key x)) (map key xs) none)
+    ∙ sym (map_append key xs (x ∷ [])) ∙ ap (map key) (sym all)
+
+pub versions-more : (names : List Name) (name : Name) (dirs new : List VersionDir) → AreVersions names dirs → AddsVersion name.text dirs new → AreVersions (names ++ name ∷ []) new
+versions-more [] name dirs new h a =
+    (a.0, [], a.1, refl, a.2 ∙ ap (λ ds. ds ++ version_dir name.text a.0) h ∙ sym (append-nil (version_dir name.text a.0)))
+versions-more (m ∷ names) name dirs new h a =
+    let add = version_dir name.text a.0 in (
+      h.0,
+      h.1 ++ add,
+      h.2,
+      versions-more names name h.1 (h.1 ++ add) h.3 (a.0, a.1, refl),
+      a.2 ∙ ap (λ ds. ds ++ add) h.4 ∙ append_assoc (version_dir m.text h.0) h.1 add,
+    )
+
+pub releases-more : (env : Env) (name : Bytes) (dirs : List VersionDir) (files : List File) (dir : VersionDir) (file : File) (old new : List Release)
+    → length files ≡ length dirs → AreReleases env name dirs files old → AddsRelease env name dir file old new → AreReleases env name (dirs ++ dir ∷ []) (files ++ file ∷ []) new
+releases-more env name [] [] dir file old new l h a = (a.0, [], a.1, refl, a.2 ∙ ap (λ rs. rs ++ a.0) h ∙ sym (append-nil a.0))
+releases-more env name [] (f ∷ files) dir file old new l h a = absurd (grind (arith, l))
+releases-more env name (d ∷ dirs) [] dir file old new l h a = absurd (grind (arith, l))
+releases-more env name (d ∷ dirs) (f ∷ files) dir file old new l h a = (
+  h.0,
+  h.1 ++ a.0,
+  h.2,
+  releases-more env name dirs files dir file h.1 (h.1 ++ a.0) (omega (arith, l)) h.3 (a.0, a.1, refl),
+  a.2 ∙ ap (λ rs. rs ++ a.0) h.4 ∙ append_assoc h.0 h.1 a.0,
+)

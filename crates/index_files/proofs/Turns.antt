@@ -1,0 +1,106 @@
+-- Things that are taken one after the other, as far as they were taken.
+use Rattle.std.proofs.Common.{◌≡◌, ℕ, ◌+◌, ◌<◌, List, [], ◌∷◌, ◌++◌, length, take, drop, get_or, Option, Result, Ok, Err, refl, sym, ◌∙◌, ap, subst}
+use Rattle.std.proofs.lemmas.List.{append_assoc, append-nil, take_more, take-append-drop}
+use Rattle.std.specs.Prelude.{IsErrOf}
+use Rattle.outside_folder.specs.Calls.{Leaves, halt_of}
+use Rattle.outside_folder.specs.Files.{Files}
+use Rattle.outside_folder.specs.declared.calls.Trouble.{Trouble}
+use Rattle.outside_folder.specs.declared.calls.Trouble.TheVariants.{Failed, NoMemory}
+use Rattle.plan_types.specs.declared.refusal.Halt.{Halt}
+use Rattle.plan_types.specs.declared.refusal.Halt.TheVariants as halt
+use Rattle.plan_types.specs.declared.refusal.Refusal.{Refusal}
+use Rattle.index_files.specs.InTurn.{Answers, GoesOn, InTurn, Settles, Steps}
+
+module _ {X O S R : Type 0} (Comes : X → O → Type 0) (step : S → X → O → Result S R) where
+  -- from the one state these things lead to the other
+  abbrev pub Through : S → List X → S → Type 0
+  Through from front to = (rest : List X) (outcome : Result S R) → InTurn Comes step to rest outcome → InTurn Comes step from (front ++ rest) outcome
+
+  pub begun : (s : S) → Through s [] s
+  begun s rest outcome h = h
+
+  goes : (from to : S) (x : X) (rest : List X) (outcome : Result S R) → Steps Comes step from x (Ok to) → InTurn Comes step to rest outcome → InTurn Comes step from (x ∷ rest) outcome
+  goes from to x rest outcome s h =
+      (s.0, s.1, subst (λ next. GoesOn {T = S} next (λ taken. InTurn Comes step taken rest outcome) outcome) (sym s.2) h)
+
+  pub more : (from mid to : S) (front : List X) (x : X) → Through from front mid → Steps Comes step mid x (Ok to) → Through from (front ++ x ∷ []) to
+  more from mid to front x t s rest outcome h =
+      subst (λ xs. InTurn Comes step from xs outcome) (sym (append_assoc front (x ∷ []) rest)) (t (x ∷ rest) outcome (goes mid to x rest outcome s h))
+
+  pub refused : (from mid : S) (front : List X) (x : X) (rest : List X) (r : R) → Through from front mid → Steps Comes step mid x (Err r) → InTurn Comes step from ((front ++ x ∷ []) ++ rest) (Err r)
+  refused from mid front x rest r t s =
+      subst (λ xs. InTurn Comes step from xs (Err r)) (sym (append_assoc front (x ∷ []) rest))
+      (t (x ∷ rest) (Err r) (s.0, s.1, subst (λ next. GoesOn {T = S} next (λ taken. InTurn Comes step taken rest (Err r)) (Err r)) (sym s.2) (refl {a = Err r})))
+
+  pub whole : (from to : S) (front : List X) → Through from front to → InTurn Comes step from front (Ok to)
+  whole from to front t = subst (λ xs. InTurn Comes step from xs (Ok to)) (append-nil front) (t [] (Ok to) refl)
+
+  -- things have one outcome
+  module _ (one : (x : X) (a b : O) → Comes x a → Comes x b → a ≡ b) where
+    one-next : (xs : List X) → ((s : S) (a b : Result S R) → InTurn Comes step s xs a → InTurn Comes step s xs b → a ≡ b)
+        → (next : Result S R) (a b : Result S R) → GoesOn {T = S} next (λ taken. InTurn Comes step taken xs a) a → GoesOn {T = S} next (λ taken. InTurn Comes step taken xs b) b → a ≡ b
+    one-next xs ih (Ok next) a b h k = ih next a b h k
+    one-next xs ih (Err r) a b h k = h ∙ sym k
+
+    pub one-outcome : (s : S) (xs : List X) (a b : Result S R) → InTurn Comes step s xs a → InTurn Comes step s xs b → a ≡ b
+    one-outcome s [] a b h k = h ∙ sym k
+    one-outcome s (x ∷ xs) a b h k =
+        one-next xs (λ t c d p q. one-outcome t xs c d p q) (step s x h.0) a b h.2
+        (subst (λ o. GoesOn {T = S} (step s x o) (λ taken. InTurn Comes step taken xs b) b) (one x k.0 h.0 k.1 h.1) k.2)
+
+-- one more place of a list
+pub taken_more : {X : Type 0} (xs : List X) (i : ℕ) (x : X) → i < length xs → x ≡ get_or xs i x → take (i + 1) xs ≡ take i xs ++ x ∷ []
+taken_more xs i x l e = take_more xs i x l ∙ ap (λ y. take i xs ++ y ∷ []) (sym e)
+
+pub split_at : {X : Type 0} (xs : List X) (i : ℕ) (x : X) → i < length xs → x ≡ get_or xs i x → xs ≡ (take i xs ++ x ∷ []) ++ drop (i + 1) xs
+split_at xs i x l e = sym (take-append-drop (i + 1) xs) ∙ ap (λ ys. ys ++ drop (i + 1) xs) (taken_more xs i x l e)
+
+-- what ends a step ends all
+pub halted : {X O S A : Type 0} (Comes : X → O → Type 0) (step : S → X → O → Result S Refusal) (f : A → S) (from mid : S) (xs : List X) (i : ℕ) (x : X) (h : Halt)
+    → i < length xs → x ≡ get_or xs i x → Through Comes step from (take i xs) mid → Settles f (Steps Comes step mid x) (Err h) → Settles f (InTurn Comes step from xs) (Err h)
+halted Comes step f from mid xs i x halt.NoMemory l e t s = tt
+halted Comes step f from mid xs i x halt.Failed l e t s = s
+halted Comes step f from mid xs i x (halt.Refused r) l e t s =
+    subst (λ ys. InTurn Comes step from ys (Err r)) (sym (split_at xs i x l e)) (refused Comes step from mid (take i xs) x (drop (i + 1) xs) r t s)
+
+-- ---- where a folder is asked
+
+pub settled : {A B : Type 0} (f : A → B) (Is : Result B Refusal → Type 0) (result : Result A Halt) → Settles f Is result → Answers f Is result
+settled f Is (Ok a) h = h
+settled f Is (Err halt.NoMemory) h = tt
+settled f Is (Err halt.Failed) h = absurd h
+settled f Is (Err (halt.Refused r)) h = h
+
+pub never-failed : {A B : Type 0} (f : A → B) (Is : Result B Refusal → Type 0) (result : Result A Halt) → Settles f Is result → IsErrOf result halt.Failed → ⊥
+never-failed f Is (Ok a) h e = cc e
+never-failed f Is (Err halt.NoMemory) h e = cc e
+never-failed f Is (Err halt.Failed) h e = h
+never-failed f Is (Err (halt.Refused r)) h e = cc e
+
+-- the folder's trouble is answered as it is
+pub troubled : {A B : Type 0} (f : A → B) (Is : Result B Refusal → Type 0) (trouble : Trouble) → Answers f Is (Err (halt_of trouble))
+troubled f Is Failed = tt
+troubled f Is NoMemory = tt
+
+pub refused-as : {A D B C : Type 0} (f : A → B) (Is : Result B Refusal → Type 0) (Was : Result C Refusal → Type 0) (g : D → C) (h : Halt) → ((r : Refusal) → Is (Err r) → Was (Err r)) → Answers f Is (Err h) → Answers g Was (Err h)
+refused-as f Is Was g halt.NoMemory from a = tt
+refused-as f Is Was g halt.Failed from a = tt
+refused-as f Is Was g (halt.Refused r) from a = from r a
+
+-- what doesn't fail asks nothing more of the count
+pub quiet : {failed then : Type 0} (a b : Option Files) (n m : ℕ) → (then → ⊥) → Leaves a n b m failed → Leaves a n b m then
+quiet a b n m never h = record { same_files = h.same_files; later = h.later; rose = λ t. absurd (never t) }
+
+halt-in : {A : Type 0} → Result A Halt → Halt
+halt-in (Ok a) = halt.NoMemory
+halt-in (Err h) = h
+
+never-halted : {A B : Type 0} (f : A → B) (Is : Result B Refusal → Type 0) (h : Halt) → Settles f Is (Err h) → h ≡ halt.Failed → ⊥
+never-halted f Is halt.NoMemory s e = cc e
+never-halted f Is halt.Failed s e = s
+never-halted f Is (halt.Refused r) s e = cc e
+
+-- what another answers with the same halt doesn't fail either
+pub never-passed : {A B D : Type 0} (f : A → B) (Is : Result B Refusal → Type 0) (h : Halt) (r : Result D Halt) → Settles f Is (Err h) → r ≡ Err h → r ≡ Err halt.Failed → ⊥
+unfolding halt-in
+never-passed f Is h r s e k = never-halted f Is h s (sym (ap halt-in e) ∙ ap halt-in k)

@@ -1,0 +1,135 @@
+-- The reading closure: the names that are reached from the local packages, and what is read under each.
+use Rattle.std.specs.Prelude.{◌≡◌, ℕ, ◌+◌, Bool, true, false, if◌then◌else◌, List, [], ◌∷◌, ◌++◌, map, flat_map, position, slice_get, option_and_then, Option, Some, None}
+use Rattle.std.specs.List.{AllByRecursion, IsDistinct, list_all}
+use Rattle.plan_types.specs.declared.condition.Env.{Env}
+use Rattle.plan_types.specs.declared.dependency.Named.{Named}
+use Rattle.conditionals.specs.Value.{same}
+use Rattle.flatten.specs.Sound.{asked_packages}
+use Rattle.outside_folder.specs.Files.{Bytes, Files}
+use Rattle.index_files.specs.File.{count_all, size_all}
+use Rattle.index_files.specs.Locals.{local_names}
+use Rattle.index_files.specs.Names.{is_listed}
+use Rattle.index_files.specs.Releases.{AreReleases, AreVersions, asked_in, files_below, names_below}
+use Rattle.index_files.specs.Totals.{is_too_many}
+use Rattle.index_files.specs.Units.{needed_by}
+use Rattle.index_files.specs.declared.closure.Found.{Found}
+use Rattle.index_files.specs.declared.file.File.{File}
+use Rattle.index_files.specs.declared.local.Local.{Local}
+use Rattle.index_files.specs.declared.places.Places.{Places}
+use Rattle.index_files.specs.declared.release.Release.{Release}
+use Rattle.index_files.specs.declared.unit.Unit.{Unit}
+use Rattle.index_files.specs.declared.versions.VersionDir.{VersionDir}
+
+-- what stands before the index is read
+pub record Ground : Type 0 where
+  pub env : Env
+  pub places : Places
+  pub locals : List Local
+  pub units : List Unit
+  pub extra : List Named
+
+abbrev pub is_local : Ground → Bytes → Bool
+is_local ground name = is_listed (local_names ground.locals) name
+
+-- the names with which it begins: those of local packages, and those for which the project asks besides
+abbrev pub roots : Ground → List Bytes
+roots ground = local_names ground.locals ++ map (λ named. named.name) ground.extra
+
+abbrev pub asked_by_local : Option Local → List Bytes
+asked_by_local None = []
+asked_by_local (Some local) = asked_packages local.source.description
+
+-- the names that a local package of this name mentions
+abbrev pub asked_locally : List Local → Bytes → List Bytes
+asked_locally locals name = asked_by_local (option_and_then (slice_get locals) (position (same name) (local_names locals)))
+
+-- A name mentions what its local package asks for, what its records need, and what its releases ask for.
+abbrev pub mentioned : Ground → Found → List Bytes
+mentioned ground found = asked_locally ground.locals found.name ++ needed_by ground.units found.name ++ asked_in found.releases
+
+-- ---- what is read under a name
+
+-- a name, its versions in the index, and their releases
+pub record Visit : Type 0 where
+  pub name : Bytes
+  pub dirs : List VersionDir
+  pub releases : List Release
+
+abbrev pub found_of : Visit → Found
+found_of visit = record { name = visit.name; releases = visit.releases }
+
+abbrev pub visited_files : Ground → Files → Visit → List File
+visited_files ground files visit = files_below ground.places files visit.name visit.dirs
+
+pub record ReadsAll (ground : Ground) (files : Files) (visit : Visit) : Type 0 where
+  pub versions : AreVersions (names_below ground.places files visit.name) visit.dirs
+  pub releases : AreReleases ground.env visit.name visit.dirs (visited_files ground files visit) visit.releases
+
+pub record ReadsNothing (visit : Visit) : Type 0 where
+  pub no_versions : visit.dirs ≡ []
+  pub no_releases : visit.releases ≡ []
+
+-- under the name of a local package nothing is read
+abbrev pub ReadsAs : Ground → Files → Visit → Bool → Type 0
+ReadsAs ground files visit true = ReadsNothing visit
+ReadsAs ground files visit false = ReadsAll ground files visit
+
+abbrev pub IsVisit : Ground → Files → Visit → Type 0
+IsVisit ground files visit = ReadsAs ground files visit (is_local ground visit.name)
+
+-- ---- the closure
+
+-- a name of the closure
+pub data IsReached (ground : Ground) (files : Files) : Bytes → Type 0 where
+  root : (name : Bytes) → is_listed (roots ground) name ≡ true → IsReached ground files name
+  by_name : (visit : Visit) (name : Bytes) → IsReached ground files visit.name → IsVisit ground files visit
+      → is_listed (mentioned ground (found_of visit)) name ≡ true → IsReached ground files name
+
+-- what the files of these names and versions count as, after so many files and bytes
+abbrev pub are_too_many : Ground → Files → ℕ → ℕ → List Visit → Bool
+are_too_many ground files count size visits =
+    let all = flat_map (visited_files ground files) visits in
+    is_too_many (count + count_all all) (size + size_all all)
+
+abbrev pub names_of : List Visit → List Bytes
+names_of visits = map (λ visit. visit.name) visits
+
+-- each of these names has what it mentions among them
+abbrev pub AreClosed : Ground → List Bytes → List Visit → Type 0
+AreClosed ground names visits = list_all (λ visit. list_all (is_listed names) (mentioned ground (found_of visit))) visits ≡ true
+
+-- The least names that hold those with which it begins and, with each, those that it mentions.
+pub record IsClosure (ground : Ground) (files : Files) (visits : List Visit) : Type 0 where
+  pub once : IsDistinct same (names_of visits)
+  pub begun : list_all (is_listed (names_of visits)) (roots ground) ≡ true
+  pub closed : AreClosed ground (names_of visits) visits
+  pub reached : AllByRecursion (λ visit. IsReached ground files visit.name) visits
+  pub read : AllByRecursion (IsVisit ground files) visits
+
+-- the versions of a name; that of a local package has none
+abbrev pub HasVersions : Ground → Files → Visit → Bool → Type 0
+HasVersions ground files visit true = visit.dirs ≡ []
+HasVersions ground files visit false = AreVersions (names_below ground.places files visit.name) visit.dirs
+
+-- a name of the closure and its versions
+pub record IsPart (ground : Ground) (files : Files) (visit : Visit) : Type 0 where
+  pub reached : IsReached ground files visit.name
+  pub versions : HasVersions ground files visit (is_local ground visit.name)
+
+-- Some names of the closure have more files than are read, after so many files and bytes.
+pub record IsBeyond (ground : Ground) (files : Files) (count size : ℕ) : Type 0 where
+  pub parts : List Visit
+  pub once : IsDistinct same (names_of parts)
+  pub inside : AllByRecursion (IsPart ground files) parts
+  pub many : are_too_many ground files count size parts ≡ true
+
+-- all of the closure is read
+pub record IsWhole (ground : Ground) (files : Files) (count size : ℕ) (found : List Found) : Type 0 where
+  pub visits : List Visit
+  pub closure : IsClosure ground files visits
+  pub few : are_too_many ground files count size visits ≡ false
+  pub found_is : found ≡ map found_of visits
+
+abbrev pub Reaches : Ground → Files → ℕ → ℕ → Option (List Found) → Type 0
+Reaches ground files count size None = IsBeyond ground files count size
+Reaches ground files count size (Some found) = IsWhole ground files count size found

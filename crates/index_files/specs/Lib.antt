@@ -1,0 +1,14 @@
+pub mod Closure
+pub mod File
+pub mod InTurn
+pub mod Known
+pub mod Locals
+pub mod Names
+pub mod Needed
+pub mod Places
+pub mod Readings
+pub mod Releases
+pub mod Sources
+pub mod Steps
+pub mod Totals
+pub mod Units

@@ -1,0 +1,19 @@
+-- Where the files of an index lie.
+use Rattle.std.specs.Prelude.{◌++◌, codes}
+use Rattle.outside_folder.specs.Files.{Bytes}
+use Rattle.index_files.specs.declared.places.Places.{Places}
+
+-- a name in a directory
+abbrev pub under : Bytes → Bytes → Bytes
+under dir name = dir ++ codes "/" ++ name
+
+abbrev pub record_path : Places → Bytes → Bytes
+record_path places name = under places.installed name
+
+-- the directory of a package's versions
+abbrev pub name_dir : Places → Bytes → Bytes
+name_dir places name = under places.index name
+
+-- the file of a package under a name of that directory
+abbrev pub release_path : Places → Bytes → Bytes → Bytes
+release_path places name dir = name_dir places name ++ codes "/" ++ dir ++ codes "/" ++ name ++ codes ".cabal"

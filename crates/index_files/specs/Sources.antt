@@ -1,0 +1,27 @@
+-- What the bytes in a file are read as.
+use Rattle.std.specs.Prelude.{◌≡◌, [], Option, Some, None}
+use Rattle.std.specs.declared.result.Result.{Result}
+use Rattle.std.specs.declared.result.Result.TheVariants.{Ok, Err}
+use Rattle.plan_types.specs.declared.condition.Env.{Env}
+use Rattle.plan_types.specs.declared.refusal.Cause.TheVariants.{TooLarge as ItIsTooLarge}
+use Rattle.outside_folder.specs.declared.calls.Content.{Content}
+use Rattle.outside_folder.specs.declared.calls.Content.TheVariants.{Missing, TooLarge, Bytes as Holds}
+use Rattle.outside_folder.specs.Files.{Bytes}
+use Rattle.description.specs.Tables.{is_at}
+use Rattle.description.specs.declared.first.At.{At}
+use Rattle.source_file.specs.Source.{IsSource}
+use Rattle.source_file.specs.declared.source.Source.{Source}
+
+-- a file that is gone counts as empty
+abbrev pub bytes_in : Content → Option Bytes
+bytes_in Missing = Some []
+bytes_in TooLarge = None
+bytes_in (Holds bytes) = Some bytes
+
+abbrev pub OfBytes : Env → Option Bytes → Result Source At → Type 0
+OfBytes env None outcome = outcome ≡ Err (is_at 0 ItIsTooLarge)
+OfBytes env (Some bytes) outcome = IsSource env bytes outcome
+
+-- what a file of a package comes to
+abbrev pub Comes : Env → Content → Result Source At → Type 0
+Comes env content outcome = OfBytes env (bytes_in content) outcome

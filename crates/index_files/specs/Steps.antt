@@ -1,0 +1,88 @@
+-- The steps in which the closure is read.
+use Rattle.std.specs.Prelude.{◌≡◌, ℕ, ◌+◌, Bool, true, false, List, [], ◌∷◌, ◌++◌, flat_map, map, fold, Option, Some, None}
+use Rattle.std.specs.List.{AllByRecursion, IsDistinct, list_all}
+use Rattle.plan_types.specs.declared.condition.Env.{Env}
+use Rattle.plan_types.specs.declared.dependency.Named.{Named}
+use Rattle.indexmap.specs.IndexSet.{insert_key}
+use Rattle.conditionals.specs.Value.{same}
+use Rattle.outside_folder.specs.Files.{Bytes, Files}
+use Rattle.index_files.specs.Closure.{Ground, IsPart, IsReached, IsVisit, Visit, found_of, is_local, mentioned, roots, visited_files}
+use Rattle.index_files.specs.File.{Counts, count_all, size_all}
+use Rattle.index_files.specs.Names.{is_listed}
+use Rattle.index_files.specs.Releases.{AreReleases, AreVersions, files_below, names_below}
+use Rattle.index_files.specs.Totals.{is_too_many}
+use Rattle.index_files.specs.declared.closure.Found.{Found}
+use Rattle.index_files.specs.declared.file.File.{File}
+use Rattle.index_files.specs.declared.places.Places.{Places}
+use Rattle.index_files.specs.declared.release.Release.{Release}
+use Rattle.index_files.specs.declared.totals.Totals.{Totals}
+use Rattle.index_files.specs.declared.versions.VersionDir.{VersionDir}
+
+-- ---- one name
+
+abbrev pub IsBeyondAll : Totals → List File → Type 0
+IsBeyondAll before read = is_too_many (before.files + count_all read) (before.bytes + size_all read) ≡ true
+
+pub record ReadsTooMany (places : Places) (files : Files) (name : Bytes) (before : Totals) : Type 0 where
+  pub dirs : List VersionDir
+  pub versions : AreVersions (names_below places files name) dirs
+  pub many : IsBeyondAll before (files_below places files name dirs)
+
+pub record ReadsReleases (env : Env) (places : Places) (files : Files) (name : Bytes) (before after : Totals) (releases : List Release) : Type 0 where
+  pub dirs : List VersionDir
+  pub versions : AreVersions (names_below places files name) dirs
+  pub releases_are : AreReleases env name dirs (files_below places files name dirs) releases
+  pub counts : Counts before after (files_below places files name dirs)
+
+-- the releases of a name, or that its files are too many
+abbrev pub Reads : Env → Places → Files → Bytes → Totals → Totals → Option (List Release) → Type 0
+Reads env places files name before after None = ReadsTooMany places files name before
+Reads env places files name before after (Some releases) = ReadsReleases env places files name before after releases
+
+-- its files were counted and read
+pub record IsVisited (ground : Ground) (files : Files) (name : Bytes) (before after : Totals) (releases : List Release) : Type 0 where
+  pub dirs : List VersionDir
+  pub visit : IsVisit ground files (record { name = name; dirs = dirs; releases = releases })
+  pub counts : Counts before after (visited_files ground files (record { name = name; dirs = dirs; releases = releases }))
+
+-- its files are too many after those before them
+pub record IsOneTooMany (ground : Ground) (files : Files) (name : Bytes) (before : Totals) : Type 0 where
+  pub apart : is_local ground name ≡ false
+  pub read : ReadsTooMany ground.places files name before
+
+abbrev pub Visits : Ground → Files → Bytes → Totals → Totals → Option (List Release) → Type 0
+Visits ground files name before after None = IsOneTooMany ground files name before
+Visits ground files name before after (Some releases) = IsVisited ground files name before after releases
+
+-- the releases are those of some files
+abbrev pub AreJudged : Env → Bytes → List Release → Type 0
+AreJudged env name releases = (dirs : List VersionDir) × (files : List File) × AreReleases env name dirs files releases
+
+-- ---- all names
+
+-- what was read under names, as far as it was
+abbrev pub pair_up : List Bytes → List (List Release) → List Found
+pair_up [] read = []
+pair_up (name ∷ names) [] = []
+pair_up (name ∷ names) (releases ∷ read) = record { name = name; releases = releases } ∷ pair_up names read
+
+-- the names hold those with which the closure begins, each once, and what was read mentions no others
+pub record AreKept (ground : Ground) (names : List Bytes) (found : List Found) : Type 0 where
+  pub once : IsDistinct same names
+  pub begun : list_all (is_listed names) (roots ground) ≡ true
+  pub closed : list_all (λ f. list_all (is_listed names) (mentioned ground f)) found ≡ true
+  pub judged : AllByRecursion (λ f. AreJudged ground.env f.name f.releases) found
+
+-- what was read is of the closure, and was counted
+pub record ArePartly (ground : Ground) (files : Files) (before after : Totals) (names : List Bytes) (found : List Found) : Type 0 where
+  pub visits : List Visit
+  pub found_is : found ≡ map found_of visits
+  pub read : AllByRecursion (IsVisit ground files) visits
+  pub reached : AllByRecursion (IsReached ground files) names
+  pub counts : Counts before after (flat_map (visited_files ground files) visits)
+
+-- a name was read, and what it mentions was put behind the others
+pub record Finds (ground : Ground) (name : Bytes) (old new : List Bytes) (found : Found) : Type 0 where
+  pub name_is : found.name ≡ name
+  pub judged : AreJudged ground.env found.name found.releases
+  pub put : new ≡ fold (insert_key same) old (mentioned ground found)

@@ -1,0 +1,133 @@
+-- The installed units of a folder, by their records.
+use Rattle.std.specs.Prelude.{◌≡◌, ℕ, ◌&&◌, Bool, true, false, not, if◌then◌else◌, List, [], ◌∷◌, ◌++◌, codes, length, map, filter, flat_map, position, slice_get, unwrap_or, nat_eq, ◌==◌, Option, Some, None}
+use Rattle.std.specs.List.{ends_with}
+use Rattle.std.specs.declared.result.Result.{Result}
+use Rattle.std.specs.declared.result.Result.TheVariants.{Ok, Err}
+use Rattle.plan_types.specs.declared.index.UnitRecord.{UnitRecord}
+use Rattle.plan_types.specs.declared.refusal.Cause.TheVariants.{BadRecord, DuplicateUnit, TooLarge, TooMany}
+use Rattle.plan_types.specs.declared.refusal.Refusal.{Refusal}
+use Rattle.plan_types.specs.Name.{is_package_name}
+use Rattle.version_range.specs.Version.{is_version}
+use Rattle.conditionals.specs.Value.{same}
+use Rattle.description.specs.Tables.{is_at}
+use Rattle.description.specs.declared.first.At.{At}
+use Rattle.outside_folder.specs.Files.{Bytes, Files, listing}
+use Rattle.outside_folder.specs.declared.folder.Name.{Name}
+use Rattle.unit_record.specs.Record.{IsRecord}
+use Rattle.index_files.specs.File.{file_found, fitting}
+use Rattle.index_files.specs.InTurn.{InTurn}
+use Rattle.index_files.specs.Places.{record_path}
+use Rattle.index_files.specs.Sources.{bytes_in}
+use Rattle.index_files.specs.declared.file.File.{File}
+use Rattle.index_files.specs.declared.places.Places.{Places}
+use Rattle.index_files.specs.declared.unit.Unit.{Unit}
+
+-- ---- a record
+
+abbrev pub record_outcome : Result (Option UnitRecord) ℕ → Result (Option UnitRecord) At
+record_outcome (Ok found) = Ok found
+record_outcome (Err line) = Err (is_at line BadRecord)
+
+abbrev pub OfRecord : Option Bytes → Result (Option UnitRecord) At → Type 0
+OfRecord None outcome = outcome ≡ Err (is_at 0 TooLarge)
+OfRecord (Some bytes) outcome = (found : Result (Option UnitRecord) ℕ) × IsRecord bytes found × (outcome ≡ record_outcome found)
+
+-- what a file of a record comes to
+abbrev pub RecordComes : File → Result (Option UnitRecord) At → Type 0
+RecordComes file outcome = OfRecord (bytes_in file.content) outcome
+
+-- ---- the units
+
+abbrev pub unit_id : Unit → Bytes
+unit_id u = u.record_of.id
+
+abbrev pub unit_name : Unit → Bytes
+unit_name u = u.record_of.name
+
+abbrev pub unit_ids : List Unit → List Bytes
+unit_ids units = map unit_id units
+
+-- the place of the unit of an id
+abbrev pub place_of : List Unit → Bytes → Option ℕ
+place_of units id = position (same id) (unit_ids units)
+
+abbrev pub path_at : List Unit → ℕ → Bytes
+path_at units place = elim (slice_get units place) [ None ↦ [] | Some u ↦ u.path ]
+
+-- a second unit of an id is refused, with the path of the first
+abbrev pub unless_there : Option ℕ → List Unit → Unit → Result (List Unit) Refusal
+unless_there None units u = Ok (units ++ u ∷ [])
+unless_there (Some place) units u = Err (record { path = u.path; line = 0; cause = DuplicateUnit; detail = path_at units place })
+
+abbrev pub with_unit : List Unit → Unit → Result (List Unit) Refusal
+with_unit units u = unless_there (place_of units (unit_id u)) units u
+
+-- the record of a sublibrary is left out
+abbrev pub with_found : List Unit → Bytes → Option UnitRecord → Result (List Unit) Refusal
+with_found units path None = Ok units
+with_found units path (Some found) = with_unit units (record { path = path; record_of = found })
+
+-- a record that can't be read is refused
+abbrev pub with_record : List Unit → File → Result (Option UnitRecord) At → Result (List Unit) Refusal
+with_record units file (Ok found) = with_found units file.path found
+with_record units file (Err at) = Err (record { path = file.path; line = at.line; cause = at.cause; detail = [] })
+
+-- the units of these files, or the first refusal
+abbrev pub AreUnits : List File → Result (List Unit) Refusal → Type 0
+AreUnits files outcome = InTurn RecordComes with_record [] files outcome
+
+-- ---- the folder
+
+abbrev pub is_record : Name → Bool
+is_record name = not name.folder && ends_with nat_eq name.text (codes ".conf")
+
+abbrev pub record_paths : Places → List Name → List Bytes
+record_paths places names = map (λ name. record_path places name.text) (filter is_record names)
+
+abbrev pub paths_of_records : Places → Files → List Bytes
+paths_of_records places files = record_paths places (unwrap_or (listing files places.installed) [])
+
+-- the files of the records
+abbrev pub record_files : Places → Files → List File
+record_files places files = map (file_found true files) (paths_of_records places files)
+
+-- where there are more than are read, this is refused behind those that are
+abbrev pub unless_beyond : Places → Bool → Result (List Unit) Refusal → Result (List Unit) Refusal
+unless_beyond places true outcome = outcome
+unless_beyond places false (Ok units) = Err (record { path = places.installed; line = 0; cause = TooMany; detail = [] })
+unless_beyond places false (Err refusal) = Err refusal
+
+-- the units of a folder, or the first refusal
+abbrev pub ReadsUnits : Places → Files → Result (List Unit) Refusal → Type 0
+ReadsUnits places files outcome =
+    let all = record_files places files in
+    let read = fitting 0 0 all in
+    (units : Result (List Unit) Refusal) × AreUnits read units × (outcome ≡ unless_beyond places (length read == length all) units)
+
+-- ---- what records mention
+
+abbrev pub name_at : List Unit → ℕ → List Bytes
+name_at units place = elim (slice_get units place) [ None ↦ [] | Some u ↦ unit_name u ∷ [] ]
+
+-- the name of the package of a unit, where the unit has a record
+abbrev pub known_name : List Unit → Bytes → List Bytes
+known_name units id = elim (place_of units id) [ None ↦ [] | Some place ↦ name_at units place ]
+
+abbrev pub needed_names : List Unit → Unit → List Bytes
+needed_names units u = flat_map (known_name units) u.record_of.depends
+
+abbrev pub needed_among : List Unit → Bytes → List Unit → List Bytes
+needed_among units name some = flat_map (λ u. if same (unit_name u) name then needed_names units u else []) some
+
+-- the names that the records of a name mention
+abbrev pub needed_by : List Unit → Bytes → List Bytes
+needed_by units name = needed_among units name units
+
+-- the same as a test
+abbrev pub is_formed : Unit → Bool
+is_formed u = is_package_name (unit_name u) && is_version u.record_of.version.parts
+
+-- the name and the version of a unit have their forms
+pub record IsFormed (u : Unit) : Type 0 where
+  pub name : is_package_name (unit_name u) ≡ true
+  pub version : is_version u.record_of.version.parts ≡ true

@@ -1,0 +1,128 @@
+// Files are read from the folder first, and then only what they hold is looked at.
+ghost use Rattle.std.specs.Prelude.{◌≡◌, ◌+◌, ◌==◌, true, length, map, not, IfOk, IfSome, IsErrOf};
+ghost use Rattle.std.specs.List.{AllByRecursion};
+ghost use Rattle.outside_folder.specs.Calls.{Leaves};
+ghost use Rattle.outside_folder.specs.declared.calls.Trouble.TheVariants.{Failed as trouble_failed};
+ghost use Rattle.index_files.specs.File.{Counts, IsReadable, content_found, count_of, file_found, fitting, size_of};
+
+use crate::totals::Totals;
+use outside_folder::{Content, Folder, Trouble, read_content};
+use plan_types::{List, Text};
+use std::alloc::Global;
+
+/// A file that was read.
+#[derive(Debug, Drop)]
+pub(crate) struct File {
+    pub path: Text,
+    pub content: Content,
+}
+
+impl File {
+    fn count(&self) -> usize
+        ensures { result ≡ count_of self.now }
+    {
+        match &self.content {
+            Content::Missing => 0,
+            Content::TooLarge => 1,
+            Content::Bytes(_) => 1,
+        }
+    }
+
+    fn size(&self) -> usize
+        ensures { result ≡ size_of self.now }
+    {
+        match &self.content {
+            Content::Missing => 0,
+            Content::TooLarge => 0,
+            Content::Bytes(bytes) => bytes.len(),
+        }
+    }
+}
+
+/// Files that were read, and whether there are more of them than are read.
+#[derive(Debug, Drop)]
+pub(crate) struct Fetched {
+    pub files: List<File>,
+    pub beyond: bool,
+}
+
+/// Reads the files at these paths, which were listed.
+pub(crate) fn read_all<F: Folder>(
+    alloc: Global,
+    folder: &mut F,
+    paths: &[Text],
+) -> Result<List<File>, Trouble>
+    ensures told { IfSome (F.tells folder.old) (λ files. IfOk result (λ read. read ≡ map (file_found true files) paths.now)) }
+    ensures readable { IfOk result (AllByRecursion IsReadable) }
+    ensures folder { Leaves (F.tells folder.old) (F.faults folder.old) (F.tells folder.new) (F.faults folder.new) (IsErrOf result Trouble.Failed) }
+{
+    let mut read = List::new(alloc);
+    for path in paths {
+        let file = read_file(alloc, folder, path, true)?;
+        read.push(file)?;
+    }
+    Ok(read)
+}
+
+/// Reads the files at these paths, up to the first that is one too many.
+pub(crate) fn read_counted<F: Folder>(
+    alloc: Global,
+    folder: &mut F,
+    paths: &[Text],
+    listed: bool,
+    totals: &mut Totals,
+) -> Result<Fetched, Trouble>
+    ensures told { IfSome (F.tells folder.old) (λ files. IfOk result (λ read. read.files ≡ fitting totals.old.files totals.old.bytes (map (file_found listed files) paths.now))) }
+    ensures counts { IfOk result (λ read. Counts totals.old totals.new read.files) }
+    ensures readable { IfOk result (λ read. AllByRecursion IsReadable read.files) }
+    ensures beyond { IfOk result (λ read. read.beyond ≡ not (length read.files == length paths.now)) }
+    ensures folder { Leaves (F.tells folder.old) (F.faults folder.old) (F.tells folder.new) (F.faults folder.new) (IsErrOf result Trouble.Failed) }
+{
+    let mut files = List::new(alloc);
+    for path in paths {
+        let file = read_file(alloc, folder, path, listed)?;
+        if !totals.count(file.count(), file.size()) {
+            return Ok(Fetched {
+                files,
+                beyond: true,
+            });
+        }
+        files.push(file)?;
+    }
+    Ok(Fetched {
+        files,
+        beyond: false,
+    })
+}
+
+fn read_file<F: Folder>(
+    alloc: Global,
+    folder: &mut F,
+    path: &Text,
+    listed: bool,
+) -> Result<File, Trouble>
+    ensures told { IfSome (F.tells folder.old) (λ files. IfOk result (λ file. file ≡ file_found listed files path.now)) }
+    ensures readable { IfOk result IsReadable }
+    ensures folder { Leaves (F.tells folder.old) (F.faults folder.old) (F.tells folder.new) (F.faults folder.new) (IsErrOf result Trouble.Failed) }
+{
+    let content = read_content(alloc, folder, path.as_str())?;
+    let content = content_found(alloc, content, listed);
+    let path = path.copy()?;
+    Ok(File { path, content })
+}
+
+fn content_found(alloc: Global, content: Content, listed: bool) -> Content
+    ensures { result ≡ content_found listed content }
+{
+    match content {
+        Content::Missing => {
+            if listed {
+                Content::Bytes(List::new(alloc))
+            } else {
+                Content::Missing
+            }
+        }
+        Content::TooLarge => Content::TooLarge,
+        Content::Bytes(bytes) => Content::Bytes(bytes),
+    }
+}

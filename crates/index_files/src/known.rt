@@ -1,0 +1,21 @@
+ghost use Rattle.index_files.specs.Needed.{needed_in};
+ghost use Rattle.index_files.specs.Units.{needed_by};
+ghost use Rattle.std.specs.Prelude.{◌≡◌, List, ℕ};
+
+use crate::locals::Locals;
+use crate::needed::Needed;
+use crate::places::Places;
+use crate::units::Units;
+use plan_types::{Env, List, Named};
+
+/// What is known before the index is read.
+#[derive(Debug, Drop)]
+pub(crate) struct Known<'a> {
+    pub env: &'a Env,
+    pub places: &'a Places,
+    pub locals: &'a Locals,
+    pub units: &'a Units,
+    pub extra: &'a List<Named>,
+    pub needed: &'a Needed,
+    ghost needs: { (name : List ℕ) → needed_in needed.now name ≡ needed_by units.now.list name },
+}

@@ -1,0 +1,41 @@
+// The limits on what is read of the records and of the index.
+ghost use Rattle.std.specs.Prelude.{◌≡◌, ◌+◌, ◌≤◌, not, if◌then◌else◌};
+ghost use Rattle.index_files.specs.Totals.{is_too_many};
+
+/// How many files are read at most.
+const FILES_LIMIT: usize = 20_000;
+
+/// How many bytes they have together at most.
+const BYTES_LIMIT: usize = 268_435_456;
+
+/// How many files were read, and how many bytes they had.
+#[derive(Debug, Drop)]
+pub(crate) struct Totals {
+    pub files: usize,
+    pub bytes: usize,
+    ghost few_files: { files ≤ 20000 },
+    ghost few_bytes: { bytes ≤ 268435456 },
+}
+
+impl Totals {
+    pub fn new() -> Totals
+        ensures files { result.files ≡ 0 }
+        ensures bytes { result.bytes ≡ 0 }
+    {
+        Totals { files: 0, bytes: 0 }
+    }
+
+    /// Counts so many files with so many bytes, unless they are too many.
+    pub fn count(&mut self, files: usize, bytes: usize) -> bool
+        ensures fits { result ≡ not (is_too_many (self.old.files + files) (self.old.bytes + bytes)) }
+        ensures files { self.new.files ≡ (if result then self.old.files + files else self.old.files) }
+        ensures bytes { self.new.bytes ≡ (if result then self.old.bytes + bytes else self.old.bytes) }
+    {
+        if files > FILES_LIMIT - self.files || bytes > BYTES_LIMIT - self.bytes {
+            return false;
+        }
+        self.files += files;
+        self.bytes += bytes;
+        true
+    }
+}

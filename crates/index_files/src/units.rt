@@ -1,0 +1,130 @@
+// The installed units: each record is read, and no two units have one id.
+ghost use Rattle.std.specs.Prelude.{◌≡◌, ◌≤◌, ◌++◌, ◌∷◌, [], ℕ, List, true, length, Some, None, IfOk, IfErr, IfSome};
+ghost use Rattle.std.specs.List.{AllByRecursion, list_all};
+ghost use Rattle.std.specs.declared.result.Result.TheVariants.{Ok, Err};
+ghost use Rattle.plan_types.specs.Refusal.{RefusesAt};
+ghost use Rattle.description.specs.Tables.{is_at};
+ghost use Rattle.outside_folder.specs.Calls.{IsWithin};
+ghost use Rattle.index_files.specs.File.{IsReadable};
+ghost use Rattle.index_files.specs.InTurn.{Settles, Steps};
+ghost use Rattle.index_files.specs.Sources.{bytes_in};
+ghost use Rattle.index_files.specs.Units.{AreUnits, OfRecord, RecordComes, is_formed, place_of, unit_id, unit_ids, with_found, with_record, with_unit};
+
+use crate::file::File;
+use crate::locals::refused;
+use crate::unit::Unit;
+use indexmap::IndexSet;
+use outside_folder::Content;
+use plan_types::{Cause, Fault, Halt, List, NoMemory, Text, UnitRecord};
+use std::alloc::Global;
+use unit_record::read_record;
+
+/// Units by their ids.
+#[derive(Debug, Drop)]
+pub(crate) struct Units {
+    pub list: List<Unit>,
+    pub ids: IndexSet<Text>,
+    ghost named: { ids.keys ≡ unit_ids list },
+    ghost formed: { list_all is_formed list ≡ true },
+}
+
+/// The units of these files, or the first refusal.
+pub(crate) fn units_of(alloc: Global, files: &[File]) -> Result<Units, Halt>
+    requires { AllByRecursion IsReadable files.now }
+    ensures { Settles (λ units. units.list) (AreUnits files.now) result }
+{
+    let mut units = Units::new(alloc);
+    for file in files {
+        units = units.with_file(alloc, file)?;
+    }
+    Ok(units)
+}
+
+impl Units {
+    fn new(alloc: Global) -> Units
+        ensures { result.list ≡ [] }
+    {
+        Units {
+            list: List::new(alloc),
+            ids: IndexSet::new(alloc),
+        }
+    }
+
+    fn with_file(self, alloc: Global, file: &File) -> Result<Units, Halt>
+        requires { IsReadable file.now }
+        ensures { Settles (λ units. units.list) (Steps RecordComes with_record self.list file.now) result }
+    {
+        match record_in(alloc, &file.content) {
+            Ok(found) => self.with_found(&file.path, found),
+            Err(Fault::NoMemory) => Err(Halt::NoMemory),
+            Err(Fault::At { line, cause }) => Err(refused(
+                file.path.copy()?,
+                line,
+                cause,
+                Text::new(alloc),
+            )),
+        }
+    }
+
+    fn with_found(self, path: &Text, found: Option<UnitRecord>) -> Result<Units, Halt>
+        requires { IfSome found (λ r. (path : List ℕ) → is_formed (record { path = path; record_of = r }) ≡ true) }
+        ensures { Settles (λ units. units.list) (λ outcome. with_found self.list path.now found ≡ outcome) result }
+    {
+        match found {
+            None => Ok(self),
+            Some(record_of) => self.with_record(path, record_of),
+        }
+    }
+
+    fn with_record(self, path: &Text, record_of: UnitRecord) -> Result<Units, Halt>
+        requires { is_formed (record { path = path.now; record_of = record_of }) ≡ true }
+        ensures { Settles (λ units. units.list) (λ outcome. with_unit self.list (record { path = path.now; record_of = record_of }) ≡ outcome) result }
+    {
+        let path = path.copy()?;
+        let unit = Unit { path, record_of };
+        match self.ids.get_index_of(&unit.record_of.id) {
+            None => Ok(self.with(unit)?),
+            Some(place) => {
+                let detail = self.list.as_slice()[place].path.copy()?;
+                Err(refused(unit.path, 0, Cause::DuplicateUnit, detail))
+            }
+        }
+    }
+
+    fn with(self, unit: Unit) -> Result<Units, NoMemory>
+        requires new { place_of self.list (unit_id unit) ≡ None }
+        requires formed { is_formed unit ≡ true }
+        ensures { IfOk result (λ units. units.list ≡ self.list ++ unit ∷ []) }
+    {
+        let Units { mut list, mut ids } = self;
+        let id = unit.record_of.id.copy()?;
+        ids.insert(id)?;
+        list.push(unit)?;
+        Ok(Units { list, ids })
+    }
+}
+
+fn record_in(alloc: Global, content: &Content) -> Result<Option<UnitRecord>, Fault>
+    requires { IsWithin content.now }
+    ensures found { IfOk result (λ found. OfRecord (bytes_in content.now) (Ok found)) }
+    ensures fault { IfErr result (RefusesAt (λ line cause. OfRecord (bytes_in content.now) (Err (is_at line cause)))) }
+    ensures formed { IfOk result (λ found. IfSome found (λ r. (path : List ℕ) → is_formed (record { path = path; record_of = r }) ≡ true)) }
+{
+    match content {
+        Content::Missing => record_of(alloc, &[]),
+        Content::TooLarge => Err(Fault::At {
+            line: 0,
+            cause: Cause::TooLarge,
+        }),
+        Content::Bytes(bytes) => record_of(alloc, bytes.as_slice()),
+    }
+}
+
+fn record_of(alloc: Global, bytes: &[u8]) -> Result<Option<UnitRecord>, Fault>
+    requires { length bytes.now ≤ 1048576 }
+    ensures found { IfOk result (λ found. OfRecord (Some bytes.now) (Ok found)) }
+    ensures fault { IfErr result (RefusesAt (λ line cause. OfRecord (Some bytes.now) (Err (is_at line cause)))) }
+    ensures formed { IfOk result (λ found. IfSome found (λ r. (path : List ℕ) → is_formed (record { path = path; record_of = r }) ≡ true)) }
+{
+    read_record(alloc, bytes)
+}
