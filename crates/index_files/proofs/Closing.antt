@@ -8,13 +8,12 @@ use Rattle.std.proofs.lemmas.List.Sums.{sum_by-append}
 use Rattle.std.proofs.lemmas.Grind.{flat_map-append}
 use Rattle.conditionals.specs.Value.{same}
 use Rattle.outside_folder.specs.Files.{Bytes, Files}
-use Rattle.index_files.specs.Closure.{Ground, HasVersions, IsBeyond, IsPart, IsReached, IsVisit, IsWhole, ReadsAs, Visit, are_too_many, by_name, found_of, is_local, mentioned, names_of, root, roots, visited_files}
-use Rattle.index_files.specs.File.{Counts, count_all, count_of, size_all, size_of}
+use Rattle.index_files.specs.Closure.{Ground, HasVersions, IsBeyond, IsPart, IsReached, IsVisit, IsWhole, ReadsAs, Visit, by_name, found_of, is_local, mentioned, names_of, root, roots, visited_files}
+use Rattle.index_files.specs.File.{count_all, count_of, size_all, size_of}
 use Rattle.index_files.specs.Names.{is_listed}
 use Rattle.index_files.specs.Steps.{AreJudged, AreKept, ArePartly, IsOneTooMany, IsVisited, pair_up}
 use Rattle.index_files.specs.Totals.{is_too_many}
 use Rattle.index_files.specs.declared.closure.Found.{Found}
-use Rattle.index_files.specs.declared.file.File.{File}
 use Rattle.index_files.specs.declared.release.Release.{Release}
 use Rattle.index_files.specs.declared.totals.Totals.{Totals}
 use Rattle.index_files.proofs.Lists.{all_more, map_append}

@@ -1,5 +1,5 @@
 -- What is read of a folder, from its parts.
-use Rattle.std.proofs.Common.{◌≡◌, ℕ, ◌==◌, Bool, true, false, not, List, [], length, map, Result, Ok, Err, refl, sym, ◌∙◌, ap, subst, arith}
+use Rattle.std.proofs.Common.{◌≡◌, ◌==◌, Bool, true, false, not, List, [], length, map, Result, Ok, Err, refl, sym, ◌∙◌, ap, subst, arith}
 use Rattle.std.proofs.lemmas.List.{length-map}
 use Rattle.outside_folder.specs.Files.{Bytes, Files}
 use Rattle.plan_types.specs.declared.condition.Env.{Env}

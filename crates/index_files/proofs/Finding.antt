@@ -1,5 +1,5 @@
 -- One more name of the closure, as it was found.
-use Rattle.std.proofs.Common.{◌≡◌, ℕ, ◌<◌, ◌≤◌, ◌+◌, List, [], ◌∷◌, ◌++◌, length, map, get_or, Option, Some, None, refl, sym, ◌∙◌, ap, subst, arith, length-append}
+use Rattle.std.proofs.Common.{◌≡◌, ◌<◌, ◌≤◌, List, [], ◌∷◌, ◌++◌, length, map, get_or, sym, ◌∙◌, ap, subst, arith, length-append}
 use Rattle.std.proofs.lemmas.List.{length-map}
 use Rattle.outside_folder.specs.Files.{Bytes, Files}
 use Rattle.index_files.specs.Closure.{Ground, IsBeyond, IsWhole, mentioned}
@@ -7,9 +7,9 @@ use Rattle.index_files.specs.Steps.{AreJudged, AreKept, ArePartly, Finds, IsOneT
 use Rattle.index_files.specs.declared.closure.Found.{Found}
 use Rattle.index_files.specs.declared.release.Release.{Release}
 use Rattle.index_files.specs.declared.totals.Totals.{Totals}
-use Rattle.index_files.proofs.Closing.{beyond, here, kept-first, kept-next, paired, partly-first, partly-next, whole, within-next}
+use Rattle.index_files.proofs.Closing.{beyond, kept-next, paired, partly-next, whole, within-next}
 use Rattle.index_files.proofs.Lists.{map_append}
-use Rattle.index_files.proofs.Pairs.{pair_names, pair_none}
+use Rattle.index_files.proofs.Pairs.{pair_names}
 use Rattle.index_files.proofs.Put.{put_all}
 
 abbrev pub releases_in : List Found → List (List Release)

@@ -1,5 +1,5 @@
 -- What is so of packages and units that were taken one after the other.
-use Rattle.std.proofs.Common.{◌≡◌, ℕ, Bool, true, false, List, [], ◌∷◌, ◌++◌, map, Option, Some, None, Result, Ok, Err, refl, sym, ◌∙◌, ap, subst}
+use Rattle.std.proofs.Common.{◌≡◌, ℕ, true, List, [], ◌∷◌, ◌++◌, map, Option, Some, None, Result, Ok, Err, refl, sym, ◌∙◌, ap, subst}
 use Rattle.std.specs.Prelude.{position}
 use Rattle.std.specs.List.{AllByRecursion, IsDistinct, list_all}
 use Rattle.description.proofs.Places.{position-none}
@@ -11,7 +11,7 @@ use Rattle.plan_types.specs.declared.index.UnitRecord.{UnitRecord}
 use Rattle.plan_types.specs.declared.refusal.Refusal.{Refusal}
 use Rattle.source_file.specs.declared.source.Source.{Source}
 use Rattle.index_files.specs.InTurn.{GoesOn, InTurn}
-use Rattle.index_files.specs.Locals.{AreLocals, FileComes, local_name, local_names, unless_there, with_file, with_local}
+use Rattle.index_files.specs.Locals.{AreLocals, FileComes, local_name, local_names, unless_there, with_file}
 use Rattle.index_files.specs.Readings.{AreFromFiles, IsFromFile}
 use Rattle.index_files.specs.Units as units
 use Rattle.index_files.specs.Units.{AreUnits, IsFormed, RecordComes, is_formed, place_of, unit_id, unit_ids, unit_name, with_found, with_record, with_unit}

@@ -1,16 +1,13 @@
 -- What is put behind others, and of what a list is made one by one.
-use Rattle.std.proofs.Common.{◌≡◌, ℕ, ◌+◌, ◌<◌, ◌≤◌, Bool, true, false, List, [], ◌∷◌, ◌++◌, length, map, take, get_or, Option, Some, None, refl, sym, ◌∙◌, ap, subst, append_assoc, append-nil, if◌then◌else◌, arith}
+use Rattle.std.proofs.Common.{◌≡◌, List, [], ◌∷◌, ◌++◌, length, map, None, refl, sym, ◌∙◌, ap, append_assoc, append-nil, if◌then◌else◌, arith}
 use Rattle.std.specs.Prelude.{position}
-use Rattle.std.specs.List.{list_any}
 use Rattle.indexmap.specs.IndexSet.{insert_key}
 use Rattle.conditionals.specs.Value.{same}
 use Rattle.description.proofs.Places.{position-none}
-use Rattle.description_parts.specs.File.{IsVersion}
 use Rattle.plan_types.specs.declared.condition.Env.{Env}
-use Rattle.plan_types.specs.declared.version.Version.{Version}
 use Rattle.outside_folder.specs.Files.{Bytes}
 use Rattle.outside_folder.specs.declared.folder.Name.{Name}
-use Rattle.index_files.specs.Releases.{AddsRelease, AddsVersion, AreReleases, AreVersions, IsRelease, version_dir}
+use Rattle.index_files.specs.Releases.{AddsRelease, AddsVersion, AreReleases, AreVersions, version_dir}
 use Rattle.index_files.specs.declared.file.File.{File}
 use Rattle.index_files.specs.declared.release.Release.{Release}
 use Rattle.index_files.specs.declared.versions.VersionDir.{VersionDir}

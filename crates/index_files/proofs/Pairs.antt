@@ -1,5 +1,5 @@
 -- What was read under names, one after the other.
-use Rattle.std.proofs.Common.{◌≡◌, ℕ, ◌<◌, ◌≤◌, ◌+◌, List, [], ◌∷◌, ◌++◌, length, map, get_or, refl, sym, ◌∙◌, ap, subst, arith}
+use Rattle.std.proofs.Common.{◌≡◌, ◌<◌, ◌≤◌, List, [], ◌∷◌, ◌++◌, length, map, get_or, refl, ap, arith}
 use Rattle.outside_folder.specs.Files.{Bytes}
 use Rattle.index_files.specs.Steps.{pair_up}
 use Rattle.index_files.specs.declared.closure.Found.{Found}

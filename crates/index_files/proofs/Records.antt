@@ -4,7 +4,6 @@ use Rattle.std.specs.Prelude.{IfErr, IfOk, IfSome}
 use Rattle.plan_types.specs.Name.{is_package_name}
 use Rattle.plan_types.specs.Refusal.{RefusesAt}
 use Rattle.plan_types.specs.declared.index.UnitRecord.{UnitRecord}
-use Rattle.plan_types.specs.declared.refusal.Cause.{Cause}
 use Rattle.plan_types.specs.declared.refusal.Cause.TheVariants.{BadRecord}
 use Rattle.plan_types.specs.declared.refusal.Fault.{Fault}
 use Rattle.plan_types.specs.declared.refusal.Fault.TheVariants as fault
@@ -12,7 +11,6 @@ use Rattle.version_range.specs.Version.{is_version}
 use Rattle.description.specs.Tables.{is_at}
 use Rattle.unit_record.specs.Record.{IsRecord}
 use Rattle.index_files.specs.Units.{OfRecord, is_formed}
-use Rattle.index_files.specs.declared.unit.Unit.{Unit}
 use Rattle.index_files.proofs.Put.{both-true}
 
 pub found-as : (bytes : List ℕ) (result : Result (Option UnitRecord) Fault) → IfOk result (λ found. IsRecord bytes (Ok found)) → IfOk result (λ found. OfRecord (Some bytes) (Ok found))

@@ -1,14 +1,14 @@
 -- What is read of a name, from what was listed, counted and judged.
-use Rattle.std.proofs.Common.{◌≡◌, inl, inr, ℕ, ◌+◌, ◌<◌, ◌==◌, Bool, true, false, not, List, [], length, map, refl, sym, ◌∙◌, ap, subst, arith}
+use Rattle.std.proofs.Common.{◌≡◌, inl, inr, ℕ, ◌+◌, ◌<◌, ◌==◌, true, false, not, List, [], length, map, refl, sym, ◌∙◌, ap, subst, arith}
 use Rattle.std.proofs.lemmas.Bool.Decides.{nat_tests}
 use Rattle.std.proofs.lemmas.List.{length-map}
 use Rattle.plan_types.specs.declared.condition.Env.{Env}
 use Rattle.outside_folder.specs.Files.{Bytes, Files}
 use Rattle.outside_folder.specs.declared.folder.Name.{Name}
-use Rattle.index_files.specs.Closure.{Ground, ReadsAs, Visit, is_local}
+use Rattle.index_files.specs.Closure.{Ground, ReadsAs, is_local}
 use Rattle.index_files.specs.File.{Counts, count_all, file_found, fitting, size_all}
 use Rattle.index_files.specs.Releases.{AreReleases, AreVersions, files_below, names_below, release_paths}
-use Rattle.index_files.specs.Steps.{IsOneTooMany, IsVisited, ReadsReleases, ReadsTooMany}
+use Rattle.index_files.specs.Steps.{IsVisited, ReadsReleases, ReadsTooMany}
 use Rattle.index_files.specs.Totals.{is_too_many}
 use Rattle.index_files.specs.declared.file.File.{File}
 use Rattle.index_files.specs.declared.places.Places.{Places}

@@ -1,5 +1,5 @@
 -- The reading closure: the names that are reached from the local packages, and what is read under each.
-use Rattle.std.specs.Prelude.{◌≡◌, ℕ, ◌+◌, Bool, true, false, if◌then◌else◌, List, [], ◌∷◌, ◌++◌, map, flat_map, position, slice_get, option_and_then, Option, Some, None}
+use Rattle.std.specs.Prelude.{◌≡◌, ℕ, ◌+◌, Bool, true, false, List, [], ◌++◌, map, flat_map, position, slice_get, option_and_then, Option, Some, None}
 use Rattle.std.specs.List.{AllByRecursion, IsDistinct, list_all}
 use Rattle.plan_types.specs.declared.condition.Env.{Env}
 use Rattle.plan_types.specs.declared.dependency.Named.{Named}

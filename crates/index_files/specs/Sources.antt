@@ -1,7 +1,7 @@
 -- What the bytes in a file are read as.
 use Rattle.std.specs.Prelude.{◌≡◌, [], Option, Some, None}
 use Rattle.std.specs.declared.result.Result.{Result}
-use Rattle.std.specs.declared.result.Result.TheVariants.{Ok, Err}
+use Rattle.std.specs.declared.result.Result.TheVariants.{Err}
 use Rattle.plan_types.specs.declared.condition.Env.{Env}
 use Rattle.plan_types.specs.declared.refusal.Cause.TheVariants.{TooLarge as ItIsTooLarge}
 use Rattle.outside_folder.specs.declared.calls.Content.{Content}

@@ -1,12 +1,11 @@
 -- The steps in which the closure is read.
-use Rattle.std.specs.Prelude.{◌≡◌, ℕ, ◌+◌, Bool, true, false, List, [], ◌∷◌, ◌++◌, flat_map, map, fold, Option, Some, None}
+use Rattle.std.specs.Prelude.{◌≡◌, ◌+◌, true, false, List, [], ◌∷◌, flat_map, map, fold, Option, Some, None}
 use Rattle.std.specs.List.{AllByRecursion, IsDistinct, list_all}
 use Rattle.plan_types.specs.declared.condition.Env.{Env}
-use Rattle.plan_types.specs.declared.dependency.Named.{Named}
 use Rattle.indexmap.specs.IndexSet.{insert_key}
 use Rattle.conditionals.specs.Value.{same}
 use Rattle.outside_folder.specs.Files.{Bytes, Files}
-use Rattle.index_files.specs.Closure.{Ground, IsPart, IsReached, IsVisit, Visit, found_of, is_local, mentioned, roots, visited_files}
+use Rattle.index_files.specs.Closure.{Ground, IsReached, IsVisit, Visit, found_of, is_local, mentioned, roots, visited_files}
 use Rattle.index_files.specs.File.{Counts, count_all, size_all}
 use Rattle.index_files.specs.Names.{is_listed}
 use Rattle.index_files.specs.Releases.{AreReleases, AreVersions, files_below, names_below}

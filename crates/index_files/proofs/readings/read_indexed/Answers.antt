@@ -1,6 +1,5 @@
-use Rattle.std.proofs.Common.{◌≡◌, [], Ok, Err, ◌∙◌, ap, refl, subst, sym}
+use Rattle.std.proofs.Common.{◌≡◌, Err, ◌∙◌, ap, refl, subst, sym}
 use Rattle.std.proofs.lemmas.Result.{err_from_is_err_and}
-use Rattle.plan_types.specs.declared.refusal.Cause.TheVariants.{TooMany}
 use Rattle.plan_types.specs.declared.refusal.Halt.{Halt}
 use Rattle.outside_folder.specs.Calls.{halt_of}
 use Rattle.index_files.specs.Closure.{Ground, Reaches}

@@ -1,4 +1,4 @@
-use Rattle.std.proofs.Common.{◌≡◌, List, [], true, map, Ok, Err, ◌∙◌, ap, refl, subst, sym}
+use Rattle.std.proofs.Common.{◌≡◌, List, [], Ok, Err, ◌∙◌, ap, refl, subst, sym}
 use Rattle.std.proofs.lemmas.Result.{err_from_is_err_and}
 use Rattle.plan_types.specs.declared.refusal.Cause.TheVariants.{TooMany}
 use Rattle.plan_types.specs.declared.refusal.Halt.{Halt}

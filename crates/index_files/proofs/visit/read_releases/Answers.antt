@@ -1,6 +1,5 @@
-use Rattle.std.proofs.Common.{◌≡◌, ◌==◌, length, map, not, sym, ◌∙◌, ap, false}
-use Rattle.index_files.specs.File.{file_found, fitting}
-use Rattle.index_files.specs.Releases.{AreReleases, AreVersions, release_paths}
+use Rattle.std.proofs.Common.{sym, ◌∙◌, ap}
+use Rattle.index_files.specs.Releases.{AreReleases, release_paths}
 use Rattle.index_files.proofs.Lists.{if_some, some_at}
 use Rattle.index_files.proofs.Visiting.{all-read, too-many}
 use Rattle.index_files.proofs.visit.read_releases.Goals as goal
