@@ -4,7 +4,7 @@ ghost use Rattle.std.specs.List.Sorted.{IsStrictlySortedBy};
 ghost use Rattle.std.specs.Ordering.{nat_cmp};
 ghost use Rattle.std.specs.Cmp.Lexicographic.{slice_cmp};
 ghost use Rattle.indexmap.specs.IndexSet.{insert_key};
-ghost use Rattle.qualified_goals.specs.Names.{AreInGoalOrder, AreNumbers, HasNumbers, HasPart, HasQual, IsGoalOrder, Name, declared_by, flag_names, flags_in, is_listed, is_text, name_of, number_of, package_names};
+ghost use Rattle.qualified_goals.specs.Names.{AreInGoalOrder, AreNumbers, IsGoalOrder, Name, declared_by, flag_names, flags_in, is_listed, is_text, name_of, number_of, package_names};
 ghost use Rattle.qualified_goals.specs.Printed.{part_text, qual_text, var_text};
 
 use crate::{Part, Qual, Var};
@@ -57,9 +57,8 @@ impl Names {
         number_in(&self.flags, name)
     }
 
-    /// A variable as it is shown.
+    /// A variable as it is shown. A number that is in no table has no name.
     pub fn print_var(&self, alloc: Global, v: Var) -> Result<Text, NoMemory>
-        requires { HasNumbers self.now v }
         ensures { IfOk result (λ text. text ≡ var_text self.now v) }
     {
         let mut text = Text::new(alloc);
@@ -70,7 +69,6 @@ impl Names {
     }
 
     fn push_qual(&self, text: &mut Text, qual: Qual) -> Result<(), NoMemory>
-        requires { HasQual self.now qual }
         ensures { OnOk result (text.new ≡ text.old ++ qual_text self.now qual) }
     {
         match qual {
@@ -89,7 +87,6 @@ impl Names {
     }
 
     fn push_part(&self, text: &mut Text, part: Part) -> Result<(), NoMemory>
-        requires { HasPart self.now part }
         ensures { OnOk result (text.new ≡ text.old ++ part_text self.now part) }
     {
         match part {
@@ -113,10 +110,12 @@ fn number_in(names: &IndexSet<Text>, name: &Text) -> Option<u64>
 }
 
 fn name_in(names: &IndexSet<Text>, number: u64) -> &str
-    requires { number < length names.now.keys }
     ensures { result.now ≡ name_of names.now.keys number }
 {
-    names.get_index(number as usize).unwrap().as_str()
+    match names.get_index(number as usize) {
+        Some(name) => name.as_str(),
+        None => "",
+    }
 }
 
 fn numbered_packages(alloc: Global, packages: &[Package]) -> Result<IndexSet<Text>, NoMemory>
