@@ -1,17 +1,19 @@
 -- The closure, name by name.
-use Rattle.std.proofs.Common.{◌≡◌, ℕ, ◌+◌, ◌<◌, ◌≤◌, Bool, true, false, List, [], ◌∷◌, ◌++◌, zero, suc, length, map, get_or, refl, sym, ◌∙◌, ap, subst, arith, length-append}
+use Rattle.std.proofs.Common.{◌≡◌, ℕ, ◌+◌, ◌<◌, ◌≤◌, Bool, true, false, ◌||◌, List, [], ◌∷◌, ◌++◌, zero, suc, length, map, get_or, refl, sym, ◌∙◌, ap, subst, arith, length-append}
 use Rattle.std.specs.Prelude.{flat_map}
-use Rattle.std.specs.List.{AllByRecursion, IsDistinct, list_all}
+use Rattle.std.specs.List.{AllByRecursion, IsDistinct, list_all, list_any}
+use Rattle.std.proofs.lemmas.Bool.{false≢true}
 use Rattle.std.proofs.lemmas.Bool.Decides.{nat_tests}
 use Rattle.std.proofs.lemmas.List.{append_assoc, append-nil}
 use Rattle.std.proofs.lemmas.List.Sums.{sum_by-append}
 use Rattle.std.proofs.lemmas.Grind.{flat_map-append}
+use Rattle.std.proofs.lemmas.List.Folds.{list_any-append}
 use Rattle.conditionals.specs.Value.{same}
 use Rattle.outside_folder.specs.Files.{Bytes, Files}
 use Rattle.index_files.specs.Closure.{Ground, HasVersions, IsBeyond, IsPart, IsReached, IsVisit, IsWhole, ReadsAs, Visit, by_name, found_of, is_local, mentioned, names_of, root, roots, visited_files}
 use Rattle.index_files.specs.File.{count_all, count_of, size_all, size_of}
 use Rattle.index_files.specs.Names.{is_listed}
-use Rattle.index_files.specs.Steps.{AreJudged, AreKept, ArePartly, IsOneTooMany, IsVisited, pair_up}
+use Rattle.index_files.specs.Steps.{AreJudged, AreKept, ArePartly, IsOneTooMany, IsVisited, is_given, pair_up}
 use Rattle.index_files.specs.Totals.{is_too_many}
 use Rattle.index_files.specs.declared.closure.Found.{Found}
 use Rattle.index_files.specs.declared.release.Release.{Release}
@@ -40,9 +42,45 @@ at-place P [] i l h = absurd (grind (arith, l))
 at-place P (x ∷ xs) zero l h = h.0
 at-place P (x ∷ xs) (suc i) l h = at-place P xs i (omega (arith, l)) h.1
 
+or-left : (a b : Bool) → a ≡ true → (a || b) ≡ true
+or-left true b h = refl
+or-left false b h = absurd (false≢true h)
+
+or-right : (a b : Bool) → b ≡ true → (a || b) ≡ true
+or-right true b h = refl
+or-right false b h = h
+
 module _ (ground : Ground) where
   abbrev closes : List Bytes → Found → Bool
   closes names f = list_all (is_listed names) (mentioned ground f)
+
+  -- ---- where names come from
+
+  abbrev IsGiven : List Found → Bytes → Type 0
+  IsGiven found name = is_given ground found name ≡ true
+
+  abbrev mentions : Bytes → Found → Bool
+  mentions name f = is_listed (mentioned ground f) name
+
+  root-given : (found : List Found) (name : Bytes) → is_listed (roots ground) name ≡ true → IsGiven found name
+  root-given found name h = or-left (is_listed (roots ground) name) (list_any (mentions name) found) h
+
+  mention-given : (found : List Found) (f : Found) (name : Bytes) → is_listed (mentioned ground f) name ≡ true → IsGiven (found ++ f ∷ []) name
+  mention-given found f name h = or-right (is_listed (roots ground) name) (list_any (mentions name) (found ++ f ∷ []))
+      (list_any-append (mentions name) found (f ∷ []) ∙ or-right (list_any (mentions name) found) (mentions name f || false) (or-left (mentions name f) false h))
+
+  still-given : (found : List Found) (f : Found) (name : Bytes) → IsGiven found name → IsGiven (found ++ f ∷ []) name
+  still-given found f name h =
+      elim (is_listed (roots ground) name) as (λ b. is_listed (roots ground) name ≡ b → IsGiven (found ++ f ∷ []) name) [
+        | true ↦ λ e. root-given (found ++ f ∷ []) name e
+        | false ↦ λ e. or-right (is_listed (roots ground) name) (list_any (mentions name) (found ++ f ∷ []))
+            (list_any-append (mentions name) found (f ∷ [])
+            ∙ or-left (list_any (mentions name) found) (list_any (mentions name) (f ∷ [])) (ap (λ b. b || list_any (mentions name) found) (sym e) ∙ h))
+      ] refl
+
+  all-still-given : (found : List Found) (f : Found) (names : List Bytes) → AllByRecursion (IsGiven found) names → AllByRecursion (IsGiven (found ++ f ∷ [])) names
+  all-still-given found f [] h = tt
+  all-still-given found f (name ∷ names) h = (still-given found f name h.0, all-still-given found f names h.1)
 
   -- ---- what holds in any folder
 
@@ -52,6 +90,7 @@ module _ (ground : Ground) where
     once = subst (IsDistinct same) (sym e) (put-all-distinct [] (roots ground) tt);
     begun = ap (λ ns. list_all (is_listed ns) (roots ground)) e ∙ all-put [] (roots ground);
     closed = refl;
+    given = subst (AllByRecursion (IsGiven [])) (sym e) (put-all-each (IsGiven []) [] (roots ground) tt (each-listed (IsGiven []) (roots ground) (roots ground) (λ x h. root-given [] x h) (all-behind [] (roots ground))));
     judged = tt;
   })
 
@@ -73,6 +112,8 @@ module _ (ground : Ground) where
         closed = all-last (closes (put_all names (mentioned ground here))) (pair_up names read) here
             (each-all-still (mentioned ground) names (mentioned ground here) (pair_up names read) k.closed)
             (all-put names (mentioned ground here));
+        given = put-all-each (IsGiven (pair_up names read ++ here ∷ [])) names (mentioned ground here) (all-still-given (pair_up names read) here names k.given)
+            (each-listed (IsGiven (pair_up names read ++ here ∷ [])) (mentioned ground here) (mentioned ground here) (λ x h. mention-given (pair_up names read) here x h) (all-behind [] (mentioned ground here)));
         judged = all_more (λ (f : Found). AreJudged ground.env f.name f.releases) (pair_up names read) here k.judged j;
       }))
 

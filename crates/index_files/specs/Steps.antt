@@ -1,6 +1,6 @@
 -- The steps in which the closure is read.
-use Rattle.std.specs.Prelude.{◌≡◌, ◌+◌, true, false, List, [], ◌∷◌, flat_map, map, fold, Option, Some, None}
-use Rattle.std.specs.List.{AllByRecursion, IsDistinct, list_all}
+use Rattle.std.specs.Prelude.{◌≡◌, ◌+◌, Bool, ◌||◌, true, false, List, [], ◌∷◌, flat_map, map, fold, Option, Some, None}
+use Rattle.std.specs.List.{AllByRecursion, IsDistinct, list_all, list_any}
 use Rattle.plan_types.specs.declared.condition.Env.{Env}
 use Rattle.indexmap.specs.IndexSet.{insert_key}
 use Rattle.conditionals.specs.Value.{same}
@@ -53,9 +53,12 @@ abbrev pub Visits : Ground → Files → Bytes → Totals → Totals → Option 
 Visits ground files name before after None = IsOneTooMany ground files name before
 Visits ground files name before after (Some releases) = IsVisited ground files name before after releases
 
--- the releases are those of some files
-abbrev pub AreJudged : Env → Bytes → List Release → Type 0
-AreJudged env name releases = (dirs : List VersionDir) × (files : List File) × AreReleases env name dirs files releases
+-- the releases are those of some files, of which no two are of one version
+pub record AreJudged (env : Env) (name : Bytes) (releases : List Release) : Type 0 where
+  pub dirs : List VersionDir
+  pub files : List File
+  pub once : IsDistinct same (map (λ dir. dir.version.parts) dirs)
+  pub are : AreReleases env name dirs files releases
 
 -- ---- all names
 
@@ -65,11 +68,17 @@ pair_up [] read = []
 pair_up (name ∷ names) [] = []
 pair_up (name ∷ names) (releases ∷ read) = record { name = name; releases = releases } ∷ pair_up names read
 
--- the names hold those with which the closure begins, each once, and what was read mentions no others
+-- the closure begins with this name, or what was read mentions it
+abbrev pub is_given : Ground → List Found → Bytes → Bool
+is_given ground found name = is_listed (roots ground) name || list_any (λ f. is_listed (mentioned ground f) name) found
+
+-- the names hold those with which the closure begins, each once, and what was read mentions no others; there are no
+-- other names
 pub record AreKept (ground : Ground) (names : List Bytes) (found : List Found) : Type 0 where
   pub once : IsDistinct same names
   pub begun : list_all (is_listed names) (roots ground) ≡ true
   pub closed : list_all (λ f. list_all (is_listed names) (mentioned ground f)) found ≡ true
+  pub given : AllByRecursion (λ name. is_given ground found name ≡ true) names
   pub judged : AllByRecursion (λ f. AreJudged ground.env f.name f.releases) found
 
 -- what was read is of the closure, and was counted

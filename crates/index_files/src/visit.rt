@@ -1,6 +1,7 @@
 // What is read of the index under one name.
 ghost use Rattle.std.specs.Prelude.{◌≡◌, IfOk, IfSome, IsErrOf};
 ghost use Rattle.outside_folder.specs.Calls.{Leaves};
+ghost use Rattle.outside_folder.specs.Folder.{IsInOrder};
 ghost use Rattle.index_files.specs.Known.{ground_of};
 ghost use Rattle.index_files.specs.Releases.{names_below, release_paths};
 ghost use Rattle.index_files.specs.Steps.{AreJudged, Reads, Visits};
@@ -68,6 +69,7 @@ fn names_below<F: Folder>(
     name: &Text,
 ) -> Result<List<Name>, Trouble>
     ensures told { IfSome (F.tells folder.old) (λ files. IfOk result (λ names. names ≡ names_below places.now files name.now)) }
+    ensures order { IfOk result IsInOrder }
     ensures folder { Leaves (F.tells folder.old) (F.faults folder.old) (F.tells folder.new) (F.faults folder.new) (IsErrOf result Trouble.Failed) }
 {
     let dir = places.name_dir(name.as_str())?;
