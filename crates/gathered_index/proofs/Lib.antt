@@ -1,0 +1,4 @@
+pub mod Gathering
+pub mod Lists
+pub mod Made
+pub mod Sorting
