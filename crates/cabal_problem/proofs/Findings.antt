@@ -24,16 +24,16 @@ use Rattle.plan_types.specs.declared.index.Package.{Package}
 use Rattle.conditionals.specs.Paths.{clean_paths}
 use Rattle.flatten.specs.Demands.{Outward, outward, outward_in, outward_of, external, paths_at, flat_of, demands_at, demands_of}
 use Rattle.flatten.specs.Sound.{IsSound, IsPackage, IsEntry, IsSource, has_package, has_unit, has_units, IsBody, component_deps, is_of_components, is_unit}
-use Rattle.version_range.specs.Version.{has_versions}
+use Rattle.version_range.specs.Version.{has_versions, is_version}
 use Rattle.qualified_goals.specs.declared.variable.Qual.TheVariants.{Top}
 use Rattle.qualified_goals.specs.declared.variable.Part.TheVariants.{Flag}
 use Rattle.qualified_goals.specs.Names.{Name, NameTable, AreNumbers, is_listed, is_text, flags_in, flag_names, declared_by, no_package, number_of, package_names}
 use Rattle.constraint_set.specs.Bars.{is_number}
 use Rattle.choice_problem.specs.Lists.{contains-none, contains-cases, contains-left, contains-right, contains-map, map-contains, contains-filter, contains-flat_map, flat_map-contains, and-left, and-right, and-both, all-at, all-from}
-use Rattle.cabal_problem.specs.Places.{rising, package_at, entries_of, number, flag_number}
+use Rattle.instance_tables.specs.Places.{rising, package_at, entries_of, number, flag_number}
 use Rattle.cabal_problem.specs.Variables.{is_tool, is_tool_of, component_asks, asks_for_tool, declares, is_part}
 use Rattle.cabal_problem.specs.Values.{is_flag}
-use Rattle.cabal_problem.specs.Tables.{flats_have_versions, deps_have_versions, body_has_versions, entries_have_versions, packages_have_versions}
+use Rattle.instance_tables.specs.Versions.{flats_have_versions, deps_have_versions, body_has_versions, entry_has_versions, entries_have_versions, packages_have_versions}
 use Rattle.cabal_problem.specs.Lawful.{is_found, has_qual_for, flat_finds, body_finds, package_finds, packages_find}
 use Rattle.cabal_problem.specs.Laws.{any-at, any-from, rising-below}
 use Rattle.std.proofs.lemmas.List.Elements.{Contains-get_or}
@@ -244,7 +244,7 @@ module _ (index : Index) (names : NameTable) (numbers : AreNumbers index.package
 
 -- ---- ranges
 
-pub source-versions : (env : Env) (index : Index) (d : Description) (flats : List FlatDep) (offer : Exposed) → IsSource env index d flats offer → flats_have_versions flats && deps_have_versions d.setup ≡ true
+source-versions : (env : Env) (index : Index) (d : Description) (flats : List FlatDep) (offer : Exposed) → IsSource env index d flats offer → flats_have_versions flats && deps_have_versions d.setup ≡ true
 source-versions env index d flats offer source =
     let deps = component_deps d in
     and-both (flats_have_versions flats) (deps_have_versions d.setup)
@@ -263,5 +263,6 @@ body-versions env index (Installed unit needs) units = refl
 pub all-versions : (env : Env) (index : Index) → IsSound env index → packages_have_versions index.packages ≡ true
 all-versions env index sound =
     all-from (λ (p : Package). entries_have_versions p.entries) index.packages (λ p k.
-    all-from (λ (e : Entry). body_has_versions e.body) p.entries (λ e there.
-    body-versions env index e.body (each-at (IsEntry env index p) p.entries e (each-at (IsPackage env index) index.packages p sound.packages k).entries there).body))
+    all-from entry_has_versions p.entries (λ e there.
+    let is = each-at (IsEntry env index p) p.entries e (each-at (IsPackage env index) index.packages p sound.packages k).entries there in
+    and-both (is_version e.instance.version.parts) (body_has_versions e.body) is.version (body-versions env index e.body is.body)))

@@ -1,7 +1,7 @@
-mod Growing
+mod RowDemands
 mod OrderTests
 mod Findings
-mod Made
+mod InBlocks
 mod NewProblem
 mod Whole
 mod WholeLaws

@@ -1,5 +1,5 @@
 -- The problem with whole conditions keeps the laws.
-use Rattle.std.proofs.Common.{◌≡◌, ◌<◌, Bool, true, false, not, ◌&&◌, ◌||◌, nat_eq, List, [], ◌∷◌, ◌++◌, length, map, Some, None, refl, sym, ap, ◌∙◌, subst, inl, inr}
+use Rattle.std.proofs.Common.{◌≡◌, ℕ, ◌<◌, Bool, true, false, not, ◌&&◌, ◌||◌, nat_eq, List, [], ◌∷◌, ◌++◌, length, map, Some, None, refl, sym, ap, ◌∙◌, subst, inl, inr}
 use Rattle.std.specs.Prelude.{Contains}
 use Rattle.std.specs.List.{filter, list_all}
 use Rattle.std.proofs.lemmas.Bool.{false≢true, eqb-true}
@@ -17,6 +17,7 @@ use Rattle.plan_types.specs.declared.index.FlatDep.{FlatDep}
 use Rattle.plan_types.specs.declared.index.Index.{Index}
 use Rattle.plan_types.specs.declared.index.Package.{Package}
 use Rattle.plan_types.specs.declared.project.Project.{Project}
+use Rattle.plan_types.specs.declared.version.Version.{Version}
 use Rattle.conditionals.specs.Paths.{is_wanted}
 use Rattle.conditionals.specs.Value.{value}
 use Rattle.description.specs.WholeCondition.{whole_condition}
@@ -33,15 +34,14 @@ use Rattle.choice_problem.specs.Assignment.{Assignment, is_made, is_one_of}
 use Rattle.choice_problem.specs.Problem.{IsChoice, IsOwned, IsRoot, Lawful}
 use Rattle.choice_problem.specs.General.{Request, General, LawfulGeneral, IsOwnedRequest, IsRootRequest, owner_of, request_of}
 use Rattle.choice_problem.specs.Lists.{contains-none, contains-append, contains-left, contains-map, contains-filter, contains-flat_map, and-left, all-at}
-use Rattle.cabal_problem.specs.declared.tables.Relaxed.{Relaxed}
-use Rattle.cabal_problem.specs.declared.tables.Tables.{Tables}
-use Rattle.cabal_problem.specs.Places.{entries_of, entry_at, no_entry}
+use Rattle.instance_tables.specs.Lets.{lets_of}
+use Rattle.instance_tables.specs.Places.{entries_of, entry_at, no_entry}
 use Rattle.cabal_problem.specs.Variables.{domain_of, is_custom, is_qual}
-use Rattle.cabal_problem.specs.ListedDemands.{body_demands, demands_of, flat_demands, has_stanzas, part_demands, relaxed_at, setup_demands, setup_if, unit_demands}
+use Rattle.cabal_problem.specs.ListedDemands.{body_demands, demands_of, flat_demands, has_stanzas, part_demands, setup_demands, setup_if, unit_demands}
 use Rattle.cabal_problem.specs.Laws.{all-where, any-from, known-below, known-qual, target-known}
 use Rattle.cabal_problem.specs.Lawful.{is_lawful}
 use Rattle.cabal_problem.specs.Problem.{problem_of}
-use Rattle.cabal_problem.specs.WholeDemands.{Lets, body_requests, can_ask, front_demands, part_requests, parts_under, requests_of, setup_request, setup_requests, whole_problem, whole_request}
+use Rattle.cabal_problem.specs.WholeDemands.{body_requests, can_ask, front_demands, part_requests, parts_under, requests_of, setup_request, setup_requests, whole_problem, whole_request}
 use Rattle.cabal_problem.proofs.Findings.{IsOutward, entry-sound, in-component-deps, kind-found, outward-package, package-found, setup-found}
 
 owner-chosen : (A : Assignment) (owner : Choice) → is_made A owner ≡ true → A owner.var ≡ Some owner.val
@@ -69,16 +69,16 @@ outward-at d at h =
       dep_is = ap (λ (o : Outward). o.guarded.dep) guarded.2;
     }
 
-module _ (env : Env) (index : Index) (project : Project) (names : NameTable) (tables : Tables) (lets : Lets)
-    (sound : IsSound env index) (numbers : AreNumbers index.packages names) (is_lawful_problem : Lawful (problem_of index.packages project names tables)) where
+module _ (env : Env) (index : Index) (project : Project) (names : NameTable) (orders : List (List ℕ))
+    (sound : IsSound env index) (numbers : AreNumbers index.packages names) (is_lawful_problem : Lawful (problem_of index.packages project names orders)) where
   abbrev packages : List Package
   packages = index.packages
 
   abbrev whole : General
-  whole = whole_problem env packages project names tables.orders lets
+  whole = whole_problem env packages project names orders
 
   -- a listed demand is one of an owner as a request too
-  owned-request : (owner : Choice) (one : Demand) → IsOwned (problem_of packages project names tables) owner one → IsOwnedRequest whole owner (request_of one)
+  owned-request : (owner : Choice) (one : Demand) → IsOwned (problem_of packages project names orders) owner one → IsOwnedRequest whole owner (request_of one)
   owned-request owner one is =
       record {
         owner_is = ap owner_of is.condition;
@@ -86,10 +86,10 @@ module _ (env : Env) (index : Index) (project : Project) (names : NameTable) (ta
         chosen = λ A yes. owner-chosen A owner (and-left (is_made A owner) (list_all (is_made A) is.others) (sym (ap (λ when. list_all (is_made A) when) is.condition) ∙ yes));
       }
 
-  whole-owned : (owner : Choice) (e : Entry) (d : Description) (flats : List FlatDep) (offer : Exposed) → is_qual packages names owner.var.qual ≡ true
+  whole-owned : (owner : Choice) (e : Entry) (lets : Dep → Version → Bool) (d : Description) (flats : List FlatDep) (offer : Exposed) → is_qual packages names owner.var.qual ≡ true
       → Contains (entries_of packages owner.var.«package») e → e.body ≡ Source d flats offer → IsSource env index d flats offer
-      → (at : Outward) → Contains (outward d) at → IsOwnedRequest whole owner (whole_request env packages names owner (lets e.instance) at)
-  whole-owned owner e d flats offer q there body source at h =
+      → (at : Outward) → Contains (outward d) at → IsOwnedRequest whole owner (whole_request env packages names owner lets at)
+  whole-owned owner e lets d flats offer q there body source at h =
       let dep = at.guarded.dep in
       let is = outward-at d at h in
       let found = outward-package index names numbers env d flats offer source dep is in
@@ -104,12 +104,12 @@ module _ (env : Env) (index : Index) (project : Project) (names : NameTable) (ta
             && is_wanted true (value env (flags_of (parts_under names owner A)) (whole_condition at.component at.guarded))) yes);
       }
 
-  script-owned : (owner : Choice) (e : Entry) (d : Description) (flats : List FlatDep) (offer : Exposed) → is_qual packages names owner.var.qual ≡ true
+  script-owned : (owner : Choice) (e : Entry) (lets : Dep → Version → Bool) (d : Description) (flats : List FlatDep) (offer : Exposed) → is_qual packages names owner.var.qual ≡ true
       → (d.custom ≡ true → is_qual packages names (Setup owner.var.«package») ≡ true) → IsSource env index d flats offer
-      → (custom : Bool) → d.custom ≡ custom → (r : Request) → Contains (setup_requests custom (map (setup_request packages names owner (lets e.instance)) d.setup)) r → IsOwnedRequest whole owner r
-  script-owned owner e d flats offer q has source false same r h = absurd (contains-none r h)
-  script-owned owner e d flats offer q has source true same r h =
-      let found = contains-map (setup_request packages names owner (lets e.instance)) d.setup r h in
+      → (custom : Bool) → d.custom ≡ custom → (r : Request) → Contains (setup_requests custom (map (setup_request packages names owner lets) d.setup)) r → IsOwnedRequest whole owner r
+  script-owned owner e lets d flats offer q has source false same r h = absurd (contains-none r h)
+  script-owned owner e lets d flats offer q has source true same r h =
+      let found = contains-map (setup_request packages names owner lets) d.setup r h in
       let dep = found.0 in
       subst (λ s. IsOwnedRequest whole owner s) found.2
       (record {
@@ -120,20 +120,20 @@ module _ (env : Env) (index : Index) (project : Project) (names : NameTable) (ta
 
   -- the listed demands of a choice are owned
   abbrev AreOwned : Choice → Type 0
-  AreOwned owner = (one : Demand) → Contains (demands_of packages project names tables.relaxed owner) one → IsOwned (problem_of packages project names tables) owner one
+  AreOwned owner = (one : Demand) → Contains (demands_of packages project names owner) one → IsOwned (problem_of packages project names orders) owner one
 
-  abbrev AreBodyOwned : Choice → Relaxed → Body → Type 0
-  AreBodyOwned owner relaxed body = (one : Demand) → Contains (body_demands packages project names owner relaxed body) one → IsOwned (problem_of packages project names tables) owner one
+  abbrev AreBodyOwned : Choice → (Dep → Version → Bool) → Body → Type 0
+  AreBodyOwned owner lets body = (one : Demand) → Contains (body_demands packages project names owner lets body) one → IsOwned (problem_of packages project names orders) owner one
 
-  body-requests-owned : (owner : Choice) (e : Entry) (relaxed : Relaxed) (body : Body) → is_qual packages names owner.var.qual ≡ true → Contains (entries_of packages owner.var.«package») e → e.body ≡ body
-      → IsBody env index body → AreBodyOwned owner relaxed body → (r : Request) → Contains (body_requests env packages project names lets owner e.instance body) r → IsOwnedRequest whole owner r
-  body-requests-owned owner e relaxed (Source d flats offer) q there same source owned r h =
+  body-requests-owned : (owner : Choice) (e : Entry) (lets : Dep → Version → Bool) (body : Body) → is_qual packages names owner.var.qual ≡ true → Contains (entries_of packages owner.var.«package») e → e.body ≡ body
+      → IsBody env index body → AreBodyOwned owner lets body → (r : Request) → Contains (body_requests env packages project names owner lets body) r → IsOwnedRequest whole owner r
+  body-requests-owned owner e lets (Source d flats offer) q there same source owned r h =
       let front = front_demands packages project names owner d in
-      let deps = flat_demands packages names owner relaxed.deps flats in
-      let setups = setup_if d.custom (setup_demands packages names owner relaxed.setup d.setup) in
-      let request = whole_request env packages names owner (lets e.instance) in
+      let deps = flat_demands packages names owner lets flats in
+      let setups = setup_if d.custom (setup_demands packages names owner lets d.setup) in
+      let request = whole_request env packages names owner lets in
       let requests = map request (filter (can_ask (has_stanzas packages owner.var)) (outward d)) in
-      let scripts = setup_requests d.custom (map (setup_request packages names owner (lets e.instance)) d.setup) in
+      let scripts = setup_requests d.custom (map (setup_request packages names owner lets) d.setup) in
       elim (contains-append (requests_of front ++ requests) scripts r h) [
         | inl own ↦ elim (contains-append (requests_of front) requests r own) [
           | inl f ↦
@@ -143,13 +143,13 @@ module _ (env : Env) (index : Index) (project : Project) (names : NameTable) (ta
           | inr k ↦
               let at = contains-map request (filter (can_ask (has_stanzas packages owner.var)) (outward d)) r k in
               subst (λ s. IsOwnedRequest whole owner s) at.2
-              (whole-owned owner e d flats offer q there same source at.0 (contains-filter (can_ask (has_stanzas packages owner.var)) (outward d) at.0 at.1).0)
+              (whole-owned owner e lets d flats offer q there same source at.0 (contains-filter (can_ask (has_stanzas packages owner.var)) (outward d) at.0 at.1).0)
         ]
         | inr s ↦
             let has = λ (custom : d.custom ≡ true). any-from (λ (f : Entry). is_custom f.body) (entries_of packages owner.var.«package») e there (ap is_custom same ∙ custom) in
-            script-owned owner e d flats offer q has source d.custom refl r s
+            script-owned owner e lets d flats offer q has source d.custom refl r s
       ]
-  body-requests-owned owner e relaxed (Installed unit needs) q there same units owned r h =
+  body-requests-owned owner e lets (Installed unit needs) q there same units owned r h =
       let one = contains-map request_of (unit_demands packages names owner unit.depends needs) r h in
       subst (λ s. IsOwnedRequest whole owner s) one.2 (owned-request owner one.0 (owned one.0 one.1))
 
@@ -160,21 +160,21 @@ module _ (env : Env) (index : Index) (project : Project) (names : NameTable) (ta
   part-requests-owned owner requests Tests h r k = absurd (contains-none r k)
   part-requests-owned owner requests Benches h r k = absurd (contains-none r k)
 
-  owned-listed : (owner : Choice) → IsChoice (problem_of packages project names tables) owner → AreOwned owner
+  owned-listed : (owner : Choice) → IsChoice (problem_of packages project names orders) owner → AreOwned owner
   owned-listed owner is one k =
-      All-contains (IsOwned (problem_of packages project names tables) owner) (demands_of packages project names tables.relaxed owner) one (is_lawful_problem.demands owner is) k
+      All-contains (IsOwned (problem_of packages project names orders) owner) (demands_of packages project names owner) one (is_lawful_problem.demands owner is) k
 
   requests-owned : (owner : Choice) → IsChoice whole owner → (r : Request) → Contains (whole.demands owner) r → IsOwnedRequest whole owner r
   requests-owned owner is =
       let p = owner.var.«package» in
       let e = entry_at (entries_of packages p) owner.val in
       let below = known-below packages names owner.var is.variable in
-      let relaxed = relaxed_at tables.relaxed p owner.val in
-      part-requests-owned owner (body_requests env packages project names lets owner e.instance e.body) owner.var.part (λ part.
+      let lets = lets_of project e.instance in
+      part-requests-owned owner (body_requests env packages project names owner lets e.body) owner.var.part (λ part.
       let value : owner.val < length (entries_of packages p) = subst (λ k. owner.val < domain_of packages p k) part is.value in
       let there = Contains-get_or (entries_of packages p) owner.val no_entry value in
-      let demands = body_demands packages project names owner relaxed e.body in
-      body-requests-owned owner e relaxed e.body (known-qual packages names owner.var is.variable) there refl (entry-sound index names numbers env sound p below e there).body
+      let demands = body_demands packages project names owner lets e.body in
+      body-requests-owned owner e lets e.body (known-qual packages names owner.var is.variable) there refl (entry-sound index names numbers env sound p below e there).body
       (λ one k. owned-listed owner (record { variable = is.variable; value = is.value }) one (subst (λ q. Contains (part_demands demands q) one) (sym part) k)))
 
   pub whole-lawful : LawfulGeneral whole
@@ -182,8 +182,8 @@ module _ (env : Env) (index : Index) (project : Project) (names : NameTable) (ta
     bounded = record { variables = is_lawful_problem.bounded.variables; count = is_lawful_problem.bounded.count; each = is_lawful_problem.bounded.each };
     order = λ v known trail choices. is_lawful_problem.order v known trail (λ k d below. let c = choices k d below in record { variable = c.variable; value = c.value });
     roots = all-where (IsRootRequest whole) whole.roots (λ r h.
-        let one = contains-map request_of (problem_of packages project names tables).roots r h in
-        let is = All-contains (IsRoot (problem_of packages project names tables)) (problem_of packages project names tables).roots one.0 is_lawful_problem.roots one.1 in
+        let one = contains-map request_of (problem_of packages project names orders).roots r h in
+        let is = All-contains (IsRoot (problem_of packages project names orders)) (problem_of packages project names orders).roots one.0 is_lawful_problem.roots one.1 in
         subst (λ s. IsRootRequest whole s) one.2 (record { owner = ap owner_of is.condition; target = is.target }));
     demands = λ owner is. all-where (IsOwnedRequest whole owner) (whole.demands owner) (requests-owned owner is);
   }

@@ -7,7 +7,7 @@ use Rattle.qualified_goals.specs.declared.variable.Part.{Part}
 use Rattle.qualified_goals.specs.declared.variable.Part.TheVariants.{Package as ThePackage, Flag, Tests, Benches}
 use Rattle.qualified_goals.specs.declared.variable.Var.{Var}
 use Rattle.qualified_goals.specs.Names.{NameTable}
-use Rattle.cabal_problem.specs.Places.{rising}
+use Rattle.instance_tables.specs.Places.{rising}
 
 abbrev pub all_quals : List ℕ → List ℕ → List Qual
 all_quals owners tools = Top ∷ map Setup owners ++ flat_map (λ p. map (Exe p) tools) owners

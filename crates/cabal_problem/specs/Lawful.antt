@@ -13,8 +13,7 @@ use Rattle.qualified_goals.specs.declared.variable.Qual.TheVariants.{Top, Setup,
 use Rattle.qualified_goals.specs.declared.variable.Part.TheVariants.{Flag}
 use Rattle.qualified_goals.specs.Names.{Name, NameTable}
 use Rattle.choice_problem.specs.Written.{is_order}
-use Rattle.cabal_problem.specs.declared.tables.Tables.{Tables}
-use Rattle.cabal_problem.specs.Places.{rising, package_at, entries_of, number, flag_number}
+use Rattle.instance_tables.specs.Places.{rising, package_at, entries_of, number, flag_number}
 use Rattle.cabal_problem.specs.Variables.{is_part, is_qual}
 
 -- a package has this name
@@ -56,5 +55,5 @@ is_order_at packages orders p = nat_eq (length (slice_index_or orders p [])) (le
 abbrev pub are_orders : List Package → List (List ℕ) → Bool
 are_orders packages orders = list_all (is_order_at packages orders) (rising (length packages))
 
-abbrev pub is_lawful : List Package → Project → NameTable → Tables → Bool
-is_lawful packages project names tables = (packages_find packages names && extras_are_found packages project names) && are_orders packages tables.orders
+abbrev pub is_lawful : List Package → Project → NameTable → List (List ℕ) → Bool
+is_lawful packages project names orders = (packages_find packages names && extras_are_found packages project names) && are_orders packages orders

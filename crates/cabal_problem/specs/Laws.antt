@@ -15,6 +15,7 @@ use Rattle.plan_types.specs.declared.index.Entry.{Entry}
 use Rattle.plan_types.specs.declared.index.FlatDep.{FlatDep}
 use Rattle.plan_types.specs.declared.index.Package.{Package}
 use Rattle.plan_types.specs.declared.project.Project.{Project}
+use Rattle.plan_types.specs.declared.version.Version.{Version}
 use Rattle.qualified_goals.specs.declared.variable.Qual.{Qual}
 use Rattle.qualified_goals.specs.declared.variable.Qual.TheVariants.{Top, Setup, Exe}
 use Rattle.qualified_goals.specs.declared.variable.Part.{Part}
@@ -29,12 +30,11 @@ use Rattle.choice_problem.specs.Written.{is_order}
 use Rattle.choice_problem.specs.WrittenLaws.{tests-lawful}
 use Rattle.choice_problem.specs.Lists.{contains-head, contains-tail, contains-none, contains-cases, contains-append, contains-left, contains-right, contains-map, map-contains, contains-filter, flat_map-contains, and-left, and-right, and-both, all-at}
 use Rattle.constraint_set.specs.Bars.{is_number}
-use Rattle.cabal_problem.specs.declared.tables.Relaxed.{Relaxed}
-use Rattle.cabal_problem.specs.declared.tables.Tables.{Tables}
-use Rattle.cabal_problem.specs.Places.{rising, package_at, entries_of, entry_at, no_entry, number, flag_number}
+use Rattle.instance_tables.specs.Places.{rising, package_at, entries_of, entry_at, no_entry, number, flag_number}
+use Rattle.instance_tables.specs.Lets.{lets_of}
 use Rattle.cabal_problem.specs.Variables.{is_qual, is_part, is_known, domain_of, is_tool, is_tool_of, component_asks, asks_for_tool, is_custom, declares, has_kind, is_suite, is_benchmark, body_has_kind, is_top}
 use Rattle.cabal_problem.specs.Values.{is_flag, on_first, package_var, chosen_default, chosen, order_of}
-use Rattle.cabal_problem.specs.ListedDemands.{part_beside, target_for, flag_demand, stanza_demand, stanza_if, has_stanzas, choice_beside, when_of, can_count, flat_at, flat_demand, flat_demands, setup_at, setup_demand, setup_demands, setup_if, unit_demand, unit_demands, body_demands, relaxed_at, part_demands, demands_of, local_root, local_roots, extra_root, roots_of}
+use Rattle.cabal_problem.specs.ListedDemands.{part_beside, target_for, flag_demand, stanza_demand, stanza_if, has_stanzas, choice_beside, when_of, can_count, flat_demand, flat_demands, setup_demand, setup_demands, setup_if, unit_demand, unit_demands, body_demands, part_demands, demands_of, local_root, local_roots, extra_root, roots_of}
 use Rattle.cabal_problem.specs.Bound.{all_quals, all_parts, vars_of, all_vars}
 use Rattle.cabal_problem.specs.Lawful.{is_found, has_qual_for, flat_finds, body_finds, package_finds, packages_find, extras_are_found, is_order_at, are_orders, is_lawful}
 use Rattle.cabal_problem.specs.Problem.{problem_of}
@@ -222,9 +222,9 @@ module _ (packages : List Package) (names : NameTable) where
   target-known owner kind.Tool name q found has = package-known (Exe owner.«package» (number packages names name)) (number packages names name) has (found-below name found)
   target-known owner kind.Setup name q found has = package-known (Setup owner.«package») (number packages names name) has (found-below name found)
 
-module _ (packages : List Package) (project : Project) (names : NameTable) (tables : Tables) where
+module _ (packages : List Package) (project : Project) (names : NameTable) (orders : List (List ℕ)) where
   abbrev problem : Problem
-  problem = problem_of packages project names tables
+  problem = problem_of packages project names orders
 
   -- ---- roots
 
@@ -285,31 +285,31 @@ module _ (packages : List Package) (project : Project) (names : NameTable) (tabl
       ]
   stanza-owned false owner stanza h d k = absurd (contains-none d k)
 
-  flat-owned : (owner : Choice) (cuts : List (List _)) (flats : List FlatDep) → is_qual packages names owner.var.qual ≡ true
-      → list_all (flat_finds packages names owner.var.«package») flats ≡ true → (d : Demand) → Contains (flat_demands packages names owner cuts flats) d → Owned owner d
-  flat-owned owner cuts flats q all d h =
-      let counts = λ (k : ℕ). can_count (has_stanzas packages owner.var) (flat_at flats k) in
-      let found = contains-map (flat_demand packages names owner cuts flats) (filter counts (rising (length flats))) d h in
-      let kept = contains-filter counts (rising (length flats)) found.0 found.1 in
-      let flat = flat_at flats found.0 in
-      let finds = all-at (flat_finds packages names owner.var.«package») flats flat all (Contains-get_or flats found.0 _ (rising-below (length flats) found.0 kept.0)) in
+  flat-owned : (owner : Choice) (lets : Dep → Version → Bool) (flats : List FlatDep) → is_qual packages names owner.var.qual ≡ true
+      → list_all (flat_finds packages names owner.var.«package») flats ≡ true → (d : Demand) → Contains (flat_demands packages names owner lets flats) d → Owned owner d
+  flat-owned owner lets flats q all d h =
+      let counts = can_count (has_stanzas packages owner.var) in
+      let found = contains-map (flat_demand packages names owner lets) (filter counts flats) d h in
+      let kept = contains-filter counts flats found.0 found.1 in
+      let flat = found.0 in
+      let finds = all-at (flat_finds packages names owner.var.«package») flats flat all kept.0 in
       let first = is_found packages names flat.dep.«package» in
       let second = has_qual_for packages names owner.var.«package» flat.dep.kind flat.dep.«package» in
       subst (λ e. Owned owner e) found.2
-      (when-owned owner flat.when (target_for packages names owner.var flat.dep.kind flat.dep.«package») (flat_demand packages names owner cuts flats found.0).allowed
+      (when-owned owner flat.when (target_for packages names owner.var flat.dep.kind flat.dep.«package») (flat_demand packages names owner lets flat).allowed
       (target-known packages names owner.var flat.dep.kind flat.dep.«package» q (and-left first second finds) (and-right first second finds)))
 
-  setup-owned : (owner : Choice) (custom : Bool) (cuts : List (List _)) (deps : List Dep) → (custom ≡ true → is_qual packages names (Setup owner.var.«package») ≡ true)
+  setup-owned : (owner : Choice) (custom : Bool) (lets : Dep → Version → Bool) (deps : List Dep) → (custom ≡ true → is_qual packages names (Setup owner.var.«package») ≡ true)
       → is_qual packages names owner.var.qual ≡ true
       → list_all (λ dep. is_found packages names dep.«package») deps ≡ true
-      → (d : Demand) → Contains (setup_if custom (setup_demands packages names owner cuts deps)) d → Owned owner d
-  setup-owned owner false cuts deps has q all d h = absurd (contains-none d h)
-  setup-owned owner true cuts deps has q all d h =
-      let found = contains-map (setup_demand packages names owner cuts deps) (rising (length deps)) d h in
-      let dep = setup_at deps found.0 in
-      let is = all-at (λ (e : Dep). is_found packages names e.«package») deps dep all (Contains-get_or deps found.0 _ (rising-below (length deps) found.0 found.1)) in
+      → (d : Demand) → Contains (setup_if custom (setup_demands packages names owner lets deps)) d → Owned owner d
+  setup-owned owner false lets deps has q all d h = absurd (contains-none d h)
+  setup-owned owner true lets deps has q all d h =
+      let found = contains-map (setup_demand packages names owner lets) deps d h in
+      let dep = found.0 in
+      let is = all-at (λ (e : Dep). is_found packages names e.«package») deps dep all found.1 in
       subst (λ e. Owned owner e) found.2
-      (alone-owned owner (target_for packages names owner.var kind.Setup dep.«package») (setup_demand packages names owner cuts deps found.0).allowed
+      (alone-owned owner (target_for packages names owner.var kind.Setup dep.«package») (setup_demand packages names owner lets dep).allowed
       (target-known packages names owner.var kind.Setup dep.«package» q is (has refl)))
 
   flags-owned : (owner : Choice) (flags : List FlagDecl) → is_qual packages names owner.var.qual ≡ true → owner.var.«package» < length packages
@@ -345,13 +345,13 @@ module _ (packages : List Package) (project : Project) (names : NameTable) (tabl
       known-from packages names (part_beside owner stanza) is.qual is.below
       (same ∙ and-both (top && local_is) some stanzas has)
 
-  body-owned : (owner : Choice) (relaxed : Relaxed) (body : Body) → IsOwner owner body → (d : Demand) → Contains (body_demands packages project names owner relaxed body) d → Owned owner d
-  body-owned owner relaxed (Source description flats exposed) is d h =
+  body-owned : (owner : Choice) (lets : Dep → Version → Bool) (body : Body) → IsOwner owner body → (d : Demand) → Contains (body_demands packages project names owner lets body) d → Owned owner d
+  body-owned owner lets (Source description flats exposed) is d h =
       let flags = map (flag_demand project names owner) description.flags in
       let tests = stanza_if (has_stanzas packages owner.var && has_kind is_suite description) owner Tests in
       let benches = stanza_if (has_stanzas packages owner.var && has_kind is_benchmark description) owner Benches in
-      let deps = flat_demands packages names owner relaxed.deps flats in
-      let setups = setup_if description.custom (setup_demands packages names owner relaxed.setup description.setup) in
+      let deps = flat_demands packages names owner lets flats in
+      let setups = setup_if description.custom (setup_demands packages names owner lets description.setup) in
       let flags_test = list_all (λ (decl : FlagDecl). is_part names Top (package_at packages owner.var.«package») (Flag (flag_number names decl.name))) description.flags in
       let flats_test = list_all (flat_finds packages names owner.var.«package») flats in
       let setup_test = list_all (λ (dep : Dep). is_found packages names dep.«package») description.setup in
@@ -367,11 +367,11 @@ module _ (packages : List Package) (project : Project) (names : NameTable) (tabl
             | inr b ↦ stanza-owned (has_stanzas packages owner.var && has_kind is_benchmark description) owner Benches
                 (stanza-known owner (Source description flats exposed) is_benchmark Benches is refl) d b
           ]
-          | inr f ↦ flat-owned owner relaxed.deps flats is.qual (and-left flats_test setup_test rest) d f
+          | inr f ↦ flat-owned owner lets flats is.qual (and-left flats_test setup_test rest) d f
         ]
-        | inr s ↦ setup-owned owner description.custom relaxed.setup description.setup is.custom is.qual (and-right flats_test setup_test rest) d s
+        | inr s ↦ setup-owned owner description.custom lets description.setup is.custom is.qual (and-right flats_test setup_test rest) d s
       ]
-  body-owned owner relaxed (Installed unit needs) is d h = units-owned owner unit.depends needs is.qual is.finds d h
+  body-owned owner lets (Installed unit needs) is d h = units-owned owner unit.depends needs is.qual is.finds d h
 
   part-owned : (owner : Choice) (demands : List Demand) (part : Part) → (part ≡ ThePackage → (d : Demand) → Contains demands d → Owned owner d)
       → (d : Demand) → Contains (part_demands demands part) d → Owned owner d
@@ -380,7 +380,7 @@ module _ (packages : List Package) (project : Project) (names : NameTable) (tabl
   part-owned owner demands Tests h d k = absurd (contains-none d k)
   part-owned owner demands Benches h d k = absurd (contains-none d k)
 
-  demands-are : packages_find packages names ≡ true → (owner : Choice) → IsChoice problem owner → (d : Demand) → Contains (demands_of packages project names tables.relaxed owner) d → Owned owner d
+  demands-are : packages_find packages names ≡ true → (owner : Choice) → IsChoice problem owner → (d : Demand) → Contains (demands_of packages project names owner) d → Owned owner d
   demands-are all owner is =
       let p = owner.var.«package» in
       let entries = entries_of packages p in
@@ -390,7 +390,7 @@ module _ (packages : List Package) (project : Project) (names : NameTable) (tabl
       let value : owner.val < length entries = subst (λ k. owner.val < domain_of packages p k) part is.value in
       let there = Contains-get_or entries owner.val no_entry value in
       let finds = all-at (package_finds packages names) (rising (length packages)) p all (rising-has (length packages) p below) in
-      body-owned owner (relaxed_at tables.relaxed p owner.val) e.body (record {
+      body-owned owner (lets_of project e.instance) e.body (record {
         qual = known-qual packages names owner.var is.variable;
         below = below;
         finds = all-at (λ (f : Entry). body_finds packages names p f.body) entries e finds there;
@@ -398,14 +398,14 @@ module _ (packages : List Package) (project : Project) (names : NameTable) (tabl
         kinds = λ test. any-from (λ (f : Entry). body_has_kind test f.body) entries e there;
       }))
 
-  pub cabal_lawful : IsTrue (is_lawful packages project names tables) → Lawful (problem_of packages project names tables)
+  pub cabal_lawful : IsTrue (is_lawful packages project names orders) → Lawful (problem_of packages project names orders)
   cabal_lawful h =
       let finds = packages_find packages names in
       let extras = extras_are_found packages project names in
-      let front = and-left (finds && extras) (are_orders packages tables.orders) h in
+      let front = and-left (finds && extras) (are_orders packages orders) h in
       record {
         bounded = record { variables = all_vars packages names; count = omega arith; each = var-in packages names };
-        order = λ v known trail choices. part-ordered packages names tables.orders (and-right (finds && extras) (are_orders packages tables.orders) h) v.qual v.«package» v.part trail (known-below packages names v known);
+        order = λ v known trail choices. part-ordered packages names orders (and-right (finds && extras) (are_orders packages orders) h) v.qual v.«package» v.part trail (known-below packages names v known);
         roots = all-where (IsRoot problem) (roots_of packages project names) (roots-are (and-right finds extras front));
-        demands = λ owner is. all-where (IsOwned problem owner) (demands_of packages project names tables.relaxed owner) (demands-are (and-left finds extras front) owner is);
+        demands = λ owner is. all-where (IsOwned problem owner) (demands_of packages project names owner) (demands-are (and-left finds extras front) owner is);
       }

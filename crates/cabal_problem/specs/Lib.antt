@@ -1,12 +1,11 @@
-pub mod Places
 pub mod Variables
 pub mod Values
-pub mod Allowed
 pub mod ListedDemands
-pub mod Tables
+pub mod Rows
 pub mod Bound
 pub mod Problem
 pub mod Lawful
 pub mod Laws
 pub mod WholeDemands
 pub mod Examples
+pub mod Shown

@@ -10,15 +10,14 @@ use Rattle.plan_types.specs.declared.description.Description.{Description}
 use Rattle.plan_types.specs.declared.description.FlagDecl.{FlagDecl}
 use Rattle.plan_types.specs.declared.index.Body.{Body}
 use Rattle.plan_types.specs.declared.index.Body.TheVariants.{Source, Installed}
+use Rattle.plan_types.specs.declared.index.Entry.{Entry}
 use Rattle.plan_types.specs.declared.index.FlatDep.{FlatDep}
 use Rattle.plan_types.specs.declared.index.Literal.{Literal}
 use Rattle.plan_types.specs.declared.index.Package.{Package}
 use Rattle.plan_types.specs.declared.index.PartName.{PartName}
 use Rattle.plan_types.specs.declared.index.PartName.TheVariants as literal
 use Rattle.plan_types.specs.declared.project.Project.{Project}
-use Rattle.plan_types.specs.declared.range.Range.TheVariants.{Nothing}
 use Rattle.plan_types.specs.declared.version.Version.{Version}
-use Rattle.version_range.specs.Cuts.{inside}
 use Rattle.conditionals.specs.Paths.{is_same}
 use Rattle.qualified_goals.specs.declared.variable.Qual.{Qual}
 use Rattle.qualified_goals.specs.declared.variable.Qual.TheVariants.{Top, Setup, Exe}
@@ -29,11 +28,12 @@ use Rattle.qualified_goals.specs.Names.{Name, NameTable}
 use Rattle.choice_problem.specs.declared.problem.Choice.{Choice}
 use Rattle.choice_problem.specs.declared.problem.Demand.{Demand}
 use Rattle.constraint_set.specs.Bars.{names_flag}
-use Rattle.cabal_problem.specs.declared.tables.Relaxed.{Relaxed}
-use Rattle.cabal_problem.specs.Places.{rising, package_at, entries_of, entry_at, number, flag_number}
-use Rattle.cabal_problem.specs.Variables.{is_top, has_kind, is_suite, is_benchmark, bit}
+use Rattle.instance_tables.specs.Places.{rising, package_at, entries_of, entry_at, number, flag_number}
+use Rattle.instance_tables.specs.Asked.{bit, part_of}
+use Rattle.instance_tables.specs.Lets.{lets_of}
+use Rattle.cabal_problem.specs.Variables.{is_top, has_kind, is_suite, is_benchmark}
 use Rattle.cabal_problem.specs.Values.{package_var}
-use Rattle.cabal_problem.specs.Allowed.{allowed_by, allowed_in, allowed_unit}
+use Rattle.instance_tables.specs.Allowed.{allowed_by, allowed_in, allowed_unit}
 
 -- ---- what all demands of a choice share
 
@@ -88,11 +88,6 @@ has_stanzas packages owner = is_top owner.qual && (package_at packages owner.«p
 
 -- ---- dependencies
 
-abbrev pub part_of : NameTable → PartName → Part
-part_of names (literal.Flag name) = Flag (flag_number names name)
-part_of names literal.Tests = Tests
-part_of names literal.Benches = Benches
-
 abbrev pub choice_beside : NameTable → Choice → Literal → Choice
 choice_beside names owner literal = record { var = part_beside owner (part_of names literal.part); val = bit literal.on }
 
@@ -108,36 +103,18 @@ has_part stanzas literal.Benches = stanzas
 abbrev pub can_count : Bool → FlatDep → Bool
 can_count stanzas flat = list_all (λ literal. has_part stanzas literal.part) flat.when
 
--- what stands at a place behind the last
-abbrev pub no_dep : Dep
-no_dep = record { line = 0; kind = kind.Library; «package» = []; libs = []; exe = []; range = Nothing; internal = false }
+-- the dependencies that can count, each under its settings
+abbrev pub flat_demand : List Package → NameTable → Choice → (Dep → Version → Bool) → FlatDep → Demand
+flat_demand packages names owner lets flat = dep_demand packages names owner (when_of names owner flat.when) flat.dep.kind (lets flat.dep) flat.dep
 
-abbrev pub no_flat : FlatDep
-no_flat = record { when = []; dep = no_dep }
+abbrev pub flat_demands : List Package → NameTable → Choice → (Dep → Version → Bool) → List FlatDep → List Demand
+flat_demands packages names owner lets flats = map (flat_demand packages names owner lets) (filter (can_count (has_stanzas packages owner.var)) flats)
 
-abbrev pub flat_at : List FlatDep → ℕ → FlatDep
-flat_at flats k = slice_index_or flats k no_flat
+abbrev pub setup_demand : List Package → NameTable → Choice → (Dep → Version → Bool) → Dep → Demand
+setup_demand packages names owner lets dep = dep_demand packages names owner (owner ∷ []) kind.Setup (lets dep) dep
 
-abbrev pub setup_at : List Dep → ℕ → Dep
-setup_at deps k = slice_index_or deps k no_dep
-
--- the versions in the relaxed range of the dependency at a place
-abbrev pub lets_at : List (List Version) → ℕ → Version → Bool
-lets_at cuts k = inside (slice_index_or cuts k [])
-
-abbrev pub flat_demand : List Package → NameTable → Choice → List (List Version) → List FlatDep → ℕ → Demand
-flat_demand packages names owner cuts flats k =
-    dep_demand packages names owner (when_of names owner (flat_at flats k).when) (flat_at flats k).dep.kind (lets_at cuts k) (flat_at flats k).dep
-
-abbrev pub flat_demands : List Package → NameTable → Choice → List (List Version) → List FlatDep → List Demand
-flat_demands packages names owner cuts flats =
-    map (flat_demand packages names owner cuts flats) (filter (λ k. can_count (has_stanzas packages owner.var) (flat_at flats k)) (rising (length flats)))
-
-abbrev pub setup_demand : List Package → NameTable → Choice → List (List Version) → List Dep → ℕ → Demand
-setup_demand packages names owner cuts deps k = dep_demand packages names owner (owner ∷ []) kind.Setup (lets_at cuts k) (setup_at deps k)
-
-abbrev pub setup_demands : List Package → NameTable → Choice → List (List Version) → List Dep → List Demand
-setup_demands packages names owner cuts deps = map (setup_demand packages names owner cuts deps) (rising (length deps))
+abbrev pub setup_demands : List Package → NameTable → Choice → (Dep → Version → Bool) → List Dep → List Demand
+setup_demands packages names owner lets deps = map (setup_demand packages names owner lets) deps
 
 abbrev pub setup_if : Bool → List Demand → List Demand
 setup_if true demands = demands
@@ -159,24 +136,21 @@ unit_demands packages names owner ids needs = map (unit_demand packages names ow
 
 -- ---- a choice
 
-abbrev pub source_demands : List Package → Project → NameTable → Choice → Relaxed → Description → List FlatDep → List Demand
-source_demands packages project names owner relaxed d flats =
+abbrev pub source_demands : List Package → Project → NameTable → Choice → (Dep → Version → Bool) → Description → List FlatDep → List Demand
+source_demands packages project names owner lets d flats =
     map (flag_demand project names owner) d.flags
     ++ stanza_if (has_stanzas packages owner.var && has_kind is_suite d) owner Tests
     ++ stanza_if (has_stanzas packages owner.var && has_kind is_benchmark d) owner Benches
-    ++ flat_demands packages names owner relaxed.deps flats
-    ++ setup_if d.custom (setup_demands packages names owner relaxed.setup d.setup)
+    ++ flat_demands packages names owner lets flats
+    ++ setup_if d.custom (setup_demands packages names owner lets d.setup)
 
 -- what an instance asks for that is chosen
-abbrev pub body_demands : List Package → Project → NameTable → Choice → Relaxed → Body → List Demand
-body_demands packages project names owner relaxed (Source d flats exposed) = source_demands packages project names owner relaxed d flats
-body_demands packages project names owner relaxed (Installed record_of needs) = unit_demands packages names owner record_of.depends needs
+abbrev pub body_demands : List Package → Project → NameTable → Choice → (Dep → Version → Bool) → Body → List Demand
+body_demands packages project names owner lets (Source d flats exposed) = source_demands packages project names owner lets d flats
+body_demands packages project names owner lets (Installed record_of needs) = unit_demands packages names owner record_of.depends needs
 
-abbrev pub no_relaxed : Relaxed
-no_relaxed = record { deps = []; setup = [] }
-
-abbrev pub relaxed_at : List (List Relaxed) → ℕ → ℕ → Relaxed
-relaxed_at relaxed p i = slice_index_or (slice_index_or relaxed p []) i no_relaxed
+abbrev pub entry_demands : List Package → Project → NameTable → Choice → Entry → List Demand
+entry_demands packages project names owner e = body_demands packages project names owner (lets_of project e.instance) e.body
 
 -- flags and stanzas ask for nothing
 abbrev pub part_demands : List Demand → Part → List Demand
@@ -185,10 +159,9 @@ part_demands demands (Flag f) = []
 part_demands demands Tests = []
 part_demands demands Benches = []
 
-abbrev pub demands_of : List Package → Project → NameTable → List (List Relaxed) → Choice → List Demand
-demands_of packages project names relaxed owner =
-    let p = owner.var.«package» in
-    part_demands (body_demands packages project names owner (relaxed_at relaxed p owner.val) (entry_at (entries_of packages p) owner.val).body) owner.var.part
+abbrev pub demands_of : List Package → Project → NameTable → Choice → List Demand
+demands_of packages project names owner =
+    part_demands (entry_demands packages project names owner (entry_at (entries_of packages owner.var.«package») owner.val)) owner.var.part
 
 -- ---- roots
 

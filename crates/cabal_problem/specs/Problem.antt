@@ -1,5 +1,5 @@
 -- The problem of an index and a project.
-use Rattle.std.specs.Prelude.{◌≡◌, Bool, List}
+use Rattle.std.specs.Prelude.{◌≡◌, ℕ, Bool, List}
 use Rattle.plan_types.specs.declared.index.Index.{Index}
 use Rattle.plan_types.specs.declared.index.Package.{Package}
 use Rattle.plan_types.specs.declared.project.Project.{Project}
@@ -9,12 +9,11 @@ use Rattle.qualified_goals.specs.Names.{NameTable, AreNumbers}
 use Rattle.choice_problem.specs.declared.problem.Choice.{Choice}
 use Rattle.choice_problem.specs.Problem.{Problem}
 use Rattle.constraint_set.specs.Bars.{bars, bars_part}
-use Rattle.cabal_problem.specs.declared.tables.Tables.{Tables}
-use Rattle.cabal_problem.specs.Places.{entries_of, entry_at}
+use Rattle.instance_tables.specs.Places.{entries_of, entry_at}
 use Rattle.cabal_problem.specs.Variables.{is_known, domain_of, is_on}
 use Rattle.cabal_problem.specs.Values.{order_of}
 use Rattle.cabal_problem.specs.ListedDemands.{roots_of, demands_of}
-use Rattle.cabal_problem.specs.Tables.{AreTables}
+use Rattle.instance_tables.specs.Orders.{AreOrders}
 use Rattle.cabal_problem.specs.Bound.{bound_of}
 
 abbrev pub barred_part : List Package → Project → NameTable → Choice → Part → Bool
@@ -23,20 +22,21 @@ barred_part packages project names c (Flag f) = bars_part project names c.var (i
 barred_part packages project names c Tests = bars_part project names c.var (is_on c.val)
 barred_part packages project names c Benches = bars_part project names c.var (is_on c.val)
 
-abbrev pub problem_of : List Package → Project → NameTable → Tables → Problem
-problem_of packages project names tables = record {
+-- orders has the instances of each package, the best first
+abbrev pub problem_of : List Package → Project → NameTable → List (List ℕ) → Problem
+problem_of packages project names orders = record {
   bound = bound_of packages names;
   known = is_known packages names;
   domain = λ v. domain_of packages v.«package» v.part;
   roots = roots_of packages project names;
-  order = λ v trail. order_of packages names tables.orders v.qual v.«package» v.part trail;
+  order = λ v trail. order_of packages names orders v.qual v.«package» v.part trail;
   barred = λ c. barred_part packages project names c c.var.part;
-  demands = demands_of packages project names tables.relaxed;
+  demands = demands_of packages project names;
 }
 
 -- the problem of an index and a project, by the numbers of the index's names
 pub record IsProblemOf (index : Index) (project : Project) (names : NameTable) (p : Problem) : Type 0 where
   pub numbers : AreNumbers index.packages names
-  pub tables : Tables
-  pub tables_are : AreTables index.packages project tables
-  pub problem_is : p ≡ problem_of index.packages project names tables
+  pub orders : List (List ℕ)
+  pub orders_are : AreOrders project index.packages orders
+  pub problem_is : p ≡ problem_of index.packages project names orders

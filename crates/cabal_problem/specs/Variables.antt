@@ -18,7 +18,7 @@ use Rattle.qualified_goals.specs.declared.variable.Part.TheVariants.{Package as 
 use Rattle.qualified_goals.specs.declared.variable.Var.{Var}
 use Rattle.qualified_goals.specs.Names.{NameTable, number_of, declared_by}
 use Rattle.constraint_set.specs.Bars.{is_number}
-use Rattle.cabal_problem.specs.Places.{package_at, entries_of}
+use Rattle.instance_tables.specs.Places.{package_at, entries_of}
 
 -- ---- qualifiers
 
@@ -105,7 +105,3 @@ domain_of packages p Benches = 2
 -- whether a value of a flag or a stanza is on
 abbrev pub is_on : ℕ → Bool
 is_on n = nat_eq n 1
-
-abbrev pub bit : Bool → ℕ
-bit true = 1
-bit false = 0

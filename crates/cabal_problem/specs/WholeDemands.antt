@@ -1,19 +1,15 @@
 -- The demands with whole conditions: a dependency asks once, where its component's stanza is on and its condition is Yes.
-use Rattle.std.specs.Prelude.{◌≡◌, ℕ, zero, suc, Bool, true, false, ◌&&◌, List, [], ◌++◌, map, filter, Option, Some, None}
+use Rattle.std.specs.Prelude.{ℕ, zero, suc, Bool, true, false, ◌&&◌, List, [], ◌++◌, map, filter, Option, Some, None}
 use Rattle.std.specs.List.{list_all}
-use Rattle.plan_types.specs.Members.{members}
 use Rattle.plan_types.specs.declared.condition.Env.{Env}
 use Rattle.plan_types.specs.declared.dependency.Dep.{Dep}
 use Rattle.plan_types.specs.declared.dependency.DepKind.TheVariants as kind
 use Rattle.plan_types.specs.declared.description.Description.{Description}
 use Rattle.plan_types.specs.declared.index.Body.{Body}
 use Rattle.plan_types.specs.declared.index.Body.TheVariants.{Source, Installed}
-use Rattle.plan_types.specs.declared.index.Instance.{Instance}
 use Rattle.plan_types.specs.declared.index.Package.{Package}
 use Rattle.plan_types.specs.declared.project.Project.{Project}
 use Rattle.plan_types.specs.declared.version.Version.{Version}
-use Rattle.version_range.specs.Cuts.{Relaxes}
-use Rattle.version_range.specs.Version.{has_versions}
 use Rattle.conditionals.specs.Paths.{is_wanted}
 use Rattle.conditionals.specs.Value.{value}
 use Rattle.description.specs.WholeCondition.{whole_condition}
@@ -26,22 +22,15 @@ use Rattle.choice_problem.specs.declared.problem.Choice.{Choice}
 use Rattle.choice_problem.specs.declared.problem.Demand.{Demand}
 use Rattle.choice_problem.specs.Assignment.{Assignment, is_made}
 use Rattle.choice_problem.specs.General.{Request, General, request_of}
-use Rattle.constraint_set.specs.Relaxed.{relaxes}
-use Rattle.cabal_problem.specs.Places.{entries_of, entry_at, number}
+use Rattle.instance_tables.specs.Places.{entries_of, entry_at, number}
 use Rattle.cabal_problem.specs.Variables.{has_kind, is_known, is_suite, is_benchmark, domain_of}
 use Rattle.cabal_problem.specs.Values.{order_of}
-use Rattle.cabal_problem.specs.Allowed.{allowed_by}
-use Rattle.cabal_problem.specs.ListedDemands.{part_beside, part_of, target_for, flag_demand, stanza_if, has_stanzas, has_part, unit_demands, roots_of}
+use Rattle.instance_tables.specs.Allowed.{allowed_by}
+use Rattle.instance_tables.specs.Asked.{part_of}
+use Rattle.instance_tables.specs.Lets.{lets_of}
+use Rattle.cabal_problem.specs.ListedDemands.{part_beside, target_for, flag_demand, stanza_if, has_stanzas, has_part, unit_demands, roots_of}
 use Rattle.cabal_problem.specs.Problem.{barred_part}
 use Rattle.cabal_problem.specs.Bound.{bound_of}
-
--- The versions in the relaxed range of a dependency of an instance. On versions with numbers there is one such test.
-abbrev pub Lets : Type 0
-Lets = Instance → Dep → Version → Bool
-
-abbrev pub AreRelaxedRanges : Project → Lets → Type 0
-AreRelaxedRanges project lets = (owner : Instance) (dep : Dep) → has_versions dep.range ≡ true
-    → Relaxes (relaxes project.newer owner dep.«package») (relaxes project.older owner dep.«package») (members dep.range) (lets owner dep)
 
 -- what a value says of a flag or a stanza
 abbrev pub on_or_off : ℕ → Option Bool
@@ -100,12 +89,12 @@ abbrev pub setup_requests : Bool → List Request → List Request
 setup_requests true requests = requests
 setup_requests false requests = []
 
-abbrev pub body_requests : Env → List Package → Project → NameTable → Lets → Choice → Instance → Body → List Request
-body_requests env packages project names lets owner instance (Source d flats exposed) =
+abbrev pub body_requests : Env → List Package → Project → NameTable → Choice → (Dep → Version → Bool) → Body → List Request
+body_requests env packages project names owner lets (Source d flats exposed) =
     requests_of (front_demands packages project names owner d)
-    ++ map (whole_request env packages names owner (lets instance)) (filter (can_ask (has_stanzas packages owner.var)) (outward d))
-    ++ setup_requests d.custom (map (setup_request packages names owner (lets instance)) d.setup)
-body_requests env packages project names lets owner instance (Installed record_of needs) = requests_of (unit_demands packages names owner record_of.depends needs)
+    ++ map (whole_request env packages names owner lets) (filter (can_ask (has_stanzas packages owner.var)) (outward d))
+    ++ setup_requests d.custom (map (setup_request packages names owner lets) d.setup)
+body_requests env packages project names owner lets (Installed record_of needs) = requests_of (unit_demands packages names owner record_of.depends needs)
 
 abbrev pub part_requests : List Request → Part → List Request
 part_requests requests ThePackage = requests
@@ -113,18 +102,18 @@ part_requests requests (Flag f) = []
 part_requests requests Tests = []
 part_requests requests Benches = []
 
-abbrev pub whole_demands : Env → List Package → Project → NameTable → Lets → Choice → List Request
-whole_demands env packages project names lets owner =
+abbrev pub whole_demands : Env → List Package → Project → NameTable → Choice → List Request
+whole_demands env packages project names owner =
     let e = entry_at (entries_of packages owner.var.«package») owner.val in
-    part_requests (body_requests env packages project names lets owner e.instance e.body) owner.var.part
+    part_requests (body_requests env packages project names owner (lets_of project e.instance) e.body) owner.var.part
 
-abbrev pub whole_problem : Env → List Package → Project → NameTable → List (List ℕ) → Lets → General
-whole_problem env packages project names orders lets = record {
+abbrev pub whole_problem : Env → List Package → Project → NameTable → List (List ℕ) → General
+whole_problem env packages project names orders = record {
   bound = bound_of packages names;
   known = is_known packages names;
   domain = λ v. domain_of packages v.«package» v.part;
   roots = requests_of (roots_of packages project names);
   order = λ v trail. order_of packages names orders v.qual v.«package» v.part trail;
   barred = λ c. barred_part packages project names c c.var.part;
-  demands = whole_demands env packages project names lets;
+  demands = whole_demands env packages project names;
 }

@@ -3,21 +3,23 @@ ghost use Rattle.std.specs.List.{list_all};
 ghost use Rattle.constraint_set.specs.Bars.{bars, bars_part, names_flag};
 ghost use Rattle.constraint_set.specs.Stands.{StandsFor};
 ghost use Rattle.flatten.specs.Sound.{IsSound, has_package};
-ghost use Rattle.cabal_problem.specs.Places.{entries_of, entry_at};
-ghost use Rattle.cabal_problem.specs.ListedDemands.{body_demands, flag_allows, flag_demand, flag_values, one_if, relaxed_at, source_demands};
+ghost use Rattle.instance_tables.specs.Asked.{asked_of, asked_of_entry};
+ghost use Rattle.instance_tables.specs.Places.{entries_of, entry_at};
+ghost use Rattle.cabal_problem.specs.ListedDemands.{entry_demands, flag_allows, flag_values, one_if};
 ghost use Rattle.cabal_problem.specs.Lawful.{is_lawful};
+ghost use Rattle.cabal_problem.specs.Rows.{flag_row, in_pairs, source_rows};
+ghost use Rattle.cabal_problem.specs.Values.{chosen_default, default_of};
 
-use crate::demands::{
-    alone, deps_at, part_beside, push_custom, push_flat, push_stanzas, setup_at, unit_demands,
-};
-use crate::places::{entries_of, flag_number};
+use crate::demands::{alone, part_beside, push_custom, push_deps, push_stanzas, unit_demands};
 use crate::roots::roots_of;
-use crate::tables::Tables;
-use crate::values::order_of;
-use crate::variables::{domain_of, is_known};
+use crate::values::{chosen, copied, default_by, on_first, order_at};
+use crate::variables::{declared_by, domain_of, is_known};
 use choice_problem::{Choice, Choices, Demand, Part, Var};
 use constraint_set::Constraints;
-use plan_types::{Body, Description, FlagDecl, FlatDep, Index, Instance, List, NoMemory, Settings};
+use instance_tables::{Asked, Tables, entries_of};
+use plan_types::{
+    Body, Description, Entry, FlagDecl, FlatDep, Index, Instance, List, NoMemory, Settings,
+};
 use qualified_goals::Names;
 use std::alloc::Global;
 
@@ -29,12 +31,14 @@ pub struct CabalProblem<'a> {
     names: Names,
     constraints: Constraints,
     tables: Tables,
-    ghost lawful: { IsTrue (is_lawful index.packages settings.now.project names tables) },
+    ghost lawful: { IsTrue (is_lawful index.packages settings.now.project names tables.orders) },
     ghost stands: { ∥ StandsFor settings.now.project names constraints ∥₁ },
+    ghost asked: { tables.asked ≡ asked_of index.packages settings.now.project names },
 }
 
 impl<'a> CabalProblem<'a> {
     ghost use Rattle.cabal_problem.specs.Problem.{IsProblemOf};
+    ghost use Rattle.cabal_problem.specs.Shown.{index_in, names_in};
 
     /// The problem of an index that is sound in the environment, and has each package that is asked for besides.
     pub fn new(
@@ -44,17 +48,13 @@ impl<'a> CabalProblem<'a> {
     ) -> Result<CabalProblem<'a>, NoMemory>
         requires sound { IsSound settings.now.env index }
         requires extra { list_all (λ named. has_package index named.name) settings.now.project.extra ≡ true }
-        ensures index { IfOk result (λ made. made.index ≡ index) }
-        ensures problem { IfOk result (λ made. IsProblemOf index settings.now.project made.names (⟦<CabalProblem<'a> as Choices>⟧.problem made)) }
+        ensures index { IfOk result (λ made. index_in made ≡ index) }
+        ensures problem { IfOk result (λ made. IsProblemOf index settings.now.project (names_in made) (⟦<CabalProblem<'a> as Choices>⟧.problem made)) }
     {
         let names = Names::of(alloc, &index)?;
         let constraints = Constraints::of(alloc, &settings.project, &names)?;
-        let tables = Tables::of(
-            alloc,
-            index.packages.as_slice(),
-            &settings.project,
-            &constraints,
-        )?;
+        let packages = index.packages.as_slice();
+        let tables = Tables::of(alloc, packages, &settings.project, &names, &constraints)?;
         Ok(CabalProblem {
             index,
             settings,
@@ -66,14 +66,14 @@ impl<'a> CabalProblem<'a> {
 
     /// The index of which it was made.
     pub fn index(&self) -> &Index
-        ensures { result.now ≡ self.now.index }
+        ensures { result.now ≡ index_in self.now }
     {
         &self.index
     }
 
     /// The names of the index, by their numbers.
     pub fn names(&self) -> &Names
-        ensures { result.now ≡ self.now.names }
+        ensures { result.now ≡ names_in self.now }
     {
         &self.names
     }
@@ -121,32 +121,41 @@ impl<'a> CabalProblem<'a> {
         Ok(values)
     }
 
-    fn flag_demand(&self, alloc: Global, owner: Choice, decl: &FlagDecl) -> Result<Demand, NoMemory>
-        ensures { IfOk result (λ demand. demand ≡ flag_demand self.now.settings.now.project self.now.names owner decl.now) }
-    {
-        let target = part_beside(owner, Part::Flag(flag_number(&self.names, &decl.name)));
-        let when = alone(alloc, owner)?;
-        let allowed = self.flag_values(alloc, target, decl)?;
-        Ok(Demand {
-            when,
-            target,
-            allowed,
-        })
-    }
-
     fn push_flags(
         &self,
         alloc: Global,
         found: &mut List<Demand>,
         owner: Choice,
         flags: &[FlagDecl],
+        numbers: &[u64],
     ) -> Result<(), NoMemory>
-        ensures { OnOk result (found.new ≡ found.old ++ map (flag_demand self.now.settings.now.project self.now.names owner) flags.now) }
+        requires { length numbers.now ≡ length flags.now }
+        ensures { OnOk result (found.new ≡ found.old ++ in_pairs (flag_row self.now.settings.now.project self.now.names owner) flags.now numbers.now) }
     {
-        for decl in flags {
-            found.push(self.flag_demand(alloc, owner, decl)?)?;
+        for (place, decl) in flags.iter().enumerate() {
+            self.push_flag(alloc, found, owner, decl, numbers[place])?;
         }
         Ok(())
+    }
+
+    fn push_flag(
+        &self,
+        alloc: Global,
+        found: &mut List<Demand>,
+        owner: Choice,
+        decl: &FlagDecl,
+        number: u64,
+    ) -> Result<(), NoMemory>
+        ensures { OnOk result (found.new ≡ found.old ++ flag_row self.now.settings.now.project self.now.names owner decl.now number) }
+    {
+        let target = part_beside(owner, Part::Flag(number));
+        let when = alone(alloc, owner)?;
+        let allowed = self.flag_values(alloc, target, decl)?;
+        found.push(Demand {
+            when,
+            target,
+            allowed,
+        })
     }
 
     fn source_demands(
@@ -155,58 +164,111 @@ impl<'a> CabalProblem<'a> {
         owner: Choice,
         d: &Description,
         flats: &[FlatDep],
+        asked: &Asked,
     ) -> Result<List<Demand>, NoMemory>
-        ensures { IfOk result (λ found. found
-            ≡ source_demands self.now.index.packages self.now.settings.now.project self.now.names owner
-            (relaxed_at self.now.tables.relaxed owner.var.«package» owner.val) d.now flats.now) }
+        requires flags { length asked.now.flags ≡ length d.now.flags }
+        requires deps { length asked.now.deps ≡ length flats.now }
+        requires setup { length asked.now.setup ≡ length d.now.setup }
+        ensures { IfOk result (λ found. found ≡ source_rows self.now.index.packages self.now.settings.now.project self.now.names owner asked.now d.now flats.now) }
     {
         let packages = self.index.packages.as_slice();
-        let relaxed = self.tables.relaxed.as_slice();
-        let deps = deps_at(relaxed, owner.var.package, owner.val);
-        let setup = setup_at(relaxed, owner.var.package, owner.val);
         let mut found = List::new(alloc);
-        self.push_flags(alloc, &mut found, owner, d.flags.as_slice())?;
+        self.push_flags(
+            alloc,
+            &mut found,
+            owner,
+            d.flags.as_slice(),
+            asked.flags.as_slice(),
+        )?;
         push_stanzas(alloc, &mut found, packages, owner, d)?;
-        push_flat(alloc, &mut found, packages, &self.names, owner, deps, flats)?;
-        push_custom(alloc, &mut found, packages, &self.names, owner, setup, d)?;
+        push_deps(
+            alloc,
+            &mut found,
+            packages,
+            owner,
+            flats,
+            asked.deps.as_slice(),
+        )?;
+        push_custom(
+            alloc,
+            &mut found,
+            packages,
+            owner,
+            d,
+            asked.setup.as_slice(),
+        )?;
         Ok(found)
     }
 
-    fn body_demands(
+    fn entry_demands(
         &self,
         alloc: Global,
         owner: Choice,
-        body: &Body,
+        entry: &Entry,
+        asked: &Asked,
     ) -> Result<List<Demand>, NoMemory>
-        ensures { IfOk result (λ found. found
-            ≡ body_demands self.now.index.packages self.now.settings.now.project self.now.names owner
-            (relaxed_at self.now.tables.relaxed owner.var.«package» owner.val) body.now) }
+        requires { asked.now ≡ asked_of_entry self.now.index.packages self.now.settings.now.project self.now.names entry.now }
+        ensures { IfOk result (λ found. found ≡ entry_demands self.now.index.packages self.now.settings.now.project self.now.names owner entry.now) }
     {
-        match body {
+        match &entry.body {
             Body::Source {
                 description,
                 flat,
                 ..
-            } => self.source_demands(alloc, owner, description, flat.as_slice()),
-            Body::Installed { record_of, needs } => {
-                let packages = self.index.packages.as_slice();
-                let ids = record_of.depends.as_slice();
-                unit_demands(alloc, packages, &self.names, owner, ids, needs.as_slice())
-            }
+            } => self.source_demands(alloc, owner, description, flat.as_slice(), asked),
+            Body::Installed { .. } => unit_demands(alloc, owner, asked.needs.as_slice()),
         }
     }
 
     fn package_demands(&self, alloc: Global, owner: Choice) -> Result<List<Demand>, NoMemory>
+        requires { owner.val < length (entries_of self.now.index.packages owner.var.«package») }
         ensures { IfOk result (λ found. found
-            ≡ body_demands self.now.index.packages self.now.settings.now.project self.now.names owner
-            (relaxed_at self.now.tables.relaxed owner.var.«package» owner.val)
-            (entry_at (entries_of self.now.index.packages owner.var.«package») owner.val).body) }
+            ≡ entry_demands self.now.index.packages self.now.settings.now.project self.now.names owner
+            (entry_at (entries_of self.now.index.packages owner.var.«package») owner.val)) }
     {
         let entries = entries_of(self.index.packages.as_slice(), owner.var.package);
-        match entries.get(owner.val as usize) {
-            Some(entry) => self.body_demands(alloc, owner, &entry.body),
-            None => Ok(List::new(alloc)),
+        let row = self.asked_by(owner.var.package);
+        let place = owner.val as usize;
+        self.entry_demands(alloc, owner, &entries[place], &row[place])
+    }
+
+    // What each instance of a package asks for.
+    fn asked_by(&self, p: u64) -> &[Asked]
+        ensures { result.now ≡ map (asked_of_entry self.now.index.packages self.now.settings.now.project self.now.names) (entries_of self.now.index.packages p) }
+    {
+        match self.tables.asked.as_slice().get(p as usize) {
+            Some(row) => row.as_slice(),
+            None => &[],
         }
+    }
+
+    // The default of a flag as the instance declares it that was chosen.
+    fn default_after(&self, f: u64, p: u64, instance: Option<u64>) -> bool
+        ensures { result ≡ chosen_default self.now.names f (entries_of self.now.index.packages p) instance }
+    {
+        match instance {
+            Some(i) => self.default_at(f, p, i),
+            None => false,
+        }
+    }
+
+    fn default_at(&self, f: u64, p: u64, i: u64) -> bool
+        ensures { result ≡ default_of self.now.names f (entry_at (entries_of self.now.index.packages p) i).body }
+    {
+        let entries = entries_of(self.index.packages.as_slice(), p);
+        let row = self.asked_by(p);
+        let place = i as usize;
+        if place < entries.len() {
+            return self.default_in(f, &entries[place], &row[place]);
+        }
+        false
+    }
+
+    fn default_in(&self, f: u64, entry: &Entry, asked: &Asked) -> bool
+        requires { asked.now ≡ asked_of_entry self.now.index.packages self.now.settings.now.project self.now.names entry.now }
+        ensures { result ≡ default_of self.now.names f entry.now.body }
+    {
+        default_by(f, declared_by(&entry.body), asked.flags.as_slice())
     }
 }
 
@@ -223,9 +285,9 @@ impl<'a> Choices for CabalProblem<'a> {
     ghost use Rattle.cabal_problem.specs.Problem.{problem_of};
     ghost use Rattle.cabal_problem.specs.Laws.{cabal_lawful};
 
-    ghost problem = { λ w. problem_of w.index.packages w.settings.now.project w.names w.tables };
+    ghost problem = { λ w. problem_of w.index.packages w.settings.now.project w.names w.tables.orders };
 
-    ghost lawful = { λ w. cabal_lawful w.index.packages w.settings.now.project w.names w.tables w.lawful };
+    ghost lawful = { λ w. cabal_lawful w.index.packages w.settings.now.project w.names w.tables.orders w.lawful };
 
     fn known(&self, v: Var) -> bool {
         is_known(self.index.packages.as_slice(), &self.names, v)
@@ -242,9 +304,15 @@ impl<'a> Choices for CabalProblem<'a> {
     }
 
     fn order(&self, alloc: Global, v: Var, trail: &List<Choice>) -> Result<List<u64>, NoMemory> {
-        let packages = self.index.packages.as_slice();
-        let orders = self.tables.orders.as_slice();
-        order_of(alloc, packages, &self.names, orders, v, trail.as_slice())
+        match v.part {
+            Part::Package => copied(alloc, order_at(self.tables.orders.as_slice(), v.package)),
+            Part::Flag(f) => {
+                let instance = chosen(trail.as_slice(), v.qual, v.package);
+                on_first(alloc, self.default_after(f, v.package, instance))
+            }
+            Part::Tests => on_first(alloc, true),
+            Part::Benches => on_first(alloc, true),
+        }
     }
 
     fn barred(&self, c: Choice) -> bool {

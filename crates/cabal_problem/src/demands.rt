@@ -1,20 +1,16 @@
-ghost use Rattle.std.specs.Prelude.{◌≡◌, ◌++◌, ◌∷◌, ◌&&◌, IfOk, OnOk, slice_index_or, []};
+ghost use Rattle.std.specs.Prelude.{◌≡◌, ◌++◌, ◌∷◌, ◌&&◌, [], IfOk, OnOk, length, map, slice_index_or};
 ghost use Rattle.qualified_goals.specs.declared.variable.Part.TheVariants.{Tests, Benches};
-ghost use Rattle.cabal_problem.specs.Variables.{bit, has_kind, is_benchmark, is_suite};
-ghost use Rattle.cabal_problem.specs.ListedDemands.{can_count, choice_beside, dep_demand, flat_demands, has_part, has_stanzas, lets_at, part_beside, part_of, qual_for, relaxed_at, setup_demands, setup_if, stanza_demand, stanza_if, unit_demands, unit_demand_on, when_of};
+ghost use Rattle.cabal_problem.specs.Variables.{has_kind, is_benchmark, is_suite};
+ghost use Rattle.cabal_problem.specs.ListedDemands.{can_count, has_part, has_stanzas, part_beside, qual_for, setup_if, stanza_demand, stanza_if};
+ghost use Rattle.cabal_problem.specs.Rows.{choice_at, dep_row, in_pairs, need_demand, setup_row, target_demand};
 
-use crate::allowed::{allowed_by, allowed_unit};
-use crate::places::{entries_of, flag_number, is_local, number};
-use crate::tables::Relaxed;
 use crate::values::package_var;
 use crate::variables::{has_benchmark, has_suite, is_top};
 use choice_problem::{Choice, Demand};
-use plan_types::{
-    Dep, DepKind, Description, FlatDep, List, Literal, NoMemory, Package, PartName, Text,
-};
-use qualified_goals::{Names, Part, Qual, Var};
+use instance_tables::{Asking, Need, Setting, Target, allowed_by, entries_of, is_local};
+use plan_types::{Dep, DepKind, Description, FlatDep, List, NoMemory, Package, PartName};
+use qualified_goals::{Part, Qual, Var};
 use std::alloc::Global;
-use version_range::Cuts;
 
 /// A part of the owner's package, under its qualifier.
 pub(crate) fn part_beside(owner: Choice, part: Part) -> Var
@@ -100,22 +96,48 @@ fn stanza_demand(alloc: Global, owner: Choice, stanza: Part) -> Result<Demand, N
 }
 
 /// The dependencies of an instance, each once for each way in which it counts.
-pub(crate) fn push_flat(
+pub(crate) fn push_deps(
     alloc: Global,
     found: &mut List<Demand>,
     packages: &[Package],
-    names: &Names,
     owner: Choice,
-    cuts: &[Cuts],
     flats: &[FlatDep],
+    deps: &[Asking],
 ) -> Result<(), NoMemory>
-    ensures { OnOk result (found.new ≡ found.old ++ flat_demands packages.now names.now owner cuts.now flats.now) }
+    requires { length deps.now ≡ length flats.now }
+    ensures { OnOk result (found.new ≡ found.old ++ in_pairs (dep_row packages.now owner) flats.now deps.now) }
 {
     let stanzas = has_stanzas(packages, owner.var);
     for (place, flat) in flats.iter().enumerate() {
-        if can_count(stanzas, flat) {
-            found.push(flat_demand(alloc, packages, names, owner, cuts, place, flat)?)?;
-        }
+        push_dep(alloc, found, packages, owner, stanzas, flat, &deps[place])?;
+    }
+    Ok(())
+}
+
+fn push_dep(
+    alloc: Global,
+    found: &mut List<Demand>,
+    packages: &[Package],
+    owner: Choice,
+    stanzas: bool,
+    flat: &FlatDep,
+    asking: &Asking,
+) -> Result<(), NoMemory>
+    requires { stanzas ≡ has_stanzas packages.now owner.var }
+    ensures { OnOk result (found.new ≡ found.old ++ dep_row packages.now owner flat.now asking.now) }
+{
+    if can_count(stanzas, flat) {
+        let when = when_of(alloc, owner, asking.when.as_slice())?;
+        let kind = flat.dep.kind;
+        found.push(target_demand(
+            alloc,
+            packages,
+            owner,
+            when,
+            kind,
+            &flat.dep,
+            &asking.target,
+        )?)?;
     }
     Ok(())
 }
@@ -139,63 +161,23 @@ fn has_part(stanzas: bool, part: &PartName) -> bool
     }
 }
 
-fn flat_demand(
-    alloc: Global,
-    packages: &[Package],
-    names: &Names,
-    owner: Choice,
-    cuts: &[Cuts],
-    place: usize,
-    flat: &FlatDep,
-) -> Result<Demand, NoMemory>
-    ensures { IfOk result (λ demand. demand
-        ≡ dep_demand packages.now names.now owner (when_of names.now owner flat.now.when) flat.now.dep.kind (lets_at cuts.now place) flat.now.dep) }
-{
-    let when = when_of(alloc, names, owner, flat.when.as_slice())?;
-    let kind = flat.dep.kind;
-    dep_demand(
-        alloc, packages, names, owner, when, kind, cuts, place, &flat.dep,
-    )
-}
-
-fn when_of(
-    alloc: Global,
-    names: &Names,
-    owner: Choice,
-    literals: &[Literal],
-) -> Result<List<Choice>, NoMemory>
-    ensures { IfOk result (λ when. when ≡ when_of names.now owner literals.now) }
+fn when_of(alloc: Global, owner: Choice, settings: &[Setting]) -> Result<List<Choice>, NoMemory>
+    ensures { IfOk result (λ when. when ≡ owner ∷ map (choice_at owner) settings.now) }
 {
     let mut when = alone(alloc, owner)?;
-    for literal in literals {
-        when.push(choice_beside(names, owner, literal))?;
+    for setting in settings {
+        when.push(choice_at(owner, *setting))?;
     }
     Ok(when)
 }
 
-fn choice_beside(names: &Names, owner: Choice, literal: &Literal) -> Choice
-    ensures { result ≡ choice_beside names.now owner literal.now }
+fn choice_at(owner: Choice, setting: Setting) -> Choice
+    ensures { result ≡ choice_at owner setting }
 {
     Choice {
-        var: part_beside(owner, part_of(names, &literal.part)),
-        val: bit(literal.on),
+        var: part_beside(owner, setting.part),
+        val: setting.val,
     }
-}
-
-fn part_of(names: &Names, part: &PartName) -> Part
-    ensures { result ≡ part_of names.now part.now }
-{
-    match part {
-        PartName::Flag(name) => Part::Flag(flag_number(names, name)),
-        PartName::Tests => Part::Tests,
-        PartName::Benches => Part::Benches,
-    }
-}
-
-fn bit(on: bool) -> u64
-    ensures { result ≡ bit on }
-{
-    if on { 1 } else { 0 }
 }
 
 fn qual_for(kind: DepKind, owner: Var, package: u64) -> Qual
@@ -208,23 +190,20 @@ fn qual_for(kind: DepKind, owner: Var, package: u64) -> Qual
     }
 }
 
-fn dep_demand(
+fn target_demand(
     alloc: Global,
     packages: &[Package],
-    names: &Names,
     owner: Choice,
     when: List<Choice>,
     kind: DepKind,
-    cuts: &[Cuts],
-    place: usize,
     dep: &Dep,
+    target: &Target,
 ) -> Result<Demand, NoMemory>
-    ensures { IfOk result (λ demand. demand
-        ≡ dep_demand packages.now names.now owner when kind (lets_at cuts.now place) dep.now) }
+    ensures { IfOk result (λ demand. demand ≡ target_demand packages.now owner when kind dep.now target.now) }
 {
-    let package = number(packages, names, &dep.package);
+    let package = target.package;
     let entries = entries_of(packages, package);
-    let allowed = allowed_by(alloc, kind, cuts, place, dep, entries)?;
+    let allowed = allowed_by(alloc, kind, dep, &target.inside, entries)?;
     Ok(Demand {
         when,
         target: package_var(qual_for(kind, owner.var, package), package),
@@ -237,23 +216,15 @@ pub(crate) fn push_custom(
     alloc: Global,
     found: &mut List<Demand>,
     packages: &[Package],
-    names: &Names,
     owner: Choice,
-    cuts: &[Cuts],
     d: &Description,
+    targets: &[Target],
 ) -> Result<(), NoMemory>
-    ensures { OnOk result (found.new ≡ found.old ++ setup_if d.now.custom (setup_demands packages.now names.now owner cuts.now d.now.setup)) }
+    requires { length targets.now ≡ length d.now.setup }
+    ensures { OnOk result (found.new ≡ found.old ++ setup_if d.now.custom (in_pairs (setup_row packages.now owner) d.now.setup targets.now)) }
 {
     if d.custom {
-        push_setup(
-            alloc,
-            found,
-            packages,
-            names,
-            owner,
-            cuts,
-            d.setup.as_slice(),
-        )?;
+        push_setup(alloc, found, packages, owner, d.setup.as_slice(), targets)?;
     }
     Ok(())
 }
@@ -262,17 +233,17 @@ fn push_setup(
     alloc: Global,
     found: &mut List<Demand>,
     packages: &[Package],
-    names: &Names,
     owner: Choice,
-    cuts: &[Cuts],
     deps: &[Dep],
+    targets: &[Target],
 ) -> Result<(), NoMemory>
-    ensures { OnOk result (found.new ≡ found.old ++ setup_demands packages.now names.now owner cuts.now deps.now) }
+    requires { length targets.now ≡ length deps.now }
+    ensures { OnOk result (found.new ≡ found.old ++ in_pairs (setup_row packages.now owner) deps.now targets.now) }
 {
     for (place, dep) in deps.iter().enumerate() {
         let when = alone(alloc, owner)?;
         let kind = DepKind::Setup;
-        found.push(dep_demand(alloc, packages, names, owner, when, kind, cuts, place, dep)?)?;
+        found.push(target_demand(alloc, packages, owner, when, kind, dep, &targets[place])?)?;
     }
     Ok(())
 }
@@ -280,76 +251,26 @@ fn push_setup(
 /// The units that an installed unit needs.
 pub(crate) fn unit_demands(
     alloc: Global,
-    packages: &[Package],
-    names: &Names,
     owner: Choice,
-    ids: &[Text],
-    needs: &[Text],
+    needs: &[Need],
 ) -> Result<List<Demand>, NoMemory>
-    ensures { IfOk result (λ found. found ≡ unit_demands packages.now names.now owner ids.now needs.now) }
+    ensures { IfOk result (λ found. found ≡ map (need_demand owner) needs.now) }
 {
     let mut found = List::new(alloc);
-    for (place, name) in needs.iter().enumerate() {
-        let id = id_at(ids, place);
-        found.push(unit_demand(alloc, packages, names, owner, id, name)?)?;
+    for need in needs {
+        found.push(need_demand(alloc, owner, need)?)?;
     }
     Ok(found)
 }
 
-fn id_at(ids: &[Text], place: usize) -> &str
-    ensures { result.now ≡ slice_index_or ids.now place [] }
+fn need_demand(alloc: Global, owner: Choice, need: &Need) -> Result<Demand, NoMemory>
+    ensures { IfOk result (λ demand. demand ≡ need_demand owner need.now) }
 {
-    match ids.get(place) {
-        Some(id) => id.as_str(),
-        None => "",
-    }
-}
-
-fn unit_demand(
-    alloc: Global,
-    packages: &[Package],
-    names: &Names,
-    owner: Choice,
-    id: &str,
-    name: &Text,
-) -> Result<Demand, NoMemory>
-    ensures { IfOk result (λ demand. demand ≡ unit_demand_on packages.now names.now owner id.now name.now) }
-{
-    let package = number(packages, names, name);
     let when = alone(alloc, owner)?;
-    let allowed = allowed_unit(alloc, id, packages, package)?;
+    let allowed = List::from_vec(Vec::from_slice(alloc, need.allowed.as_slice())?);
     Ok(Demand {
         when,
-        target: package_var(owner.var.qual, package),
+        target: package_var(owner.var.qual, need.package),
         allowed,
     })
-}
-
-/// The relaxed ranges of the dependencies of an instance.
-pub(crate) fn deps_at(rows: &[List<Relaxed>], p: u64, i: u64) -> &[Cuts]
-    ensures { result.now ≡ (relaxed_at rows.now p i).deps }
-{
-    match row_at(rows, p).get(i as usize) {
-        Some(relaxed) => relaxed.deps.as_slice(),
-        None => &[],
-    }
-}
-
-/// The relaxed ranges of the dependencies of its setup script.
-pub(crate) fn setup_at(rows: &[List<Relaxed>], p: u64, i: u64) -> &[Cuts]
-    ensures { result.now ≡ (relaxed_at rows.now p i).setup }
-{
-    match row_at(rows, p).get(i as usize) {
-        Some(relaxed) => relaxed.setup.as_slice(),
-        None => &[],
-    }
-}
-
-fn row_at(rows: &[List<Relaxed>], p: u64) -> &[Relaxed]
-    ensures { result.now ≡ slice_index_or rows.now p [] }
-{
-    match rows.get(p as usize) {
-        Some(row) => row.as_slice(),
-        None => &[],
-    }
 }

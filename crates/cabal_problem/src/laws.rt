@@ -1,4 +1,4 @@
-ghost use Rattle.std.specs.Prelude.{◌≡◌, true};
+ghost use Rattle.std.specs.Prelude.{◌≡◌, ℕ, List, true};
 ghost use Rattle.std.specs.List.{list_all};
 ghost use Rattle.plan_types.specs.declared.index.Index.{Index};
 ghost use Rattle.plan_types.specs.declared.condition.Env.{Env};
@@ -7,19 +7,18 @@ ghost use Rattle.qualified_goals.specs.Names.{AreNumbers, NameTable};
 ghost use Rattle.choice_problem.specs.General.{general};
 ghost use Rattle.choice_problem.specs.Joined.{AreOne, AreYesTogether};
 ghost use Rattle.flatten.specs.Sound.{IsSound, has_package};
-ghost use Rattle.cabal_problem.specs.declared.tables.Tables.{Tables};
-ghost use Rattle.cabal_problem.specs.Tables.{AreTables};
+ghost use Rattle.instance_tables.specs.Orders.{AreOrders};
 ghost use Rattle.cabal_problem.specs.Problem.{problem_of};
-ghost use Rattle.cabal_problem.specs.WholeDemands.{AreRelaxedRanges, Lets, whole_problem};
+ghost use Rattle.cabal_problem.specs.WholeDemands.{whole_problem};
 
 use choice_problem::{general_is_lawful, valid_alike};
 use flatten::counts_as_its_condition;
 
 /// A demand with a whole condition is Yes exactly where one of those that are listed for it is.
 pub fn listed_as_whole()
-    ensures { (env : Env) (index : Index) (project : Project) (names : NameTable) (tables : Tables) (lets : Lets)
-        → IsSound env index → AreNumbers index.packages names → AreTables index.packages project tables → AreRelaxedRanges project lets
-        → AreYesTogether (whole_problem env index.packages project names tables.orders lets) (general (problem_of index.packages project names tables)) }
+    ensures { (env : Env) (index : Index) (project : Project) (names : NameTable) (orders : List (List ℕ))
+        → IsSound env index → AreNumbers index.packages names
+        → AreYesTogether (whole_problem env index.packages project names orders) (general (problem_of index.packages project names orders)) }
 {
     counts_as_its_condition();
 }
@@ -27,10 +26,10 @@ pub fn listed_as_whole()
 /// So what is valid with whole conditions is what is valid in the problem that is searched, and both have the same
 /// first.
 pub fn valid_as_whole()
-    ensures { (env : Env) (index : Index) (project : Project) (names : NameTable) (tables : Tables) (lets : Lets)
-        → IsSound env index → AreNumbers index.packages names → AreTables index.packages project tables → AreRelaxedRanges project lets
+    ensures { (env : Env) (index : Index) (project : Project) (names : NameTable) (orders : List (List ℕ))
+        → IsSound env index → AreNumbers index.packages names → AreOrders project index.packages orders
         → list_all (λ named. has_package index named.name) project.extra ≡ true
-        → AreOne (whole_problem env index.packages project names tables.orders lets) (general (problem_of index.packages project names tables)) }
+        → AreOne (whole_problem env index.packages project names orders) (general (problem_of index.packages project names orders)) }
 {
     listed_as_whole();
     general_is_lawful();

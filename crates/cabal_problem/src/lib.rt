@@ -3,13 +3,10 @@
 //! in which order they are tried, and what each choice asks for.
 #![tactic(auto)]
 
-mod allowed;
 mod cabal_problem;
 mod demands;
 mod laws;
-mod places;
 mod roots;
-mod tables;
 mod values;
 mod variables;
 

@@ -1,10 +1,9 @@
 ghost use Rattle.std.specs.Prelude.{◌≡◌, ◌++◌, IfOk, OnOk, map};
 ghost use Rattle.cabal_problem.specs.ListedDemands.{extra_root, local_root, local_roots};
 
-use crate::allowed::allowed_in;
-use crate::places::{entries_of, number, rising};
 use crate::values::package_var;
 use choice_problem::Demand;
+use instance_tables::{allowed_in, entries_of, number, rising};
 use plan_types::{List, Named, NoMemory, Package};
 use qualified_goals::{Names, Qual};
 use std::alloc::Global;

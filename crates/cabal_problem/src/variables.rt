@@ -2,11 +2,11 @@ ghost use Rattle.std.specs.Prelude.{◌≡◌, ◌&&◌, nat_lt, length};
 ghost use Rattle.std.specs.List.{list_any};
 ghost use Rattle.constraint_set.specs.Bars.{is_number};
 ghost use Rattle.qualified_goals.specs.Names.{declared_by, number_of};
-ghost use Rattle.cabal_problem.specs.Places.{package_at};
+ghost use Rattle.instance_tables.specs.Places.{package_at};
 ghost use Rattle.cabal_problem.specs.Values.{is_flag};
 ghost use Rattle.cabal_problem.specs.Variables.{asks_for_tool, body_has_kind, component_asks, declares, domain_of, has_kind, is_benchmark, is_custom, is_known, is_part, is_qual, is_suite, is_tool, is_tool_of, is_top};
 
-use crate::places::entries_of;
+use instance_tables::entries_of;
 use plan_types::{
     Body, CompKind, Component, DepKind, Description, Entry, FlagDecl, GuardedDep, Package, Text,
 };

@@ -1,20 +1,22 @@
-use Rattle.std.proofs.Common.{◌≡◌, ◌++◌, ◌∷◌, [], ap, ◌∙◌, sym, map, append_assoc}
-use Rattle.std.proofs.lemmas.List.{get_or_read}
+use Rattle.std.proofs.Common.{◌≡◌, ◌<◌, ◌++◌, ◌∷◌, [], length, take, ap, ◌∙◌, sym, append_assoc, arith}
 use Rattle.plan_types.specs.declared.dependency.DepKind.TheVariants.{Setup}
-use Rattle.cabal_problem.specs.Places.{rising}
-use Rattle.cabal_problem.specs.ListedDemands.{dep_demand, lets_at, no_dep, setup_demand}
-use Rattle.cabal_problem.proofs.Growing.{one_more}
+use Rattle.cabal_problem.specs.Rows.{in_pairs, setup_row, target_demand}
+use Rattle.cabal_problem.proofs.RowDemands.{pairs-more}
 use Rattle.cabal_problem.proofs.demands.push_setup.Goals as goal
 
 pub loop-place-preserved : goal.loop-place-preserved
 loop-place-preserved c =
-    let n = c.loop-place.place in
-    let demand = setup_demand c.args.packages.now c.args.names.now c.args.owner c.args.cuts.now c.args.deps.now in
-    let lets = lets_at c.args.cuts.now n in
-    let dep = get_or_read c.args.deps.now n c.index-deps-place.result c.loop-place-test.true c.index-deps-place.is no_dep in
-    let same : c.in_ok-dep_demand.field-0 ≡ demand n =
-    c.in_ok-dep_demand.ensures
-    ∙ ap (λ when. dep_demand c.args.packages.now c.args.names.now c.args.owner when Setup lets c.index-deps-place.result) c.in_ok-when.ensures
-    ∙ ap (dep_demand c.args.packages.now c.args.names.now c.args.owner (c.args.owner ∷ []) Setup lets) dep in
-    c.in_ok-push.ensures.ok ∙ ap (λ d. c.loop-place.found ++ d ∷ []) same ∙ ap (λ l. l ++ demand n ∷ []) c.loop-place.invariant
-    ∙ append_assoc c.args.found.now (map demand (rising n)) (demand n ∷ []) ∙ ap (λ l. c.args.found.now ++ l) (sym (one_more demand n))
+    let i = c.loop-place.place in
+    let packages = c.args.packages.now in
+    let owner = c.args.owner in
+    let deps = c.args.deps.now in
+    let targets = c.args.targets.now in
+    let make = setup_row packages owner in
+    let dep = c.index-deps-place.result in
+    let target = c.index-targets-place.result in
+    let within : i < length targets = omega (arith, c.requires, c.loop-place-test.true) in
+    let same : c.in_ok-target_demand.field-0 ∷ [] ≡ make dep target =
+    ap (λ d. d ∷ []) (c.in_ok-target_demand.ensures ∙ ap (λ when. target_demand packages owner when Setup dep target) c.in_ok-when.ensures) in
+    c.in_ok-push.ensures.ok ∙ ap (λ l. c.loop-place.found ++ l) same ∙ ap (λ l. l ++ make dep target) c.loop-place.invariant
+    ∙ append_assoc c.args.found.now (in_pairs make (take i deps) (take i targets)) (make dep target)
+    ∙ ap (λ l. c.args.found.now ++ l) (sym (pairs-more make deps targets i dep target c.loop-place-test.true c.index-deps-place.is within c.index-targets-place.is))

@@ -1,8 +1,7 @@
--- the demands of the needs so far
-use Rattle.std.proofs.Common.{◌≡◌, map}
-use Rattle.cabal_problem.specs.Places.{rising}
-use Rattle.cabal_problem.specs.ListedDemands.{unit_demand}
+-- the needs so far
+use Rattle.std.proofs.Common.{◌≡◌, map, take}
+use Rattle.cabal_problem.specs.Rows.{need_demand}
 use Rattle.cabal_problem.proofs.demands.unit_demands.Given as goal
 
-abbrev pub invariant-loop-place : goal.invariant-loop-place
-invariant-loop-place l = l.found ≡ map (unit_demand l.packages l.names l.owner l.ids l.needs) (rising l.place)
+abbrev pub invariant-loop-need : goal.invariant-loop-need
+invariant-loop-need l = l.found ≡ map (need_demand l.owner) (take l.need-index l.needs)

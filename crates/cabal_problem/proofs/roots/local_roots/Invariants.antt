@@ -1,7 +1,7 @@
 -- the local packages so far
 use Rattle.std.proofs.Common.{◌≡◌, map}
 use Rattle.std.specs.List.{filter}
-use Rattle.cabal_problem.specs.Places.{rising, package_at}
+use Rattle.instance_tables.specs.Places.{rising, package_at}
 use Rattle.cabal_problem.specs.ListedDemands.{local_root}
 use Rattle.cabal_problem.proofs.roots.local_roots.Given as goal
 

@@ -1,15 +1,21 @@
 use Rattle.std.proofs.Common.{◌≡◌, true, sym, subst}
-use Rattle.cabal_problem.specs.Tables.{AreTables, packages_have_versions}
+use Rattle.instance_tables.specs.Blocks.{AllAreInBlocks}
+use Rattle.instance_tables.specs.Orders.{AreOrders}
+use Rattle.instance_tables.specs.Versions.{packages_have_versions}
 use Rattle.cabal_problem.proofs.NewProblem.{made-lawful}
+use Rattle.cabal_problem.proofs.InBlocks.{all-in-blocks}
 use Rattle.cabal_problem.proofs.Findings.{all-versions}
 use Rattle.cabal_problem.proofs.cabal_problem.CabalProblem.new.Goals as goal
 
 pub of-requires-3-clause-versions : goal.of-requires-3-clause-versions
 of-requires-3-clause-versions c =
-    subst (λ ps. packages_have_versions ps ≡ true) (sym c.as_slice.ensures) (all-versions c.args.settings.now.env c.args.index c.requires.sound)
+    subst (λ ps. packages_have_versions ps ≡ true) (sym c.as_slice-packages.ensures) (all-versions c.args.settings.now.env c.args.index c.requires.sound)
+
+pub of-requires-3-clause-blocks : goal.of-requires-3-clause-blocks
+of-requires-3-clause-blocks c = subst (λ ps. AllAreInBlocks ps) (sym c.as_slice-packages.ensures) (all-in-blocks c.args.settings.now.env c.args.index c.requires.sound)
 
 pub invariant_of-result-clause-lawful : goal.invariant_of-result-clause-lawful
 invariant_of-result-clause-lawful c =
     let project = c.args.settings.now.project in
-    made-lawful c.args.settings.now.env c.args.index project c.in_ok-names.names c.in_ok-tables.tables c.requires.sound c.requires.extra c.in_ok-names.ensures.names
-    (subst (λ ps. AreTables ps project c.in_ok-tables.tables) c.as_slice.ensures c.in_ok-tables.ensures)
+    made-lawful c.args.settings.now.env c.args.index project c.in_ok-names.names c.in_ok-tables.tables.orders c.requires.sound c.requires.extra c.in_ok-names.ensures.names
+    (subst (λ ps. AreOrders project ps c.in_ok-tables.tables.orders) c.as_slice-packages.ensures c.in_ok-tables.ensures.orders)

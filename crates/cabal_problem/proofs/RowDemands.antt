@@ -1,0 +1,115 @@
+-- What an instance asks for in numbers makes the demands that it has by the names.
+use Rattle.std.proofs.Common.{◌≡◌, ℕ, zero, suc, ◌+◌, ◌<◌, Bool, true, false, cond, ◌&&◌, List, [], ◌∷◌, ◌++◌, length, get_or, map, take, refl, sym, ap, ◌∙◌, arith, append_assoc, nat_eq}
+use Rattle.std.specs.List.{filter}
+use Rattle.std.specs.Prelude.{Some, find}
+use Rattle.plan_types.specs.declared.dependency.Dep.{Dep}
+use Rattle.plan_types.specs.declared.dependency.DepKind.{DepKind}
+use Rattle.plan_types.specs.declared.dependency.DepKind.TheVariants as kind
+use Rattle.plan_types.specs.declared.description.Description.{Description}
+use Rattle.plan_types.specs.declared.description.FlagDecl.{FlagDecl}
+use Rattle.plan_types.specs.declared.index.Body.{Body}
+use Rattle.plan_types.specs.declared.index.Body.TheVariants.{Source, Installed}
+use Rattle.plan_types.specs.declared.index.Exposed.{Exposed}
+use Rattle.plan_types.specs.declared.index.FlatDep.{FlatDep}
+use Rattle.plan_types.specs.declared.index.Package.{Package}
+use Rattle.plan_types.specs.declared.project.Project.{Project}
+use Rattle.plan_types.specs.declared.version.Version.{Version}
+use Rattle.qualified_goals.specs.declared.variable.Part.TheVariants.{Tests, Benches}
+use Rattle.qualified_goals.specs.Names.{Name, NameTable, declared_by}
+use Rattle.choice_problem.specs.declared.problem.Choice.{Choice}
+use Rattle.choice_problem.specs.declared.problem.Demand.{Demand}
+use Rattle.instance_tables.specs.Asked.{asked_of_body, asking_of, dep_target, need_at, setting_of}
+use Rattle.instance_tables.specs.Places.{entries_of, flag_number, number, rising}
+use Rattle.instance_tables.proofs.Allowing.{allowed-inside}
+use Rattle.instance_tables.proofs.ListLaws.{map-map}
+use Rattle.cabal_problem.specs.Variables.{has_kind, is_benchmark, is_suite}
+use Rattle.cabal_problem.specs.Values.{default_in, default_of, has_number, package_var}
+use Rattle.cabal_problem.specs.ListedDemands.{can_count, dep_demand, flag_demand, flat_demand, flat_demands, has_stanzas, qual_for, setup_demand, setup_demands, setup_if, source_demands, stanza_if, unit_demands, when_of}
+use Rattle.cabal_problem.specs.Rows.{choice_at, default_by, dep_row, flag_row, in_pairs, need_demand, setup_row, source_rows, target_demand}
+
+-- ---- pairs
+
+nothing-more : {W : Type 0} (l : List W) → l ++ [] ≡ l
+nothing-more [] = refl
+nothing-more (w ∷ l) = ap (λ m. w ∷ m) (nothing-more l)
+
+pairs-next : {X Y Z : Type 0} (make : X → Y → List Z) (xs : List X) (ys : List Y) (i : ℕ) (x : X) (y : Y) → i < length xs → x ≡ get_or xs i x → i < length ys → y ≡ get_or ys i y
+    → in_pairs make (take (suc i) xs) (take (suc i) ys) ≡ in_pairs make (take i xs) (take i ys) ++ make x y
+pairs-next make [] ys i x y h e k f = absurd (omega (arith, h))
+pairs-next make (a ∷ xs) [] i x y h e k f = absurd (omega (arith, k))
+pairs-next make (a ∷ xs) (b ∷ ys) zero x y h e k f = nothing-more (make a b) ∙ (λ j. make (sym e j) (sym f j))
+pairs-next make (a ∷ xs) (b ∷ ys) (suc i) x y h e k f =
+    ap (λ l. make a b ++ l) (pairs-next make xs ys i x y (omega (arith, h)) e (omega (arith, k)) f) ∙ sym (append_assoc (make a b) (in_pairs make (take i xs) (take i ys)) (make x y))
+
+pub pairs-more : {X Y Z : Type 0} (make : X → Y → List Z) (xs : List X) (ys : List Y) (i : ℕ) (x : X) (y : Y) → i < length xs → x ≡ get_or xs i x → i < length ys → y ≡ get_or ys i y
+    → in_pairs make (take (i + 1) xs) (take (i + 1) ys) ≡ in_pairs make (take i xs) (take i ys) ++ make x y
+pairs-more make xs ys i x y h e k f =
+    let next : i + 1 ≡ suc i = omega arith in
+    ap (λ n. in_pairs make (take n xs) (take n ys)) next ∙ pairs-next make xs ys i x y h e k f
+
+pairs-one : {X Y Z : Type 0} (make : X → Y → List Z) (row : X → Y) (one : X → Z) (xs : List X) → ((x : X) → make x (row x) ≡ one x ∷ []) → in_pairs make xs (map row xs) ≡ map one xs
+pairs-one make row one [] h = refl
+pairs-one make row one (x ∷ xs) h = ap (λ l. l ++ in_pairs make xs (map row xs)) (h x) ∙ ap (λ l. one x ∷ l) (pairs-one make row one xs h)
+
+pairs-kept : {X Y Z : Type 0} (make : X → Y → List Z) (row : X → Y) (one : X → Z) (test : X → Bool) (xs : List X) → ((x : X) → make x (row x) ≡ cond (test x) (one x ∷ []) [])
+    → in_pairs make xs (map row xs) ≡ map one (filter test xs)
+pairs-kept make row one test [] h = refl
+pairs-kept make row one test (x ∷ xs) h =
+    ap (λ l. l ++ in_pairs make xs (map row xs)) (h x) ∙ ap (λ l. cond (test x) (one x ∷ []) [] ++ l) (pairs-kept make row one test xs h)
+    ∙ (elim (test x) as (λ b. cond b (one x ∷ []) [] ++ map one (filter test xs) ≡ map one (cond b (x ∷ filter test xs) (filter test xs))) [ true ↦ refl | false ↦ refl ])
+
+-- ---- demands
+
+module _ (packages : List Package) (project : Project) (names : NameTable) (owner : Choice) (lets : Dep → Version → Bool) where
+  abbrev demand_to : List Choice → DepKind → Dep → List ℕ → Demand
+  demand_to when kind dep allowed = record { when = when; target = package_var (qual_for kind owner.var (number packages names dep.«package»)) (number packages names dep.«package»); allowed = allowed }
+
+  target-is : (when : List Choice) (kind : DepKind) (dep : Dep) → target_demand packages owner when kind dep (dep_target packages names lets kind dep) ≡ dep_demand packages names owner when kind (lets dep) dep
+  target-is when kind dep = ap (demand_to when kind dep) (allowed-inside kind (lets dep) dep (entries_of packages (number packages names dep.«package»)))
+
+  when-is : (flat : FlatDep) → owner ∷ map (choice_at owner) (map (setting_of names) flat.when) ≡ when_of names owner flat.when
+  when-is flat = ap (λ l. owner ∷ l) (map-map (setting_of names) (choice_at owner) flat.when)
+
+  deps-are : (flats : List FlatDep) → in_pairs (dep_row packages owner) flats (map (asking_of packages names lets) flats) ≡ flat_demands packages names owner lets flats
+  deps-are flats =
+      pairs-kept (dep_row packages owner) (asking_of packages names lets) (flat_demand packages names owner lets) (can_count (has_stanzas packages owner.var)) flats (λ flat.
+      ap (λ (d : Demand). cond (can_count (has_stanzas packages owner.var) flat) (d ∷ []) [])
+      (target-is (owner ∷ map (choice_at owner) (map (setting_of names) flat.when)) flat.dep.kind flat.dep
+      ∙ ap (λ when. dep_demand packages names owner when flat.dep.kind (lets flat.dep) flat.dep) (when-is flat)))
+
+  setup-are : (deps : List Dep) → in_pairs (setup_row packages owner) deps (map (dep_target packages names lets kind.Setup) deps) ≡ setup_demands packages names owner lets deps
+  setup-are deps =
+      pairs-one (setup_row packages owner) (dep_target packages names lets kind.Setup) (setup_demand packages names owner lets) deps (λ dep.
+      ap (λ (d : Demand). d ∷ []) (target-is (owner ∷ []) kind.Setup dep))
+
+  flags-are : (flags : List FlagDecl) → in_pairs (flag_row project names owner) flags (map (λ (decl : FlagDecl). flag_number names decl.name) flags) ≡ map (flag_demand project names owner) flags
+  flags-are flags = pairs-one (flag_row project names owner) (λ (decl : FlagDecl). flag_number names decl.name) (flag_demand project names owner) flags (λ decl. refl)
+
+  pub source-is : (d : Description) (flats : List FlatDep) (exposed : Exposed) → source_rows packages project names owner (asked_of_body packages names lets (Source d flats exposed)) d flats ≡ source_demands packages project names owner lets d flats
+  source-is d flats exposed =
+      let tests = stanza_if (has_stanzas packages owner.var && has_kind is_suite d) owner Tests in
+      let benches = stanza_if (has_stanzas packages owner.var && has_kind is_benchmark d) owner Benches in
+      λ i. flags-are d.flags i ++ tests ++ benches ++ deps-are flats i ++ setup_if d.custom (setup-are d.setup i)
+
+  pub units-are : (ids needs : List Name) → map (need_demand owner) (map (need_at packages names ids needs) (rising (length needs))) ≡ unit_demands packages names owner ids needs
+  units-are ids needs = map-map (need_at packages names ids needs) (need_demand owner) (rising (length needs))
+
+-- ---- defaults
+
+default-is : (names : NameTable) (f : ℕ) (flags : List FlagDecl) → default_by f flags (map (λ (decl : FlagDecl). flag_number names decl.name) flags) ≡ default_in (find (has_number names f) flags)
+default-is names f [] = refl
+default-is names f (decl ∷ flags) =
+    elim (nat_eq (flag_number names decl.name) f) as (λ b. cond b decl.default (default_by f flags (map (λ (d : FlagDecl). flag_number names d.name) flags)) ≡ default_in (cond b (Some decl) (find (has_number names f) flags))) [
+      | true ↦ refl
+      | false ↦ default-is names f flags
+    ]
+
+pub default-of-body : (packages : List Package) (names : NameTable) (lets : Dep → Version → Bool) (f : ℕ) (body : Body) → default_by f (declared_by body) (asked_of_body packages names lets body).flags ≡ default_of names f body
+default-of-body packages names lets f (Source d flats exposed) = default-is names f d.flags
+default-of-body packages names lets f (Installed unit needs) = refl
+
+-- within a list what is read doesn't depend on what stands behind its end
+pub read-any : {X : Type 0} (xs : List X) (i : ℕ) (c d : X) → i < length xs → get_or xs i c ≡ get_or xs i d
+read-any [] i c d h = absurd (omega (arith, h))
+read-any (x ∷ xs) zero c d h = refl
+read-any (x ∷ xs) (suc i) c d h = read-any xs i c d (omega (arith, h))

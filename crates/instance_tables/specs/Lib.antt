@@ -1,0 +1,12 @@
+pub mod Places
+pub mod Runs
+pub mod Orders
+pub mod Allowed
+pub mod Lets
+pub mod Asked
+pub mod Units
+pub mod Versions
+pub mod Sources
+pub mod Before
+pub mod Blocks
+pub mod Turns

@@ -1,0 +1,38 @@
+ghost use Rattle.std.specs.Prelude.{◌≡◌, ◌++◌, [], ◌∷◌, OnOk, if◌then◌else◌};
+ghost use Rattle.constraint_set.specs.Lists.{items_at};
+
+use indexmap::IndexMap;
+use plan_types::{List, NoMemory};
+use std::alloc::Global;
+use std::hash::Hash;
+
+/// Lists that are found by keys.
+pub(crate) type Lists<K, T> = IndexMap<K, List<T>>;
+
+/// Puts an item behind those that a key has.
+pub(crate) fn push_at<K: Eq + Hash + Drop, T: Drop>(
+    alloc: Global,
+    lists: &mut Lists<K, T>,
+    key: K,
+    item: T,
+) -> Result<(), NoMemory>
+    ensures { OnOk result ((k : K) → items_at K.eq lists.new k ≡ items_at K.eq lists.old k ++ (if K.eq key k then item ∷ [] else [])) }
+{
+    if let Some(items) = lists.get_mut(&key) {
+        return items.push(item);
+    }
+    let mut items = List::new(alloc);
+    items.push(item)?;
+    lists.insert(key, items)?;
+    Ok(())
+}
+
+/// The items that a key has.
+pub(crate) fn items_at<'a, K: Eq + Hash, T>(lists: &'a Lists<K, T>, key: &K) -> &'a [T]
+    ensures { result.now ≡ items_at K.eq lists.now key.now }
+{
+    match lists.get(key) {
+        Some(items) => items.as_slice(),
+        None => &[],
+    }
+}
