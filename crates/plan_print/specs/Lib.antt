@@ -1,0 +1,6 @@
+pub mod Cause
+pub mod Place
+pub mod Note
+pub mod Choice
+pub mod Texts
+pub mod Examples

@@ -1,0 +1,17 @@
+-- The lines on what was left out of an index, and on what was accepted unread.
+use Rattle.std.specs.Prelude.{ℕ, List, [], ◌∷◌, ◌++◌, flat_map, codes}
+use Rattle.plan_types.specs.declared.index.Skipped.{Skipped}
+use Rattle.plan_types.specs.declared.index.Warning.{Warning}
+use Rattle.plan_types.specs.declared.index.Index.{Index}
+use Rattle.plan_print.specs.Cause.{cause_name}
+use Rattle.plan_print.specs.Place.{where_of}
+
+abbrev pub skipped_line : Skipped → List ℕ
+skipped_line file = codes "skipped " ++ where_of file.path file.line ++ codes " " ++ cause_name file.cause ++ 10 ∷ []
+
+abbrev pub warning_line : Warning → List ℕ
+warning_line warning = codes "warning " ++ where_of warning.path warning.line ++ codes " " ++ warning.word ++ 10 ∷ []
+
+-- all of the one, then all of the other
+abbrev pub notes_text : Index → List ℕ
+notes_text index = flat_map skipped_line index.skipped ++ flat_map warning_line index.warnings

@@ -1,0 +1,45 @@
+-- The texts of answers, each line with its end.
+use Rattle.std.specs.Prelude.{ℕ, ◌==◌, List, [], ◌∷◌, ◌++◌, length, flat_map, codes, if◌then◌else◌}
+use Rattle.std.specs.Fmt.{decimal}
+use Rattle.plan_types.specs.declared.index.Index.{Index}
+use Rattle.plan_types.specs.declared.refusal.Refusal.{Refusal}
+use Rattle.qualified_goals.specs.declared.variable.Var.{Var}
+use Rattle.qualified_goals.specs.Names.{NameTable}
+use Rattle.qualified_goals.specs.Printed.{var_text}
+use Rattle.choice_problem.specs.declared.problem.Choice.{Choice}
+use Rattle.choice_problem.specs.declared.outcome.Counts.{Counts}
+use Rattle.plan_print.specs.Cause.{cause_name}
+use Rattle.plan_print.specs.Place.{where_of}
+use Rattle.plan_print.specs.Note.{notes_text}
+use Rattle.plan_print.specs.Choice.{choice_line}
+
+abbrev pub counts_line : Counts → List ℕ
+counts_line counts = codes "visited " ++ decimal counts.visited ++ codes " exhausted " ++ decimal counts.exhausted ++ 10 ∷ []
+
+-- the choices of a trail, in its order
+abbrev pub plan_text : Index → NameTable → List Choice → Counts → List ℕ
+plan_text index names trail counts =
+    codes "plan" ++ 10 ∷ notes_text index ++ flat_map (choice_line index names) trail ++ counts_line counts
+
+-- a variable of a set stands behind a blank
+abbrev pub named_var : NameTable → Var → List ℕ
+named_var names v = 32 ∷ var_text names v
+
+abbrev pub conflict_line : NameTable → List Var → List ℕ
+conflict_line names set = codes "conflict" ++ flat_map (named_var names) set ++ 10 ∷ []
+
+-- the variables that can't be met together, in goal order
+abbrev pub conflict_text : Index → NameTable → List Var → Counts → List ℕ
+conflict_text index names set counts =
+    codes "no plan" ++ 10 ∷ notes_text index ++ conflict_line names set ++ counts_line counts
+
+abbrev pub gave_up_text : Index → Counts → List ℕ
+gave_up_text index counts = codes "gave up" ++ 10 ∷ notes_text index ++ counts_line counts
+
+-- what is said besides stands behind the cause, where something is
+abbrev pub detail_text : List ℕ → List ℕ
+detail_text detail = if length detail == 0 then [] else codes " " ++ detail
+
+abbrev pub refusal_text : Refusal → List ℕ
+refusal_text refusal =
+    codes "refused " ++ where_of refusal.path refusal.line ++ codes " " ++ cause_name refusal.cause ++ detail_text refusal.detail ++ 10 ∷ []

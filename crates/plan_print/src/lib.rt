@@ -1,0 +1,14 @@
+//! The texts of answers. In go a plan, a conflict, the counts of a search or a refusal, with the index and the names that
+//! they speak of by numbers; out comes the whole text that is printed, each line with its end.
+#![tactic(auto)]
+
+mod cause;
+mod choice;
+mod note;
+mod place;
+mod texts;
+
+pub use texts::{text_of_conflict, text_of_giving_up, text_of_plan, text_of_refusal};
+
+#[cfg(test)]
+mod tests;

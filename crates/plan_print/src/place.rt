@@ -1,0 +1,18 @@
+ghost use Rattle.std.specs.Prelude.{◌≡◌, ◌++◌, OnOk};
+ghost use Rattle.plan_print.specs.Place.{where_of};
+
+use plan_types::{NoMemory, Text};
+use std::alloc::Global;
+
+// The path, and behind it the line where there is one.
+pub fn push_where(alloc: Global, text: &mut Text, path: &str, line: u32) -> Result<(), NoMemory>
+    ensures { OnOk result (text.new ≡ text.old ++ where_of path.now line) }
+{
+    if line == 0 {
+        return text.push_str(path);
+    }
+    text.push_str(path)?;
+    text.push_str(":")?;
+    let digits = format!(in alloc; "{line}")?;
+    text.push_str(digits.as_str())
+}

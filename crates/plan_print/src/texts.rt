@@ -1,0 +1,128 @@
+ghost use Rattle.std.specs.Prelude.{◌≡◌, ◌++◌, IfOk, OnOk, flat_map};
+ghost use Rattle.plan_print.specs.Choice.{choice_line};
+ghost use Rattle.plan_print.specs.Texts.{named_var, conflict_line, counts_line, plan_text, conflict_text, gave_up_text, detail_text, refusal_text};
+
+use crate::cause::cause_name;
+use crate::choice::push_choice;
+use crate::note::push_notes;
+use crate::place::push_where;
+use choice_problem::{Choice, ConflictSet, Counts, Var};
+use plan_types::{Index, List, NoMemory, Refusal, Text};
+use qualified_goals::Names;
+use std::alloc::Global;
+
+/// A plan: what a user should know of the index, the choices in their order, and the counts of the search.
+pub fn text_of_plan(
+    alloc: Global,
+    trail: &List<Choice>,
+    index: &Index,
+    names: &Names,
+    counts: Counts,
+) -> Result<Text, NoMemory>
+    ensures { IfOk result (λ text. text ≡ plan_text index.now names.now trail.now counts) }
+{
+    let mut text = Text::from_str(alloc, "plan\n")?;
+    push_notes(alloc, &mut text, index)?;
+    push_trail(alloc, &mut text, trail.as_slice(), index, names)?;
+    push_counts(alloc, &mut text, counts)?;
+    Ok(text)
+}
+
+/// That there is no plan: what a user should know of the index, the variables that can't be met together in goal order,
+/// and the counts of the search.
+pub fn text_of_conflict(
+    alloc: Global,
+    set: &ConflictSet,
+    index: &Index,
+    names: &Names,
+    counts: Counts,
+) -> Result<Text, NoMemory>
+    ensures { IfOk result (λ text. text ≡ conflict_text index.now names.now set.now counts) }
+{
+    let mut text = Text::from_str(alloc, "no plan\n")?;
+    push_notes(alloc, &mut text, index)?;
+    push_conflict(alloc, &mut text, set.vars(), names)?;
+    push_counts(alloc, &mut text, counts)?;
+    Ok(text)
+}
+
+/// That the search met its limit: what a user should know of the index, and the counts of the search.
+pub fn text_of_giving_up(alloc: Global, index: &Index, counts: Counts) -> Result<Text, NoMemory>
+    ensures { IfOk result (λ text. text ≡ gave_up_text index.now counts) }
+{
+    let mut text = Text::from_str(alloc, "gave up\n")?;
+    push_notes(alloc, &mut text, index)?;
+    push_counts(alloc, &mut text, counts)?;
+    Ok(text)
+}
+
+/// The line of a refusal.
+pub fn text_of_refusal(alloc: Global, refusal: &Refusal) -> Result<Text, NoMemory>
+    ensures { IfOk result (λ text. text ≡ refusal_text refusal.now) }
+{
+    let mut text = Text::from_str(alloc, "refused ")?;
+    push_where(alloc, &mut text, refusal.path.as_str(), refusal.line)?;
+    text.push_str(" ")?;
+    text.push_str(cause_name(refusal.cause))?;
+    push_detail(&mut text, refusal.detail.as_str())?;
+    text.push_str("\n")?;
+    Ok(text)
+}
+
+fn push_trail(
+    alloc: Global,
+    text: &mut Text,
+    trail: &[Choice],
+    index: &Index,
+    names: &Names,
+) -> Result<(), NoMemory>
+    ensures { OnOk result (text.new ≡ text.old ++ flat_map (choice_line index.now names.now) trail.now) }
+{
+    for choice in trail {
+        push_choice(alloc, text, *choice, index, names)?;
+    }
+    Ok(())
+}
+
+fn push_conflict(
+    alloc: Global,
+    text: &mut Text,
+    vars: &[Var],
+    names: &Names,
+) -> Result<(), NoMemory>
+    ensures { OnOk result (text.new ≡ text.old ++ conflict_line names.now vars.now) }
+{
+    text.push_str("conflict")?;
+    push_vars(alloc, text, vars, names)?;
+    text.push_str("\n")
+}
+
+fn push_vars(alloc: Global, text: &mut Text, vars: &[Var], names: &Names) -> Result<(), NoMemory>
+    ensures { OnOk result (text.new ≡ text.old ++ flat_map (named_var names.now) vars.now) }
+{
+    for var in vars {
+        text.push_str(" ")?;
+        let shown = names.print_var(alloc, *var)?;
+        text.push_str(shown.as_str())?;
+    }
+    Ok(())
+}
+
+fn push_counts(alloc: Global, text: &mut Text, counts: Counts) -> Result<(), NoMemory>
+    ensures { OnOk result (text.new ≡ text.old ++ counts_line counts) }
+{
+    let visited = counts.visited;
+    let exhausted = counts.exhausted;
+    let line = format!(in alloc; "visited {visited} exhausted {exhausted}\n")?;
+    text.push_str(line.as_str())
+}
+
+fn push_detail(text: &mut Text, detail: &str) -> Result<(), NoMemory>
+    ensures { OnOk result (text.new ≡ text.old ++ detail_text detail.now) }
+{
+    if detail.is_empty() {
+        return Ok(());
+    }
+    text.push_str(" ")?;
+    text.push_str(detail)
+}
