@@ -1,0 +1,6 @@
+pub mod OptionName
+pub mod Form
+pub mod Words
+pub mod Reading
+pub mod Parser
+pub mod Examples

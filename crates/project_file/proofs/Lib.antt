@@ -1,0 +1,6 @@
+pub mod Values
+pub mod Flagged
+pub mod Walk
+pub mod Taken
+pub mod Files
+pub mod One

@@ -1,0 +1,10 @@
+use Rattle.std.proofs.Common.{refl, subst}
+use Rattle.std.specs.Prelude.{Ok, Err}
+use Rattle.depend_text.specs.Constraints.{Constraints, ConstraintsFault}
+use Rattle.project_file.proofs.field.constraints.Goals as goal
+
+pub returns-in-Ok : goal.returns-in-Ok
+returns-in-Ok c = (Ok c.in-Ok.found, subst (λ t. Constraints t c.in-Ok.found) c.as_bytes.ensures c.in-Ok.ensures.entries, refl)
+
+pub returns-in-Err-Bad : goal.returns-in-Err-Bad
+returns-in-Err-Bad c = (Err c.in-Err-Bad.cause, subst (λ t. ConstraintsFault t c.in-Err-Bad.cause) c.as_bytes.ensures (rw c.in-Err-Bad.field-0-is at c.in-Err-Bad.ensures.fault), refl)

@@ -1,0 +1,94 @@
+-- Branches, which the environment decides.
+use Rattle.std.specs.Prelude.{◌≡◌, ℕ, Bool, true, false, ◌&&◌, ◌||◌, not, if◌then◌else◌, List, [], ◌∷◌, Option, Some, None, is_some, unwrap_or}
+use Rattle.std.specs.declared.result.Result.{Result}
+use Rattle.std.specs.declared.result.Result.TheVariants.{Ok, Err}
+use Rattle.plan_types.specs.declared.condition.Cond.{Cond}
+use Rattle.plan_types.specs.declared.condition.Cond.TheOpen.{Cond-F, Always, Never, Flag, Os, Arch, Impl, Not, And, Or}
+use Rattle.plan_types.specs.declared.condition.Cond.TheFolds.{fold-Cond}
+use Rattle.plan_types.specs.declared.condition.Env.{Env}
+use Rattle.plan_types.specs.declared.range.Spec.TheVariants.{V3_0}
+use Rattle.plan_types.specs.declared.refusal.Cause.{Cause}
+use Rattle.plan_types.specs.declared.refusal.Cause.TheVariants.{BadField, ElseWithoutIf}
+use Rattle.conditionals.specs.Grammar.{Stands, FirstFault}
+use Rattle.conditionals.specs.Value.{flag_in, value}
+use Rattle.conditionals.specs.declared.value.Tri.{Tri}
+use Rattle.conditionals.specs.declared.value.Tri.TheVariants.{Yes, No, Unknown}
+use Rattle.description_parts.specs.Branch.{Read}
+use Rattle.project_file.specs.declared.part.Said.{Said}
+use Rattle.project_file.specs.declared.part.Said.TheVariants.{Bad}
+use Rattle.project_file.specs.declared.words.BranchWord.{BranchWord}
+use Rattle.project_file.specs.declared.words.BranchWord.TheVariants.{If, Elif, Else}
+
+-- one layer of a condition, with what is so of its parts in their place
+abbrev pub flag_step : Cond-F Bool → Bool
+flag_step Always = false
+flag_step Never = false
+flag_step (Flag name) = true
+flag_step (Os name) = false
+flag_step (Arch name) = false
+flag_step (Impl name range) = false
+flag_step (Not inner) = inner
+flag_step (And left right) = left || right
+flag_step (Or left right) = left || right
+
+-- whether a flag stands anywhere in a condition
+abbrev pub has_flag : Cond → Bool
+has_flag = fold-Cond Bool flag_step
+
+abbrev pub is_yes : Tri → Bool
+is_yes Yes = true
+is_yes No = false
+is_yes Unknown = false
+
+-- whether a condition holds; one with a flag may not stand there
+abbrev pub decided : Env → Cond → Result Bool Cause
+decided env cond = if has_flag cond then Err BadField else Ok (is_yes (value env (flag_in []) cond))
+
+abbrev pub decided_of : Env → Result Cond Cause → Result Bool Cause
+decided_of env (Ok cond) = decided env cond
+decided_of env (Err cause) = Err cause
+
+abbrev pub Settles : Env → List ℕ → Result Bool Cause → Type 0
+Settles env text own = (read : Result Cond Cause) × Read (Stands V3_0 64 text) (FirstFault V3_0 64 text) read × (own ≡ decided_of env read)
+
+-- nothing stands behind `else`
+abbrev pub bare : List ℕ → Result Bool Cause
+bare [] = Ok true
+bare (b ∷ bs) = Err BadField
+
+-- whether the condition of a branch itself holds, or why that can't be decided
+abbrev pub Decides : Env → BranchWord → List ℕ → Result Bool Cause → Type 0
+Decides env If args own = Settles env args own
+Decides env Elif args own = Settles env args own
+Decides env Else args own = own ≡ bare args
+
+abbrev pub holds : Result Bool Cause → Bool
+holds (Ok value) = value
+holds (Err cause) = false
+
+-- Whether a branch before it in its chain was taken. The chain is that of a branch directly in front; an `if` begins one.
+abbrev pub was_taken : BranchWord → Option Bool → Bool
+was_taken If chain = false
+was_taken Elif chain = unwrap_or chain false
+was_taken Else chain = unwrap_or chain false
+
+-- of a chain the first branch that holds is taken
+abbrev pub is_taken : BranchWord → Option Bool → Result Bool Cause → Bool
+is_taken word chain own = holds own && not (was_taken word chain)
+
+-- the chain for a branch directly behind; none behind an `else`
+abbrev pub chain_behind : BranchWord → Option Bool → Result Bool Cause → Option Bool
+chain_behind If chain own = Some (holds own || was_taken If chain)
+chain_behind Elif chain own = Some (holds own || was_taken Elif chain)
+chain_behind Else chain own = None
+
+-- an `if` stands anywhere, the others directly behind a branch that isn't an `else`
+abbrev pub fits : BranchWord → Option Bool → Bool
+fits If chain = true
+fits Elif chain = is_some chain
+fits Else chain = is_some chain
+
+-- what is wrong with a branch: its condition first, then its place
+abbrev pub branch_fault : BranchWord → Option Bool → Result Bool Cause → Option Said
+branch_fault word chain (Err cause) = Some (Bad cause)
+branch_fault word chain (Ok value) = if fits word chain then None else Some (Bad ElseWithoutIf)

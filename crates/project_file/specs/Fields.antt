@@ -1,0 +1,56 @@
+-- What a field beside the sections says.
+use Rattle.std.specs.Prelude.{◌≡◌, ℕ, Bool, true, false, List, Option, Some, None}
+use Rattle.std.specs.declared.result.Result.{Result}
+use Rattle.std.specs.declared.result.Result.TheVariants.{Ok, Err}
+use Rattle.plan_types.specs.declared.refusal.Cause.{Cause}
+use Rattle.plan_types.specs.declared.refusal.Cause.TheVariants.{BadField, Unsupported}
+use Rattle.depend_text.specs.Constraints.{Constraints, ConstraintsFault}
+use Rattle.depend_text.specs.Named.{NamedRanges, NamedFault}
+use Rattle.depend_text.specs.Relaxes.{Relaxes, RelaxFault}
+use Rattle.description_parts.specs.Branch.{Read}
+use Rattle.description_parts.specs.Words.{boolean}
+use Rattle.project_file.specs.Words.{limit, words}
+use Rattle.project_file.specs.declared.part.Said.{Said}
+use Rattle.project_file.specs.declared.part.Said.TheVariants as said
+use Rattle.project_file.specs.declared.part.Switch.{Switch}
+use Rattle.project_file.specs.declared.words.Between.TheVariants.{SpacesAndCommas}
+use Rattle.project_file.specs.declared.words.FieldKind.{FieldKind}
+use Rattle.project_file.specs.declared.words.FieldKind.TheVariants as kinds
+use Rattle.project_file.specs.declared.words.FieldWord.{FieldWord}
+use Rattle.project_file.specs.declared.words.FieldWord.TheVariants as fields
+
+-- what was read, or why it wasn't
+abbrev pub said_of : {A : Type 0} → (A → Said) → Result A Cause → Said
+said_of as' (Ok found) = as' found
+said_of as' (Err cause) = said.Bad cause
+
+-- what a text stands for is said, or its fault
+abbrev pub IsRead : {A : Type 0} → (A → Said) → (A → Type 0) → (Cause → Type 0) → Said → Type 0
+IsRead {A = A} as' Stands Fails found = (read : Result A Cause) × Read Stands Fails read × (found ≡ said_of as' read)
+
+-- a value that isn't of its form may not stand there
+abbrev pub or_bad : {A : Type 0} → (A → Said) → Option A → Said
+or_bad as' None = said.Bad BadField
+or_bad as' (Some value) = as' value
+
+abbrev pub switch_said : Switch → Option Bool → Said
+switch_said which value = or_bad (said.Switch which) value
+
+-- what a field of this kind says with this text
+abbrev pub KindSays : FieldKind → List ℕ → Said → Type 0
+KindSays kinds.Packages text found = found ≡ said.Entries (words SpacesAndCommas text) false
+KindSays kinds.OptionalPackages text found = found ≡ said.Entries (words SpacesAndCommas text) true
+KindSays kinds.Extra text found = IsRead said.Extra (NamedRanges text) (NamedFault text) found
+KindSays kinds.Constraints text found = IsRead said.Constraints (Constraints text) (ConstraintsFault text) found
+KindSays kinds.Preferences text found = IsRead said.Preferences (NamedRanges text) (NamedFault text) found
+KindSays kinds.Newer text found = IsRead said.Newer (Relaxes text) (RelaxFault text) found
+KindSays kinds.Older text found = IsRead said.Older (Relaxes text) (RelaxFault text) found
+KindSays (kinds.Switch which) text found = found ≡ switch_said which (boolean text)
+KindSays kinds.Limit text found = found ≡ or_bad said.Limit (limit text)
+
+-- What a field says, where it is read. Some aren't, and are told by their names.
+abbrev pub FieldSays : FieldWord → List ℕ → List ℕ → Option Said → Type 0
+FieldSays (fields.Read kind) name text found = (said : Said) × KindSays kind text said × (found ≡ Some said)
+FieldSays fields.Warned name text found = found ≡ Some (said.Warning name)
+FieldSays fields.Unsupported name text found = found ≡ Some (said.Bad Unsupported)
+FieldSays fields.Unread name text found = found ≡ None

@@ -1,0 +1,29 @@
+-- The flags of a package, as its section sets them.
+use Rattle.std.specs.Prelude.{ℕ, Bool, true, false, ◌==◌, if◌then◌else◌, List, [], ◌∷◌, map, Option, Some, None}
+use Rattle.std.specs.Char.{to_ascii_lowercase}
+use Rattle.plan_types.specs.Name.{is_flag_name}
+use Rattle.plan_types.specs.declared.condition.FlagSet.{FlagSet}
+use Rattle.project_file.specs.Words.{words}
+use Rattle.project_file.specs.declared.words.Between.TheVariants.{Spaces}
+
+-- a flag's name is kept in lower case
+abbrev pub named_flag : List ℕ → Bool → Option FlagSet
+named_flag name on = if is_flag_name name then Some (record { name = map to_ascii_lowercase name; on = on }) else None
+
+-- `+f` and `f` set it, `-f` doesn't
+abbrev pub flag_of : List ℕ → Option FlagSet
+flag_of [] = None
+flag_of (b ∷ bs) = if b == 43 then named_flag bs true else if b == 45 then named_flag bs false else named_flag (b ∷ bs) true
+
+abbrev pub with_flag : Option FlagSet → Option (List FlagSet) → Option (List FlagSet)
+with_flag None flags = None
+with_flag (Some flag) None = None
+with_flag (Some flag) (Some flags) = Some (flag ∷ flags)
+
+-- the flags that these words set, where each is of its form
+abbrev pub flag_sets : List (List ℕ) → Option (List FlagSet)
+flag_sets [] = Some []
+flag_sets (word ∷ words) = with_flag (flag_of word) (flag_sets words)
+
+abbrev pub flags_in : List ℕ → Option (List FlagSet)
+flags_in text = flag_sets (words Spaces text)

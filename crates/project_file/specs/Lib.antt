@@ -1,0 +1,10 @@
+pub mod Words
+pub mod Fields
+pub mod Flags
+pub mod Branches
+pub mod Parts
+pub mod Texts
+pub mod Project
+pub mod Read
+pub mod Answers
+pub mod Examples

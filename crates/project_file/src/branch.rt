@@ -1,0 +1,164 @@
+// A branch: whether it is taken, and what is wrong with it.
+ghost use Rattle.std.specs.Prelude.{◌≡◌, ◌||◌, ◌&&◌, not, IfOk};
+ghost use Rattle.project_file.specs.Branches.{Decides, Settles, bare, branch_fault, chain_behind, decided, fits, has_flag, holds, is_taken, is_yes, was_taken};
+
+use crate::part::Said;
+use crate::words::BranchWord;
+use conditionals::{Tri, eval, read_cond};
+use plan_types::{Cause, Cond, Env, List, NoMemory, Spec, Text, TextFault};
+use std::alloc::Global;
+
+/// Whether the condition of a branch itself holds, or why it can't be decided.
+pub(crate) fn own_condition(
+    alloc: Global,
+    env: &Env,
+    word: BranchWord,
+    args: &Text,
+) -> Result<Result<bool, Cause>, NoMemory>
+    ensures { IfOk result (Decides env.now word args.now) }
+{
+    match word {
+        BranchWord::If | BranchWord::Elif => settled(alloc, env, args),
+        BranchWord::Else => Ok(bare(args.as_bytes())),
+    }
+}
+
+// Nothing stands behind `else`.
+fn bare(args: &[u8]) -> Result<bool, Cause>
+    ensures { result ≡ bare args.now }
+{
+    if args.is_empty() {
+        Ok(true)
+    } else {
+        Err(Cause::BadField)
+    }
+}
+
+fn settled(alloc: Global, env: &Env, args: &Text) -> Result<Result<bool, Cause>, NoMemory>
+    ensures { IfOk result (Settles env.now args.now) }
+{
+    match read_cond(alloc, args.as_bytes(), Spec::V3_0) {
+        Ok(cond) => Ok(decided(alloc, env, &cond)),
+        Err(TextFault::Bad(cause)) => Ok(Err(cause)),
+        Err(TextFault::NoMemory) => Err(NoMemory),
+    }
+}
+
+fn decided(alloc: Global, env: &Env, cond: &Cond) -> Result<bool, Cause>
+    ensures { result ≡ decided env.now cond.now }
+{
+    if has_flag(cond) {
+        return Err(Cause::BadField);
+    }
+    let no_flags = List::new(alloc);
+    let value = eval(cond, env, &no_flags);
+    Ok(is_yes(value))
+}
+
+fn is_yes(value: Tri) -> bool
+    ensures { result ≡ is_yes value }
+{
+    match value {
+        Tri::Yes => true,
+        Tri::No | Tri::Unknown => false,
+    }
+}
+
+// The left side may be as deep as a file is long.
+fn has_flag(cond: &Cond) -> bool
+    ensures { result ≡ has_flag cond.now }
+{
+    let mut left = cond;
+    loop {
+        match left {
+            Cond::Flag(_) => return true,
+            Cond::Always => return false,
+            Cond::Never => return false,
+            Cond::Os(_) => return false,
+            Cond::Arch(_) => return false,
+            Cond::Impl(_, _) => return false,
+            Cond::Not(inner) => left = inner.get(),
+            Cond::And(one, other) => {
+                if has_flag(other.get()) {
+                    return true;
+                }
+                left = one.get();
+            }
+            Cond::Or(one, other) => {
+                if has_flag(other.get()) {
+                    return true;
+                }
+                left = one.get();
+            }
+        }
+    }
+}
+
+/// Whether a branch of its chain before it was taken, where the chain is that of the branch directly in front.
+fn was_taken(word: BranchWord, chain: Option<bool>) -> bool
+    ensures { result ≡ was_taken word chain }
+{
+    match word {
+        BranchWord::If => false,
+        BranchWord::Elif | BranchWord::Else => chain.unwrap_or(false),
+    }
+}
+
+fn holds(own: Result<bool, Cause>) -> bool
+    ensures { result ≡ holds own }
+{
+    match own {
+        Ok(value) => value,
+        Err(_) => false,
+    }
+}
+
+/// Whether what stands in it is read.
+pub(crate) fn is_taken(word: BranchWord, chain: Option<bool>, own: Result<bool, Cause>) -> bool
+    ensures { result ≡ is_taken word chain own }
+{
+    holds(own) && !was_taken(word, chain)
+}
+
+/// Whether a branch of the chain was taken, for a branch directly behind it.
+pub(crate) fn chain_behind(
+    word: BranchWord,
+    chain: Option<bool>,
+    own: Result<bool, Cause>,
+) -> Option<bool>
+    ensures { result ≡ chain_behind word chain own }
+{
+    match word {
+        BranchWord::If | BranchWord::Elif => Some(holds(own) || was_taken(word, chain)),
+        BranchWord::Else => None,
+    }
+}
+
+fn fits(word: BranchWord, chain: Option<bool>) -> bool
+    ensures { result ≡ fits word chain }
+{
+    match word {
+        BranchWord::If => true,
+        BranchWord::Elif | BranchWord::Else => chain.is_some(),
+    }
+}
+
+/// What is wrong with it: a condition that can't be decided before its place.
+pub(crate) fn branch_fault(
+    word: BranchWord,
+    chain: Option<bool>,
+    own: Result<bool, Cause>,
+) -> Option<Said>
+    ensures { result ≡ branch_fault word chain own }
+{
+    match own {
+        Err(cause) => Some(Said::Bad(cause)),
+        Ok(_) => {
+            if fits(word, chain) {
+                None
+            } else {
+                Some(Said::Bad(Cause::ElseWithoutIf))
+            }
+        }
+    }
+}

@@ -1,0 +1,21 @@
+//! Project files. In go the texts of the project files, in reading order, and what a condition asks; out comes what they say
+//! together, or the first refusal among them. Where local packages are then looked for is told by entries.
+#![tactic(auto)]
+
+mod branch;
+mod field;
+mod flags;
+mod laws;
+mod package;
+mod part;
+mod parts;
+mod project;
+mod read;
+mod text;
+mod words;
+
+pub use laws::one_outcome;
+pub use read::{ProjectText, read_project};
+
+#[cfg(test)]
+mod tests;

@@ -1,0 +1,125 @@
+// A section about a package, in which the flags of the package are read.
+ghost use Rattle.std.specs.Prelude.{◌≡◌, ◌++◌, ◌||◌, IfOk, OnOk};
+ghost use Rattle.plan_types.specs.Bytes.{joined_text};
+ghost use Rattle.plan_types.specs.Name.{is_package_name};
+ghost use Rattle.description_parts.specs.Tree.{Tree, in_front, tree_of};
+ghost use Rattle.project_file.specs.Parts.{flag_part, flag_parts, flags_said, is_every, package_parts, said_flags};
+
+use crate::flags::flags_in;
+use crate::part::{Part, Said};
+use plan_types::{
+    Cause, Constraint, Element, FlagSet, List, NoMemory, Scope, Text, What, is_package_name,
+    joined_text,
+};
+use std::alloc::Global;
+
+/// Reads a section that is about the package, or about every package.
+pub(crate) fn read_package(
+    alloc: Global,
+    line: u32,
+    args: &Text,
+    items: &[Element],
+    parts: &mut List<Part>,
+) -> Result<(), NoMemory>
+    ensures { OnOk result (parts.new ≡ parts.old ++ package_parts line args.now (tree_of items.now)) }
+{
+    if is_about(args) {
+        read_flags(alloc, args, items, parts)
+    } else {
+        parts.push(Part {
+            line,
+            said: Said::Bad(Cause::BadName),
+        })
+    }
+}
+
+fn is_about(args: &Text) -> bool
+    ensures { result ≡ (is_every args.now || is_package_name args.now) }
+{
+    is_every(args) || is_package_name(args.as_bytes())
+}
+
+fn is_every(args: &Text) -> bool
+    ensures { result ≡ is_every args.now }
+{
+    args.as_str() == "*"
+}
+
+fn read_flags(
+    alloc: Global,
+    args: &Text,
+    items: &[Element],
+    parts: &mut List<Part>,
+) -> Result<(), NoMemory>
+    ensures { OnOk result (parts.new ≡ parts.old ++ flag_parts args.now (tree_of items.now)) }
+{
+    for item in items {
+        read_item(alloc, args, item, parts)?;
+    }
+    Ok(())
+}
+
+fn read_item(
+    alloc: Global,
+    args: &Text,
+    item: &Element,
+    parts: &mut List<Part>,
+) -> Result<(), NoMemory>
+    ensures { OnOk result ((behind : Tree) → parts.new ++ flag_parts args.now behind ≡ parts.old ++ flag_parts args.now (in_front item.now behind)) }
+{
+    match item {
+        Element::Field { line, name, values } => {
+            read_field(alloc, args, *line, name, values, parts)
+        }
+        Element::Section {
+            line: _,
+            name: _,
+            args: _,
+            items: _,
+        } => Ok(()),
+    }
+}
+
+fn read_field(
+    alloc: Global,
+    args: &Text,
+    line: u32,
+    name: &Text,
+    values: &List<Text>,
+    parts: &mut List<Part>,
+) -> Result<(), NoMemory>
+    ensures { OnOk result (parts.new ≡ parts.old ++ flag_part args.now line name.now (joined_text values.now)) }
+{
+    if name.as_str() != "flags" {
+        return Ok(());
+    }
+    let text = joined_text(alloc, values.as_slice())?;
+    let said = flags_said(alloc, args, &text)?;
+    parts.push(Part { line, said })
+}
+
+fn flags_said(alloc: Global, args: &Text, text: &Text) -> Result<Said, NoMemory>
+    ensures { IfOk result (λ said. said ≡ flags_said args.now text.now) }
+{
+    if is_every(args) {
+        return Ok(Said::Bad(Cause::Unsupported));
+    }
+    match flags_in(alloc, text)? {
+        Some(flags) => flag_constraint(alloc, args, flags),
+        None => Ok(Said::Bad(Cause::BadField)),
+    }
+}
+
+// A constraint at top level.
+fn flag_constraint(alloc: Global, args: &Text, flags: List<FlagSet>) -> Result<Said, NoMemory>
+    ensures { IfOk result (λ said. said ≡ said_flags args.now flags) }
+{
+    let package = args.copy()?;
+    let mut constraints = List::new(alloc);
+    constraints.push(Constraint {
+        scope: Scope::Top,
+        package,
+        what: What::Flags(flags),
+    })?;
+    Ok(Said::Constraints(constraints))
+}

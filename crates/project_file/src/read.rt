@@ -1,0 +1,55 @@
+// All project files, in reading order.
+ghost use Rattle.std.specs.Prelude.{◌≡◌, ◌≤◌, [], length, IfOk};
+ghost use Rattle.std.specs.List.{AllByRecursion};
+ghost use Rattle.project_file.specs.Answers.{Settles};
+ghost use Rattle.project_file.specs.Read.{FileReads, IsProject, IsWithin};
+
+use crate::part::Part;
+use crate::project::{nothing, take_file};
+use crate::text::read_text;
+use plan_types::{Cause, Env, Fault, Halt, List, NoMemory, Project, Refusal, Text};
+use std::alloc::Global;
+
+/// A project file.
+#[derive(Debug, Drop)]
+pub struct ProjectText {
+    pub path: Text,
+    pub bytes: List<u8>,
+}
+
+/// What project files say together, in reading order; or the first refusal: that of the first file with a fault. Of its
+/// faults one of the layout comes first, and then the one with the least line.
+pub fn read_project(alloc: Global, texts: &List<ProjectText>, env: &Env) -> Result<Project, Halt>
+    requires { AllByRecursion IsWithin texts.now }
+    ensures { Settles (IsProject env.now texts.now) result }
+{
+    let mut project = nothing(alloc);
+    for text in texts.as_slice() {
+        let parts = read_file(alloc, env, text)?;
+        take_file(&mut project, &text.path, parts)?;
+    }
+    Ok(project)
+}
+
+fn read_file(alloc: Global, env: &Env, text: &ProjectText) -> Result<List<Part>, Halt>
+    requires { IsWithin text.now }
+    ensures { Settles (FileReads env.now text.now) result }
+{
+    match read_text(alloc, env, text.bytes.as_slice()) {
+        Ok(parts) => Ok(parts),
+        Err(Fault::NoMemory) => Err(Halt::NoMemory),
+        Err(Fault::At { line, cause }) => Err(refused(alloc, &text.path, line, cause)?),
+    }
+}
+
+fn refused(alloc: Global, path: &Text, line: u32, cause: Cause) -> Result<Halt, NoMemory>
+    ensures { IfOk result (λ halt. halt ≡ Halt.Refused (record { path = path.now; line = line; cause = cause; detail = [] })) }
+{
+    let path = path.copy()?;
+    Ok(Halt::Refused(Refusal {
+        path,
+        line,
+        cause,
+        detail: Text::new(alloc),
+    }))
+}

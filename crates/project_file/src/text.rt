@@ -1,0 +1,58 @@
+// One project file.
+ghost use Rattle.std.specs.Prelude.{◌≡◌, ◌≤◌, length, Ok, Err, IfOk, IfErr};
+ghost use Rattle.plan_types.specs.Refusal.{RefusesAt};
+ghost use Rattle.project_file.specs.Texts.{Reads, bad_cause, fault_at, first_fault};
+
+use crate::part::{Part, Said};
+use crate::parts::read_parts;
+use cabal_lexer::read_elements;
+use plan_types::{Cause, Env, Fault, List};
+use std::alloc::Global;
+
+/// A cause and its line.
+#[derive(Clone, Copy, Debug, PartialEq, Eq)]
+pub(crate) struct At {
+    pub line: u32,
+    pub cause: Cause,
+}
+
+/// The parts of a text, or its first fault.
+pub(crate) fn read_text(alloc: Global, env: &Env, bytes: &[u8]) -> Result<List<Part>, Fault>
+    requires { length bytes.now ≤ 1048576 }
+    ensures parts { IfOk result (λ parts. Reads env.now bytes.now (Ok parts)) }
+    ensures fault { IfErr result (RefusesAt (λ line cause. Reads env.now bytes.now (Err (fault_at line cause)))) }
+{
+    let items = read_elements(alloc, bytes)?;
+    let parts = read_parts(alloc, env, items.as_slice())?;
+    match first_fault(parts.as_slice()) {
+        None => Ok(parts),
+        Some(at) => Err(Fault::At {
+            line: at.line,
+            cause: at.cause,
+        }),
+    }
+}
+
+// Parts stand in the order of their lines.
+fn first_fault(parts: &[Part]) -> Option<At>
+    ensures { result ≡ first_fault parts.now }
+{
+    for part in parts {
+        if let Some(cause) = bad_cause(&part.said) {
+            return Some(At {
+                line: part.line,
+                cause,
+            });
+        }
+    }
+    None
+}
+
+fn bad_cause(said: &Said) -> Option<Cause>
+    ensures { result ≡ bad_cause said.now }
+{
+    match said {
+        Said::Bad(cause) => Some(*cause),
+        _ => None,
+    }
+}

@@ -1,0 +1,56 @@
+-- What the entries of a project come to together.
+use Rattle.std.proofs.Common.{◌≡◌, List, [], ◌∷◌, ◌++◌, refl, sym, subst, ap, ◌∙◌, append_assoc}
+use Rattle.std.specs.Prelude.{Option, Some, None, Result, Ok, Err, IfSome}
+use Rattle.plan_types.specs.declared.project.ProjectEntry.{ProjectEntry}
+use Rattle.plan_types.specs.declared.refusal.Halt.{Halt}
+use Rattle.plan_types.specs.declared.refusal.Halt.TheVariants as halt
+use Rattle.plan_types.specs.declared.refusal.Refusal.{Refusal}
+use Rattle.outside_folder.specs.Files.{Bytes, Files}
+use Rattle.project_paths.specs.Answers.{Answers, Settles}
+use Rattle.project_paths.specs.Entries.{entry_files}
+use Rattle.project_paths.specs.Local.{all_files, and_then, finished, finished_of, local_files}
+
+pub if_some : {X : Type 0} (P : X → Type 0) (o : Option X) → ((x : X) → o ≡ Some x → P x) → IfSome o P
+if_some P None f = tt
+if_some P (Some x) f = f x refl
+
+pub some_at : {X : Type 0} (P : X → Type 0) (o : Option X) (x : X) → o ≡ Some x → IfSome o P → P x
+some_at P o x e h = let Q : Option _ → Type 0 = λ o. IfSome o P in subst Q e h
+
+then-assoc : (a b c : Result (List Bytes) Refusal) → and_then a (and_then b c) ≡ and_then (and_then a b) c
+then-assoc (Err r) b c = refl
+then-assoc (Ok xs) (Err r) c = refl
+then-assoc (Ok xs) (Ok ys) (Err r) = refl
+then-assoc (Ok xs) (Ok ys) (Ok zs) = ap Ok (sym (append_assoc xs ys zs))
+
+none-then : (a : Result (List Bytes) Refusal) → a ≡ and_then (Ok []) a
+none-then (Err r) = refl
+none-then (Ok xs) = refl
+
+module _ (files : Files) where
+  pub all-append : (a b : List ProjectEntry) → all_files files (a ++ b) ≡ and_then (all_files files a) (all_files files b)
+  all-append [] b = none-then (all_files files b)
+  all-append (e ∷ es) b = ap (and_then (entry_files files e)) (all-append es b) ∙ then-assoc (entry_files files e) (all_files files es) (all_files files b)
+
+  module _ (a b : List ProjectEntry) where
+    abbrev Local : Result (List Bytes) Refusal → Type 0
+    Local outcome = outcome ≡ local_files files (a ++ b)
+
+    whole : (r : Result (List Bytes) Refusal) → finished_of (and_then (all_files files a) (all_files files b)) ≡ r → Local r
+    whole r e = sym e ∙ ap finished_of (sym (all-append a b))
+
+    -- the first entries are refused
+    pub first-refused : (h : Halt) → Answers {A = List Bytes} (λ outcome. outcome ≡ all_files files a) (Err h) → Answers {A = List Bytes} Local (Err h)
+    first-refused halt.NoMemory is = tt
+    first-refused halt.Failed is = tt
+    first-refused (halt.Refused r) is = whole (Err r) (ap (λ x. finished_of (and_then x (all_files files b))) (sym is))
+
+    -- all are found
+    pub all-found : (found others : List Bytes) → Ok found ≡ all_files files a → Ok others ≡ all_files files b →
+        (result : Result (List Bytes) Halt) → Settles (λ outcome. outcome ≡ finished (found ++ others)) result → Answers Local result
+    all-found found others first more (Ok paths) is =
+        whole (Ok paths) (ap (λ x. finished_of (and_then x (all_files files b))) (sym first) ∙ ap (λ x. finished_of (and_then (Ok found) x)) (sym more) ∙ sym is)
+    all-found found others first more (Err halt.NoMemory) is = tt
+    all-found found others first more (Err halt.Failed) is = absurd is
+    all-found found others first more (Err (halt.Refused r)) is =
+        whole (Err r) (ap (λ x. finished_of (and_then x (all_files files b))) (sym first) ∙ ap (λ x. finished_of (and_then (Ok found) x)) (sym more) ∙ sym is)

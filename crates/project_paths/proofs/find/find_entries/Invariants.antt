@@ -1,0 +1,12 @@
+use Rattle.std.proofs.Common.{◌≡◌, drop, Some, Ok}
+use Rattle.outside_folder.specs.Calls.{Leaves}
+use Rattle.outside_folder.specs.Files.{Files}
+use Rattle.project_paths.specs.Local.{all_files, and_then}
+use Rattle.project_paths.proofs.find.find_entries.Given as goal
+
+-- what was found, and what the rest give, is what all give
+abbrev pub invariant-loop-entry : goal.invariant-loop-entry
+invariant-loop-entry g l = record {
+  told : (files : Files) → g.F.Folder.tells l.fn.folder ≡ Some files → all_files files l.entries ≡ and_then (Ok l.found) (all_files files (drop l.entry-index l.entries));
+  folder : Leaves (g.F.Folder.tells l.fn.folder) (g.F.Folder.faults l.fn.folder) (g.F.Folder.tells l.folder) (g.F.Folder.faults l.folder) ⊥;
+}

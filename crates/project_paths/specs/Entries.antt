@@ -1,0 +1,56 @@
+-- What an entry of a project comes to.
+use Rattle.std.specs.Prelude.{Bool, if◌then◌else◌, nat_le, List, [], ◌∷◌, length, codes, map, filter, flat_map, fold, Option, Some, None, Result, Ok, Err}
+use Rattle.std.specs.Cmp.Lexicographic.{slice_cmp}
+use Rattle.std.specs.Ordering.{is_lt, nat_cmp}
+use Rattle.plan_types.specs.declared.project.ProjectEntry.{ProjectEntry}
+use Rattle.plan_types.specs.declared.refusal.Cause.{Cause}
+use Rattle.plan_types.specs.declared.refusal.Cause.TheVariants.{NoMatch, TwoCabalFiles, Unsupported}
+use Rattle.plan_types.specs.declared.refusal.Refusal.{Refusal}
+use Rattle.outside_folder.specs.Files.{Bytes, Files}
+use Rattle.project_paths.specs.Found.{found_by}
+use Rattle.project_paths.specs.Patterns.{pattern_of}
+use Rattle.project_paths.specs.declared.found.Found.{Found}
+use Rattle.project_paths.specs.declared.pattern.Pattern.{Pattern}
+
+abbrev pub refusal_of : ProjectEntry → Cause → Bytes → Refusal
+refusal_of entry cause detail = record { path = entry.path; line = entry.line; cause = cause; detail = detail }
+
+-- a directory with two local files or more
+abbrev pub is_crowded : Found → Bool
+is_crowded found = nat_le 2 (length found.files)
+
+abbrev pub lesser : Option Bytes → Bytes → Bytes
+lesser None path = path
+lesser (Some first) path = if is_lt (slice_cmp nat_cmp path first) then path else first
+
+-- the first of these in byte order
+abbrev pub least : List Bytes → Option Bytes
+least paths = fold (λ first path. Some (lesser first path)) None paths
+
+abbrev pub first_crowded : List Found → Option Bytes
+first_crowded found = least (map (λ f. f.path) (filter is_crowded found))
+
+-- the root is a point
+abbrev pub shown : Bytes → Bytes
+shown [] = codes "."
+shown (b ∷ bs) = b ∷ bs
+
+-- an entry that isn't optional has to give a file
+abbrev pub unless_none : ProjectEntry → List Bytes → Result (List Bytes) Refusal
+unless_none entry [] = if entry.optional then Ok [] else Err (refusal_of entry NoMatch entry.text)
+unless_none entry (path ∷ paths) = Ok (path ∷ paths)
+
+abbrev pub unless_crowded : Option Bytes → ProjectEntry → List Bytes → Result (List Bytes) Refusal
+unless_crowded None entry paths = unless_none entry paths
+unless_crowded (Some dir) entry paths = Err (refusal_of entry TwoCabalFiles (shown dir))
+
+abbrev pub judged : ProjectEntry → List Found → Result (List Bytes) Refusal
+judged entry found = unless_crowded (first_crowded found) entry (flat_map (λ f. f.files) found)
+
+abbrev pub files_by : Files → ProjectEntry → Option Pattern → Result (List Bytes) Refusal
+files_by files entry None = Err (refusal_of entry Unsupported [])
+files_by files entry (Some pattern) = judged entry (found_by files pattern)
+
+-- the paths of the local files of an entry, or its refusal
+abbrev pub entry_files : Files → ProjectEntry → Result (List Bytes) Refusal
+entry_files files entry = files_by files entry (pattern_of entry.text)

@@ -1,0 +1,9 @@
+pub mod Patterns
+pub mod Wildcards
+pub mod Rows
+pub mod Places
+pub mod Found
+pub mod Entries
+pub mod Answers
+pub mod Local
+pub mod Examples

@@ -1,0 +1,31 @@
+-- What the names of a pattern lead to in a folder.
+use Rattle.std.specs.Prelude.{Bool, true, if◌then◌else◌, List, [], ◌∷◌, ◌++◌, map, filter, flat_map, fold, unwrap_or}
+use Rattle.outside_folder.specs.Files.{Bytes, Files, listing, slash}
+use Rattle.outside_folder.specs.declared.folder.Name.{Name}
+use Rattle.project_paths.specs.Wildcards.{matches}
+use Rattle.project_paths.specs.declared.places.Place.{Place}
+
+abbrev pub path_in : Bytes → Bytes → Bytes
+path_in [] name = name
+path_in (b ∷ bs) name = (b ∷ bs) ++ slash ∷ name
+
+abbrev pub place_in : Bytes → Name → Place
+place_in dir name = record { path = path_in dir name.text; folder = name.folder }
+
+-- the names in a directory; a file has none
+abbrev pub names_at : Files → Place → List Name
+names_at files place = if place.folder then unwrap_or (listing files place.path) [] else []
+
+abbrev pub is_matched : Bytes → Name → Bool
+is_matched pattern name = matches pattern name.text
+
+-- what is matched in a directory
+abbrev pub below : Files → Bytes → Place → List Place
+below files pattern place = map (place_in place.path) (filter (is_matched pattern) (names_at files place))
+
+abbrev pub root : Place
+root = record { path = []; folder = true }
+
+-- the places to which names lead from the root, one after the other
+abbrev pub places : Files → List Bytes → List Place
+places files names = fold (λ found name. flat_map (below files name) found) (root ∷ []) names

@@ -1,0 +1,23 @@
+-- Which names a pattern matches.
+use Rattle.std.specs.Prelude.{ℕ, Bool, true, false, ◌&&◌, ◌==◌, not, if◌then◌else◌, List, [], ◌∷◌}
+use Rattle.std.specs.List.{list_any}
+use Rattle.plan_types.specs.Bytes.{begins_with}
+
+-- a text, and what is left of it without bytes at its front
+abbrev pub tails : List ℕ → List (List ℕ)
+tails [] = [] ∷ []
+tails (b ∷ bs) = (b ∷ bs) ∷ tails bs
+
+abbrev pub fits_byte : ℕ → (List ℕ → Bool) → List ℕ → Bool
+fits_byte byte rest [] = false
+fits_byte byte rest (b ∷ bs) = byte == b && rest bs
+
+-- a star stands for any bytes, and any other byte for itself
+abbrev pub fits : List ℕ → List ℕ → Bool
+fits [] [] = true
+fits [] (b ∷ bs) = false
+fits (p ∷ ps) name = if p == 42 then list_any (fits ps) (tails name) else fits_byte p (fits ps) name
+
+-- a name that begins with a point is matched only by a pattern that does
+abbrev pub matches : List ℕ → List ℕ → Bool
+matches pattern name = if begins_with 46 name && not (begins_with 46 pattern) then false else fits pattern name

@@ -1,0 +1,126 @@
+// One entry: what is found by it, and whether that is right.
+ghost use Rattle.std.specs.Prelude.{◌≡◌, ◌++◌, flat_map, IfOk, IfSome, OnOk, IsErrOf};
+ghost use Rattle.std.specs.Option.{option_copied};
+ghost use Rattle.outside_folder.specs.Calls.{Leaves};
+ghost use Rattle.project_paths.specs.Answers.{Answers, Settles};
+ghost use Rattle.project_paths.specs.Entries.{entry_files, first_crowded, is_crowded, judged, lesser, refusal_of, shown, unless_none};
+
+use crate::found::{Found, found_by};
+use crate::pattern::pattern_of;
+use outside_folder::Folder;
+use plan_types::{Cause, Halt, List, NoMemory, ProjectEntry, Refusal, Text};
+use std::alloc::Global;
+
+/// The paths of the local files of an entry, or its refusal.
+pub(crate) fn entry_files<F: Folder>(
+    alloc: Global,
+    folder: &mut F,
+    entry: &ProjectEntry,
+) -> Result<List<Text>, Halt>
+    ensures told { IfSome (F.tells folder.old) (λ files. Answers (λ outcome. outcome ≡ entry_files files entry.now) result) }
+    ensures folder { Leaves (F.tells folder.old) (F.faults folder.old) (F.tells folder.new) (F.faults folder.new) (IsErrOf result Halt.Failed) }
+{
+    match pattern_of(alloc, entry.text.as_str())? {
+        None => Err(refused(entry, Cause::Unsupported, Text::new(alloc))?),
+        Some(pattern) => {
+            let found = found_by(alloc, folder, &pattern)?;
+            let files = judged(alloc, entry, found)?;
+            Ok(files)
+        }
+    }
+}
+
+fn refused(entry: &ProjectEntry, cause: Cause, detail: Text) -> Result<Halt, NoMemory>
+    ensures { IfOk result (λ halt. halt ≡ Halt.Refused (refusal_of entry.now cause detail)) }
+{
+    let path = entry.path.copy()?;
+    Ok(Halt::Refused(Refusal {
+        path,
+        line: entry.line,
+        cause,
+        detail,
+    }))
+}
+
+fn judged(alloc: Global, entry: &ProjectEntry, found: List<Found>) -> Result<List<Text>, Halt>
+    ensures { Settles (λ outcome. outcome ≡ judged entry.now found) result }
+{
+    match first_crowded(found.as_slice()) {
+        Some(dir) => {
+            let detail = shown(alloc, dir)?;
+            Err(refused(entry, Cause::TwoCabalFiles, detail)?)
+        }
+        None => {
+            let files = all_files(alloc, found)?;
+            unless_none(entry, files)
+        }
+    }
+}
+
+// The first directory, in byte order, with more than one `.cabal` file.
+fn first_crowded(found: &[Found]) -> Option<&Text>
+    ensures { option_copied result ≡ first_crowded found.now }
+{
+    let mut first = None;
+    for one in found {
+        if is_crowded(one) {
+            first = Some(lesser(first, &one.path));
+        }
+    }
+    first
+}
+
+fn is_crowded(found: &Found) -> bool
+    ensures { result ≡ is_crowded found.now }
+{
+    found.files.len() >= 2
+}
+
+fn lesser<'a>(first: Option<&'a Text>, path: &'a Text) -> &'a Text
+    ensures { result.now ≡ lesser (option_copied first.entry) path.entry.now }
+{
+    match first {
+        None => path,
+        Some(first) => { if *path < *first { path } else { first } }
+    }
+}
+
+// The root is a point.
+fn shown(alloc: Global, dir: &Text) -> Result<Text, NoMemory>
+    ensures { IfOk result (λ text. text ≡ shown dir.now) }
+{
+    if dir.as_bytes().is_empty() {
+        Text::from_str(alloc, ".")
+    } else {
+        dir.copy()
+    }
+}
+
+fn all_files(alloc: Global, found: List<Found>) -> Result<List<Text>, NoMemory>
+    ensures { IfOk result (λ files. files ≡ flat_map (λ f. f.files) found) }
+{
+    let mut files = List::new(alloc);
+    for one in found.into_vec() {
+        append(&mut files, one.files)?;
+    }
+    Ok(files)
+}
+
+pub(crate) fn append(list: &mut List<Text>, more: List<Text>) -> Result<(), NoMemory>
+    ensures { OnOk result (list.new ≡ list.old ++ more) }
+{
+    for text in more.into_vec() {
+        list.push(text)?;
+    }
+    Ok(())
+}
+
+fn unless_none(entry: &ProjectEntry, files: List<Text>) -> Result<List<Text>, Halt>
+    ensures { Settles (λ outcome. outcome ≡ unless_none entry.now files) result }
+{
+    if entry.optional || !files.is_empty() {
+        return Ok(files);
+    }
+    let detail = entry.text.copy()?;
+    Err(refused(entry, Cause::NoMatch, detail)?)
+}

@@ -1,0 +1,120 @@
+// The local files of all entries.
+ghost use Rattle.std.specs.Prelude.{◌≡◌, IfOk, IfSome, IsErrOf};
+ghost use Rattle.std.specs.Cmp.Lexicographic.{slice_cmp};
+ghost use Rattle.std.specs.List.Sorted.{IsStrictlySortedBy};
+ghost use Rattle.std.specs.Ordering.{nat_cmp};
+ghost use Rattle.outside_folder.specs.Calls.{Leaves};
+ghost use Rattle.project_paths.specs.Answers.{Answers, Settles};
+ghost use Rattle.project_paths.specs.Local.{all_files, finished, implied, in_order, local_files, no_packages, sought};
+
+use crate::entry::{append, entry_files};
+use outside_folder::Folder;
+use plan_types::{Cause, Halt, List, NoMemory, Project, ProjectEntry, Refusal, Text};
+use std::alloc::Global;
+use std::collections::BTreeSet;
+
+/// The paths of the local files that the entries of a project give, in byte order, each once; or the first refusal.
+///
+/// Where there is no `cabal.project`, the `.cabal` files in the root come in front, of which there may be none.
+pub fn find_packages<F: Folder>(
+    alloc: Global,
+    project: &Project,
+    implicit: bool,
+    folder: &mut F,
+) -> Result<List<Text>, Halt>
+    ensures told { IfSome (F.tells folder.old) (λ files. Answers (λ outcome. outcome ≡ local_files files (sought implicit project.now.entries)) result) }
+    ensures order { IfOk result (IsStrictlySortedBy (slice_cmp nat_cmp)) }
+    ensures folder { Leaves (F.tells folder.old) (F.faults folder.old) (F.tells folder.new) (F.faults folder.new) (IsErrOf result Halt.Failed) }
+{
+    let implied = implied(alloc, implicit)?;
+    let mut found = find_entries(alloc, folder, implied.as_slice())?;
+    let others = find_entries(alloc, folder, project.entries.as_slice())?;
+    append(&mut found, others)?;
+    let paths = finished(alloc, found)?;
+    Ok(paths)
+}
+
+fn implied(alloc: Global, implicit: bool) -> Result<List<ProjectEntry>, NoMemory>
+    ensures { IfOk result (λ entries. entries ≡ implied implicit) }
+{
+    let mut entries = List::new(alloc);
+    if implicit {
+        let path = Text::from_str(alloc, "cabal.project")?;
+        let text = Text::from_str(alloc, "./*.cabal")?;
+        entries.push(ProjectEntry {
+            path,
+            line: 0,
+            text,
+            optional: true,
+        })?;
+    }
+    Ok(entries)
+}
+
+fn find_entries<F: Folder>(
+    alloc: Global,
+    folder: &mut F,
+    entries: &[ProjectEntry],
+) -> Result<List<Text>, Halt>
+    ensures told { IfSome (F.tells folder.old) (λ files. Answers (λ outcome. outcome ≡ all_files files entries.now) result) }
+    ensures folder { Leaves (F.tells folder.old) (F.faults folder.old) (F.tells folder.new) (F.faults folder.new) (IsErrOf result Halt.Failed) }
+{
+    let mut found = List::new(alloc);
+    for entry in entries {
+        let files = entry_files(alloc, folder, entry)?;
+        append(&mut found, files)?;
+    }
+    Ok(found)
+}
+
+fn finished(alloc: Global, found: List<Text>) -> Result<List<Text>, Halt>
+    ensures outcome { Settles (λ outcome. outcome ≡ finished found) result }
+    ensures order { IfOk result (IsStrictlySortedBy (slice_cmp nat_cmp)) }
+{
+    let paths = in_order(alloc, found)?;
+    if paths.is_empty() {
+        return Err(no_packages(alloc)?);
+    }
+    Ok(paths)
+}
+
+fn no_packages(alloc: Global) -> Result<Halt, NoMemory>
+    ensures { IfOk result (λ halt. halt ≡ Halt.Refused no_packages) }
+{
+    let path = Text::from_str(alloc, ".")?;
+    Ok(Halt::Refused(Refusal {
+        path,
+        line: 0,
+        cause: Cause::NoPackages,
+        detail: Text::new(alloc),
+    }))
+}
+
+fn in_order(alloc: Global, found: List<Text>) -> Result<List<Text>, NoMemory>
+    ensures paths { IfOk result (λ paths. paths ≡ in_order found) }
+    ensures order { IfOk result (IsStrictlySortedBy (slice_cmp nat_cmp)) }
+{
+    let set = set_of(alloc, found)?;
+    listed(alloc, set)
+}
+
+fn set_of(alloc: Global, found: List<Text>) -> Result<BTreeSet<Text>, NoMemory>
+    ensures { IfOk result (λ set. set.keys ≡ in_order found) }
+{
+    let mut set = BTreeSet::new(alloc);
+    for path in found.into_vec() {
+        set.insert(path)?;
+    }
+    Ok(set)
+}
+
+fn listed(alloc: Global, set: BTreeSet<Text>) -> Result<List<Text>, NoMemory>
+    ensures paths { IfOk result (λ paths. paths ≡ set.keys) }
+    ensures order { IfOk result (IsStrictlySortedBy (slice_cmp nat_cmp)) }
+{
+    let mut paths = List::new(alloc);
+    for path in set {
+        paths.push(path)?;
+    }
+    Ok(paths)
+}

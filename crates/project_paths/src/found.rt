@@ -1,0 +1,98 @@
+// The local files at the places of a pattern.
+ghost use Rattle.std.specs.Prelude.{◌≡◌, ◌++◌, ◌&&◌, map, filter, not, IfOk, IfSome, OnOk, IsErrOf};
+ghost use Rattle.outside_folder.specs.Calls.{Leaves};
+ghost use Rattle.project_paths.specs.Found.{cabal_in, files_of, found_at, found_by, is_cabal, is_cabal_file, is_local};
+
+use crate::pattern::Pattern;
+use crate::places::{Place, names_at, path_in, places};
+use outside_folder::{Folder, Name, Trouble};
+use plan_types::{List, NoMemory, Text};
+use std::alloc::Global;
+
+/// A place, and the paths of its local files: itself, or the `.cabal` files in it.
+#[derive(Debug, Drop)]
+pub(crate) struct Found {
+    pub path: Text,
+    pub files: List<Text>,
+}
+
+/// What is found by a pattern.
+pub(crate) fn found_by<F: Folder>(
+    alloc: Global,
+    folder: &mut F,
+    pattern: &Pattern,
+) -> Result<List<Found>, Trouble>
+    ensures told { IfSome (F.tells folder.old) (λ files. IfOk result (λ all. all ≡ found_by files pattern.now)) }
+    ensures folder { Leaves (F.tells folder.old) (F.faults folder.old) (F.tells folder.new) (F.faults folder.new) (IsErrOf result Trouble.Failed) }
+{
+    let places = places(alloc, folder, pattern.names.as_slice())?;
+    let mut all = List::new(alloc);
+    for place in places.as_slice() {
+        let found = found_at(alloc, folder, pattern.folders, place)?;
+        all.push(found)?;
+    }
+    Ok(all)
+}
+
+fn found_at<F: Folder>(
+    alloc: Global,
+    folder: &mut F,
+    folders: bool,
+    place: &Place,
+) -> Result<Found, Trouble>
+    ensures told { IfSome (F.tells folder.old) (λ files. IfOk result (λ found. found ≡ found_at files folders place.now)) }
+    ensures folder { Leaves (F.tells folder.old) (F.faults folder.old) (F.tells folder.new) (F.faults folder.new) (IsErrOf result Trouble.Failed) }
+{
+    let names = names_at(alloc, folder, place)?;
+    let files = files_of(alloc, folders, place, names.as_slice())?;
+    let path = place.path.copy()?;
+    Ok(Found { path, files })
+}
+
+fn files_of(
+    alloc: Global,
+    folders: bool,
+    place: &Place,
+    names: &[Name],
+) -> Result<List<Text>, NoMemory>
+    ensures { IfOk result (λ files. files ≡ files_of folders place.now names.now) }
+{
+    if place.folder {
+        return cabal_in(alloc, &place.path, names);
+    }
+    let mut files = List::new(alloc);
+    if is_local(folders, place) {
+        files.push(place.path.copy()?)?;
+    }
+    Ok(files)
+}
+
+fn is_local(folders: bool, place: &Place) -> bool
+    ensures { result ≡ is_local folders place.now }
+{
+    !folders && is_cabal(&place.path)
+}
+
+fn cabal_in(alloc: Global, dir: &Text, names: &[Name]) -> Result<List<Text>, NoMemory>
+    ensures { IfOk result (λ files. files ≡ cabal_in dir.now names.now) }
+{
+    let mut files = List::new(alloc);
+    for name in names {
+        if is_cabal_file(name) {
+            files.push(path_in(dir, &name.text)?)?;
+        }
+    }
+    Ok(files)
+}
+
+fn is_cabal_file(name: &Name) -> bool
+    ensures { result ≡ is_cabal_file name.now }
+{
+    !name.folder && is_cabal(&name.text)
+}
+
+fn is_cabal(name: &Text) -> bool
+    ensures { result ≡ is_cabal name.now }
+{
+    name.as_bytes().ends_with(b".cabal")
+}

@@ -1,0 +1,116 @@
+// What the names of a pattern lead to in a folder.
+ghost use Rattle.std.specs.Prelude.{◌≡◌, ◌++◌, [], ◌∷◌, flat_map, map, filter, IfOk, IfSome, OnOk, IsErrOf};
+ghost use Rattle.outside_folder.specs.Calls.{Leaves};
+ghost use Rattle.project_paths.specs.Places.{below, is_matched, names_at, path_in, place_in, places, root};
+
+use crate::wildcard::matches;
+use outside_folder::{Folder, Name, Trouble, list_names};
+use plan_types::{List, NoMemory, Text};
+use std::alloc::Global;
+
+/// A file or a directory of a folder.
+#[derive(Debug, Drop)]
+pub(crate) struct Place {
+    pub path: Text,
+    pub folder: bool,
+}
+
+/// The places to which names lead from the root.
+pub(crate) fn places<F: Folder>(
+    alloc: Global,
+    folder: &mut F,
+    names: &[Text],
+) -> Result<List<Place>, Trouble>
+    ensures told { IfSome (F.tells folder.old) (λ files. IfOk result (λ found. found ≡ places files names.now)) }
+    ensures folder { Leaves (F.tells folder.old) (F.faults folder.old) (F.tells folder.new) (F.faults folder.new) (IsErrOf result Trouble.Failed) }
+{
+    let mut found = root(alloc)?;
+    for name in names {
+        found = all_below(alloc, folder, name, found.as_slice())?;
+    }
+    Ok(found)
+}
+
+fn root(alloc: Global) -> Result<List<Place>, NoMemory>
+    ensures { IfOk result (λ found. found ≡ root ∷ []) }
+{
+    let mut found = List::new(alloc);
+    found.push(Place {
+        path: Text::new(alloc),
+        folder: true,
+    })?;
+    Ok(found)
+}
+
+fn all_below<F: Folder>(
+    alloc: Global,
+    folder: &mut F,
+    pattern: &Text,
+    places: &[Place],
+) -> Result<List<Place>, Trouble>
+    ensures told { IfSome (F.tells folder.old) (λ files. IfOk result (λ found. found ≡ flat_map (below files pattern.now) places.now)) }
+    ensures folder { Leaves (F.tells folder.old) (F.faults folder.old) (F.tells folder.new) (F.faults folder.new) (IsErrOf result Trouble.Failed) }
+{
+    let mut found = List::new(alloc);
+    for place in places {
+        let names = names_at(alloc, folder, place)?;
+        push_matched(alloc, pattern, place, names.as_slice(), &mut found)?;
+    }
+    Ok(found)
+}
+
+/// The names in a directory; a file has none.
+pub(crate) fn names_at<F: Folder>(
+    alloc: Global,
+    folder: &mut F,
+    place: &Place,
+) -> Result<List<Name>, Trouble>
+    ensures told { IfSome (F.tells folder.old) (λ files. IfOk result (λ names. names ≡ names_at files place.now)) }
+    ensures folder { Leaves (F.tells folder.old) (F.faults folder.old) (F.tells folder.new) (F.faults folder.new) (IsErrOf result Trouble.Failed) }
+{
+    if !place.folder {
+        return Ok(List::new(alloc));
+    }
+    let names = list_names(alloc, folder, place.path.as_str())?;
+    Ok(names.unwrap_or(List::new(alloc)))
+}
+
+fn push_matched(
+    alloc: Global,
+    pattern: &Text,
+    place: &Place,
+    names: &[Name],
+    found: &mut List<Place>,
+) -> Result<(), NoMemory>
+    ensures { OnOk result (found.new ≡ found.old ++ map (place_in place.now.path) (filter (is_matched pattern.now) names.now)) }
+{
+    for name in names {
+        if matches(alloc, pattern.as_bytes(), name.text.as_bytes())? {
+            found.push(place_in(place, name)?)?;
+        }
+    }
+    Ok(())
+}
+
+fn place_in(dir: &Place, name: &Name) -> Result<Place, NoMemory>
+    ensures { IfOk result (λ place. place ≡ place_in dir.now.path name.now) }
+{
+    let path = path_in(&dir.path, &name.text)?;
+    Ok(Place {
+        path,
+        folder: name.folder,
+    })
+}
+
+/// The path of what has this name in a directory.
+pub(crate) fn path_in(dir: &Text, name: &Text) -> Result<Text, NoMemory>
+    ensures { IfOk result (λ path. path ≡ path_in dir.now name.now) }
+{
+    if dir.as_bytes().is_empty() {
+        return name.copy();
+    }
+    let mut path = dir.copy()?;
+    path.push_str("/")?;
+    path.push_str(name.as_str())?;
+    Ok(path)
+}
