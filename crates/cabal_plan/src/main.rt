@@ -7,7 +7,7 @@ ghost use Rattle.std.specs.Process.{exit_status};
 ghost use Rattle.std.specs.Vec.Iter.{into_iter_items};
 ghost use Rattle.cabal_plan.specs.Failure.{failure_of};
 ghost use Rattle.cabal_plan.specs.Words.{words_of};
-ghost use Rattle.plan_command.specs.Answer.{is_plan, IsUsage};
+ghost use Rattle.plan_command.specs.Output.{is_plan, IsUsage};
 ghost use Rattle.plan_command.specs.Status.{number_of_status};
 
 use outside_folder::{RealFolder, RealSink};

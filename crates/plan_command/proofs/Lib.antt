@@ -1,3 +1,5 @@
-mod Demands
-mod OneAnswer
-mod Outcomes
+pub mod Built
+pub mod OneAnswer
+pub mod Outcomes
+pub mod Planned
+pub mod Whole

@@ -1,10 +1,7 @@
-pub mod Answer
-pub mod FolderProblem
-pub mod FolderProblemExamples
-pub mod FolderProblemLaws
+pub mod Settings
+pub mod Output
 pub mod Plan
-pub mod Resolved
+pub mod Folder
 pub mod Root
 pub mod Run
 pub mod Status
-pub mod Text

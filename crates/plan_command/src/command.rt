@@ -1,16 +1,19 @@
 ghost use Rattle.std.specs.Prelude.{◌≡◌, ◌≢◌, false, IfSome};
 ghost use Rattle.outside_folder.specs.Faults.{Rose};
-ghost use Rattle.plan_command.specs.Answer.{usage, is_plan, IsMade, IsUsage};
+ghost use Rattle.plan_command.specs.Output.{usage, is_plan, IsMade, IsUsage};
 ghost use Rattle.plan_command.specs.Run.{HasForm, HasNone, GivesUp, IsOutputOf, PlansFirst, Prints};
 
 use crate::Status;
-use crate::output::{Output, output_of_folder};
-use crate::text::USAGE;
+use crate::folder::output_of_folder;
+use crate::output::Output;
+use cabal_problem::valid_as_whole;
 use choice_problem::{ends_right, limit_only_gives_up};
-use outside_folder::{Folder, Sink, write_all};
-use plain_index::Trouble;
+use outside_folder::{Folder, Sink, Trouble, write_all};
 use plan_types::Text;
 use std::alloc::Global;
+
+/// What is printed where the words have no reading.
+const USAGE: &str = "usage: cabal-plan plan or generate, with options\n";
 
 /// Plans the packages of a folder, and writes the plan, the conflict where there is none, that the search gave up, or
 /// the refusal.
@@ -38,6 +41,7 @@ pub fn run<F: Folder, S: Sink>(alloc: Global, words: &[Text], folder: &mut F, ou
     // What the answers of a search mean is a law of problems.
     ends_right();
     limit_only_gives_up();
+    valid_as_whole();
     match output_of_folder(alloc, folder) {
         Ok(output) => print(&output, out),
         Err(Trouble::Failed) => Status::ReadFault,

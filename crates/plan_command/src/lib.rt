@@ -2,18 +2,17 @@
 //! made before the first write, so that a run writes one text or a prefix of it.
 #![tactic(auto)]
 
-mod answer;
 mod command;
-mod folder_problem;
+mod folder;
+mod laws;
 mod output;
 mod plan;
-mod resolved;
 mod root;
+mod settings;
 mod status;
-mod text;
 
 pub use command::{print_usage, run};
-pub use output::one_answer;
+pub use laws::one_answer;
 pub use status::{Status, code_of};
 
 #[cfg(test)]

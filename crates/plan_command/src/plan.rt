@@ -1,44 +1,53 @@
-ghost use Rattle.std.specs.Prelude.{◌≡◌, ◌<◌, IfOk};
+// From an index to its output: the problem that it makes is searched.
+ghost use Rattle.std.specs.Prelude.{◌≡◌, ◌≢◌, ◌<◌, IfOk};
+ghost use Rattle.flatten.specs.Sound.{IsSound};
 ghost use Rattle.choice_problem.specs.Answer.{answer_of, outcome_of};
-ghost use Rattle.plan_command.specs.FolderProblem.{problem_of};
-ghost use Rattle.plan_command.specs.Plan.{limit, searched};
+ghost use Rattle.choice_problem.specs.Problem.{Lawful};
+ghost use Rattle.plan_command.specs.Output.{IsMade};
+ghost use Rattle.plan_command.specs.Plan.{IsOutputOfIndex};
+ghost use Rattle.plan_command.specs.Settings.{default_settings};
 
-use crate::answer::Answer;
-use crate::folder_problem::FolderProblem;
-use backjump::{Outcome, search};
-use choice_problem::{Limit, Steps};
-use plain_index::Package;
-use plan_types::{List, NoMemory};
+use crate::Status;
+use crate::output::{Output, output_of_outcome};
+use backjump::search;
+use cabal_problem::CabalProblem;
+use choice_problem::{Choices, Limit, Outcome, Steps};
+use plan_types::{Index, NoMemory, Settings};
 use std::alloc::Global;
 use std::marker::Brand;
 use std::sync::ledger::{Blank, Ledger};
 
-/// How many exhausted points a search counts before it gives up.
-const LIMIT: Limit = Limit::At(4000);
-
-/// What a search finds for the packages that were read, of which the first is the local one.
-pub(crate) fn searched(alloc: Global, packages: List<Package>) -> Result<Answer, NoMemory>
-    ensures { IfOk result (λ answer. answer ≡ searched packages) }
+/// The output of a search over the packages of an index.
+pub(crate) fn planned(alloc: Global, index: Index, settings: &Settings) -> Result<Output, NoMemory>
+    requires sound { IsSound settings.now.env index }
+    requires default { settings.now ≡ default_settings }
+    ensures output { IfOk result (IsOutputOfIndex index) }
+    ensures made { IfOk result (λ output. IsMade output.status) }
+    ensures read { IfOk result (λ output. output.status ≢ Status.Usage) }
 {
-    let problem = FolderProblem::new(alloc, packages)?;
-    let outcome = outcome_of::<Brand>(alloc, &problem, Blank::new(1))?;
-    Ok(Answer::Searched {
-        packages: problem.packages,
-        outcome,
-    })
+    let problem = CabalProblem::new(alloc, index, settings)?;
+    let outcome = outcome_of::<CabalProblem<'_>, Brand>(
+        alloc,
+        &problem,
+        settings.limit,
+        Blank::new(1),
+    )?;
+    output_of_outcome(alloc, problem.index(), problem.names(), &outcome)
 }
 
 // The tries are counted over a ledger of the search's own.
-fn outcome_of<L: Ledger>(
+fn outcome_of<C: Choices, L: Ledger>(
     alloc: Global,
-    problem: &FolderProblem,
+    problem: &C,
+    limit: Limit,
     blank: Blank,
 ) -> Result<Outcome, NoMemory>
     requires name { blank.name ≡ L.name }
     requires parts { blank.parts ≡ L.parts }
     requires some { 0 < L.parts }
-    ensures { IfOk result (λ outcome. outcome ≡ outcome_of (answer_of (problem_of problem.now.packages) limit)) }
+    ensures outcome { IfOk result (λ outcome. outcome ≡ outcome_of (answer_of (C.problem problem.now) limit)) }
+    ensures lawful { Lawful (C.problem problem.now) }
 {
     let mut steps = Steps::<L>::open(blank);
-    search(alloc, problem, LIMIT, &mut steps)
+    search(alloc, problem, limit, &mut steps)
 }

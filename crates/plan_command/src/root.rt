@@ -1,30 +1,23 @@
 // The names in the root decide which file is the local one, and what can't be read yet.
-ghost use Rattle.std.specs.Prelude.{◌≡◌, ◌≤◌, false, IfOk, IfSome, IsErrOf};
-ghost use Rattle.std.specs.Option.{option_copied, option_map};
-ghost use Rattle.outside_folder.specs.Faults.{Rose};
-ghost use Rattle.plan_command.specs.Root.{root_names, is_hidden, is_cabal_file, is_project_part, cabal_file, unbuilt_name};
+ghost use Rattle.std.specs.Prelude.{◌≡◌, false, IfOk, IfSome, IsErrOf};
+ghost use Rattle.std.specs.Option.{option_copied};
+ghost use Rattle.outside_folder.specs.Calls.{Leaves};
+ghost use Rattle.plan_command.specs.Root.{root_names, is_hidden, is_cabal_file, is_project_file, cabal_file, unbuilt_name};
 
-use outside_folder::{Folder, FolderFault, Name};
-use plain_index::Trouble;
+use outside_folder::{Folder, Name, Trouble, list_names};
 use plan_types::List;
 use std::alloc::Global;
 
 /// The names in the root, in byte order.
 pub(crate) fn root_names<F: Folder>(alloc: Global, folder: &mut F) -> Result<List<Name>, Trouble>
     ensures told { IfSome (F.tells folder.old) (λ files. IfOk result (λ names. names ≡ root_names files)) }
-    ensures same_files { F.tells folder.new ≡ F.tells folder.old }
-    ensures failed { IsErrOf result Trouble.Failed → Rose (F.faults folder.old) (F.faults folder.new) }
-    ensures later { F.faults folder.old ≤ F.faults folder.new }
+    ensures folder { Leaves (F.tells folder.old) (F.faults folder.old) (F.tells folder.new) (F.faults folder.new) (IsErrOf result Trouble.Failed) }
 {
-    match folder.list(alloc, "") {
-        Ok(Some(names)) => Ok(names),
-        Ok(None) => Ok(List::new(alloc)),
-        Err(FolderFault::Failed) => Err(Trouble::Failed),
-        Err(_) => Err(Trouble::NoMemory),
-    }
+    let names = list_names(alloc, folder, "")?;
+    Ok(names.unwrap_or(List::new(alloc)))
 }
 
-/// The first name that can't be read yet: a part of a project, or a second `.cabal` file.
+/// The first name that can't be read yet: that of a project file, or a second `.cabal` file.
 pub(crate) fn unbuilt_name(names: &[Name]) -> Option<&str>
     ensures { option_copied result ≡ unbuilt_name false names.now }
 {
@@ -32,7 +25,7 @@ pub(crate) fn unbuilt_name(names: &[Name]) -> Option<&str>
     for name in names {
         let shown = !is_hidden(name);
         let cabal_file = is_cabal_file(name);
-        if shown && (is_project_part(name) || seen && cabal_file) {
+        if shown && (is_project_file(name) || seen && cabal_file) {
             return Some(name.text.as_str());
         }
         seen = seen || shown && cabal_file;
@@ -64,12 +57,11 @@ fn is_cabal_file(name: &Name) -> bool
     !name.folder && name.text.as_bytes().ends_with(b".cabal")
 }
 
-fn is_project_part(name: &Name) -> bool
-    ensures { result ≡ is_project_part name.now }
+fn is_project_file(name: &Name) -> bool
+    ensures { result ≡ is_project_file name.now }
 {
     let text = name.text.as_bytes();
     text == b"cabal.project".as_slice()
         || text == b"cabal.project.freeze".as_slice()
         || text == b"cabal.project.local".as_slice()
-        || name.folder && text == b"installed".as_slice()
 }

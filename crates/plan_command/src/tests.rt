@@ -1,272 +1,98 @@
-// Whole runs over folders and sinks in memory, to the byte.
-use crate::{Status, run};
+use crate::{code_of, run};
 use outside_folder::{MemFile, MemFolder, MemSink};
 use plan_types::{List, Text};
 use std::alloc::Global;
-use std::process::Abort;
 use std::test::Fail;
 
-const PLAIN: &str = "cabal-version: 2.4\nname: main\nversion: 1\nlibrary\n";
+// Words, files with `;` at the end of a line, the number of the status, and what is printed.
+const CASES: &str = "\
+plan\tmain.cabal=cabal-version: 2.4;name: main;version: 1;library;|.x.cabal=|lib/a.cabal=\t0\tplan;choose main 1 local;visited 1 exhausted 0;\n\
+plan\t\t3\trefused . NoPackages;\n\
+plan\ta.cabal/x=|cabal=\t3\trefused . NoPackages;\n\
+plan\tb.cabal=|cabal.project=\t3\trefused cabal.project Unbuilt;\n\
+plan\tb.cabal=|c.cabal=\t3\trefused c.cabal Unbuilt;\n\
+plan\tmain.cabal=cabal-version: 2.4;name: main;version: 1;library;  build-depends: x ==;\t3\trefused main.cabal:5 BadVersion;\n\
+\ta.cabal=\t64\tusage: cabal-plan plan or generate, with options;\n\
+plan plan\ta.cabal=\t64\tusage: cabal-plan plan or generate, with options;\n\
+Plan\ta.cabal=\t64\tusage: cabal-plan plan or generate, with options;\n\
+plan\tmain.cabal=cabal-version: 2.4;name: main;version: 1;flag f;  default: True;library;  if flag(f);    build-depends: gone;\t0\tplan;choose main 1 local;choose main:f off;visited 3 exhausted 1;\n\
+plan\tmain.cabal=cabal-version: 2.4;name: main;version: 1;flag f;  manual: True;library;  if flag(f);    build-depends: gone;\t1\tno plan;conflict main main:f gone;visited 3 exhausted 3;\n\
+plan\tmain.cabal=cabal-version: 2.4;name: main;version: 1;library;test-suite t;  type: exitcode-stdio-1.0;  main-is: T.hs;  build-depends: main, q;|index/q/1/q.cabal=cabal-version: 2.4;name: q;version: 1;library;  build-depends: main;\t0\tplan;choose main 1 local;choose main:*test off;visited 4 exhausted 1;\n\
+plan\tmain.cabal=cabal-version: 2.4;name: main;version: 1;build-type: Custom;custom-setup;  setup-depends: base ==4.17;library;  build-depends: base ==4.18;  build-tool-depends: t:t;|index/t/2/t.cabal=cabal-version: 2.4;name: t;version: 2;executable t;|index/t/3/t.cabal=cabal-version: >=1.10;|installed/a.conf=name: base;version: 4.17;id: base-4.17;|installed/b.conf=name: base;version: 4.18;id: base-4.18;\t0\tplan;skipped index/t/3/t.cabal:1 WrongCabalVersion;choose main 1 local;choose base 4.18 installed base-4.18;choose main:setup.base 4.17 installed base-4.17;choose main:t:exe.t 2 source;visited 5 exhausted 0;\n";
 
-const MAIN: &str = "cabal-version: 2.4\nname: main\nversion: 1\nlibrary\n  build-depends: b, c\n";
-
-const FOO: &str = "cabal-version: 2.4\nname: main\nversion: 1\nlibrary\n  build-depends: foo\n";
-
-const BOUNDED: &str =
-    "cabal-version: 2.4\nname: main\nversion: 1\nlibrary\n  build-depends: foo >=2, foo <10\n";
-
-const FOO_1: &str = "cabal-version: 2.4\nname: foo\nversion: 1\nlibrary\n";
-
-const FOO_2: &str = "cabal-version: 2.4\nname: foo\nversion: 2\nlibrary\n";
-
-const FOO_10: &str = "cabal-version: 2.4\nname: foo\nversion: 10\nlibrary\n";
-
-// A package that b asks for, which opens late and is smaller in goal order than c.
-const LATE: [(&str, &str); 7] = [
-    ("main.cabal", MAIN),
-    (
-        "index/b/2/b.cabal",
-        "cabal-version: 2.4\nname: b\nversion: 2\nlibrary\n  build-depends: c ==1\n",
-    ),
-    (
-        "index/b/1/b.cabal",
-        "cabal-version: 2.4\nname: b\nversion: 1\nlibrary\n  build-depends: a\n",
-    ),
-    (
-        "index/a/1/a.cabal",
-        "cabal-version: 2.4\nname: a\nversion: 1\nlibrary\n",
-    ),
-    (
-        "index/a/2/a.cabal",
-        "cabal-version: 2.4\nname: a\nversion: 2\nlibrary\n",
-    ),
-    (
-        "index/c/1/c.cabal",
-        "cabal-version: 2.4\nname: c\nversion: 1\nlibrary\n  build-depends: missing\n",
-    ),
-    (
-        "index/c/2/c.cabal",
-        "cabal-version: 2.4\nname: c\nversion: 2\nlibrary\n",
-    ),
-];
-
-fn texts(alloc: Global, words: &[&str]) -> Result<List<Text>, Fail> {
-    let mut texts = List::new(alloc);
-    for word in words {
-        texts.push(Text::from_str(alloc, word)?)?;
+fn words(alloc: Global, spelled: &str) -> Result<List<Text>, Fail> {
+    let mut words = List::new(alloc);
+    for word in spelled.split_terminator(' ') {
+        words.push(Text::from_str(alloc, word)?)?;
     }
-    Ok(texts)
+    Ok(words)
 }
 
-fn numbers(alloc: Global, numbers: &[u64]) -> Result<List<u64>, Fail> {
-    Ok(List::from_vec(numbers.to_vec(alloc)?))
-}
-
-fn folder_of(alloc: Global, files: &[(&str, &str)], fail_at: &[u64]) -> Result<MemFolder, Fail> {
-    let mut listed = List::new(alloc);
-    for (path, text) in files {
-        listed.push(MemFile {
-            path: Text::from_str(alloc, path)?,
-            bytes: List::from_vec(text.as_bytes().to_vec(alloc)?),
-        })?;
+fn folder(alloc: Global, spelled: &str, fail_at: &[u64]) -> Result<MemFolder, Fail> {
+    let mut files = List::new(alloc);
+    for one in spelled.split('|') {
+        if let Some((path, lines)) = one.split_once('=') {
+            let lines = lines.replace(alloc, ";", "\n")?;
+            files.push(MemFile {
+                path: Text::from_str(alloc, path)?,
+                bytes: List::from_vec(lines.as_bytes().to_vec(alloc)?),
+            })?;
+        }
     }
-    Ok(MemFolder::new(alloc, listed, numbers(alloc, fail_at)?)?)
+    let fail_at = List::from_vec(fail_at.to_vec(alloc)?);
+    Ok(MemFolder::new(alloc, files, fail_at)?)
 }
 
-#[derive(Clone, Copy)]
-struct Case<'a> {
-    words: &'a [&'a str],
-    files: &'a [(&'a str, &'a str)],
-    status: Status,
-    text: &'a str,
-}
-
-fn usage<'a>(words: &'a [&'a str]) -> Case<'a> {
-    Case {
-        words,
-        files: &[],
-        status: Status::Usage,
-        text: "usage: cabal-plan plan or generate, with options\n",
-    }
-}
-
-fn refused<'a>(files: &'a [(&'a str, &'a str)], text: &'a str) -> Case<'a> {
-    Case {
-        words: &["plan"],
-        files,
-        status: Status::Refused,
-        text,
-    }
-}
-
-fn planned<'a>(files: &'a [(&'a str, &'a str)], text: &'a str) -> Case<'a> {
-    Case {
-        words: &["plan"],
-        files,
-        status: Status::Planned,
-        text,
-    }
-}
-
-fn no_plan<'a>(files: &'a [(&'a str, &'a str)], text: &'a str) -> Case<'a> {
-    Case {
-        words: &["plan"],
-        files,
-        status: Status::NoPlan,
-        text,
-    }
-}
-
-fn try_case(rt: &impl Abort, alloc: Global, case: &Case) -> Result<(), Fail> {
-    let words = texts(alloc, case.words)?;
-    let mut folder = folder_of(alloc, case.files, &[])?;
-    let mut out = MemSink::new(alloc, 1000, 1000, numbers(alloc, &[])?)?;
-    let status = run(alloc, words.as_slice(), &mut folder, &mut out);
-    assert_eq!(rt; status, case.status);
-    assert_eq!(rt; out.bytes(), case.text.as_bytes());
-    Ok(())
+fn sink(alloc: Global, most: usize, fail_at: &[u64]) -> Result<MemSink, Fail> {
+    let fail_at = List::from_vec(fail_at.to_vec(alloc)?);
+    Ok(MemSink::new(alloc, 2000, most, fail_at)?)
 }
 
 #[test]
 fn answers(rt: HostRuntime) -> Result<(), Fail> {
     let alloc = rt.alloc();
-    let cases = [
-        Case {
-            words: &["plan"],
-            files: &[("main.cabal", PLAIN), (".x.cabal", ""), ("lib/a.cabal", "")],
-            status: Status::Planned,
-            text: "plan\nchoose main 1 local\nvisited 1 exhausted 0\n",
-        },
-        refused(&[], "refused . NoPackages\n"),
-        refused(
-            &[("a.cabal/x", ""), ("cabal", "")],
-            "refused . NoPackages\n",
-        ),
-        refused(
-            &[("b.cabal", ""), ("cabal.project", "")],
-            "refused cabal.project Unbuilt\n",
-        ),
-        refused(
-            &[("b.cabal", ""), ("c.cabal", "")],
-            "refused c.cabal Unbuilt\n",
-        ),
-        refused(
-            &[("installed/a.conf", ""), ("z.cabal", "")],
-            "refused installed Unbuilt\n",
-        ),
-        refused(&[("a.cabal", "")], "refused a.cabal:1 Unbuilt\n"),
-        usage(&[]),
-        usage(&["plan", "plan"]),
-        usage(&["Plan"]),
-        usage(&["generate"]),
-    ];
-    for case in &cases {
-        try_case(&rt, alloc, case)?;
+    for line in CASES.lines() {
+        let Some((spelled, rest)) = line.split_once('\t') else {
+            assert!(rt; false, "{line}");
+            continue;
+        };
+        let Some((files, rest)) = rest.split_once('\t') else {
+            assert!(rt; false, "{line}");
+            continue;
+        };
+        let words = words(alloc, spelled)?;
+        let mut folder = folder(alloc, files, &[])?;
+        let mut out = sink(alloc, 2000, &[])?;
+        let Some((number, printed)) = rest.split_once('\t') else {
+            assert!(rt; false, "{line}");
+            continue;
+        };
+        let code = code_of(run(alloc, words.as_slice(), &mut folder, &mut out));
+        let code = format!(in alloc; "{code}")?;
+        let text = printed.replace(alloc, ";", "\n")?;
+        assert_eq!(rt; code.as_str(), number, "{line}");
+        assert_eq!(rt; out.bytes(), text.as_bytes(), "{line}");
     }
     Ok(())
 }
 
+// The first case, with a call on the folder or a write that fails.
 #[test]
-fn answers_over_an_index(rt: HostRuntime) -> Result<(), Fail> {
+fn a_call_or_a_write_fails(rt: HostRuntime) -> Result<(), Fail> {
     let alloc = rt.alloc();
-    let cases = [
-        planned(
-            &LATE,
-            "plan\nchoose main 1 local\nchoose b 1 source\nchoose a 2 source\nchoose c 2 source\nvisited 7 exhausted 2\n",
-        ),
-        planned(
-            &[
-                ("main.cabal", FOO),
-                ("index/foo/1/foo.cabal", FOO_1),
-                ("index/foo/10/foo.cabal", FOO_10),
-                ("index/foo/2/foo.cabal", FOO_2),
-            ],
-            "plan\nchoose main 1 local\nchoose foo 10 source\nvisited 2 exhausted 0\n",
-        ),
-        planned(
-            &[
-                ("main.cabal", BOUNDED),
-                ("index/foo/1/foo.cabal", FOO_1),
-                ("index/foo/10/foo.cabal", FOO_10),
-                ("index/foo/2/foo.cabal", FOO_2),
-            ],
-            "plan\nchoose main 1 local\nchoose foo 2 source\nvisited 3 exhausted 0\n",
-        ),
-        no_plan(
-            &[("main.cabal", FOO)],
-            "no plan\nconflict main foo\nvisited 1 exhausted 2\n",
-        ),
-        no_plan(
-            &[("main.cabal", BOUNDED), ("index/foo/1/foo.cabal", FOO_1)],
-            "no plan\nconflict main foo\nvisited 2 exhausted 2\n",
-        ),
-        refused(
-            &[("main.cabal", FOO), ("index/foo/1/foo.cabal", "")],
-            "refused index/foo/1/foo.cabal:1 Unbuilt\n",
-        ),
-    ];
-    for case in &cases {
-        try_case(&rt, alloc, case)?;
-    }
-    Ok(())
-}
-
-#[test]
-fn a_failed_read_ends_the_run(rt: HostRuntime) -> Result<(), Fail> {
-    let alloc = rt.alloc();
-    let words = texts(alloc, &["plan"])?;
-    for call in [1, 2] {
-        let mut folder = folder_of(alloc, &[("main.cabal", PLAIN)], &[call])?;
-        let mut out = MemSink::new(alloc, 1000, 1000, numbers(alloc, &[])?)?;
+    let files = "main.cabal=cabal-version: 2.4;name: main;version: 1;library;";
+    let words = words(alloc, "plan")?;
+    for call in 1..4 {
+        let mut folder = folder(alloc, files, &[call])?;
+        let mut out = sink(alloc, 2000, &[])?;
         let status = run(alloc, words.as_slice(), &mut folder, &mut out);
-        assert_eq!(rt; status, Status::ReadFault);
+        assert_eq!(rt; code_of(status), 4);
         assert_eq!(rt; out.bytes().len(), 0);
     }
-    Ok(())
-}
-
-#[test]
-fn a_failed_write_leaves_a_prefix(rt: HostRuntime) -> Result<(), Fail> {
-    let alloc = rt.alloc();
-    let words = texts(alloc, &["plan"])?;
-    let mut folder = folder_of(alloc, &[("main.cabal", PLAIN)], &[])?;
-    let mut out = MemSink::new(alloc, 1000, 10, numbers(alloc, &[3])?)?;
+    let mut folder = folder(alloc, files, &[])?;
+    let mut out = sink(alloc, 10, &[3])?;
     let status = run(alloc, words.as_slice(), &mut folder, &mut out);
-    assert_eq!(rt; status, Status::WriteFault);
+    assert_eq!(rt; code_of(status), 5);
     assert_eq!(rt; out.bytes(), b"plan\nchoose main 1 l".as_slice());
-    Ok(())
-}
-
-// A file with one byte more than is read is too large, whether it is the local one or in the index.
-#[test]
-fn a_file_one_byte_too_large_is_refused(rt: HostRuntime) -> Result<(), Fail> {
-    let alloc = rt.alloc();
-    let words = texts(alloc, &["plan"])?;
-    for (path, length, text) in [
-        ("main.cabal", 1_048_576, "refused main.cabal:1 Unbuilt\n"),
-        ("main.cabal", 1_048_577, "refused main.cabal TooLarge\n"),
-        (
-            "index/foo/1/foo.cabal",
-            1_048_577,
-            "refused index/foo/1/foo.cabal TooLarge\n",
-        ),
-    ] {
-        let mut files = List::new(alloc);
-        if path != "main.cabal" {
-            files.push(MemFile {
-                path: Text::from_str(alloc, "main.cabal")?,
-                bytes: List::from_vec(FOO.as_bytes().to_vec(alloc)?),
-            })?;
-        }
-        files.push(MemFile {
-            path: Text::from_str(alloc, path)?,
-            bytes: List::from_vec(vec![in alloc; b' '; length]?),
-        })?;
-        let mut folder = MemFolder::new(alloc, files, numbers(alloc, &[])?)?;
-        let mut out = MemSink::new(alloc, 1000, 1000, numbers(alloc, &[])?)?;
-        let status = run(alloc, words.as_slice(), &mut folder, &mut out);
-        assert_eq!(rt; status, Status::Refused);
-        assert_eq!(rt; out.bytes(), text.as_bytes());
-    }
     Ok(())
 }

@@ -1,4 +1,0 @@
-pub mod Ascii
-pub mod Digits
-pub mod Needs
-pub mod Pieces

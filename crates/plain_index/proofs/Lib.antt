@@ -1,6 +1,0 @@
-pub mod Closure
-pub mod InTurn
-pub mod Kept
-pub mod Progress
-pub mod TooMany
-mod OneReading

@@ -1,0 +1,55 @@
+-- What a run prints of what it found.
+use Rattle.std.specs.Prelude.{Bool, false, List, [], ◌∷◌, ◌++◌, codes}
+use Rattle.plan_types.specs.declared.index.Index.{Index}
+use Rattle.plan_types.specs.declared.refusal.Refusal.{Refusal}
+use Rattle.qualified_goals.specs.Names.{NameTable}
+use Rattle.choice_problem.specs.declared.outcome.Outcome.{Outcome}
+use Rattle.choice_problem.specs.declared.outcome.Outcome.TheVariants as outcome
+use Rattle.conditionals.specs.Value.{same}
+use Rattle.outside_folder.specs.Files.{Bytes}
+use Rattle.plan_print.specs.Texts.{plan_text, conflict_text, gave_up_text, refusal_text}
+use Rattle.plan_command.specs.declared.output.Output.{Output}
+use Rattle.plan_command.specs.declared.status.Status.{Status}
+use Rattle.plan_command.specs.declared.status.Status.TheVariants as status
+
+abbrev pub refused : Refusal → Output
+refused refusal = record { status = status.Refused; text = refusal_text refusal }
+
+abbrev pub output_of_outcome : Index → NameTable → Outcome → Output
+output_of_outcome index names (outcome.Found trail counts) = record { status = status.Planned; text = plan_text index names trail counts }
+output_of_outcome index names (outcome.NoPlan set counts) = record { status = status.NoPlan; text = conflict_text index names set counts }
+output_of_outcome index names (outcome.GaveUp counts) = record { status = status.GaveUp; text = gave_up_text index counts }
+
+abbrev pub usage_text : Bytes
+usage_text = codes "usage: cabal-plan plan or generate, with options" ++ 10 ∷ []
+
+abbrev pub usage : Output
+usage = record { status = status.Usage; text = usage_text }
+
+-- the words have a reading: they are the one word `plan`
+abbrev pub is_plan : List Bytes → Bool
+is_plan [] = false
+is_plan (word ∷ []) = same word (codes "plan")
+is_plan (word ∷ other ∷ words) = false
+
+-- a status of an output that is made, not that of a run that failed
+abbrev pub IsMade : Status → Type 0
+IsMade status.Planned = Unit {0}
+IsMade status.NoPlan = Unit {0}
+IsMade status.GaveUp = Unit {0}
+IsMade status.Refused = Unit {0}
+IsMade status.Usage = Unit {0}
+IsMade status.ReadFault = ⊥
+IsMade status.WriteFault = ⊥
+IsMade status.NoMemory = ⊥
+
+-- what a run ends with for words without a reading: the usage line was written, or couldn't be
+abbrev pub IsUsage : Status → Type 0
+IsUsage status.Usage = Unit {0}
+IsUsage status.WriteFault = Unit {0}
+IsUsage status.Planned = ⊥
+IsUsage status.NoPlan = ⊥
+IsUsage status.GaveUp = ⊥
+IsUsage status.Refused = ⊥
+IsUsage status.ReadFault = ⊥
+IsUsage status.NoMemory = ⊥

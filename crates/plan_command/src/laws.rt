@@ -1,0 +1,15 @@
+ghost use Rattle.std.specs.Prelude.{◌≡◌, List};
+ghost use Rattle.outside_folder.specs.Files.{Bytes, Files};
+ghost use Rattle.plan_command.specs.declared.output.Output.{Output};
+ghost use Rattle.plan_command.specs.Run.{IsOutputOf};
+
+use one_problem::one_problem;
+use package_index::one_folder_index;
+
+/// Words and a folder's files have one answer: one status and one text.
+pub fn one_answer()
+    ensures { (words : List Bytes) (files : Files) (a b : Output) → IsOutputOf words files a → IsOutputOf words files b → a ≡ b }
+{
+    one_folder_index();
+    one_problem();
+}
