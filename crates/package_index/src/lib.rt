@@ -9,6 +9,3 @@ pub use build::build_index;
 pub use index_files::Places;
 pub use one_index::one_folder_index;
 pub use unit_record::read_record;
-
-#[cfg(test)]
-mod tests;

@@ -14,6 +14,3 @@ mod status;
 pub use command::{print_usage, run};
 pub use laws::one_answer;
 pub use status::{Status, code_of};
-
-#[cfg(test)]
-mod tests;
