@@ -1,14 +1,15 @@
 //! The program `cabal-plan`: it plans the packages of the current folder, and prints the plan.
 #![tactic(auto)]
 
-ghost use Rattle.std.specs.Prelude.{◌≡◌, ◌≢◌, false, codes, map, string_bytes, Err, IfOk, IfErr, IfSome};
+ghost use Rattle.std.specs.Prelude.{◌≡◌, ◌≢◌, codes, map, string_bytes, Err, IfOk, IfErr, IfSome, None};
 ghost use Rattle.std.specs.Option.{option_copied};
 ghost use Rattle.std.specs.Process.{exit_status};
 ghost use Rattle.std.specs.Vec.Iter.{into_iter_items};
 ghost use Rattle.cabal_plan.specs.Failure.{failure_of};
 ghost use Rattle.cabal_plan.specs.Words.{words_of};
-ghost use Rattle.plan_command.specs.Output.{is_plan, IsUsage};
+ghost use Rattle.plan_command.specs.Output.{IsUsage};
 ghost use Rattle.plan_command.specs.Status.{number_of_status};
+ghost use Rattle.plan_words.specs.Reading.{reading};
 
 use outside_folder::{RealFolder, RealSink};
 use plan_command::{Status, code_of, print_usage, run};
@@ -60,8 +61,8 @@ fn status_for<R: Files + Print + AllocGlobal + Clone + Drop>(
     words: Result<List<Text>, NoMemory>,
 ) -> Status
     ensures no_memory { IfErr words (λ _. result ≡ Status.NoMemory) }
-    ensures usage { IfOk words (λ words. result ≡ Status.Usage → is_plan words ≡ false) }
-    ensures no_reading { IfOk words (λ words. is_plan words ≡ false → result ≢ Status.NoMemory → IsUsage result) }
+    ensures usage { IfOk words (λ words. result ≡ Status.Usage → reading words ≡ None) }
+    ensures no_reading { IfOk words (λ words. reading words ≡ None → result ≢ Status.NoMemory → IsUsage result) }
 {
     let Ok(words) = words else {
         return Status::NoMemory;
@@ -84,8 +85,8 @@ fn planned<R: Files + Print + AllocGlobal + Clone + Drop>(
     words: &List<Text>,
     root: Text,
 ) -> Status
-    ensures usage { result ≡ Status.Usage → is_plan words.now ≡ false }
-    ensures no_reading { is_plan words.now ≡ false → IsUsage result }
+    ensures usage { result ≡ Status.Usage → reading words.now ≡ None }
+    ensures no_reading { reading words.now ≡ None → IsUsage result }
 {
     let mut folder = RealFolder::new(rt, root);
     let mut out = RealSink::new(rt);

@@ -8,7 +8,7 @@ use Rattle.plan_types.specs.declared.range.Range.{Range}
 use Rattle.plan_types.specs.declared.range.Range.TheVariants.{Any}
 use Rattle.plan_types.specs.declared.range.Spec.{Spec}
 use Rattle.plan_types.specs.declared.refusal.Cause.{Cause}
-use Rattle.plan_types.specs.declared.refusal.Cause.TheVariants.{NotUtf8, StrayBrace, UnclosedBrace, BadName, TooDeep, BadVersion, BadRange, NeedsVersion, BadCond, BadDepend, BadConstraint, MissingField, WrongCabalVersion, BadField, DuplicateName, UnknownStanza, UnknownFlag, ImportNotFirst, ElseWithoutIf, UnknownComponent, ComponentCycle, TooManyPaths, Unsupported, NoMatch, TwoCabalFiles, NoPackages, TooLarge, WrongPlace, BadRecord, DuplicateLocal, DuplicateUnit, TooMany, Unbuilt}
+use Rattle.plan_types.specs.declared.refusal.Cause.TheVariants.{NotUtf8, StrayBrace, UnclosedBrace, BadName, TooDeep, BadVersion, BadRange, NeedsVersion, BadCond, BadDepend, BadConstraint, MissingField, WrongCabalVersion, BadField, DuplicateName, UnknownStanza, UnknownFlag, ImportNotFirst, ElseWithoutIf, UnknownComponent, ComponentCycle, TooManyPaths, Unsupported, NoMatch, TwoCabalFiles, NoPackages, TooLarge, WrongPlace, BadRecord, DuplicateLocal, DuplicateUnit, TooMany}
 use Rattle.text_grammar.specs.Reading.{◌>>=◌, skip_blanks, byte_after, byte_due, letter_after, word_due, terms_at}
 use Rattle.version_range.specs.Read.{range_in, inside, missing}
 use Rattle.conditionals.specs.Grammar.{system_of}
@@ -77,7 +77,6 @@ cond_cause BadRecord = BadCond
 cond_cause DuplicateLocal = BadCond
 cond_cause DuplicateUnit = BadCond
 cond_cause TooMany = BadCond
-cond_cause Unbuilt = BadCond
 
 abbrev pub told : {A : Type 0} → Result A Cause → Result A Cause
 told (Ok x) = Ok x

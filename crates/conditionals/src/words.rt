@@ -76,8 +76,7 @@ fn cond_cause(cause: Cause) -> Cause
         | Cause::BadRecord
         | Cause::DuplicateLocal
         | Cause::DuplicateUnit
-        | Cause::TooMany
-        | Cause::Unbuilt => Cause::BadCond,
+        | Cause::TooMany => Cause::BadCond,
     }
 }
 

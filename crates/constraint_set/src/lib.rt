@@ -10,6 +10,7 @@ mod relaxing;
 mod rules;
 
 pub use constraints::Constraints;
+pub use lists::{Lists, items_at, push_at};
 
 #[cfg(test)]
 mod tests;

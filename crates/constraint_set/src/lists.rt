@@ -7,10 +7,10 @@ use std::alloc::Global;
 use std::hash::Hash;
 
 /// Lists that are found by keys.
-pub(crate) type Lists<K, T> = IndexMap<K, List<T>>;
+pub type Lists<K, T> = IndexMap<K, List<T>>;
 
 /// Puts an item behind those that a key has.
-pub(crate) fn push_at<K: Eq + Hash + Drop, T: Drop>(
+pub fn push_at<K: Eq + Hash + Drop, T: Drop>(
     alloc: Global,
     lists: &mut Lists<K, T>,
     key: K,
@@ -28,7 +28,7 @@ pub(crate) fn push_at<K: Eq + Hash + Drop, T: Drop>(
 }
 
 /// The items that a key has.
-pub(crate) fn items_at<'a, K: Eq + Hash, T>(lists: &'a Lists<K, T>, key: &K) -> &'a [T]
+pub fn items_at<'a, K: Eq + Hash, T>(lists: &'a Lists<K, T>, key: &K) -> &'a [T]
     ensures { result.now ≡ items_at K.eq lists.now key.now }
 {
     match lists.get(key) {

@@ -38,7 +38,6 @@ rank causes.BadRecord = 28
 rank causes.DuplicateLocal = 29
 rank causes.DuplicateUnit = 30
 rank causes.TooMany = 31
-rank causes.Unbuilt = 32
 
 -- the lesser line comes first, and on one line the cause of the lesser rank
 abbrev pub is_before : At → At → Bool

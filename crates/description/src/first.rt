@@ -66,7 +66,6 @@ fn rank(cause: Cause) -> u8
         Cause::DuplicateLocal => 29,
         Cause::DuplicateUnit => 30,
         Cause::TooMany => 31,
-        Cause::Unbuilt => 32,
     }
 }
 

@@ -8,7 +8,6 @@ mod asked;
 mod blocks;
 mod inside;
 mod laws;
-mod lists;
 mod offers;
 mod orders;
 mod places;

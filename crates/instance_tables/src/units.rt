@@ -6,7 +6,7 @@ ghost use Rattle.instance_tables.specs.Allowed.{allowed_unit, is_installed, is_u
 ghost use Rattle.instance_tables.specs.Places.{package_at, places};
 ghost use Rattle.instance_tables.specs.Units.{AreUnits, AreUnitsOf};
 
-use crate::lists::{Lists, items_at, push_at};
+use constraint_set::{Lists, items_at, push_at};
 use indexmap::IndexMap;
 use plan_types::{Body, Entry, List, NoMemory, Package, Text};
 use std::alloc::Global;

@@ -1,10 +1,10 @@
--- What a search over the problem of an index finds, by the problem with whole conditions.
+-- What a search over the problem of packages finds, by the problem with whole conditions.
 use Rattle.std.proofs.Common.{◌≡◌, ◌≢◌, ℕ, true, List, refl, sym, ap, subst, ◌∙◌}
 use Rattle.std.specs.List.{list_all}
 use Rattle.plan_types.specs.declared.condition.Env.{Env}
 use Rattle.plan_types.specs.declared.index.Index.{Index}
 use Rattle.plan_types.specs.declared.limit.Limit.{Limit}
-use Rattle.plan_types.specs.declared.limit.Limit.TheVariants.{Unlimited}
+use Rattle.plan_types.specs.declared.limit.Limit.TheVariants.{Unlimited, At}
 use Rattle.plan_types.specs.declared.project.Project.{Project}
 use Rattle.flatten.specs.Sound.{IsSound, has_package}
 use Rattle.qualified_goals.specs.Names.{AreNumbers, NameTable}
@@ -23,8 +23,9 @@ use Rattle.choice_problem.specs.Sound.{IsRightEnd}
 use Rattle.cabal_problem.specs.Problem.{IsProblemOf, problem_of}
 use Rattle.instance_tables.specs.Orders.{AreOrders}
 use Rattle.cabal_problem.specs.WholeDemands.{whole_problem}
-use Rattle.plan_command.specs.Run.{IsWholeProblem}
-use Rattle.plan_command.specs.Settings.{default_env, default_limit, no_project}
+use Rattle.plan_command.specs.Meaning.{IsWholeProblem}
+use Rattle.plan_command.specs.Task.{IsReady}
+use Rattle.plan_command.specs.declared.task.Task.{Task}
 
 -- what the laws of problems say of a search, and of whole conditions
 
@@ -40,12 +41,12 @@ ValidAsWhole = (env : Env) (index : Index) (project : Project) (names : NameTabl
     → list_all (λ named. has_package index named.name) project.extra ≡ true
     → AreOne (whole_problem env index.packages project names orders) (general (problem_of index.packages project names orders))
 
-module _ (right : EndsRight) (alike : LimitGivesUp) (valid : ValidAsWhole) (index : Index) (sound : IsSound default_env index) (names : NameTable) (p : Problem)
-    (is : IsProblemOf index no_project names p) (lawful : Lawful p) where
+module _ (right : EndsRight) (alike : LimitGivesUp) (valid : ValidAsWhole) (task : Task) (ready : IsReady task) (names : NameTable) (p : Problem)
+    (is : IsProblemOf task.index task.settings.project names p) (lawful : Lawful p) where
   abbrev pub whole : General
-  whole = whole_problem default_env index.packages no_project names is.orders
+  whole = whole_problem task.settings.env task.index.packages task.settings.project names is.orders
 
-  pub whole-is : IsWholeProblem index names whole
+  pub whole-is : IsWholeProblem task names whole
   whole-is = record {
     numbers = is.numbers;
     orders = is.orders;
@@ -54,22 +55,31 @@ module _ (right : EndsRight) (alike : LimitGivesUp) (valid : ValidAsWhole) (inde
   }
 
   one : AreOne whole (general p)
-  one = subst (λ q. AreOne whole (general q)) (sym is.problem_is) (valid default_env index no_project names is.orders sound is.numbers is.orders_are refl)
+  one =
+      subst (λ q. AreOne whole (general q)) (sym is.problem_is)
+      (valid task.settings.env task.index task.settings.project names is.orders ready.sound is.numbers is.orders_are ready.extra)
 
-  right-end : (e : Ended) → (answer_of p default_limit).ended ≡ e → (e ≡ GaveUp → ⊥) → IsRightEnd p e
+  right-end : (e : Ended) → (answer_of p task.settings.limit).ended ≡ e → (e ≡ GaveUp → ⊥) → IsRightEnd p e
   right-end e ended other =
-      let same = alike p default_limit (λ gave. other (sym ended ∙ gave)) in
+      let same = alike p task.settings.limit (λ gave. other (sym ended ∙ gave)) in
       subst (IsRightEnd p) (ap (λ a. a.ended) (sym same) ∙ ended) (right p lawful)
 
   -- a trail that is found is that of the first whole valid assignment
-  pub first-found : (trail : List Choice) → (answer_of p default_limit).ended ≡ Found trail → (A : Assignment) × IsFirst whole A × (trail ≡ trail_of whole A)
+  pub first-found : (trail : List Choice) → (answer_of p task.settings.limit).ended ≡ Found trail → (A : Assignment) × IsFirst whole A × (trail ≡ trail_of whole A)
   first-found trail ended =
       let end = right-end (Found trail) ended (λ gave. cc gave) in
       let first : IsFirst whole end.0 = (one.first end.0).1 end.1 in
       (end.0, first, end.2 ∙ sym (one.trails end.0 first.whole_valid.holds.assignment))
 
   -- a set with which the search fails admits none, and nothing is whole and valid
-  pub none-found : (set : List Var) → (answer_of p default_limit).ended ≡ Failed set → AdmitsNone whole (has set) × ((A : Assignment) → IsWholeValid whole A → ⊥)
+  pub none-found : (set : List Var) → (answer_of p task.settings.limit).ended ≡ Failed set → AdmitsNone whole (has set) × ((A : Assignment) → IsWholeValid whole A → ⊥)
   none-found set ended =
       let end = right-end (Failed set) ended (λ gave. cc gave) in
       (λ A h. end.0 A ((one.holds (has set) A).0 h), λ A h. end.1 A ((one.valid A).0 h))
+
+  -- it gives up at a limit alone
+  pub at-limit : (l : Limit) → (answer_of p l).ended ≡ GaveUp → (most : ℕ) × (l ≡ At most)
+  at-limit Unlimited ended =
+      let none : IsRightEnd p GaveUp = subst (IsRightEnd p) ended (right p lawful) in
+      absurd none
+  at-limit (At most) ended = (most, refl)

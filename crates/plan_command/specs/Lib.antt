@@ -1,7 +1,6 @@
-pub mod Settings
 pub mod Output
+pub mod Task
 pub mod Plan
-pub mod Folder
-pub mod Root
 pub mod Run
+pub mod Meaning
 pub mod Status

@@ -1,11 +1,10 @@
 -- What a run prints of what it found.
-use Rattle.std.specs.Prelude.{Bool, false, List, [], ◌∷◌, ◌++◌, codes}
+use Rattle.std.specs.Prelude.{[], ◌∷◌, ◌++◌, codes}
 use Rattle.plan_types.specs.declared.index.Index.{Index}
 use Rattle.plan_types.specs.declared.refusal.Refusal.{Refusal}
 use Rattle.qualified_goals.specs.Names.{NameTable}
 use Rattle.choice_problem.specs.declared.outcome.Outcome.{Outcome}
 use Rattle.choice_problem.specs.declared.outcome.Outcome.TheVariants as outcome
-use Rattle.conditionals.specs.Value.{same}
 use Rattle.outside_folder.specs.Files.{Bytes}
 use Rattle.plan_print.specs.Texts.{plan_text, conflict_text, gave_up_text, refusal_text}
 use Rattle.plan_command.specs.declared.output.Output.{Output}
@@ -25,12 +24,6 @@ usage_text = codes "usage: cabal-plan plan or generate, with options" ++ 10 ∷ 
 
 abbrev pub usage : Output
 usage = record { status = status.Usage; text = usage_text }
-
--- the words have a reading: they are the one word `plan`
-abbrev pub is_plan : List Bytes → Bool
-is_plan [] = false
-is_plan (word ∷ []) = same word (codes "plan")
-is_plan (word ∷ other ∷ words) = false
 
 -- a status of an output that is made, not that of a run that failed
 abbrev pub IsMade : Status → Type 0

@@ -1,20 +1,19 @@
--- What an index comes to.
+-- What packages come to.
 use Rattle.std.specs.Prelude.{◌≡◌}
-use Rattle.plan_types.specs.declared.index.Index.{Index}
 use Rattle.qualified_goals.specs.Names.{NameTable}
-use Rattle.flatten.specs.Sound.{IsSound}
 use Rattle.choice_problem.specs.Problem.{Problem, Lawful}
 use Rattle.choice_problem.specs.Answer.{answer_of, outcome_of}
 use Rattle.cabal_problem.specs.Problem.{IsProblemOf}
 use Rattle.plan_command.specs.Output.{output_of_outcome}
-use Rattle.plan_command.specs.Settings.{default_env, default_limit, no_project}
+use Rattle.plan_command.specs.Task.{IsReady}
 use Rattle.plan_command.specs.declared.output.Output.{Output}
+use Rattle.plan_command.specs.declared.task.Task.{Task}
 
--- what a search over the problem of a sound index finds, as it is printed
-pub record IsOutputOfIndex (index : Index) (output : Output) : Type 0 where
-  pub sound : IsSound default_env index
+-- what a search over the problem of packages finds, as it is printed
+pub record IsOutputOfTask (task : Task) (output : Output) : Type 0 where
+  pub ready : IsReady task
   pub names : NameTable
   pub problem : Problem
-  pub problem_is : IsProblemOf index no_project names problem
+  pub problem_is : IsProblemOf task.index task.settings.project names problem
   pub lawful : Lawful problem
-  pub output_is : output ≡ output_of_outcome index names (outcome_of (answer_of problem default_limit))
+  pub output_is : output ≡ output_of_outcome task.index names (outcome_of (answer_of problem task.settings.limit))

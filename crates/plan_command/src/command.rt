@@ -1,15 +1,20 @@
-ghost use Rattle.std.specs.Prelude.{◌≡◌, ◌≢◌, false, IfSome};
+ghost use Rattle.std.specs.Prelude.{◌≡◌, ◌≢◌, IfOk, IfSome, IsErrOf, None};
+ghost use Rattle.outside_folder.specs.Calls.{Leaves};
 ghost use Rattle.outside_folder.specs.Faults.{Rose};
-ghost use Rattle.plan_command.specs.Output.{usage, is_plan, IsMade, IsUsage};
-ghost use Rattle.plan_command.specs.Run.{HasForm, HasNone, GivesUp, IsOutputOf, PlansFirst, Prints};
+ghost use Rattle.plan_words.specs.Reading.{reading};
+ghost use Rattle.plan_command.specs.Output.{usage, IsMade, IsUsage};
+ghost use Rattle.plan_command.specs.Meaning.{AsksFor, GivesUp, HasNone, PlansFirst};
+ghost use Rattle.plan_command.specs.Run.{HasForm, IsOutputOf, IsOutputOfPlan, Prints};
 
 use crate::Status;
-use crate::folder::output_of_folder;
-use crate::output::Output;
+use crate::output::{Output, refused};
+use crate::plan::planned;
+use crate::task::read_task;
 use cabal_problem::valid_as_whole;
 use choice_problem::{ends_right, limit_only_gives_up};
 use outside_folder::{Folder, Sink, Trouble, write_all};
-use plan_types::Text;
+use plan_types::{Halt, Text};
+use plan_words::{Command, Options, WordsFault, read_words};
 use std::alloc::Global;
 
 /// What is printed where the words have no reading.
@@ -19,10 +24,11 @@ const USAGE: &str = "usage: cabal-plan plan or generate, with options\n";
 /// the refusal.
 pub fn run<F: Folder, S: Sink>(alloc: Global, words: &[Text], folder: &mut F, out: &mut S) -> Status
     // Where the folder tells its files, the plan is that of the first of all whole valid assignments of the problem
-    // that they make, and there is no plan exactly where there is no such assignment, unless the search gives up.
-    ensures planned { result ≡ Status.Planned → IfSome (F.tells folder.old) (λ files. PlansFirst files (S.bytes out.old) (S.bytes out.new)) }
-    ensures no_plan { result ≡ Status.NoPlan → IfSome (F.tells folder.old) (λ files. HasNone files (S.bytes out.old) (S.bytes out.new)) }
-    ensures gave_up { result ≡ Status.GaveUp → IfSome (F.tells folder.old) (λ files. GivesUp files (S.bytes out.old) (S.bytes out.new)) }
+    // that they make, there is no plan exactly where there is no such assignment, and without a limit the search never
+    // gives up.
+    ensures planned { result ≡ Status.Planned → IfSome (F.tells folder.old) (λ files. AsksFor words.now (λ options. PlansFirst options files (S.bytes out.old) (S.bytes out.new))) }
+    ensures no_plan { result ≡ Status.NoPlan → IfSome (F.tells folder.old) (λ files. AsksFor words.now (λ options. HasNone options files (S.bytes out.old) (S.bytes out.new))) }
+    ensures gave_up { result ≡ Status.GaveUp → IfSome (F.tells folder.old) (λ files. AsksFor words.now (λ options. GivesUp options files (S.bytes out.old) (S.bytes out.new))) }
 
     // There the whole output is that of the files, whether or not a count rose.
     ensures told { IfSome (F.tells folder.old) (λ files. Prints (IsOutputOf words.now files) (S.bytes out.old) (S.bytes out.new) result) }
@@ -32,20 +38,13 @@ pub fn run<F: Folder, S: Sink>(alloc: Global, words: &[Text], folder: &mut F, ou
 
     ensures read_fault { result ≡ Status.ReadFault → Rose (F.faults folder.old) (F.faults folder.new) }
     ensures write_fault { result ≡ Status.WriteFault → Rose (S.faults out.old) (S.faults out.new) }
-    ensures usage { result ≡ Status.Usage → is_plan words.now ≡ false }
-    ensures no_reading { is_plan words.now ≡ false → IsUsage result }
+    ensures usage { result ≡ Status.Usage → reading words.now ≡ None }
+    ensures no_reading { reading words.now ≡ None → IsUsage result }
 {
-    if !is_plan(words) {
-        return print_usage(out);
-    }
-    // What the answers of a search mean is a law of problems.
-    ends_right();
-    limit_only_gives_up();
-    valid_as_whole();
-    match output_of_folder(alloc, folder) {
-        Ok(output) => print(&output, out),
-        Err(Trouble::Failed) => Status::ReadFault,
-        Err(Trouble::NoMemory) => Status::NoMemory,
+    match read_words(alloc, words) {
+        Ok(Command::Plan(options)) => plan(alloc, options, folder, out),
+        Err(WordsFault::Usage) => print_usage(out),
+        Err(WordsFault::NoMemory) => Status::NoMemory,
     }
 }
 
@@ -61,12 +60,50 @@ pub fn print_usage<S: Sink>(out: &mut S) -> Status
     }
 }
 
-fn is_plan(words: &[Text]) -> bool
-    ensures { result ≡ is_plan words.now }
+// The command `plan`.
+fn plan<F: Folder, S: Sink>(
+    alloc: Global,
+    options: Options,
+    folder: &mut F,
+    out: &mut S,
+) -> Status
+    ensures planned { result ≡ Status.Planned → IfSome (F.tells folder.old) (λ files. PlansFirst options files (S.bytes out.old) (S.bytes out.new)) }
+    ensures no_plan { result ≡ Status.NoPlan → IfSome (F.tells folder.old) (λ files. HasNone options files (S.bytes out.old) (S.bytes out.new)) }
+    ensures gave_up { result ≡ Status.GaveUp → IfSome (F.tells folder.old) (λ files. GivesUp options files (S.bytes out.old) (S.bytes out.new)) }
+    ensures told { IfSome (F.tells folder.old) (λ files. Prints (IsOutputOfPlan options files) (S.bytes out.old) (S.bytes out.new) result) }
+    ensures one_text { Prints HasForm (S.bytes out.old) (S.bytes out.new) result }
+    ensures read_fault { result ≡ Status.ReadFault → Rose (F.faults folder.old) (F.faults folder.new) }
+    ensures write_fault { result ≡ Status.WriteFault → Rose (S.faults out.old) (S.faults out.new) }
+    ensures read { result ≢ Status.Usage }
 {
-    match words {
-        [word] => word.as_str() == "plan",
-        _ => false,
+    // What the answers of a search mean is a law of problems.
+    ends_right();
+    limit_only_gives_up();
+    valid_as_whole();
+    match output_of_plan(alloc, options, folder) {
+        Ok(output) => print(&output, out),
+        Err(Trouble::Failed) => Status::ReadFault,
+        Err(Trouble::NoMemory) => Status::NoMemory,
+    }
+}
+
+// The output of the command `plan`.
+fn output_of_plan<F: Folder>(
+    alloc: Global,
+    options: Options,
+    folder: &mut F,
+) -> Result<Output, Trouble>
+    ensures told { IfSome (F.tells folder.old) (λ files. IfOk result (IsOutputOfPlan options files)) }
+    ensures form { IfOk result HasForm }
+    ensures made { IfOk result (λ output. IsMade output.status) }
+    ensures read { IfOk result (λ output. output.status ≢ Status.Usage) }
+    ensures folder { Leaves (F.tells folder.old) (F.faults folder.old) (F.tells folder.new) (F.faults folder.new) (IsErrOf result Trouble.Failed) }
+{
+    match read_task(alloc, options, folder) {
+        Ok(task) => Ok(planned(alloc, task)?),
+        Err(Halt::Refused(refusal)) => Ok(refused(alloc, &refusal)?),
+        Err(Halt::Failed) => Err(Trouble::Failed),
+        Err(Halt::NoMemory) => Err(Trouble::NoMemory),
     }
 }
 

@@ -3,6 +3,7 @@ ghost use Rattle.outside_folder.specs.Files.{Bytes, Files};
 ghost use Rattle.plan_command.specs.declared.output.Output.{Output};
 ghost use Rattle.plan_command.specs.Run.{IsOutputOf};
 
+use folder_project::one_folder_project;
 use one_problem::one_problem;
 use package_index::one_folder_index;
 
@@ -10,6 +11,7 @@ use package_index::one_folder_index;
 pub fn one_answer()
     ensures { (words : List Bytes) (files : Files) (a b : Output) → IsOutputOf words files a → IsOutputOf words files b → a ≡ b }
 {
+    one_folder_project();
     one_folder_index();
     one_problem();
 }

@@ -3,13 +3,11 @@
 #![tactic(auto)]
 
 mod command;
-mod folder;
 mod laws;
 mod output;
 mod plan;
-mod root;
-mod settings;
 mod status;
+mod task;
 
 pub use command::{print_usage, run};
 pub use laws::one_answer;

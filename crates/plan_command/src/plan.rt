@@ -1,31 +1,31 @@
-// From an index to its output: the problem that it makes is searched.
+// From packages to their output: the problem that they make is searched.
 ghost use Rattle.std.specs.Prelude.{◌≡◌, ◌≢◌, ◌<◌, IfOk};
-ghost use Rattle.flatten.specs.Sound.{IsSound};
 ghost use Rattle.choice_problem.specs.Answer.{answer_of, outcome_of};
 ghost use Rattle.choice_problem.specs.Problem.{Lawful};
 ghost use Rattle.plan_command.specs.Output.{IsMade};
-ghost use Rattle.plan_command.specs.Plan.{IsOutputOfIndex};
-ghost use Rattle.plan_command.specs.Settings.{default_settings};
+ghost use Rattle.plan_command.specs.Plan.{IsOutputOfTask};
+ghost use Rattle.plan_command.specs.Task.{IsReady};
 
 use crate::Status;
 use crate::output::{Output, output_of_outcome};
+use crate::task::Task;
 use backjump::search;
 use cabal_problem::CabalProblem;
 use choice_problem::{Choices, Limit, Outcome, Steps};
-use plan_types::{Index, NoMemory, Settings};
+use plan_types::NoMemory;
 use std::alloc::Global;
 use std::marker::Brand;
 use std::sync::ledger::{Blank, Ledger};
 
-/// The output of a search over the packages of an index.
-pub(crate) fn planned(alloc: Global, index: Index, settings: &Settings) -> Result<Output, NoMemory>
-    requires sound { IsSound settings.now.env index }
-    requires default { settings.now ≡ default_settings }
-    ensures output { IfOk result (IsOutputOfIndex index) }
+/// The output of a search over packages.
+pub(crate) fn planned(alloc: Global, task: Task) -> Result<Output, NoMemory>
+    requires { IsReady task }
+    ensures output { IfOk result (IsOutputOfTask task) }
     ensures made { IfOk result (λ output. IsMade output.status) }
     ensures read { IfOk result (λ output. output.status ≢ Status.Usage) }
 {
-    let problem = CabalProblem::new(alloc, index, settings)?;
+    let Task { settings, index } = task;
+    let problem = CabalProblem::new(alloc, index, &settings)?;
     let outcome = outcome_of::<CabalProblem<'_>, Brand>(
         alloc,
         &problem,

@@ -39,6 +39,5 @@ pub fn cause_name(cause: Cause) -> &'static str
         Cause::DuplicateLocal => "DuplicateLocal",
         Cause::DuplicateUnit => "DuplicateUnit",
         Cause::TooMany => "TooMany",
-        Cause::Unbuilt => "Unbuilt",
     }
 }

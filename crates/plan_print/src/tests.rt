@@ -217,7 +217,7 @@ fn texts_of_answers(rt: HostRuntime) -> Result<(), Fail> {
         refused.as_str(),
         "refused cabal.project:1 TwoCabalFiles pkg-Tool\n"
     );
-    let unbuilt = refusal(alloc, 0, Cause::Unbuilt, "")?;
-    assert_eq!(rt; unbuilt.as_str(), "refused cabal.project Unbuilt\n");
+    let none = refusal(alloc, 0, Cause::NoPackages, "")?;
+    assert_eq!(rt; none.as_str(), "refused cabal.project NoPackages\n");
     Ok(())
 }

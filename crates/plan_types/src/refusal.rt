@@ -72,8 +72,6 @@ pub enum Cause {
     DuplicateUnit,
     /// There are more files, or more bytes in them, than are read.
     TooMany,
-    /// It is Cabal's, and this program can't read it yet.
-    Unbuilt,
 }
 
 /// Why a file can't be read. Lines are numbered from 1.

@@ -2,7 +2,6 @@ ghost use Rattle.std.specs.Prelude.{◌≡◌, IfOk, IfErr, IsErrOf, Some, None,
 ghost use Rattle.std.specs.Option.{option_copied, option_map_or};
 ghost use Rattle.std.specs.Str.{str_to_ascii_lowercase};
 ghost use Rattle.clap.specs.Words.{first_value, found_of};
-ghost use Rattle.conditionals.specs.Grammar.{system_of};
 ghost use Rattle.plan_words.specs.declared.reading.WordsFault.TheVariants.{Usage, NoMemory as words_no_memory};
 ghost use Rattle.plan_words.specs.OptionName.{name_of};
 ghost use Rattle.plan_words.specs.Form.{compiler_digits, compiler_name, is_compiler, is_signed, is_version_text, limit_of, parts_of};
@@ -14,6 +13,7 @@ use crate::option_name::{OptionName, name_of};
 use crate::parser::parsed;
 use crate::words::has_reading;
 use clap::ArgMatches;
+use conditionals::system_of;
 use index_files::Places;
 use plan_types::{Env, Limit, NoMemory, Text, TextFault, Version};
 use std::alloc::Global;
@@ -150,18 +150,6 @@ fn lowered(mut text: Text) -> Text
 {
     text.make_ascii_lowercase();
     text
-}
-
-// The name by which conditions compare an operating system.
-fn system_of(alloc: Global, name: Text) -> Result<Text, NoMemory>
-    ensures { IfOk result (λ system. system ≡ system_of name) }
-{
-    match name.as_str() {
-        "mingw32" => Text::from_str(alloc, "windows"),
-        "win32" => Text::from_str(alloc, "windows"),
-        "darwin" => Text::from_str(alloc, "osx"),
-        _ => Ok(name),
-    }
 }
 
 fn version_of(alloc: Global, text: &[u8]) -> Result<Version, NoMemory>
