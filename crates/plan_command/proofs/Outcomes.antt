@@ -1,5 +1,5 @@
 -- What an output over a folder's files is: a refusal, or what a search finds for the packages that they make.
-use Rattle.std.proofs.Common.{◌≡◌, ◌≢◌, ◌⊎◌, Result, Ok, Err, Option, Some, None, refl, sym, ap, subst, ◌∙◌, inl, inr}
+use Rattle.std.proofs.Common.{◌≡◌, ◌⊎◌, Result, Ok, Err, Option, Some, None, refl, sym, ap, subst, ◌∙◌, inl, inr}
 use Rattle.std.specs.Option.{IfSome}
 use Rattle.plan_types.specs.declared.refusal.Refusal.{Refusal}
 use Rattle.choice_problem.specs.declared.outcome.Counts.{Counts}
@@ -26,6 +26,16 @@ formed-task task output is = subst HasForm (sym is.output_is) (of_outcome task.i
 
 pub formed-refusal : (refusal : Refusal) (output : Output) → output ≡ refused refusal → HasForm output
 formed-refusal refusal output is = subst HasForm (sym is) (of_refusal refusal)
+
+-- the output of what a folder comes to is that of the options over its files
+
+pub planned-output : (options : Options) (files : Files) (task : Task) (output : Output) → IsTask options files (Ok task) → IsOutputOfTask task output → IsOutputOfPlan options files output
+unfolding IsOutputOfPlan
+planned-output options files task output made is = (Ok task, made, is)
+
+pub refused-output : (options : Options) (files : Files) (refusal : Refusal) (output : Output) → IsTask options files (Err refusal) → output ≡ refused refusal → IsOutputOfPlan options files output
+unfolding IsOutputOfPlan
+refused-output options files refusal output made is = (Err refusal, made, is)
 
 -- an output is a refusal's, or that of the packages that the files make
 

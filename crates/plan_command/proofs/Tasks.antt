@@ -1,5 +1,5 @@
--- An index is as sound with other warnings.
-use Rattle.std.proofs.Common.{◌≡◌, ℕ, Bool, true, false, List, [], ◌∷◌, refl, sym, ap, subst, ◌∙◌}
+-- What is to be planned is ready, and what a step answers is the answer of the whole.
+use Rattle.std.proofs.Common.{◌≡◌, ℕ, true, List, [], ◌∷◌, Result, Ok, Err, refl, sym, ap, subst, ◌∙◌}
 use Rattle.std.specs.Prelude.{◌&&◌}
 use Rattle.std.specs.List.{AllByRecursion, list_all}
 use Rattle.plan_types.specs.declared.condition.Env.{Env}
@@ -8,11 +8,19 @@ use Rattle.plan_types.specs.declared.index.Body.TheVariants.{Source, Installed}
 use Rattle.plan_types.specs.declared.index.Entry.{Entry}
 use Rattle.plan_types.specs.declared.index.Index.{Index}
 use Rattle.plan_types.specs.declared.index.Package.{Package}
+use Rattle.plan_types.specs.declared.limit.Limit.{Limit}
 use Rattle.plan_types.specs.declared.project.Project.{Project}
-use Rattle.flatten.specs.Sound.{IsBody, IsEntry, IsPackage, IsSound, IsSource, has_package, has_unit, has_units}
+use Rattle.plan_types.specs.declared.refusal.Halt.{Halt}
+use Rattle.plan_types.specs.declared.refusal.Halt.TheVariants as halt
+use Rattle.plan_types.specs.declared.refusal.Refusal.{Refusal}
+use Rattle.flatten.specs.Sound.{IsBody, IsEntry, IsPackage, IsSound, has_package, has_unit, has_units}
+use Rattle.index_files.specs.InTurn as turns
+use Rattle.project_paths.specs.Answers.{Answers}
 use Rattle.plan_words.specs.declared.reading.Options.{Options}
-use Rattle.plan_command.specs.Task.{IsReady, task_of, warned}
+use Rattle.plan_command.specs.Task.{IsReady, warned}
+use Rattle.plan_command.specs.declared.task.Task.{Task}
 
+-- an index is as sound with other warnings
 module _ (env : Env) (project : Project) (index : Index) where
   abbrev shown : Index
   shown = warned project index
@@ -46,6 +54,34 @@ module _ (env : Env) (project : Project) (index : Index) where
   sound-warned : IsSound env index → IsSound env shown
   sound-warned h = record { in_goal_order = h.in_goal_order; packages = sound-packages index.packages h.packages }
 
-pub ready-task : (options : Options) (project : Project) (index : Index) → IsSound options.env index → list_all (λ named. has_package index named.name) project.extra ≡ true
-    → IsReady (task_of options project index)
-ready-task options project index sound extra = record { sound = sound-warned options.env project index sound; extra = extra }
+abbrev pub task_with : Options → Project → Limit → Index → Task
+task_with options project limit index = record { settings = record { env = options.env; project = project; limit = limit }; index = index }
+
+-- whatever the limit
+pub ready-with : (options : Options) (project : Project) (index : Index) → IsSound options.env index → list_all (λ named. has_package index named.name) project.extra ≡ true
+    → (limit : Limit) (made : Index) → made ≡ warned project index → IsReady (task_with options project limit made)
+ready-with options project index sound extra limit made is =
+    let ready : IsReady (task_with options project limit (warned project index)) = record { sound = sound-warned options.env project index sound; extra = extra } in
+    subst (λ (i : Index). IsReady (task_with options project limit i)) (sym is) ready
+
+-- what is answered of one relation is answered of a wider one
+
+pub answered : {A : Type 0} (P Q : Result A Refusal → Type 0) → ((outcome : Result A Refusal) → P outcome → Q outcome) → (result : Result A Halt) → Answers P result → Answers Q result
+answered P Q wider (Ok a) h = wider (Ok a) h
+answered P Q wider (Err halt.NoMemory) h = tt
+answered P Q wider (Err halt.Failed) h = tt
+answered P Q wider (Err (halt.Refused refusal)) h = wider (Err refusal) h
+
+-- a step's refusal is that of the whole
+
+pub passed-on : {A B : Type 0} (P : Result A Refusal → Type 0) (Q : Result B Refusal → Type 0) → ((refusal : Refusal) → P (Err refusal) → Q (Err refusal))
+    → (h : Halt) → Answers P (Err h) → Answers Q (Err h)
+passed-on P Q wider halt.NoMemory h = tt
+passed-on P Q wider halt.Failed h = tt
+passed-on P Q wider (halt.Refused refusal) h = wider refusal h
+
+pub passed-index : {B : Type 0} (P : Result Index Refusal → Type 0) (Q : Result B Refusal → Type 0) → ((refusal : Refusal) → P (Err refusal) → Q (Err refusal))
+    → (h : Halt) → turns.Answers (λ (index : Index). index) P (Err h) → Answers Q (Err h)
+passed-index P Q wider halt.NoMemory h = tt
+passed-index P Q wider halt.Failed h = tt
+passed-index P Q wider (halt.Refused refusal) h = wider refusal h

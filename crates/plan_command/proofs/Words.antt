@@ -5,7 +5,6 @@ use Rattle.outside_folder.specs.Files.{Bytes, Files}
 use Rattle.plan_words.specs.Reading.{reading}
 use Rattle.plan_words.specs.declared.reading.Command.TheVariants.{Plan}
 use Rattle.plan_words.specs.declared.reading.Options.{Options}
-use Rattle.plan_command.specs.declared.output.Output.{Output}
 use Rattle.plan_command.specs.declared.status.Status.{Status}
 use Rattle.plan_command.specs.Output.{usage}
 use Rattle.plan_command.specs.Meaning.{AsksFor}

@@ -2,6 +2,7 @@ ghost use Rattle.std.specs.Prelude.{◌≡◌, ◌≢◌, IfOk, IfSome, IsErrOf,
 ghost use Rattle.outside_folder.specs.Calls.{Leaves};
 ghost use Rattle.outside_folder.specs.Faults.{Rose};
 ghost use Rattle.plan_words.specs.Reading.{reading};
+ghost use Rattle.plan_words.specs.declared.reading.Command.TheVariants.{Plan};
 ghost use Rattle.plan_command.specs.Output.{usage, IsMade, IsUsage};
 ghost use Rattle.plan_command.specs.Meaning.{AsksFor, GivesUp, HasNone, PlansFirst};
 ghost use Rattle.plan_command.specs.Run.{HasForm, IsOutputOf, IsOutputOfPlan, Prints};
@@ -42,7 +43,7 @@ pub fn run<F: Folder, S: Sink>(alloc: Global, words: &[Text], folder: &mut F, ou
     ensures no_reading { reading words.now ≡ None → IsUsage result }
 {
     match read_words(alloc, words) {
-        Ok(Command::Plan(options)) => plan(alloc, options, folder, out),
+        Ok(command) => plan(alloc, options_in(command), folder, out),
         Err(WordsFault::Usage) => print_usage(out),
         Err(WordsFault::NoMemory) => Status::NoMemory,
     }
@@ -60,13 +61,16 @@ pub fn print_usage<S: Sink>(out: &mut S) -> Status
     }
 }
 
+fn options_in(command: Command) -> Options
+    ensures { command ≡ Plan result }
+{
+    match command {
+        Command::Plan(options) => options,
+    }
+}
+
 // The command `plan`.
-fn plan<F: Folder, S: Sink>(
-    alloc: Global,
-    options: Options,
-    folder: &mut F,
-    out: &mut S,
-) -> Status
+fn plan<F: Folder, S: Sink>(alloc: Global, options: Options, folder: &mut F, out: &mut S) -> Status
     ensures planned { result ≡ Status.Planned → IfSome (F.tells folder.old) (λ files. PlansFirst options files (S.bytes out.old) (S.bytes out.new)) }
     ensures no_plan { result ≡ Status.NoPlan → IfSome (F.tells folder.old) (λ files. HasNone options files (S.bytes out.old) (S.bytes out.new)) }
     ensures gave_up { result ≡ Status.GaveUp → IfSome (F.tells folder.old) (λ files. GivesUp options files (S.bytes out.old) (S.bytes out.new)) }

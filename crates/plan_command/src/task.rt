@@ -32,8 +32,7 @@ pub(crate) fn read_task<F: Folder>(
     ensures folder { Leaves (F.tells folder.old) (F.faults folder.old) (F.tells folder.new) (F.faults folder.new) (IsErrOf result Halt.Failed) }
 {
     let found = read_folder_project(alloc, &options.env, folder)?;
-    let task = task_in(alloc, options, found, folder)?;
-    Ok(task)
+    task_in(alloc, options, found, folder)
 }
 
 // The packages of a project whose files were read.

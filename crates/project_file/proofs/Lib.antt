@@ -4,3 +4,4 @@ pub mod Walk
 pub mod Taken
 pub mod Files
 pub mod One
+pub mod Extra

@@ -1,6 +1,7 @@
 // All project files, in reading order.
-ghost use Rattle.std.specs.Prelude.{◌≡◌, ◌≤◌, [], length, IfOk};
-ghost use Rattle.std.specs.List.{AllByRecursion};
+ghost use Rattle.std.specs.Prelude.{◌≡◌, ◌≤◌, true, [], length, IfOk};
+ghost use Rattle.std.specs.List.{list_all, AllByRecursion};
+ghost use Rattle.plan_types.specs.Name.{is_package_name};
 ghost use Rattle.project_file.specs.Answers.{Settles};
 ghost use Rattle.project_file.specs.Read.{FileReads, IsProject, IsWithin};
 
@@ -19,9 +20,12 @@ pub struct ProjectText {
 
 /// What project files say together, in reading order; or the first refusal: that of the first file with a fault. Of its
 /// faults one of the layout comes first, and then the one with the least line.
+///
+/// The packages that a project asks for besides have names of their form.
 pub fn read_project(alloc: Global, texts: &List<ProjectText>, env: &Env) -> Result<Project, Halt>
     requires { AllByRecursion IsWithin texts.now }
-    ensures { Settles (IsProject env.now texts.now) result }
+    ensures project { Settles (IsProject env.now texts.now) result }
+    ensures extra { IfOk result (λ project. list_all (λ named. is_package_name named.name) project.extra ≡ true) }
 {
     let mut project = nothing(alloc);
     for text in texts.as_slice() {

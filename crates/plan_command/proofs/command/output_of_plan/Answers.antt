@@ -1,0 +1,24 @@
+use Rattle.std.proofs.Common.{Err, subst}
+use Rattle.plan_types.specs.declared.refusal.Halt.{Halt}
+use Rattle.project_paths.specs.Answers.{Answers}
+use Rattle.plan_command.specs.Task.{IsTask}
+use Rattle.plan_command.specs.declared.task.Task.{Task}
+use Rattle.index_files.proofs.Lists.{if_some, some_at}
+use Rattle.plan_command.proofs.Outcomes.{formed-refusal, formed-task, planned-output, refused-output}
+use Rattle.plan_command.proofs.command.output_of_plan.Goals as goal
+
+pub returns-in_ok-planned-in-Ok-clause-told : goal.returns-in_ok-planned-in-Ok-clause-told
+returns-in_ok-planned-in-Ok-clause-told g c = if_some _ _ (λ files t.
+    planned-output c.args.options files c.in-Ok.task c.in_ok-planned-in-Ok.field-0 (some_at _ _ files t c.in-Ok.ensures.told) c.in_ok-planned-in-Ok.ensures.output)
+
+pub returns-in_ok-planned-in-Ok-clause-form : goal.returns-in_ok-planned-in-Ok-clause-form
+returns-in_ok-planned-in-Ok-clause-form g c = formed-task c.in-Ok.task c.in_ok-planned-in-Ok.field-0 c.in_ok-planned-in-Ok.ensures.output
+
+pub returns-in_ok-refused-in-Err-Refused-clause-told : goal.returns-in_ok-refused-in-Err-Refused-clause-told
+returns-in_ok-refused-in-Err-Refused-clause-told g c = if_some _ _ (λ files t.
+    let halted : Answers {A = Task} (IsTask c.args.options files) (Err c.in-Err-Refused.field-0) = some_at _ _ files t c.in-Err-Refused.ensures.told in
+    let told = subst (λ (h : Halt). Answers {A = Task} (IsTask c.args.options files) (Err h)) c.in-Err-Refused.field-0-is halted in
+    refused-output c.args.options files c.in-Err-Refused.refusal c.in_ok-refused-in-Err-Refused.field-0 told c.in_ok-refused-in-Err-Refused.ensures.output)
+
+pub returns-in_ok-refused-in-Err-Refused-clause-form : goal.returns-in_ok-refused-in-Err-Refused-clause-form
+returns-in_ok-refused-in-Err-Refused-clause-form g c = formed-refusal c.in-Err-Refused.refusal c.in_ok-refused-in-Err-Refused.field-0 c.in_ok-refused-in-Err-Refused.ensures.output
