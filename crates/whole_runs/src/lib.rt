@@ -1,0 +1,5 @@
+//! Whole runs of the planner over folders in memory: what is printed for words and files, and with which status.
+#![tactic(auto)]
+
+#[cfg(test)]
+mod tests;

@@ -1,0 +1,261 @@
+// Runs as they are written, with an empty line between them: the words, the files, and behind `=> ` the number of the status
+// and all that is printed. A file is its path, `:` and its lines with `;` between them; or its path, the name and the version
+// of a package with a library, and what that asks for; or its path and `too large`.
+
+pub(crate) const RUNS: &str = "\
+$ cabal-plan plan
+=> 3
+refused . NoPackages
+
+$ cabal-plan plan
+main.cabal main 1 c
+installed/v.conf: name: c;version: 1;id: c-1-bb
+installed/w.conf: name: c;version: 1;id: c-1-aa
+installed/x.conf: name: c;version: 2;id: c-2-cc;depends: nowhere-1
+installed/y.conf: name: c;version: 3;id: c-3-dd;depends: c-1-aa c-2-cc
+=> 0
+plan
+choose main 1 local
+choose c 1 installed c-1-aa
+visited 2 exhausted 0
+
+$ cabal-plan plan
+main.cabal main 1 a
+index/a/0.9/a.cabal a 0.9
+index/a/1/a.cabal: cabal-version: >=1.10
+index/a/2/a.cabal: cabal-version: 2.4;name: a;version: 2;flag f {;  default: True
+index/a/3/a.cabal a 2
+=> 0
+plan
+skipped index/a/1/a.cabal:1 WrongCabalVersion
+skipped index/a/2/a.cabal:4 UnclosedBrace
+skipped index/a/3/a.cabal WrongPlace
+choose main 1 local
+choose a 0.9 source
+visited 2 exhausted 0
+
+$ cabal-plan plan
+main.cabal main 1
+installed/x.conf: name: a;version: 1;id: u
+installed/y.conf: name: b;version: 1;id: u
+=> 3
+refused installed/y.conf DuplicateUnit installed/x.conf
+
+$ cabal-plan plan
+main.cabal main 1
+index/main/2/main.cabal main 2
+=> 0
+plan
+choose main 1 local
+visited 1 exhausted 0
+
+$ cabal-plan plan
+main.cabal: cabal-version: 2.4;name: main;version: 1;flag f;  default: True;library;  if flag(f);    build-depends: gone
+=> 0
+plan
+choose main 1 local
+choose main:f off
+visited 3 exhausted 1
+
+$ cabal-plan plan
+main.cabal: cabal-version: 2.4;name: main;version: 1;flag f;  manual: True;library;  if flag(f);    build-depends: gone
+=> 1
+no plan
+conflict main main:f gone
+visited 3 exhausted 3
+
+$ cabal-plan plan
+main.cabal: cabal-version: 2.4;name: main;version: 1;library;test-suite t;  type: exitcode-stdio-1.0;  main-is: T.hs;  build-depends: main, q
+index/q/1/q.cabal q 1 main
+=> 0
+plan
+choose main 1 local
+choose main:*test off
+visited 4 exhausted 1
+
+$ cabal-plan plan
+main.cabal: cabal-version: 2.4;name: main;version: 1;build-type: Custom;custom-setup;  setup-depends: base ==4.17;library;  build-depends: base ==4.18;  build-tool-depends: t:t
+index/t/2/t.cabal: cabal-version: 2.4;name: t;version: 2;executable t
+index/t/3/t.cabal: cabal-version: >=1.10
+installed/a.conf: name: base;version: 4.17;id: base-4.17
+installed/b.conf: name: base;version: 4.18;id: base-4.18
+=> 0
+plan
+skipped index/t/3/t.cabal:1 WrongCabalVersion
+choose main 1 local
+choose base 4.18 installed base-4.18
+choose main:setup.base 4.17 installed base-4.17
+choose main:t:exe.t 2 source
+visited 5 exhausted 0
+
+$ cabal-plan plan
+main.cabal: cabal-version: 2.4;name: main;version: 1;library;  build-tools: alex
+=> 0
+plan
+warning main.cabal:5 build-tools
+choose main 1 local
+visited 1 exhausted 0
+
+$ cabal-plan plan
+main.cabal too large
+=> 3
+refused main.cabal TooLarge
+
+$ cabal-plan plan
+main.cabal main 1
+installed/x.conf too large
+=> 3
+refused installed/x.conf TooLarge
+
+$ cabal-plan plan
+main.cabal main 1 a
+index/a/1/a.cabal too large
+index/a/0/a.cabal a 0
+=> 0
+plan
+skipped index/a/1/a.cabal TooLarge
+choose main 1 local
+choose a 0 source
+visited 2 exhausted 0";
+
+// Words without a reading.
+pub(crate) const NO_READING: &str = "\
+$ cabal-plan
+$ cabal-plan Plan
+$ cabal-plan plan plan
+$ cabal-plan generate
+$ cabal-plan --os=linux
+$ cabal-plan plan --index idx
+$ cabal-plan plan --json
+$ cabal-plan plan --number=3
+$ cabal-plan plan --max-backjumps=x
+";
+
+// A package that asks for another one, of which there are a unit and a release.
+pub(crate) const SMALL: &str = "\
+$ cabal-plan plan
+main.cabal main 1 a
+index/a/1/a.cabal a 1
+installed/x.conf: name: a;version: 1;id: a-1";
+
+pub(crate) const SMALL_ANSWER: &str = "\
+0
+plan
+choose main 1 local
+choose a 1 installed a-1
+visited 2 exhausted 0
+";
+
+// Runs with project files or options.
+pub(crate) const PROJECT_RUNS: &str = "\
+$ cabal-plan plan
+cabal.project: packages: x y x
+x/p.cabal p 1
+y/p.cabal p 1
+=> 3
+refused y/p.cabal DuplicateLocal x/p.cabal
+
+$ cabal-plan plan
+cabal.project: packages: x x
+x/p.cabal p 1
+=> 0
+plan
+choose p 1 local
+visited 1 exhausted 0
+
+$ cabal-plan plan
+cabal.project: packages: .;extra-packages: gone
+main.cabal main 1
+=> 1
+no plan
+conflict gone
+visited 1 exhausted 1
+
+$ cabal-plan plan
+cabal.project: packages: .;tests: True
+main.cabal: cabal-version: 2.4;name: main;version: 1;library;test-suite t;  type: exitcode-stdio-1.0;  main-is: T.hs;  build-depends: main, q
+index/q/1/q.cabal q 1 main
+=> 1
+no plan
+conflict main main:*test q
+visited 4 exhausted 3
+
+$ cabal-plan plan
+cabal.project: packages: .;allow-newer: x
+main.cabal main 1 x (>=1 && <2) || (>=3 && <4)
+index/x/2.5/x.cabal x 2.5
+index/x/5/x.cabal x 5
+=> 0
+plan
+choose main 1 local
+choose x 5 source
+visited 2 exhausted 0
+
+$ cabal-plan plan
+cabal.project: packages: .;allow-newer: x;constraints: x <5
+main.cabal main 1 x (>=1 && <2) || (>=3 && <4)
+index/x/2.5/x.cabal x 2.5
+index/x/5/x.cabal x 5
+=> 1
+no plan
+conflict main x
+visited 3 exhausted 2
+
+$ cabal-plan plan
+cabal.project: packages: .;max-backjumps: 0
+main.cabal main 1 b
+index/b/1/b.cabal b 1
+index/b/2/b.cabal b 2 gone
+=> 2
+gave up
+visited 2 exhausted 0
+
+$ cabal-plan plan --max-backjumps=-1
+cabal.project: packages: .;max-backjumps: 0
+main.cabal main 1 b
+index/b/1/b.cabal b 1
+index/b/2/b.cabal b 2 gone
+=> 0
+plan
+choose main 1 local
+choose b 1 source
+visited 3 exhausted 1
+
+$ cabal-plan --index=idx plan
+main.cabal main 1 a
+idx/a/1/a.cabal a 1
+index/a/2/a.cabal a 2
+=> 0
+plan
+choose main 1 local
+choose a 1 source
+visited 2 exhausted 0
+
+$ cabal-plan plan
+cabal.project too large
+main.cabal main 1
+=> 3
+refused cabal.project TooLarge
+
+$ cabal-plan plan
+cabal.project.freeze: constraints: a ==
+main.cabal main 1
+=> 3
+refused cabal.project.freeze:1 BadConstraint
+
+$ cabal-plan plan
+cabal.project: packages: gone
+main.cabal main 1
+=> 3
+refused cabal.project:1 NoMatch gone
+
+$ cabal-plan plan
+cabal.project: packages: .;repository hackage;  url: http://hackage.haskell.org/;index-state: 2023-01-01T00:00:00Z
+main.cabal: cabal-version: 2.4;name: main;version: 1;library;  build-tools: alex
+=> 0
+plan
+warning cabal.project:2 repository
+warning cabal.project:4 index-state
+warning main.cabal:5 build-tools
+choose main 1 local
+visited 1 exhausted 0";
