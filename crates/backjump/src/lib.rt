@@ -7,6 +7,3 @@ mod walk;
 
 pub use answer::search;
 pub use choice_problem::{Counts, Outcome};
-
-#[cfg(test)]
-mod tests;

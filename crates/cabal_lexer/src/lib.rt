@@ -14,6 +14,3 @@ pub use laws::{one_fault, one_tree, round_trip, tree_or_fault};
 pub use lines::trim;
 pub use print::print_elements;
 pub use read::read_elements;
-
-#[cfg(test)]
-mod tests;

@@ -124,38 +124,3 @@ impl Tree {
         last_given(&self.nodes[i as usize])
     }
 }
-
-#[cfg(test)]
-mod tests {
-    use super::*;
-    use choice_problem::{Part, Qual};
-    use std::test::Fail;
-
-    fn package(n: u64) -> Var {
-        Var {
-            qual: Qual::Top,
-            package: n,
-            part: Part::Package,
-        }
-    }
-
-    #[test]
-    fn gives_values_on_demand(rt: HostRuntime) -> Result<(), Fail> {
-        let alloc = rt.alloc();
-        let v = package(0);
-        let w = package(1);
-        let mut tree = Tree::new(alloc);
-        assert_eq!(rt; tree.depth(), 0);
-        tree.grow(v, List::from_vec(vec![in alloc; 3, 1]?))?;
-        assert_eq!(rt; tree.next_value(), Some(3));
-        assert_eq!(rt; tree.trail_at(0), Choice { var: v, val: 3 });
-        tree.grow(w, List::new(alloc))?;
-        assert_eq!(rt; tree.depth(), 2);
-        assert_eq!(rt; tree.top(), w);
-        assert_eq!(rt; tree.next_value(), None);
-        tree.back();
-        assert_eq!(rt; tree.next_value(), Some(1));
-        assert_eq!(rt; tree.next_value(), None);
-        Ok(())
-    }
-}

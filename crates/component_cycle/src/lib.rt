@@ -8,6 +8,3 @@ mod search;
 
 pub use first::first_on_cycle;
 pub use laws::one_first;
-
-#[cfg(test)]
-mod tests;

@@ -21,6 +21,3 @@ pub use path::paths;
 pub use read::read_cond;
 pub use text_laws::{condition_or_fault, one_condition, one_condition_fault};
 pub use value::{Tri, eval};
-
-#[cfg(test)]
-mod tests;

@@ -11,6 +11,3 @@ mod rules;
 
 pub use constraints::Constraints;
 pub use lists::{Lists, items_at, push_at};
-
-#[cfg(test)]
-mod tests;

@@ -16,6 +16,3 @@ pub use depends::{read_depends, read_tools};
 pub use laws::{one_fault, one_reading, reading_or_fault};
 pub use named::read_named;
 pub use relax::read_relax;
-
-#[cfg(test)]
-mod tests;

@@ -15,6 +15,3 @@ mod stanzas;
 
 pub use laws::one_outcome;
 pub use read::read_description;
-
-#[cfg(test)]
-mod tests;

@@ -11,6 +11,3 @@ mod laws;
 pub use demands::demands_of;
 pub use exposure::exposed;
 pub use laws::{counts_as_its_condition, no_two_count};
-
-#[cfg(test)]
-mod tests;

@@ -7,6 +7,3 @@ mod marks;
 mod users;
 
 pub use marks::leading;
-
-#[cfg(test)]
-mod tests;

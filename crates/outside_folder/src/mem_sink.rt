@@ -125,30 +125,3 @@ impl Sink for MemSink {
         Ok(taken)
     }
 }
-
-#[cfg(test)]
-mod tests {
-    use super::*;
-    use crate::write_all;
-    use std::test::Fail;
-
-    #[test]
-    fn takes_pieces_until_it_fails(rt: HostRuntime) -> Result<(), Fail> {
-        // the room, the most bytes of a write, the write that fails; what is left in the sink, and whether it is all
-        for (room, most, fail_at, left, whole) in [
-            (100, 100, 9, "plan\nchoose main 1 local\n", true),
-            (26, 1, 27, "plan\nchoose main 1 local\n", true),
-            (100, 10, 3, "plan\nchoose main 1 l", false),
-            (100, 10, 1, "", false),
-            (7, 100, 9, "plan\nch", false),
-            (100, 0, 9, "", false),
-        ] {
-            let fail_at = List::from_vec([fail_at].to_vec(rt.alloc())?);
-            let mut sink = MemSink::new(rt.alloc(), room, most, fail_at)?;
-            let written = write_all(&mut sink, b"plan\nchoose main 1 local\n");
-            assert_eq!(rt; written.is_ok(), whole, "{left}");
-            assert_eq!(rt; sink.bytes(), left.as_bytes());
-        }
-        Ok(())
-    }
-}

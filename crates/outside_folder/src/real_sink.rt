@@ -58,16 +58,3 @@ fn write_some<W: Write>(writer: &mut W, piece: &[u8]) -> Result<usize, SinkFault
         _ => Err(SinkFault::Failed),
     }
 }
-
-#[cfg(test)]
-mod tests {
-    use super::*;
-    use crate::write_all;
-
-    #[test]
-    fn writes_to_standard_output(rt: HostRuntime) {
-        let mut sink = RealSink::new(&rt);
-        assert_eq!(rt; write_all(&mut sink, b""), Ok(()));
-        assert_eq!(rt; write_all(&mut sink, b"a line of the test\n"), Ok(()));
-    }
-}

@@ -9,6 +9,3 @@ mod place;
 mod texts;
 
 pub use texts::{text_of_conflict, text_of_giving_up, text_of_plan, text_of_refusal};
-
-#[cfg(test)]
-mod tests;

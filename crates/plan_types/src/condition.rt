@@ -166,27 +166,3 @@ impl Drop for Cond {
         }
     }
 }
-
-#[cfg(test)]
-mod tests {
-    use super::*;
-    use std::test::Fail;
-
-    // Calls of itself for the left side would run out of stack.
-    #[test]
-    fn copies_and_gives_up_a_long_chain(rt: HostRuntime) -> Result<(), Fail> {
-        let mut cond = Cond::Flag(Text::from_str(rt.alloc(), "a")?);
-        for turn in 0..300_000u32 {
-            let right = Cond::Always;
-            cond = match turn % 3 {
-                0 => not(rt.alloc(), cond)?,
-                1 => and(rt.alloc(), cond, right)?,
-                _ => or(rt.alloc(), cond, right)?,
-            };
-        }
-        let copied = cond.copy(rt.alloc())?;
-        drop(cond);
-        drop(copied);
-        Ok(())
-    }
-}

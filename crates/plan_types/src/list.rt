@@ -137,29 +137,3 @@ impl<T: Ord> Ord for List<T> {
         self.items.cmp(&other.items)
     }
 }
-
-#[cfg(test)]
-mod tests {
-    use super::*;
-    use std::test::Fail;
-
-    #[test]
-    fn grows_and_shrinks_at_its_end(rt: HostRuntime) -> Result<(), Fail> {
-        let mut list = List::new(rt.alloc());
-        assert!(rt; list.is_empty());
-        assert_eq!(rt; list.pop(), None);
-        for number in [7u32, 8, 9] {
-            list.push(number)?;
-        }
-        assert_eq!(rt; list.pop(), Some(9));
-        assert_eq!(rt; list.len(), 2);
-        assert!(rt; !list.is_empty());
-        assert_eq!(rt; list.as_slice(), [7, 8].as_slice());
-
-        let same = List::from_vec([7u32, 8].to_vec(rt.alloc())?);
-        assert!(rt; list == same);
-        assert!(rt; list != List::new(rt.alloc()));
-        assert_eq!(rt; same.into_vec().as_slice(), [7, 8].as_slice());
-        Ok(())
-    }
-}

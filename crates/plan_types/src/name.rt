@@ -67,34 +67,3 @@ fn is_component_byte(byte: u8) -> bool
 {
     is_letter_or_digit(byte) || byte == b'-' || byte == b'_'
 }
-
-#[cfg(test)]
-mod tests {
-    use super::*;
-
-    #[test]
-    fn forms_of_names(rt: HostRuntime) {
-        // a text; whether it is the name of a package, of a component, of a flag
-        let cases: [(&[u8], bool, bool, bool); 14] = [
-            (b"main", true, true, true),
-            (b"A1-b2-3c", true, true, true),
-            (b"z", true, true, true),
-            (b"", false, false, false),
-            (b"-", false, true, false),
-            (b"-a", false, true, false),
-            (b"a-", false, true, true),
-            (b"a--b", false, true, true),
-            (b"a-1", false, true, true),
-            (b"7", false, true, true),
-            (b"a_b", false, true, true),
-            (b"_", false, true, true),
-            (b"a.b", false, false, false),
-            (b"\xc3\xa4", false, false, false),
-        ];
-        for (at, (text, package, component, flag)) in cases.iter().enumerate() {
-            assert_eq!(rt; is_package_name(text), *package, "package {at}");
-            assert_eq!(rt; is_component_name(text), *component, "component {at}");
-            assert_eq!(rt; is_flag_name(text), *flag, "flag {at}");
-        }
-    }
-}

@@ -145,36 +145,3 @@ impl Drop for Range {
         }
     }
 }
-
-#[cfg(test)]
-mod tests {
-    use super::*;
-    use crate::List;
-    use std::test::Fail;
-
-    // Calls of itself for the left side would run out of stack.
-    #[test]
-    fn asks_copies_and_gives_up_a_long_chain(rt: HostRuntime) -> Result<(), Fail> {
-        let numbers = [1, 2].to_vec(rt.alloc())?;
-        let version = Version {
-            parts: List::from_vec(numbers),
-        };
-        let mut range = Range::AtLeast(version.copy(rt.alloc())?);
-        for _ in 0..300_000u32 {
-            range = both(rt.alloc(), range, Range::Any)?;
-        }
-        let copied = range.copy(rt.alloc())?;
-        assert!(rt; range.has(&version));
-        drop(range);
-        assert!(rt; copied.has(&version));
-        Ok(())
-    }
-
-    #[test]
-    fn holds_its_sides(rt: HostRuntime) -> Result<(), Fail> {
-        let boxed = Boxed::new(rt.alloc(), 7u32)?;
-        assert_eq!(rt; boxed.get(), &7);
-        assert_eq!(rt; boxed.into_inner(), 7);
-        Ok(())
-    }
-}

@@ -38,37 +38,3 @@ impl Version {
         })
     }
 }
-
-#[cfg(test)]
-mod tests {
-    use super::*;
-    use std::test::Fail;
-
-    fn version(alloc: Global, parts: &[u32]) -> Result<Version, NoMemory> {
-        let parts = parts.to_vec(alloc)?;
-        Ok(Version {
-            parts: List::from_vec(parts),
-        })
-    }
-
-    #[test]
-    fn order_of_versions(rt: HostRuntime) -> Result<(), Fail> {
-        let cases: [(&[u32], &[u32], Ordering); 6] = [
-            (&[1, 0], &[1, 0], Ordering::Equal),
-            (&[1], &[1, 0], Ordering::Less),
-            (&[1, 0], &[1, 0, 0], Ordering::Less),
-            (&[1, 9], &[1, 10], Ordering::Less),
-            (&[2], &[1, 999999999], Ordering::Greater),
-            (&[0, 1], &[0, 0, 7], Ordering::Greater),
-        ];
-        for (at, (one, other, order)) in cases.iter().enumerate() {
-            let one = version(rt.alloc(), one)?;
-            let other = version(rt.alloc(), other)?;
-            assert_eq!(rt; one.compare(&other), *order, "at {at}");
-            assert_eq!(rt; other.compare(&one), order.reverse(), "back, at {at}");
-        }
-        let one = version(rt.alloc(), &[1, 2])?;
-        assert_eq!(rt; one.copy(rt.alloc())?, one);
-        Ok(())
-    }
-}

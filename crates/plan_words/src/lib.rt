@@ -10,6 +10,3 @@ mod reading;
 mod words;
 
 pub use reading::{Command, Options, WordsFault, read_words};
-
-#[cfg(test)]
-mod tests;

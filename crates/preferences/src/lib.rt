@@ -10,6 +10,3 @@ mod policy;
 pub use laws::one_order;
 pub use places::order;
 pub use policy::Policy;
-
-#[cfg(test)]
-mod tests;

@@ -16,6 +16,3 @@ mod words;
 
 pub use laws::one_outcome;
 pub use read::{ProjectText, read_project};
-
-#[cfg(test)]
-mod tests;

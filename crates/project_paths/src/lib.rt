@@ -11,6 +11,3 @@ mod places;
 mod wildcard;
 
 pub use find::find_packages;
-
-#[cfg(test)]
-mod tests;

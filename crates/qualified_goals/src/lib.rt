@@ -7,6 +7,3 @@ mod variable;
 
 pub use names::Names;
 pub use variable::{Part, Qual, Var, is_before, is_same};
-
-#[cfg(test)]
-mod tests;

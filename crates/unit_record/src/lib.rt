@@ -10,6 +10,3 @@ mod words;
 
 pub use laws::one_record;
 pub use read::read_record;
-
-#[cfg(test)]
-mod tests;

@@ -20,6 +20,3 @@ pub use laws::{one_fault, one_range, range_or_fault, reads_back, relaxed_twice};
 pub use print::print_range;
 pub use read::{range_at_front, read_range};
 pub use version::{print_version, read_version};
-
-#[cfg(test)]
-mod tests;

@@ -1,0 +1,64 @@
+"""Where the program stands that is built for the present sources."""
+
+import hashlib
+import os
+import sys
+
+TOP = os.path.dirname(os.path.dirname(os.path.dirname(os.path.realpath(__file__))))
+PROGRAM = "cabal_plan"
+# Outside the checkout, so that checkouts of the same sources share it, and the gate finds nothing of it.
+OUT = f"{os.environ.get('XDG_CACHE_HOME') or os.path.expanduser('~/.cache')}/cabal-plan"
+# The status where it can't be built.
+FAILED = 70
+
+
+def table():
+    """Returns, for each crate of this repository, what crates.txt says that it uses."""
+    with open(f"{TOP}/crates.txt", encoding="utf-8") as lines:
+        said = [line.split(":", 1) for line in lines if ":" in line and not line.startswith("#")]
+    return {crate.strip(): words.split() for crate, words in said}
+
+
+def below(crate, known, found):
+    """Puts the crate, with what it uses, behind those that it stands on."""
+    if crate not in found:
+        for it in known[crate]:
+            if it in known:
+                below(it, known, found)
+        found[crate] = known[crate]
+    return found
+
+
+def sources(crates):
+    """Returns the paths of what the program is made from, relative to the top."""
+    found = ["HANDLES"]
+    for crate in crates:
+        for part in ("src", "specs", "proofs"):
+            for at, _, names in os.walk(f"{TOP}/crates/{crate}/{part}"):
+                found += [f"{at}/{name}"[len(TOP) + 1 :] for name in names]
+    return sorted(found)
+
+
+def sum_of(top, crates, paths):
+    total = hashlib.sha256(repr(crates).encode())
+    for path in paths:
+        with open(f"{top}/{path}", "rb") as file:
+            content = file.read()
+        total.update(f"{path}\0{len(content)}\0".encode())
+        total.update(content)
+    return total.hexdigest()
+
+
+def built_program():
+    """Returns the path of the program, built first where it isn't there."""
+    crates = below(PROGRAM, table(), {})
+    paths = sources(crates)
+    # A program's name holds the sum of its sources, and it comes there whole: nobody sees half of one, or another's.
+    program = f"{OUT}/{PROGRAM}-{sum_of(TOP, crates, paths)}"
+    if not os.access(program, os.X_OK):
+        from steps import Build, built
+
+        if not built(OUT, program, Build(TOP, f"{OUT}/work", crates), paths, sum_of):
+            print("cabal-plan: the program could not be built", file=sys.stderr)
+            sys.exit(FAILED)
+    return program

@@ -1,0 +1,204 @@
+"""Proves crates side by side and builds the program above them."""
+
+import concurrent.futures
+import contextlib
+import fcntl
+import os
+import shutil
+import signal
+import subprocess
+import sys
+import time
+
+# Bytes that a check takes: at least, for a line of code, for a line of a definition or a proof, and for the kit's crates.
+LEAST, OF_CODE, OF_PROOFS, OF_KIT = 1_000_000_000, 1_000_000, 200_000, 1_500_000_000
+# What each further processor adds to that, as a part of it.
+MORE = 0.6
+PARTS = ("src", "specs", "proofs")
+
+
+def say(text):
+    print(f"cabal-plan: {text}", file=sys.stderr, flush=True)
+
+
+def since(begun):
+    seconds = int(time.monotonic() - begun)
+    return f"{seconds // 60} min {seconds % 60:02} s"
+
+
+@contextlib.contextmanager
+def alone(folder):
+    """Lets one caller at a time build."""
+    os.makedirs(folder, exist_ok=True)
+    with open(f"{folder}/lock", "w", encoding="utf-8") as lock:
+        try:
+            fcntl.flock(lock, fcntl.LOCK_EX | fcntl.LOCK_NB)
+        except BlockingIOError:
+            say("waiting for another call, which builds the program")
+            fcntl.flock(lock, fcntl.LOCK_EX)
+        yield
+
+
+def linked(one, other):
+    """Gives the files of a folder a second name: whoever makes such a file anew removes it first."""
+    shutil.rmtree(other, ignore_errors=True)
+    shutil.copytree(one, other, copy_function=os.link)
+
+
+def lines(folder, ending):
+    found = 0
+    for at, _, names in os.walk(folder):
+        for name in names:
+            if name.endswith(ending):
+                with open(f"{at}/{name}", "rb") as file:
+                    found += file.read().count(b"\n")
+    return found
+
+
+def free_memory():
+    with open("/proc/meminfo", encoding="utf-8") as told:
+        return 1024 * next(int(it.split()[1]) for it in told if it.startswith("MemAvailable:"))
+
+
+class Build:
+    """A copy of the sources, and a folder for each crate with copies of those that it stands on: rt lets one call at a time
+    into a crate's folder, and would keep crates that stand on the same ones waiting for each other."""
+
+    def __init__(self, top, room, crates):
+        """crates: what each uses, of these and of the kit, each behind those that it stands on, and the program last."""
+        self.top, self.room, self.crates, self.sources = top, room, crates, f"{room}/sources"
+        self.used = {crate: [it for it in words if it in crates] for crate, words in crates.items()}
+        self.program = list(crates)[-1]
+        self.running, self.is_stopped, self.memory_free = set(), False, 0
+        self.below, self.work, self.memory, self.ahead = {}, {}, {}, {}
+        for crate in crates:
+            self.below[crate] = sorted({it for dep in self.used[crate] for it in [dep, *self.below[dep]]})
+            code, proofs = lines(f"{top}/crates/{crate}/src", ".rt"), lines(f"{top}/crates/{crate}", ".antt")
+            of_kit = OF_KIT if len(crates[crate]) > len(self.used[crate]) else 0
+            self.work[crate] = code + proofs
+            self.memory[crate] = LEAST + OF_CODE * code + OF_PROOFS * proofs + of_kit
+        # The lines on the longest way to the program.
+        for crate in reversed(crates):
+            above = [self.ahead[it] for it in crates if crate in self.used[it]]
+            self.ahead[crate] = self.work[crate] + max(above, default=0)
+
+    def copy(self, paths):
+        shutil.rmtree(self.sources, ignore_errors=True)
+        for path in paths:
+            os.makedirs(os.path.dirname(f"{self.sources}/{path}"), exist_ok=True)
+            shutil.copyfile(f"{self.top}/{path}", f"{self.sources}/{path}")
+
+    def folder(self, crate, of=None):
+        return f"{self.room}/{crate}/crates/{of or crate}"
+
+    def lay_out(self, crate):
+        """Puts the sources of a crate and of those below it into its folder, with the libraries that were built of these."""
+        os.makedirs(self.folder(crate), exist_ok=True)
+        shutil.copyfile(f"{self.sources}/HANDLES", f"{self.room}/{crate}/HANDLES")
+        with open(f"{self.room}/{crate}/crates.txt", "w", encoding="utf-8") as table:
+            table.writelines(f"{it}: {' '.join(self.crates[it])}\n" for it in [*self.below[crate], crate])
+        for it in [crate, *self.below[crate]]:
+            for part in PARTS:
+                shutil.rmtree(f"{self.folder(crate, it)}/{part}", ignore_errors=True)
+                if os.path.isdir(f"{self.sources}/crates/{it}/{part}"):
+                    linked(f"{self.sources}/crates/{it}/{part}", f"{self.folder(crate, it)}/{part}")
+        for it in self.below[crate]:
+            os.makedirs(f"{self.folder(crate, it)}/out", exist_ok=True)
+            linked(f"{self.folder(it)}/out/rlib", f"{self.folder(crate, it)}/out/rlib")
+
+    def prove(self, crate, jobs, words):
+        """Proves a crate, and returns its log where that fails."""
+        self.lay_out(crate)
+        os.makedirs(f"{self.folder(crate)}/out", exist_ok=True)
+        log = f"{self.folder(crate)}/out/build.log"
+        with open(log, "wb") as file:
+            how = {"stdin": subprocess.DEVNULL, "stdout": file, "stderr": file, "start_new_session": True}
+            ran = subprocess.Popen([*words, "--jobs", str(jobs)], cwd=self.folder(crate), **how)
+            self.running.add(ran)
+            if self.is_stopped:
+                self.stop()
+            status = ran.wait()
+            self.running.discard(ran)
+        if words == RUN:
+            # It also runs what it built, without words: the stamp tells that it was built.
+            status = not os.path.isfile(f"{self.folder(crate)}/out/{crate}.stamp")
+        return log if status else None
+
+    def stop(self):
+        self.is_stopped = True
+        for ran in list(self.running):
+            with contextlib.suppress(ProcessLookupError):
+                os.killpg(ran.pid, signal.SIGTERM)
+
+    def next(self, ready, running, lanes):
+        """Returns the crate to begin now, with how many processors, or None. Each takes one; the longest way to the program
+        doesn't wait for others, and takes those that nobody else would use."""
+        idle = lanes - sum(jobs for _, jobs, _ in running.values())
+        room = 0.85 * self.memory_free - sum(taken for _, _, taken in running.values())
+        first = max(self.ahead[it] for it in [*ready, *(it for it, _, _ in running.values())])
+        for crate in ready:
+            is_first = self.ahead[crate] == first
+            if running and (self.memory[crate] > room or (idle <= 0 and not is_first)):
+                return None
+            spare = idle - len(ready) + 1 if is_first else 1
+            held = 1 + int(max(room / self.memory[crate] - 1, 0) / MORE)
+            return crate, max(1, min(spare, held))
+        return None
+
+    def run(self):
+        """Proves all crates; the last of them is the program."""
+        begun, done, running = time.monotonic(), set(), {}
+        lanes, self.memory_free = len(os.sched_getaffinity(0)), free_memory()
+        left = sorted(self.used, key=lambda it: -self.ahead[it])
+        try:
+            with concurrent.futures.ThreadPoolExecutor(lanes + 1) as pool:
+                while left or running:
+                    while begin := self.next([it for it in left if done.issuperset(self.used[it])], running, lanes):
+                        crate, jobs = begin
+                        left.remove(crate)
+                        taken = self.memory[crate] * (1 + MORE * (jobs - 1))
+                        ran = pool.submit(self.prove, crate, jobs, RUN if crate == self.program else LIB)
+                        running[ran] = (crate, jobs, taken)
+                    now = ", ".join(crate for crate, _, _ in running.values())
+                    say(f"{len(done)} of {len(self.used)} crates proved, {len(self.used) - len(done)} left, {since(begun)}; now {now}")
+                    for it in concurrent.futures.wait(running, return_when=concurrent.futures.FIRST_COMPLETED).done:
+                        crate, log = running.pop(it)[0], it.result()
+                        if log:
+                            self.stop()
+                            self.show(crate, log)
+                            return False
+                        done.add(crate)
+        except BaseException:
+            self.stop()
+            raise
+        say(f"all {len(self.used)} crates proved, and the program built, {since(begun)}")
+        return True
+
+    def show(self, crate, log):
+        with open(log, encoding="utf-8", errors="replace") as said:
+            sys.stderr.write(said.read())
+        say(f"{crate} could not be proved")
+
+
+LIB, RUN = ["rt", "lib"], ["rt", "run"]
+
+
+def built(out, program, build, paths, sum_of):
+    """Builds the program under this name, which holds the sum of its sources; returns whether it is there."""
+    with alone(out):
+        if os.access(program, os.X_OK):
+            return True
+        say("the program isn't built for these sources: it is built now, which proves it first")
+        build.copy(paths)
+        if not program.endswith(sum_of(build.sources, build.crates, paths)):
+            say("the sources changed while they were read: call again")
+            return False
+        if not build.run():
+            return False
+        for name in os.listdir(out):
+            if name.startswith(f"{build.program}-"):
+                os.remove(f"{out}/{name}")
+        shutil.copyfile(f"{build.folder(build.program)}/out/{build.program}", f"{program}.new")
+        os.chmod(f"{program}.new", 0o755)
+        os.replace(f"{program}.new", program)
+        return True

@@ -1,5 +1,0 @@
--- the ledger is that of the blank
-use Rattle.backjump.proofs.tests.states.answers.Given as goal
-
-abbrev pub ghosts-moved : goal.ghosts-moved
-ghosts-moved g a = record { name = a.blank.name; parts = a.blank.parts }

@@ -1,6 +1,0 @@
--- the state stays one of the problem
-use Rattle.validation.specs.Standing.{Stands}
-use Rattle.backjump.proofs.tests.states.moved.Given as goal
-
-abbrev pub invariant-loop-byte : goal.invariant-loop-byte
-invariant-loop-byte g l = Stands (g.C.Choices.problem l.choices) l.state

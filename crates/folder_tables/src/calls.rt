@@ -1,0 +1,73 @@
+// Calls on folders as they are written, `list` or `read` and a path behind `./`, with what is answered.
+
+use outside_folder::{Folder, Name};
+use std::alloc::Global;
+use std::test::Fail;
+
+// The names, with a `/` behind those of directories.
+fn shown_names(alloc: Global, names: &[Name]) -> Result<String, Fail> {
+    let mut line = String::from_str(alloc, "names")?;
+    for name in names {
+        line.push_str(" ")?;
+        line.push_str(name.text.as_str())?;
+        line.push_str(if name.folder { "/" } else { "" })?;
+    }
+    Ok(line)
+}
+
+// The bytes as a text, or how many there are of a large file.
+fn shown_bytes(alloc: Global, bytes: &[u8]) -> Result<String, Fail> {
+    let count = bytes.len();
+    if count > 100 {
+        return Ok(format!(in alloc; "{count} bytes")?);
+    }
+    let text = str::from_utf8(bytes)?;
+    Ok(format!(in alloc; "bytes {text}")?)
+}
+
+fn listed<F: Folder>(alloc: Global, folder: &mut F, dir: &str) -> Result<String, Fail> {
+    match folder.list(alloc, dir) {
+        Ok(Some(names)) => shown_names(alloc, names.as_slice()),
+        Ok(None) => Ok(String::from_str(alloc, "none")?),
+        Err(fault) => Ok(format!(in alloc; "{fault:?}")?),
+    }
+}
+
+fn read<F: Folder>(alloc: Global, folder: &mut F, path: &str) -> Result<String, Fail> {
+    match folder.read(alloc, path) {
+        Ok(Some(bytes)) => shown_bytes(alloc, bytes.as_slice()),
+        Ok(None) => Ok(String::from_str(alloc, "none")?),
+        Err(fault) => Ok(format!(in alloc; "{fault:?}")?),
+    }
+}
+
+pub(crate) fn answered<F: Folder>(
+    alloc: Global,
+    folder: &mut F,
+    call: &str,
+) -> Result<String, Fail> {
+    let (name, path) = call.split_once(" ./").ok_or("no path")?;
+    if name == "list" {
+        listed(alloc, folder, path)
+    } else {
+        read(alloc, folder, path)
+    }
+}
+
+/// Of calls and answers, a line each, the calls with another answer, and what they answer.
+pub(crate) fn others<F: Folder>(
+    alloc: Global,
+    folder: &mut F,
+    calls: &str,
+) -> Result<String, Fail> {
+    let mut others = String::new(alloc);
+    for line in calls.lines() {
+        let (call, wanted) = line.split_once(" => ").ok_or("no answer")?;
+        let found = answered(alloc, folder, call)?;
+        if found.as_str() != wanted {
+            let other = format!(in alloc; "{call} => {found}\n")?;
+            others.push_str(other.as_str())?;
+        }
+    }
+    Ok(others)
+}

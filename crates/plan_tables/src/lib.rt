@@ -1,0 +1,21 @@
+//! Tests alone: tables of what the calls between a folder's texts and the search answer, and of the texts that are printed.
+#![tactic(auto)]
+
+#[cfg(test)]
+mod answers;
+#[cfg(test)]
+mod bars;
+#[cfg(test)]
+mod entries;
+#[cfg(test)]
+mod orders;
+#[cfg(test)]
+mod packages;
+#[cfg(test)]
+mod projects;
+#[cfg(test)]
+mod tables;
+#[cfg(test)]
+mod variables;
+#[cfg(test)]
+mod words;

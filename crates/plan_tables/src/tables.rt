@@ -1,0 +1,95 @@
+// Each table has a case a line: what is asked, and behind the last ` => ` the answer. One loop goes over all of them, and no
+// contract of a call that is asked is known where it stands.
+use crate::{answers, bars, entries, orders, projects, variables, words};
+use std::alloc::Global;
+use std::test::Fail;
+
+#[derive(Clone, Copy)]
+enum Table {
+    Projects,
+    Entries,
+    Words,
+    Variables,
+    Bars,
+    Orders,
+    Answers,
+}
+
+fn cases(table: Table) -> &'static str {
+    match table {
+        Table::Projects => projects::CASES,
+        Table::Entries => entries::CASES,
+        Table::Words => words::CASES,
+        Table::Variables => variables::CASES,
+        Table::Bars => bars::CASES,
+        Table::Orders => orders::CASES,
+        Table::Answers => answers::CASES,
+    }
+}
+
+fn answer(alloc: Global, table: Table, case: &str) -> Result<String, Fail> {
+    match table {
+        Table::Projects => projects::answer(alloc, case),
+        Table::Entries => entries::answer(alloc, case),
+        Table::Words => words::answer(alloc, case),
+        Table::Variables => variables::answer(alloc, case),
+        Table::Bars => bars::answer(alloc, case),
+        Table::Orders => orders::answer(alloc, case),
+        Table::Answers => answers::answer(alloc, case),
+    }
+}
+
+// The cases of a table with another answer, and that answer below each.
+fn others(alloc: Global, table: Table) -> Result<String, Fail> {
+    let mut others = String::new(alloc);
+    for line in cases(table).lines() {
+        let (case, wanted) = line.rsplit_once(" => ").ok_or("no answer")?;
+        let found = answer(alloc, table, case)?;
+        if found.as_str() != wanted {
+            others.push_str(format!(in alloc; "{line}\n{found}\n")?.as_str())?;
+        }
+    }
+    Ok(others)
+}
+
+#[test]
+fn project_files(rt: HostRuntime) -> Result<(), Fail> {
+    assert_eq!(rt; others(rt.alloc(), Table::Projects)?.as_str(), "");
+    Ok(())
+}
+
+#[test]
+fn entries_of_projects(rt: HostRuntime) -> Result<(), Fail> {
+    assert_eq!(rt; others(rt.alloc(), Table::Entries)?.as_str(), "");
+    Ok(())
+}
+
+#[test]
+fn words_and_their_meaning(rt: HostRuntime) -> Result<(), Fail> {
+    assert_eq!(rt; others(rt.alloc(), Table::Words)?.as_str(), "");
+    Ok(())
+}
+
+#[test]
+fn variables_in_goal_order(rt: HostRuntime) -> Result<(), Fail> {
+    assert_eq!(rt; others(rt.alloc(), Table::Variables)?.as_str(), "");
+    Ok(())
+}
+
+#[test]
+fn bars_and_relaxed_ranges(rt: HostRuntime) -> Result<(), Fail> {
+    assert_eq!(rt; others(rt.alloc(), Table::Bars)?.as_str(), "");
+    Ok(())
+}
+
+#[test]
+fn orders_of_instances(rt: HostRuntime) -> Result<(), Fail> {
+    assert_eq!(rt; others(rt.alloc(), Table::Orders)?.as_str(), "");
+    Ok(())
+}
+
+#[test]
+fn texts_of_answers(rt: HostRuntime) -> Result<(), Fail> {
+    assert_eq!(rt; others(rt.alloc(), Table::Answers)?.as_str(), "");
+    Ok(())
+}

@@ -1,0 +1,247 @@
+ghost use Rattle.std.specs.Prelude.{◌≡◌, ◌<◌};
+
+use crate::problems::{package, problem, push_name, push_names};
+use backjump::search;
+use choice_problem::{Choice, Choices, ConflictSet, Counts, Demand, Limit, Outcome, Steps, Var};
+use plan_types::{List, NoMemory};
+use std::alloc::Global;
+use std::cell::Cell;
+use std::marker::Brand;
+use std::sync::ledger::{Blank, Ledger};
+use std::test::Fail;
+
+// A problem, the limit, and the outcome.
+//
+// In the third the packages are, in goal order, a, b, c, main, and one without values. The package main asks for b and c;
+// b's value 1 asks for c's value 0, which asks for the fifth; b's value 0 asks for a. The next is a problem to which those
+// behind it add a word that breaks a law: a variable that is listed twice, an order that is no permutation, a root of what
+// isn't listed, a root with a condition, a demand without one, and a condition on two packages.
+const CASES: &str = "\
+- => unlimited => found; visited 0 exhausted 0
+0: >>0: => unlimited => no plan 0; visited 0 exhausted 1
+0:10 1:10 2:10 3:0 4: >>3:0 3.0>1:01 3.0>2:01 1.1>2:0 1.0>0:01 2.0>4: => unlimited => found 3.0 1.0 0.1 2.1; visited 7 exhausted 2
+0:0 1:012/2 2:0 >>0:0 0.0>1:02 0.0>2:0 2.0>1: => unlimited => no plan 0 1 2; visited 5 exhausted 3
+0:0 1:012/2 2:0 >>0:0 0.0>1:02 0.0>2:0 2.0>1: 0:0 => unlimited => refused
+0:0 1:012/2 2:0 >>0:0 0.0>1:02 0.0>2:0 2.0>1: 8:12 => unlimited => refused
+0:0 1:012/2 2:0 >>0:0 0.0>1:02 0.0>2:0 2.0>1: >>8:0 => unlimited => refused
+0:0 1:012/2 2:0 >>0:0 0.0>1:02 0.0>2:0 2.0>1: 0.0>>1:0 => unlimited => refused
+0:0 1:012/2 2:0 >>0:0 0.0>1:02 0.0>2:0 2.0>1: >1:0 => unlimited => refused
+0:0 1:012/2 2:0 >>0:0 0.0>1:02 0.0>2:0 2.0>1: 0.0,1.0>2:0 => unlimited => refused
+";
+
+// A limit, and the outcome for the thirty names.
+const LIMITS: &str = "\
+unlimited => no plan 0 1 31; visited 125 exhausted 6
+5 => no plan 0 1 31; visited 125 exhausted 6
+4 => gave up; visited 125 exhausted 4
+";
+
+// Four packages, and a fifth that allows no value of the first.
+const FIVE: &str =
+    "0:0123 1:0123 2:0123 3:0123 4:0 >>0:0123 >>1:0123 >>2:0123 >>3:0123 >>4:0 4.0>0:";
+
+fn push_asked(line: &mut String, number: u64) -> Result<(), NoMemory> {
+    write!(line, " {number}:0123 0.0>{number}:0123")?;
+    Ok(())
+}
+
+// The package 0 asks for 1 to 30, which have four values each, and for 31, whose one value allows none of 1's.
+fn thirty_names(alloc: Global) -> Result<String, Fail> {
+    let mut line = String::from_str(alloc, "0:0 >>0:0")?;
+    for number in 1..31 {
+        push_asked(&mut line, number)?;
+    }
+    line.push_str(" 31:0 0.0>31:0 31.0>1:")?;
+    Ok(line)
+}
+
+fn counted<C: Choices, L: Ledger>(
+    alloc: Global,
+    choices: &C,
+    limit: Limit,
+    blank: Blank,
+) -> Result<Outcome, NoMemory>
+    requires name { blank.name ≡ L.name }
+    requires parts { blank.parts ≡ L.parts }
+    requires some { 0 < L.parts }
+{
+    let mut steps: Steps<L> = Steps::open(blank);
+    search(alloc, choices, limit, &mut steps)
+}
+
+fn searched<C: Choices>(alloc: Global, choices: &C, limit: Limit) -> Result<Outcome, NoMemory> {
+    counted::<C, Brand>(alloc, choices, limit, Blank::new(1))
+}
+
+fn push_trail(text: &mut String, trail: &[Choice]) -> Result<(), NoMemory> {
+    for choice in trail {
+        let val = choice.val;
+        text.push_str(" ")?;
+        push_name(text, choice.var)?;
+        write!(text, ".{val}")?;
+    }
+    Ok(())
+}
+
+fn push_counts(text: &mut String, counts: Counts) -> Result<(), NoMemory> {
+    let Counts { visited, exhausted } = counts;
+    write!(text, "; visited {visited} exhausted {exhausted}")?;
+    Ok(())
+}
+
+fn shown(alloc: Global, outcome: &Outcome) -> Result<String, NoMemory> {
+    let mut text = String::new(alloc);
+    match outcome {
+        Outcome::Found { trail, counts } => {
+            text.push_str("found")?;
+            push_trail(&mut text, trail.as_slice())?;
+            push_counts(&mut text, *counts)?;
+        }
+        Outcome::NoPlan { set, counts } => {
+            text.push_str("no plan")?;
+            push_names(&mut text, set.vars())?;
+            push_counts(&mut text, *counts)?;
+        }
+        Outcome::GaveUp { counts } => {
+            text.push_str("gave up")?;
+            push_counts(&mut text, *counts)?;
+        }
+    }
+    Ok(text)
+}
+
+fn limit_of(text: &str) -> Result<Limit, Fail> {
+    if text == "unlimited" {
+        return Ok(Limit::Unlimited);
+    }
+    Ok(Limit::At(text.parse::<u64>()?))
+}
+
+fn outcome_at(alloc: Global, line: &str, limit: &str) -> Result<String, Fail> {
+    let Some(problem) = problem(alloc, line)? else {
+        return Ok(String::from_str(alloc, "refused")?);
+    };
+    let outcome = searched(alloc, &problem, limit_of(limit)?)?;
+    Ok(shown(alloc, &outcome)?)
+}
+
+fn answered(alloc: Global, asked: &str) -> Result<String, Fail> {
+    let (line, limit) = asked.split_once(" => ").ok_or("no limit")?;
+    outcome_at(alloc, line, limit)
+}
+
+#[test]
+fn outcomes(rt: HostRuntime) -> Result<(), Fail> {
+    let alloc = rt.alloc();
+    for line in CASES.lines() {
+        let (asked, wanted) = line.rsplit_once(" => ").ok_or("no answer")?;
+        assert_eq!(rt; answered(alloc, asked)?.as_str(), wanted, "{line}");
+    }
+    Ok(())
+}
+
+#[test]
+fn outcomes_at_limits(rt: HostRuntime) -> Result<(), Fail> {
+    let alloc = rt.alloc();
+    let problem = thirty_names(alloc)?;
+    for line in LIMITS.lines() {
+        let (limit, wanted) = line.split_once(" => ").ok_or("no answer")?;
+        assert_eq!(rt;
+            outcome_at(alloc, problem.as_str(), limit)?.as_str(),
+            wanted,
+            "{line}"
+        );
+    }
+    Ok(())
+}
+
+fn no_plan(alloc: Global, numbers: &[u64], counts: Counts) -> Result<Outcome, NoMemory> {
+    let mut vars = Vec::new(alloc);
+    for number in numbers {
+        vars.push(package(*number))?;
+    }
+    let set = ConflictSet::of(alloc, vars.as_slice())?;
+    Ok(Outcome::NoPlan { set, counts })
+}
+
+// Whether the search of the five ends with the set of these packages.
+fn ends(alloc: Global, numbers: &[u64]) -> Result<bool, Fail> {
+    let problem = problem(alloc, FIVE)?.ok_or("refused")?;
+    let outcome = searched(alloc, &problem, Limit::Unlimited)?;
+    let counts = Counts {
+        visited: 20,
+        exhausted: 5,
+    };
+    Ok(outcome == no_plan(alloc, numbers, counts)?)
+}
+
+// Outcomes are the same where sets and counts are.
+#[test]
+fn same_outcomes(rt: HostRuntime) -> Result<(), Fail> {
+    assert!(rt; ends(rt.alloc(), &[4, 0, 4])?);
+    assert!(rt; !ends(rt.alloc(), &[4, 1])?);
+    Ok(())
+}
+
+// A problem that counts two of the questions that it is asked.
+#[derive(Drop)]
+struct Asked<C> {
+    choices: C,
+    orders: Cell<u64>,
+    demands: Cell<u64>,
+}
+
+impl<C: Choices> Choices for Asked<C> {
+    ghost problem = { λ a. C.problem a.choices };
+
+    ghost lawful = { λ a. C.lawful a.choices };
+
+    fn known(&self, v: Var) -> bool {
+        self.choices.known(v)
+    }
+
+    fn domain(&self, v: Var) -> u64 {
+        self.choices.domain(v)
+    }
+
+    fn roots(&self, alloc: Global) -> Result<List<Demand>, NoMemory> {
+        self.choices.roots(alloc)
+    }
+
+    fn order(&self, alloc: Global, v: Var, trail: &List<Choice>) -> Result<List<u64>, NoMemory> {
+        self.orders.set(self.orders.get().saturating_add(1));
+        self.choices.order(alloc, v, trail)
+    }
+
+    fn barred(&self, c: Choice) -> bool {
+        self.choices.barred(c)
+    }
+
+    fn demands(&self, alloc: Global, owner: Choice) -> Result<List<Demand>, NoMemory> {
+        self.demands.set(self.demands.get().saturating_add(1));
+        self.choices.demands(alloc, owner)
+    }
+}
+
+// The outcome of a problem, and how often its search asks for orders and for demands.
+fn questions<C: Choices + Drop>(alloc: Global, choices: C) -> Result<(String, u64, u64), NoMemory> {
+    let asked = Asked {
+        choices,
+        orders: Cell::new(0),
+        demands: Cell::new(0),
+    };
+    let outcome = searched(alloc, &asked, Limit::Unlimited)?;
+    let text = shown(alloc, &outcome)?;
+    Ok((text, asked.orders.get(), asked.demands.get()))
+}
+
+#[test]
+fn asks_few_questions(rt: HostRuntime) -> Result<(), Fail> {
+    let alloc = rt.alloc();
+    let problem = problem(alloc, FIVE)?.ok_or("refused")?;
+    let (outcome, orders, demands) = questions(alloc, problem)?;
+    assert_eq!(rt; outcome.as_str(), "no plan 0 4; visited 20 exhausted 5");
+    assert!(rt; orders <= 17);
+    assert!(rt; demands <= 20);
+    Ok(())
+}

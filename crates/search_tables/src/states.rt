@@ -1,0 +1,183 @@
+// The state of a search, move by move: what it answers to a value, what it opens, and what undoing gives back.
+ghost use Rattle.std.specs.Prelude.{◌≡◌, ◌<◌, IsTrue};
+ghost use Rattle.choice_problem.specs.Problem.{Problem};
+ghost use Rattle.validation.specs.Standing.{Stands};
+
+use crate::problems::{problem, push_name, push_names};
+use choice_problem::{Choice, Choices, Steps, Var};
+use plan_types::NoMemory;
+use std::alloc::Global;
+use std::marker::Brand;
+use std::sync::ledger::{Blank, Ledger};
+use std::test::Fail;
+use validation::{State, Verdict};
+
+// A problem, the moves, and what is answered to each. A digit tries that value of the least open variable, `<` takes the
+// last choice back, and `?` asks what is open.
+//
+// The first has a bar, an active demand that refuses the value, and one that becomes active and is broken. The next three
+// are rings of packages, of which the first also asks for one that is on no cycle. The set of the cycle in the fifth has
+// the flag in its condition, and with the flag off there is none. In the last, what became active first is the reason, and
+// refuses first, wherever its owner stands.
+const CASES: &str = "\
+0:0 1:012/2 2:0 >>0:0 0.0>1:02 0.0>2:0 2.0>1: => ?0?210?0<? => 0 by; ok; 1 by 0; not 1; not 0 1; ok; 2 by 0; not 1 2; back; 1 by 0
+0:0 9:0 >>0:0 0.0>0:0 0.0>9:0 => 0? => not 0; 0 by
+0:0 1:0 9:0 >>0:0 0.0>1:0 1.0>0:0 0.0>9:0 => 00? => ok; not 0 1; 1 by 0
+0:0 1:0 2:0 9:0 >>0:0 0.0>1:0 1.0>2:0 2.0>0:0 0.0>9:0 => 000?<? => ok; ok; not 0 1 2; 2 by 1; back; 1 by 0
+0:0 1:0 1f:10 3:0 >>0:0 0.0>1:0 0.0>3:0 1.0>1f:01 1.0,1f.1>0:0 => 001?0? => ok; ok; not 0 1 1f; 1f by 1; ok; 3 by 0
+3:0 5:0 5f:10 7:10 >>5:0 5.0>5f:01 5.0,5f.1>7:0 5.0>3:0 3.0>7:0 => 0?0?1?10?<?<0? => ok; 3 by 5; ok; 5f by 5; ok; 7 by 3; not 3 7; ok; all; back; 7 by 3; back; ok; 7 by 3
+";
+
+// The first of them.
+const FIRST: &str = "0:0 1:012/2 2:0 >>0:0 0.0>1:02 0.0>2:0 2.0>1:";
+
+fn has_value<C: Choices>(choices: &C, var: Var, val: u64) -> bool
+    ensures { IsTrue result → val < (C.problem choices.now).domain var }
+{
+    choices.known(var) && val < choices.domain(var)
+}
+
+// Tries a value of the least open variable, where there is one with that value.
+fn tried<C: Choices, L: Ledger>(
+    alloc: Global,
+    choices: &C,
+    state: &mut State,
+    val: u64,
+    steps: &mut Steps<L>,
+) -> Result<Option<Verdict>, NoMemory>
+    requires { Stands (C.problem choices.now) state.old }
+    ensures { Stands (C.problem choices.now) state.new }
+{
+    let Some(var) = state.least() else {
+        return Ok(None);
+    };
+    if !has_value(choices, var, val) {
+        return Ok(None);
+    }
+    let verdict = state.choose(alloc, choices, Choice { var, val }, steps)?;
+    Ok(Some(verdict))
+}
+
+// Takes the last choice back, where there is one.
+fn undone(state: &mut State) -> bool
+    ensures { (p : Problem) → Stands p state.old → Stands p state.new }
+{
+    if state.trail().is_empty() {
+        return false;
+    }
+    state.undo();
+    true
+}
+
+fn push_undone(text: &mut String, undone: bool) -> Result<(), NoMemory> {
+    text.push_str(if undone { "back" } else { "none" })?;
+    Ok(())
+}
+
+fn push_verdict(text: &mut String, verdict: &Option<Verdict>) -> Result<(), NoMemory> {
+    match verdict {
+        None => text.push_str("none")?,
+        Some(Verdict::Accepted) => text.push_str("ok")?,
+        Some(Verdict::Conflict(set)) => {
+            text.push_str("not")?;
+            push_names(text, set.vars())?;
+        }
+    }
+    Ok(())
+}
+
+// What the state tells of its least open variable, and why it is open.
+fn push_open(alloc: Global, text: &mut String, state: &State) -> Result<(), NoMemory> {
+    let Some(var) = state.least() else {
+        text.push_str("all")?;
+        return Ok(());
+    };
+    push_name(text, var)?;
+    text.push_str(" by")?;
+    let reason = state.reason(alloc, var)?;
+    push_names(text, reason.vars())
+}
+
+fn push_gap(text: &mut String) -> Result<(), NoMemory> {
+    if !text.is_empty() {
+        text.push_str("; ")?;
+    }
+    Ok(())
+}
+
+fn made<C: Choices, L: Ledger>(
+    alloc: Global,
+    choices: &C,
+    state: &mut State,
+    steps: &mut Steps<L>,
+    text: &mut String,
+    byte: u8,
+) -> Result<(), NoMemory>
+    requires { Stands (C.problem choices.now) state.old }
+    ensures { Stands (C.problem choices.now) state.new }
+{
+    push_gap(text)?;
+    match byte {
+        b'<' => push_undone(text, undone(state)),
+        b'?' => push_open(alloc, text, state),
+        _ => {
+            let verdict = tried(alloc, choices, state, u64::from(byte & 15), steps)?;
+            push_verdict(text, &verdict)
+        }
+    }
+}
+
+fn moved<C: Choices, L: Ledger>(
+    alloc: Global,
+    choices: &C,
+    moves: &[u8],
+    blank: Blank,
+) -> Result<String, NoMemory>
+    requires name { blank.name ≡ L.name }
+    requires parts { blank.parts ≡ L.parts }
+    requires some { 0 < L.parts }
+{
+    let mut steps: Steps<L> = Steps::open(blank);
+    let mut state = State::new(alloc, choices)?;
+    let mut text = String::new(alloc);
+    for byte in moves {
+        made(alloc, choices, &mut state, &mut steps, &mut text, *byte)?;
+    }
+    Ok(text)
+}
+
+fn answers<C: Choices>(alloc: Global, choices: &C, moves: &str) -> Result<String, NoMemory> {
+    moved::<C, Brand>(alloc, choices, moves.as_bytes(), Blank::new(1))
+}
+
+fn answers_of(alloc: Global, line: &str, moves: &str) -> Result<String, Fail> {
+    let problem = problem(alloc, line)?.ok_or("refused")?;
+    Ok(answers(alloc, &problem, moves)?)
+}
+
+fn answered(alloc: Global, asked: &str) -> Result<String, Fail> {
+    let (line, moves) = asked.split_once(" => ").ok_or("no moves")?;
+    answers_of(alloc, line, moves)
+}
+
+#[test]
+fn conflicts_and_reasons(rt: HostRuntime) -> Result<(), Fail> {
+    let alloc = rt.alloc();
+    for line in CASES.lines() {
+        let (asked, wanted) = line.rsplit_once(" => ").ok_or("no answer")?;
+        assert_eq!(rt; answered(alloc, asked)?.as_str(), wanted, "{line}");
+    }
+    Ok(())
+}
+
+#[test]
+fn a_thousand_choices_on_one_state(rt: HostRuntime) -> Result<(), Fail> {
+    let alloc = rt.alloc();
+    let mut moves = "0<".repeat(alloc, 1000)?;
+    moves.push_str("?")?;
+    let mut wanted = "ok; back; ".repeat(alloc, 1000)?;
+    wanted.push_str("0 by")?;
+    let found = answers_of(alloc, FIRST, moves.as_str())?;
+    assert_eq!(rt; found.as_str(), wanted.as_str());
+    Ok(())
+}
