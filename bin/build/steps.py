@@ -109,8 +109,11 @@ class Build:
     def prove(self, crate, jobs, words):
         """Proves a crate, and returns its log where that fails."""
         self.lay_out(crate)
-        os.makedirs(f"{self.folder(crate)}/out", exist_ok=True)
-        log = f"{self.folder(crate)}/out/build.log"
+        out = f"{self.folder(crate)}/out"
+        os.makedirs(out, exist_ok=True)
+        log, stamp = f"{out}/build.log", f"{out}/{crate}.stamp"
+        with contextlib.suppress(FileNotFoundError):
+            os.remove(stamp)
         with open(log, "wb") as file:
             how = {"stdin": subprocess.DEVNULL, "stdout": file, "stderr": file, "start_new_session": True}
             ran = subprocess.Popen([*words, "--jobs", str(jobs)], cwd=self.folder(crate), **how)
@@ -121,7 +124,7 @@ class Build:
             self.running.discard(ran)
         if words == RUN:
             # It also runs what it built, without words: the stamp tells that it was built.
-            status = not os.path.isfile(f"{self.folder(crate)}/out/{crate}.stamp")
+            status = not os.path.isfile(stamp)
         return log if status else None
 
     def stop(self):
@@ -181,6 +184,14 @@ class Build:
 
 
 LIB, RUN = ["rt", "lib"], ["rt", "run"]
+# How many programs of earlier sources are kept, for other checkouts.
+KEPT = 4
+
+
+def drop_old(out, program):
+    found = [f"{out}/{name}" for name in os.listdir(out) if name.startswith(f"{program}-")]
+    for path in sorted(found, key=os.path.getmtime)[:-KEPT]:
+        os.remove(path)
 
 
 def built(out, program, build, paths, sum_of):
@@ -188,6 +199,9 @@ def built(out, program, build, paths, sum_of):
     with alone(out):
         if os.access(program, os.X_OK):
             return True
+        if not shutil.which("rt"):
+            say("the kit's command rt isn't found, and nothing is built without it")
+            return False
         say("the program isn't built for these sources: it is built now, which proves it first")
         build.copy(paths)
         if not program.endswith(sum_of(build.sources, build.crates, paths)):
@@ -195,9 +209,7 @@ def built(out, program, build, paths, sum_of):
             return False
         if not build.run():
             return False
-        for name in os.listdir(out):
-            if name.startswith(f"{build.program}-"):
-                os.remove(f"{out}/{name}")
+        drop_old(out, build.program)
         shutil.copyfile(f"{build.folder(build.program)}/out/{build.program}", f"{program}.new")
         os.chmod(f"{program}.new", 0o755)
         os.replace(f"{program}.new", program)

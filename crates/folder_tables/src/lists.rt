@@ -10,24 +10,25 @@ fn numbers(alloc: Global, numbers: &[u32]) -> Result<List<u32>, Fail> {
     Ok(list)
 }
 
-// What is left of a list behind the last item, and what that is.
-fn popped(alloc: Global, items: &[u32]) -> Result<String, Fail> {
-    let mut list = numbers(alloc, items)?;
-    let last = list.pop();
-    let left = list.as_slice();
-    let count = list.len();
-    let empty = list.is_empty();
-    Ok(format!(in alloc; "{left:?} {count} {empty}, {last:?}")?)
+// Whether a list holds these items, and tells how many.
+fn holds(list: &List<u32>, wanted: &[u32]) -> bool {
+    list.as_slice() == wanted && list.len() == wanted.len() && list.is_empty() == wanted.is_empty()
+}
+
+fn last(list: &mut List<u32>) -> Option<u32> {
+    list.pop()
 }
 
 #[test]
 fn grows_and_shrinks_at_its_end(rt: HostRuntime) -> Result<(), Fail> {
     let alloc = rt.alloc();
-    assert_eq!(rt; popped(alloc, &[])?.as_str(), "[] 0 true, None");
-    assert_eq!(rt;
-        popped(alloc, &[7, 8, 9])?.as_str(),
-        "[7, 8] 2 false, Some(9)"
-    );
+    let mut empty = numbers(alloc, &[])?;
+    assert!(rt; holds(&empty, &[]));
+    assert_eq!(rt; last(&mut empty), None);
+    let mut list = numbers(alloc, &[7, 8, 9])?;
+    assert!(rt; holds(&list, &[7, 8, 9]));
+    assert_eq!(rt; last(&mut list), Some(9));
+    assert!(rt; holds(&list, &[7, 8]));
     Ok(())
 }
 

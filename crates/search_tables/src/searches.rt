@@ -29,7 +29,18 @@ const CASES: &str = "\
 0:0 1:012/2 2:0 >>0:0 0.0>1:02 0.0>2:0 2.0>1: 0.0,1.0>2:0 => unlimited => refused
 ";
 
-// A limit, and the outcome for the thirty names.
+// The package 0 asks for 1 to 30, which have four values each, and for 31, whose one value allows none of 1's.
+const THIRTY: &str = "\
+0:0 >>0:0 \
+1:0123 2:0123 3:0123 4:0123 5:0123 6:0123 7:0123 8:0123 9:0123 10:0123 \
+11:0123 12:0123 13:0123 14:0123 15:0123 16:0123 17:0123 18:0123 19:0123 20:0123 \
+21:0123 22:0123 23:0123 24:0123 25:0123 26:0123 27:0123 28:0123 29:0123 30:0123 \
+0.0>1:0123 0.0>2:0123 0.0>3:0123 0.0>4:0123 0.0>5:0123 0.0>6:0123 0.0>7:0123 0.0>8:0123 0.0>9:0123 0.0>10:0123 \
+0.0>11:0123 0.0>12:0123 0.0>13:0123 0.0>14:0123 0.0>15:0123 0.0>16:0123 0.0>17:0123 0.0>18:0123 0.0>19:0123 0.0>20:0123 \
+0.0>21:0123 0.0>22:0123 0.0>23:0123 0.0>24:0123 0.0>25:0123 0.0>26:0123 0.0>27:0123 0.0>28:0123 0.0>29:0123 0.0>30:0123 \
+31:0 0.0>31:0 31.0>1:";
+
+// A limit, and the outcome for the thirty.
 const LIMITS: &str = "\
 unlimited => no plan 0 1 31; visited 125 exhausted 6
 5 => no plan 0 1 31; visited 125 exhausted 6
@@ -39,21 +50,6 @@ unlimited => no plan 0 1 31; visited 125 exhausted 6
 // Four packages, and a fifth that allows no value of the first.
 const FIVE: &str =
     "0:0123 1:0123 2:0123 3:0123 4:0 >>0:0123 >>1:0123 >>2:0123 >>3:0123 >>4:0 4.0>0:";
-
-fn push_asked(line: &mut String, number: u64) -> Result<(), NoMemory> {
-    write!(line, " {number}:0123 0.0>{number}:0123")?;
-    Ok(())
-}
-
-// The package 0 asks for 1 to 30, which have four values each, and for 31, whose one value allows none of 1's.
-fn thirty_names(alloc: Global) -> Result<String, Fail> {
-    let mut line = String::from_str(alloc, "0:0 >>0:0")?;
-    for number in 1..31 {
-        push_asked(&mut line, number)?;
-    }
-    line.push_str(" 31:0 0.0>31:0 31.0>1:")?;
-    Ok(line)
-}
 
 fn counted<C: Choices, L: Ledger>(
     alloc: Global,
@@ -143,11 +139,10 @@ fn outcomes(rt: HostRuntime) -> Result<(), Fail> {
 #[test]
 fn outcomes_at_limits(rt: HostRuntime) -> Result<(), Fail> {
     let alloc = rt.alloc();
-    let problem = thirty_names(alloc)?;
     for line in LIMITS.lines() {
         let (limit, wanted) = line.split_once(" => ").ok_or("no answer")?;
         assert_eq!(rt;
-            outcome_at(alloc, problem.as_str(), limit)?.as_str(),
+            outcome_at(alloc, THIRTY, limit)?.as_str(),
             wanted,
             "{line}"
         );

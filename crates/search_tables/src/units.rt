@@ -1,5 +1,3 @@
-ghost use Rattle.std.specs.Prelude.{◌≡◌, length};
-
 use crate::graphs::graph;
 use lacking_units::leading;
 use plan_types::{List, NoMemory};
