@@ -5,7 +5,7 @@ use Rattle.std.proofs.lemmas.Bool.{false≢true}
 use Rattle.plan_types.specs.declared.range.Spec.{Spec}
 use Rattle.plan_types.specs.declared.refusal.Cause.{Cause}
 use Rattle.plan_types.specs.declared.refusal.Cause.TheVariants.{NeedsVersion, TooDeep, BadCond}
-use Rattle.version_range.specs.Grammar.{is_old}
+use Rattle.plan_types.specs.Format.{is_old}
 use Rattle.text_grammar.proofs.TextKind.{Digits, Kind, ends_with}
 use Rattle.text_grammar.proofs.Fronts.{Apart, NoDigit}
 

@@ -14,7 +14,8 @@ use Rattle.text_grammar.proofs.Fronts.{Reader, head_of, errs, Apart, Read, Dead,
 use Rattle.text_grammar.proofs.ChainParts.{ok_parts}
 use Rattle.text_grammar.proofs.Exactly.{Order, shorter, same, longer, order}
 use Rattle.text_grammar.proofs.Letters.{Reads, Pair}
-use Rattle.version_range.specs.Grammar.{is_old, Stands, Viable}
+use Rattle.plan_types.specs.Format.{is_old}
+use Rattle.version_range.specs.Grammar.{Stands, Viable}
 use Rattle.version_range.proofs.RangeKind.{decimals, range_kind}
 use Rattle.version_range.proofs.NoBraces.{is_plain, Plain, plain_append, plain_parts, stands_plain}
 use Rattle.version_range.proofs.Whole.{wider_stands}

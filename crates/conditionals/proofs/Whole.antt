@@ -24,7 +24,7 @@ use Rattle.text_grammar.proofs.Closings.{Instead, instead, skip_instead, misplac
 use Rattle.text_grammar.proofs.Operands.{Rules}
 use Rattle.text_grammar.proofs.Exactly as exactly
 use Rattle.text_grammar.proofs.TwoChains.{AfterTerms, after_instead}
-use Rattle.version_range.specs.Grammar.{is_old}
+use Rattle.plan_types.specs.Format.{is_old}
 use Rattle.conditionals.specs.Grammar as grammar
 use Rattle.conditionals.specs.Grammar.{Versions, WiderVersions, Factor, Opened, Reads, reads, Stands, Wider, WiderAt, too_deep, needs_version, CauseAt, bad_cond, FirstFault}
 use Rattle.conditionals.specs.Reading.{cond_tail, condition_at, ended, whole_at, cond_of}

@@ -14,7 +14,7 @@ use Rattle.plan_types.specs.declared.refusal.Cause.{Cause}
 use Rattle.plan_types.specs.declared.refusal.Cause.TheVariants.{NeedsVersion, TooDeep, BadCond}
 use Rattle.text_grammar.specs.Parts.{Worded, Terms}
 use Rattle.text_grammar.specs.FirstFault as first
-use Rattle.version_range.specs.Grammar.{is_old}
+use Rattle.plan_types.specs.Format.{is_old}
 use Rattle.version_range.specs.Grammar as ranges
 
 -- the operating systems that have other names besides

@@ -8,7 +8,7 @@ use Rattle.plan_types.specs.declared.dependency.DepKind.{DepKind}
 use Rattle.plan_types.specs.declared.dependency.DepKind.TheVariants.{Tool}
 use Rattle.plan_types.specs.declared.dependency.LibName.{LibName}
 use Rattle.plan_types.specs.declared.range.Spec.{Spec}
-use Rattle.plan_types.specs.declared.range.Spec.TheVariants.{V2_4, V3_0}
+use Rattle.plan_types.specs.Format.{is_old}
 use Rattle.plan_types.specs.declared.refusal.Cause.{Cause}
 use Rattle.version_range.specs.Grammar.{Stands, FirstFault}
 use Rattle.version_range.proofs.Exact.{one_range, one_fault, range_or_fault}
@@ -20,8 +20,8 @@ use Rattle.depend_text.proofs.Only.{Settled, one_cut, one_each}
 rest_same : {a b : ℕ} {as' bs : List ℕ} → a ∷ as' ≡ b ∷ bs → as' ≡ bs
 rest_same e = cc
 
-old_or_new : (spec : Spec) → spec ≡ V2_4 → spec ≡ V3_0 → ⊥
-old_or_new spec e f = absurd (cc)
+old_or_new : (spec : Spec) → is_old spec ≡ true → is_old spec ≡ false → ⊥
+old_or_new spec e f = true≢false (sym e ∙ f)
 
 colon : (text part : List ℕ) → begins_with 58 text ≡ false → text ≡ 58 ∷ part → ⊥
 colon text part h e = false≢true (sym h ∙ ap (begins_with 58) e)

@@ -2,6 +2,7 @@
 use Rattle.std.specs.Prelude.{◌≡◌, ℕ, Bool, true, false, ◌||◌, ◌==◌, nat_eq, if◌then◌else◌, List, [], ◌∷◌}
 use Rattle.std.specs.Cmp.Lexicographic.{pointwise}
 use Rattle.plan_types.specs.Bytes.{is_blank, Blanks, begins_with}
+use Rattle.plan_types.specs.Format.{is_old}
 use Rattle.plan_types.specs.Name.{is_component_byte, is_component_name, is_package_name}
 use Rattle.plan_types.specs.declared.dependency.Dep.{Dep}
 use Rattle.plan_types.specs.declared.dependency.DepKind.{DepKind}
@@ -10,7 +11,6 @@ use Rattle.plan_types.specs.declared.dependency.LibName.{LibName}
 use Rattle.plan_types.specs.declared.dependency.LibName.TheVariants as lib_name
 use Rattle.plan_types.specs.declared.range.Range.{Range}
 use Rattle.plan_types.specs.declared.range.Spec.{Spec}
-use Rattle.plan_types.specs.declared.range.Spec.TheVariants.{V2_4, V3_0}
 use Rattle.plan_types.specs.declared.refusal.Cause.{Cause}
 use Rattle.plan_types.specs.declared.refusal.Cause.TheVariants.{BadName, BadDepend, NeedsVersion}
 use Rattle.version_range.specs.Grammar.{Stands, FirstFault}
@@ -37,7 +37,7 @@ pub data NamedLibraries («package» part : List ℕ) (libs : List LibName) (ran
 -- What stands behind the name of a package: its libraries, and the text of the range. Libraries are named from 3.0 on.
 pub data Libraries (spec : Spec) («package» text : List ℕ) (libs : List LibName) (range_text : List ℕ) : Type 0 where
   main : begins_with 58 text ≡ false → libs ≡ lib_name.Main ∷ [] → range_text ≡ text → Libraries spec «package» text libs range_text
-  named : (part : List ℕ) → spec ≡ V3_0 → text ≡ 58 ∷ part → NamedLibraries «package» part libs range_text → Libraries spec «package» text libs range_text
+  named : (part : List ℕ) → is_old spec ≡ false → text ≡ 58 ∷ part → NamedLibraries «package» part libs range_text → Libraries spec «package» text libs range_text
 
 -- a library or a list of them would begin here
 abbrev pub begins_library : List ℕ → Bool
@@ -48,8 +48,8 @@ abbrev pub old_cause : List ℕ → Cause
 old_cause part = if begins_library part then NeedsVersion else BadDepend
 
 pub data LibrariesFault (spec : Spec) («package» text : List ℕ) (cause : Cause) : Type 0 where
-  old : (part : List ℕ) → spec ≡ V2_4 → text ≡ 58 ∷ part → cause ≡ old_cause part → LibrariesFault spec «package» text cause
-  broken : (part : List ℕ) → spec ≡ V3_0 → text ≡ 58 ∷ part → cause ≡ BadDepend
+  old : (part : List ℕ) → is_old spec ≡ true → text ≡ 58 ∷ part → cause ≡ old_cause part → LibrariesFault spec «package» text cause
+  broken : (part : List ℕ) → is_old spec ≡ false → text ≡ 58 ∷ part → cause ≡ BadDepend
       → ((libs : List LibName) (range_text : List ℕ) → NamedLibraries «package» part libs range_text → ⊥) → LibrariesFault spec «package» text cause
 
 -- a package, its libraries, and a range

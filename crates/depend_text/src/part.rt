@@ -24,16 +24,14 @@ pub fn libraries<'a>(
     ensures found { IfOk result (λ p. Libraries spec «package».now text.now p.0 p.1.now) }
     ensures fault { IfErr result (Refuses (LibrariesFault spec «package».now text.now)) }
 {
-    match byte_after(text, b':') {
-        None => {
-            let libs = single(alloc, LibName::Main)?;
-            Ok((libs, text))
-        }
-        Some(part) => match spec {
-            Spec::V2_4 => Err(TextFault::Bad(old_cause(part))),
-            Spec::V3_0 => named_libraries(alloc, package, part),
-        },
+    let Some(part) = byte_after(text, b':') else {
+        let libs = single(alloc, LibName::Main)?;
+        return Ok((libs, text));
+    };
+    if spec.is_old() {
+        return Err(TextFault::Bad(old_cause(part)));
     }
+    named_libraries(alloc, package, part)
 }
 
 // What is wrong with libraries in a text that can't have any.

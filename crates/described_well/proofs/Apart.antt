@@ -1,14 +1,15 @@
 -- No library has the name of its package.
-use Rattle.std.proofs.Common.{◌≡◌, ℕ, Bool, true, false, not, ◌&&◌, List, [], ◌∷◌, flat_map, Option, Some, refl, ap}
+use Rattle.std.proofs.Common.{◌≡◌, ℕ, Bool, true, false, not, ◌&&◌, List, [], ◌∷◌, flat_map, Option, Some, refl, ap, subst}
 use Rattle.std.specs.List.{list_all, AllByRecursion}
 use Rattle.std.proofs.lemmas.Bool.{and_from}
 use Rattle.plan_types.specs.declared.description.CompKind.TheVariants as component
 use Rattle.plan_types.specs.declared.description.Component.{Component}
+use Rattle.description_parts.specs.declared.part.File.{File}
 use Rattle.description_parts.specs.declared.part.Section.{Section}
 use Rattle.description_parts.specs.declared.part.SectionKind.{SectionKind}
 use Rattle.description_parts.specs.declared.part.SectionKind.TheVariants as kinds
 use Rattle.description.specs.Components.{component_in}
-use Rattle.description.specs.Declarations.{is_library as declares_library}
+use Rattle.description.specs.Declarations.{is_library as declares_library, is_own, own_name}
 use Rattle.description.specs.Imports.{Stanzas, all_replaced, stanzas_behind, sections_from}
 use Rattle.description.specs.Names.{same}
 use Rattle.flatten.specs.OwnComponents.{is_library}
@@ -16,11 +17,11 @@ use Rattle.described_well.proofs.Faultless.{IsFaultless}
 use Rattle.described_well.proofs.Lists.{all-append}
 use Rattle.described_well.proofs.Names.{apart-back}
 
-module _ (own : Option (List ℕ)) (name : List ℕ) (all : List Section) where
+module _ (file : File) (name : List ℕ) (named : own_name file.heads ≡ Some name) where
   abbrev is_apart : Component → Bool
   is_apart component = not (is_library component.kind && same component.name name)
 
-  one-apart : (section : Section) (kind : SectionKind) → section.kind ≡ kind → (declares_library kind && same name section.name) ≡ false → list_all is_apart (component_in own all section) ≡ true
+  one-apart : (section : Section) (kind : SectionKind) → section.kind ≡ kind → (declares_library kind && same name section.name) ≡ false → list_all is_apart (component_in file section) ≡ true
   one-apart section (kinds.Component component.Library) is e = rw is (and_from (not (same section.name name)) true (ap not (apart-back name section.name e)) refl)
   one-apart section (kinds.Component component.Executable) is e = rw is refl
   one-apart section (kinds.Component component.Test) is e = rw is refl
@@ -30,10 +31,10 @@ module _ (own : Option (List ℕ)) (name : List ℕ) (all : List Section) where
   one-apart section kinds.Flag is e = rw is refl
   one-apart section kinds.Setup is e = rw is refl
 
-  pub libraries_apart : (sections : List Section) (stanzas : Stanzas) → AllByRecursion (IsFaultless (Some name) all) sections
-      → list_all (λ component. not (is_library component.kind && same component.name name)) (flat_map (component_in own all) (sections_from stanzas sections)) ≡ true
+  pub libraries_apart : (sections : List Section) (stanzas : Stanzas) → AllByRecursion (IsFaultless file) sections
+      → list_all (λ component. not (is_library component.kind && same component.name name)) (flat_map (component_in file) (sections_from stanzas sections)) ≡ true
   libraries_apart [] stanzas each = refl
   libraries_apart (section ∷ sections) stanzas each =
       let here = record section { parts = all_replaced stanzas section.parts } in
-      all-append is_apart (component_in own all here) (flat_map (component_in own all) (sections_from (stanzas_behind stanzas section) sections))
-      (one-apart here section.kind refl each.0.apart) (libraries_apart sections (stanzas_behind stanzas section) each.1)
+      all-append is_apart (component_in file here) (flat_map (component_in file) (sections_from (stanzas_behind stanzas section) sections))
+      (one-apart here section.kind refl (subst (λ own. (declares_library section.kind && is_own own section.name) ≡ false) named each.0.apart)) (libraries_apart sections (stanzas_behind stanzas section) each.1)

@@ -16,6 +16,7 @@ use Rattle.description_parts.specs.Words.{field_word, inner_word}
 use Rattle.description_parts.specs.declared.part.Part.{Part}
 use Rattle.description_parts.specs.declared.part.Said.{Said}
 use Rattle.description_parts.specs.declared.part.Said.TheVariants as said
+use Rattle.description_parts.specs.declared.part.File.{File}
 use Rattle.description_parts.specs.declared.part.Section.{Section}
 use Rattle.description_parts.specs.declared.part.SectionKind.{SectionKind}
 use Rattle.description_parts.specs.declared.words.BranchWord.{BranchWord}
@@ -37,7 +38,7 @@ each-back : {A : Type 0} (P : A → Type 0) (xs ys : List A) → AllByRecursion 
 each-back P [] ys h = h
 each-back P (x ∷ xs) ys h = each-back P xs ys h.1
 
-module _ (own : Option (List ℕ)) (all : List Section) (known : List ℕ → Bool) (found : (name : List ℕ) → declares is_flag all name ≡ true → known name ≡ true) where
+module _ (file : File) (known : List ℕ → Bool) (found : (name : List ℕ) → declares is_flag file.sections name ≡ true → known name ≡ true) where
   abbrev Good : List Cond → Type 0
   Good conds = list_all (asks_well known) conds ≡ true
 
@@ -45,9 +46,9 @@ module _ (own : Option (List ℕ)) (all : List Section) (known : List ℕ → Bo
   is_good part = list_all (asks_well known) part.branches
 
   abbrev Sound : List Part → Type 0
-  Sound parts = AllByRecursion (λ part. of_said own all part.said ≡ []) parts
+  Sound parts = AllByRecursion (λ part. of_said file part.said ≡ []) parts
 
-  condition-good : (spec : Spec) (word : BranchWord) (args : List ℕ) (cond : Cond) → OwnCondition spec word args (Ok cond) → has_flags all cond ≡ true → asks_well known cond ≡ true
+  condition-good : (spec : Spec) (word : BranchWord) (args : List ℕ) (cond : Cond) → OwnCondition spec word args (Ok cond) → has_flags file.sections cond ≡ true → asks_well known cond ≡ true
   condition-good spec If args cond is flags = stands-fits all known found spec 64 args cond is flags
   condition-good spec Elif args cond is flags = stands-fits all known found spec 64 args cond is flags
   condition-good spec Else [] cond is flags = let same : cond ≡ Always = cc is in rw same (asks-Always known)
@@ -58,8 +59,8 @@ module _ (own : Option (List ℕ)) (all : List Section) (known : List ℕ → Bo
   GoodOwn (Ok cond) = asks_well known cond ≡ true
   GoodOwn (Err cause) = ⊥
 
-  own-good : (spec : Spec) (word : BranchWord) (args : List ℕ) (own : Result Cond Cause) → OwnCondition spec word args own → of_condition all own ≡ [] → GoodOwn own
-  own-good spec word args (Ok cond) is none = condition-good spec word args cond is (unless-none (has_flags all cond) causes.UnknownFlag none)
+  own-good : (spec : Spec) (word : BranchWord) (args : List ℕ) (own : Result Cond Cause) → OwnCondition spec word args own → of_condition file.sections own ≡ [] → GoodOwn own
+  own-good spec word args (Ok cond) is none = condition-good spec word args cond is (unless-none (has_flags file.sections cond) causes.UnknownFlag none)
   own-good spec word args (Err cause) is none = absurd (cc none)
 
   negated-good : (conds : List Cond) → Good conds → Good (map Not conds)
@@ -97,11 +98,11 @@ module _ (own : Option (List ℕ)) (all : List Section) (known : List ℕ → Bo
   section-good spec (inner.Branch word) line args branches chain Within Behind within behind good tried_good parts sound says =
       let here : Part = record { line = line; branches = branches; said = said.Branch says.own (branch_fits word chain) } in
       let all_sound : Sound (here ∷ says.within ++ says.behind) = subst Sound says.are sound in
-      let faults = none-front (of_condition all says.own) (unless (branch_fits word chain) causes.ElseWithoutIf) all_sound.0 in
+      let faults = none-front (of_condition file.sections says.own) (unless (branch_fits word chain) causes.ElseWithoutIf) all_sound.0 in
       let own_good = own-good spec word args says.own says.reads faults in
       let inside = all-append (asks_well known) branches (condition (branch_of word chain says.own) ∷ []) good
       (and_from (asks_well known (condition (branch_of word chain says.own))) true (branch-good word chain says.own own_good tried_good) refl) in
-      let of_part = λ (part : Part). of_said own all part.said ≡ [] in
+      let of_part = λ (part : Part). of_said file part.said ≡ [] in
       ap (list_all is_good) says.are
       ∙ and_from (list_all (asks_well known) branches) (list_all is_good (says.within ++ says.behind)) good
       (all-append is_good says.within says.behind
@@ -119,7 +120,7 @@ module _ (own : Option (List ℕ)) (all : List Section) (known : List ℕ → Bo
   unfolding Items
   items-good spec kind end branches fits chain parts good tried_good sound says = rw says refl
   items-good spec kind (field line name values behind) branches fits chain parts good tried_good sound says =
-      let of_part = λ (part : Part). of_said own all part.said ≡ [] in
+      let of_part = λ (part : Part). of_said file part.said ≡ [] in
       ap (list_all is_good) says.4
       ∙ all-append is_good (placed line branches says.0) says.1 (placed-good line branches says.0 good)
       (items-good spec kind behind branches (fits && is_import (field_word kind name)) None says.1 good refl (each-back of_part (placed line branches says.0) says.1 (subst Sound says.4 sound)) says.3)

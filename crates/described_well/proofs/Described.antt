@@ -10,9 +10,10 @@ use Rattle.component_cycle.specs.Cycle.{IsFirstOnCycle}
 use Rattle.description_parts.specs.File.{IsFile}
 use Rattle.description_parts.specs.Tree.{tree_of}
 use Rattle.description_parts.specs.declared.part.File.{File}
+use Rattle.description.specs.Components.{components}
 use Rattle.description.specs.Cycles.{needs}
 use Rattle.description.specs.Declarations.{own_name}
-use Rattle.description.specs.Description.{Comes, ComesTo, Describes, OfVersion, cabal_version, components_of, description, unless_circular, version_of}
+use Rattle.description.specs.Description.{Comes, ComesTo, Describes, OfVersion, cabal_version, description, unless_circular, version_of}
 use Rattle.description.specs.Faults.{faults}
 use Rattle.description.specs.First.{first}
 use Rattle.description.specs.declared.first.At.{At}
@@ -28,16 +29,16 @@ pub record IsOf (items : List Element) (digest : List ℕ) (d : Description) : T
   pub faultless : Faultless file
   pub named : own_name file.heads ≡ Some name
   pub versioned : version_of file.heads ≡ Some version
-  pub acyclic : IsFirstOnCycle (needs (components_of file)) None
-  pub is : d ≡ description spec file digest name version
+  pub acyclic : IsFirstOnCycle (needs (components file)) None
+  pub is : d ≡ description file digest name version
 
 module _ (items : List Element) (digest : List ℕ) (d : Description) where
   not-err : (at : At) → unless_circular None d ≡ Err at → IsOf items digest d
   not-err at e = absurd (cc e)
 
   module _ (spec : Spec) (file : File) (says : IsFile spec items file) (none : Faultless file) where
-    by-cycle : (name : List ℕ) (version : Version) → own_name file.heads ≡ Some name → version_of file.heads ≡ Some version → (circular : Option ℕ) → IsFirstOnCycle (needs (components_of file)) circular
-        → Ok d ≡ unless_circular circular (description spec file digest name version) → IsOf items digest d
+    by-cycle : (name : List ℕ) (version : Version) → own_name file.heads ≡ Some name → version_of file.heads ≡ Some version → (circular : Option ℕ) → IsFirstOnCycle (needs (components file)) circular
+        → Ok d ≡ unless_circular circular (description file digest name version) → IsOf items digest d
     by-cycle name version named versioned (Some n) first e = not-err _ e
     by-cycle name version named versioned None first e = record {
       spec = spec;
@@ -52,12 +53,12 @@ module _ (items : List Element) (digest : List ℕ) (d : Description) where
       is = cc e;
     }
 
-    by-heads : (name : Option (List ℕ)) (version : Option Version) → own_name file.heads ≡ name → version_of file.heads ≡ version → Comes spec file digest name version (Ok d) → IsOf items digest d
+    by-heads : (name : Option (List ℕ)) (version : Option Version) → own_name file.heads ≡ name → version_of file.heads ≡ version → Comes file digest name version (Ok d) → IsOf items digest d
     by-heads None version named versioned e = not-err _ e
     by-heads (Some name) None named versioned e = not-err _ e
     by-heads (Some name) (Some version) named versioned e = by-cycle name version named versioned e.0 e.1 e.2
 
-  by-faults : (spec : Spec) (file : File) → IsFile spec items file → (at : Option At) → first (faults file) ≡ at → ComesTo spec file digest at (Ok d) → IsOf items digest d
+  by-faults : (spec : Spec) (file : File) → IsFile spec items file → (at : Option At) → first (faults file) ≡ at → ComesTo file digest at (Ok d) → IsOf items digest d
   by-faults spec file says (Some at) is e = not-err at e
   by-faults spec file says None is e = by-heads spec file says (faultless file (first-none (faults file) is)) (own_name file.heads) (version_of file.heads) refl refl e
 

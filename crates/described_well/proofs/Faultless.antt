@@ -31,36 +31,35 @@ unless-none true cause e = refl
 unless-none false cause e = absurd (cc e)
 
 -- a section without a fault, in a package of this name that has all these
-pub record IsFaultless (own : Option (List ℕ)) (all : List Section) (section : Section) : Type 0 where
+pub record IsFaultless (file : File) (section : Section) : Type 0 where
   pub name : has_good_name section.kind section.name ≡ true
-  pub apart : (is_library section.kind && is_own own section.name) ≡ false
-  pub parts : AllByRecursion (λ part. of_said own all part.said ≡ []) section.parts
+  pub apart : (is_library section.kind && is_own (own_name file.heads) section.name) ≡ false
+  pub parts : AllByRecursion (λ part. of_said file part.said ≡ []) section.parts
 
 pub record Faultless (file : File) : Type 0 where
-  pub sections : AllByRecursion (IsFaultless (own_name file.heads) file.sections) file.sections
+  pub sections : AllByRecursion (IsFaultless file) file.sections
   pub components : repeated Component [] file.sections ≡ []
   pub flags : repeated Flag [] file.sections ≡ []
 
-one_section : (own : Option (List ℕ)) (all : List Section) (section : Section) → in_section own all section ≡ [] → IsFaultless own all section
-one_section own all section e =
-    let named = at section.line (of_name own section) in
-    let said = flat_map (in_part own all) section.parts in
-    let name = none-map (λ cause. record { line = section.line; cause = cause }) (of_name own section) (none-front named said e) in
+one_section : (file : File) (section : Section) → in_section file section ≡ [] → IsFaultless file section
+one_section file section e =
+    let named = at section.line (of_name (own_name file.heads) section) in
+    let said = flat_map (in_part file) section.parts in
+    let name = none-map (λ cause. record { line = section.line; cause = cause }) (of_name (own_name file.heads) section) (none-front named said e) in
     let good = unless (has_good_name section.kind section.name) causes.BadName in
-    let apart = unless (not (is_library section.kind && is_own own section.name)) causes.DuplicateName in
+    let apart = unless (not (is_library section.kind && is_own (own_name file.heads) section.name)) causes.DuplicateName in
     record {
       name = unless-none (has_good_name section.kind section.name) causes.BadName (none-front good apart name);
-      apart = not-true (is_library section.kind && is_own own section.name) (unless-none (not (is_library section.kind && is_own own section.name)) causes.DuplicateName (none-back good apart name));
-      parts = each-less (λ part. in_part own all part ≡ []) (λ part. of_said own all part.said ≡ [])
-          (λ part none. none-map (λ cause. record { line = part.line; cause = cause }) (of_said own all part.said) none)
-          section.parts (each-none (in_part own all) section.parts (none-back named said e));
+      apart = not-true (is_library section.kind && is_own (own_name file.heads) section.name) (unless-none (not (is_library section.kind && is_own (own_name file.heads) section.name)) causes.DuplicateName (none-back good apart name));
+      parts = each-less (λ part. in_part file part ≡ []) (λ part. of_said file part.said ≡ [])
+          (λ part none. none-map (λ cause. record { line = part.line; cause = cause }) (of_said file part.said) none)
+          section.parts (each-none (in_part file) section.parts (none-back named said e));
     }
 
 pub faultless : (file : File) → faults file ≡ [] → Faultless file
 faultless file e =
-    let own = own_name file.heads in
     let named = flat_map in_head file.heads in
-    let within = named ++ flat_map (in_section own file.sections) file.sections in
+    let within = named ++ flat_map (in_section file) file.sections in
     let components = within ++ repeated Component [] file.sections in
     let commons = components ++ repeated Common [] file.sections in
     let flags = commons ++ repeated Flag [] file.sections in
@@ -70,8 +69,8 @@ faultless file e =
     let to_components = none-front components (repeated Common [] file.sections) (none-front commons (repeated Flag [] file.sections) to_flags) in
     let to_sections = none-front within (repeated Component [] file.sections) to_components in
     record {
-      sections = each-less (λ section. in_section own file.sections section ≡ []) (IsFaultless own file.sections) (one_section own file.sections) file.sections
-          (each-none (in_section own file.sections) file.sections (none-back named (flat_map (in_section own file.sections) file.sections) to_sections));
+      sections = each-less (λ section. in_section file section ≡ []) (IsFaultless file) (one_section file) file.sections
+          (each-none (in_section file) file.sections (none-back named (flat_map (in_section file) file.sections) to_sections));
       components = none-back within (repeated Component [] file.sections) to_components;
       flags = none-back commons (repeated Flag [] file.sections) to_flags;
     }

@@ -5,6 +5,7 @@ use Rattle.std.specs.Cmp.Lexicographic.{slice_cmp}
 use Rattle.std.proofs.lemmas.Bool.{false≢true, and_parts, and_from, or_left, or_right, or_cases}
 use Rattle.plan_types.specs.Name.{is_flag_name}
 use Rattle.plan_types.specs.declared.description.FlagDecl.{FlagDecl}
+use Rattle.description_parts.specs.declared.part.File.{File}
 use Rattle.description_parts.specs.declared.part.Section.{Section}
 use Rattle.description_parts.specs.declared.part.SectionKind.{SectionKind}
 use Rattle.description_parts.specs.declared.part.SectionKind.TheVariants as kinds
@@ -62,13 +63,13 @@ one_named section kinds.Common is good = rw is refl
 one_named section kinds.Flag is good = rw is (and_from (is_flag_name section.name) true good refl)
 one_named section kinds.Setup is good = rw is refl
 
-all_named : (own : Option (List ℕ)) (all sections : List Section) → AllByRecursion (IsFaultless own all) sections → list_all is_named (declared_flags sections) ≡ true
-all_named own all [] each = refl
-all_named own all (section ∷ sections) each =
-    all-append is_named (if is_flag section.kind then flag_of section ∷ [] else []) (declared_flags sections) (one_named section section.kind refl each.0.name) (all_named own all sections each.1)
+all_named : (file : File) (sections : List Section) → AllByRecursion (IsFaultless file) sections → list_all is_named (declared_flags sections) ≡ true
+all_named file [] each = refl
+all_named file (section ∷ sections) each =
+    all-append is_named (if is_flag section.kind then flag_of section ∷ [] else []) (declared_flags sections) (one_named section section.kind refl each.0.name) (all_named file sections each.1)
 
-pub flag_names : (own : Option (List ℕ)) (all sections : List Section) → AllByRecursion (IsFaultless own all) sections → list_all (λ flag. is_flag_name flag.name) (flags sections) ≡ true
-flag_names own all sections each = all-sorted is_named (declared_flags sections) (all_named own all sections each)
+pub flag_names : (file : File) (sections : List Section) → AllByRecursion (IsFaultless file) sections → list_all (λ flag. is_flag_name flag.name) (flags sections) ≡ true
+flag_names file sections each = all-sorted is_named (declared_flags sections) (all_named file sections each)
 
 -- ---- a flag that sections declare
 

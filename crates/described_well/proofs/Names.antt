@@ -8,6 +8,7 @@ use Rattle.std.proofs.lemmas.List.Folds.{list_any-append}
 use Rattle.plan_types.specs.declared.refusal.Cause.TheVariants as causes
 use Rattle.plan_types.specs.declared.description.Component.{Component}
 use Rattle.plan_types.specs.declared.description.FlagDecl.{FlagDecl}
+use Rattle.description_parts.specs.declared.part.File.{File}
 use Rattle.description_parts.specs.declared.part.Section.{Section}
 use Rattle.description_parts.specs.declared.part.SectionKind.{SectionKind}
 use Rattle.description_parts.specs.declared.part.SectionKind.TheVariants as kinds
@@ -96,16 +97,16 @@ flag-names (section ∷ sections) =
     map-append (λ (flag : FlagDecl). flag.name) (if is_flag section.kind then flag_of section ∷ [] else []) (declared_flags sections)
     ∙ (λ i. one_flag section section.kind refl i ++ flag-names sections i)
 
-module _ (own : Option (List ℕ)) (all : List Section) where
-  one_component : (section : Section) (kind : SectionKind) → section.kind ≡ kind → map (λ component. component.name) (component_in own all section) ≡ one_named OfComponent section
+module _ (file : File) where
+  one_component : (section : Section) (kind : SectionKind) → section.kind ≡ kind → map (λ component. component.name) (component_in file section) ≡ one_named OfComponent section
   one_component section (kinds.Component kind) is = rw is refl
   one_component section kinds.Common is = rw is refl
   one_component section kinds.Flag is = rw is refl
   one_component section kinds.Setup is = rw is refl
 
-  pub component-names : (sections : List Section) (stanzas : Stanzas) → map (λ component. component.name) (flat_map (component_in own all) (sections_from stanzas sections)) ≡ named OfComponent sections
+  pub component-names : (sections : List Section) (stanzas : Stanzas) → map (λ component. component.name) (flat_map (component_in file) (sections_from stanzas sections)) ≡ named OfComponent sections
   component-names [] stanzas = refl
   component-names (section ∷ sections) stanzas =
       let here = record section { parts = all_replaced stanzas section.parts } in
-      map-append (λ (component : Component). component.name) (component_in own all here) (flat_map (component_in own all) (sections_from (stanzas_behind stanzas section) sections))
+      map-append (λ (component : Component). component.name) (component_in file here) (flat_map (component_in file) (sections_from (stanzas_behind stanzas section) sections))
       ∙ (λ i. one_component here section.kind refl i ++ component-names sections (stanzas_behind stanzas section) i)

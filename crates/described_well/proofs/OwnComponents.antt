@@ -11,11 +11,12 @@ use Rattle.plan_types.specs.declared.dependency.LibName.TheVariants as lib
 use Rattle.plan_types.specs.declared.description.CompKind.TheVariants as component
 use Rattle.plan_types.specs.declared.description.Component.{Component}
 use Rattle.version_range.specs.Version.{has_versions}
+use Rattle.description_parts.specs.declared.part.File.{File}
 use Rattle.description_parts.specs.declared.part.Section.{Section}
 use Rattle.description_parts.specs.declared.part.SectionKind.{SectionKind}
 use Rattle.description_parts.specs.declared.part.SectionKind.TheVariants as kinds
 use Rattle.description.specs.Components.{component_in}
-use Rattle.description.specs.Declarations.{declares, is_known, is_library, is_executable, is_main_alone, known_by, library_name, meaning, meaning_by, meant, meant_as}
+use Rattle.description.specs.Declarations.{declares, is_bare, is_known, is_library, is_executable, is_own, known_by, library_name, meaning, meaning_by, meant, meant_as, own_name}
 use Rattle.description.specs.Imports.{Stanzas, all_replaced, stanzas_behind, sections_from}
 use Rattle.description.specs.Names.{same}
 use Rattle.description.specs.declared.declarations.Meaning.{Meaning}
@@ -27,20 +28,20 @@ use Rattle.described_well.proofs.Names.{itself, same-back}
 
 -- ---- components that sections declare
 
-module _ (own : Option (List ℕ)) (all : List Section) (of_kind : SectionKind → Bool) (test : Component → Bool) (name : List ℕ)
-    (one : (section : Section) (kind : SectionKind) → section.kind ≡ kind → (of_kind kind && same name section.name) ≡ true → list_any test (component_in own all section) ≡ true) where
-  pub declared-found : (sections : List Section) (stanzas : Stanzas) → declares of_kind sections name ≡ true → list_any test (flat_map (component_in own all) (sections_from stanzas sections)) ≡ true
+module _ (file : File) (of_kind : SectionKind → Bool) (test : Component → Bool) (name : List ℕ)
+    (one : (section : Section) (kind : SectionKind) → section.kind ≡ kind → (of_kind kind && same name section.name) ≡ true → list_any test (component_in file section) ≡ true) where
+  pub declared-found : (sections : List Section) (stanzas : Stanzas) → declares of_kind sections name ≡ true → list_any test (flat_map (component_in file) (sections_from stanzas sections)) ≡ true
   declared-found [] stanzas e = e
   declared-found (section ∷ sections) stanzas e =
       let here = record section { parts = all_replaced stanzas section.parts } in
-      let rest = flat_map (component_in own all) (sections_from (stanzas_behind stanzas section) sections) in
+      let rest = flat_map (component_in file) (sections_from (stanzas_behind stanzas section) sections) in
       elim (or_cases (of_kind section.kind && same name section.name) (declares of_kind sections name) e) [
-        | inl h ↦ any-front test (component_in own all here) rest (one here section.kind refl h)
-        | inr h ↦ any-back test (component_in own all here) rest (declared-found sections (stanzas_behind stanzas section) h)
+        | inl h ↦ any-front test (component_in file here) rest (one here section.kind refl h)
+        | inr h ↦ any-back test (component_in file here) rest (declared-found sections (stanzas_behind stanzas section) h)
       ]
 
-module _ (own : Option (List ℕ)) (all : List Section) where
-  one-lib : (l : LibName) (section : Section) (kind : SectionKind) → section.kind ≡ kind → (is_library kind && same (name_of l) section.name) ≡ true → list_any (λ c. is_lib c l) (component_in own all section) ≡ true
+module _ (file : File) where
+  one-lib : (l : LibName) (section : Section) (kind : SectionKind) → section.kind ≡ kind → (is_library kind && same (name_of l) section.name) ≡ true → list_any (λ c. is_lib c l) (component_in file section) ≡ true
   one-lib l section (kinds.Component component.Library) is e = rw is (or_left (same section.name (name_of l)) false (same-back (name_of l) section.name e))
   one-lib l section (kinds.Component component.Executable) is e = absurd (false≢true e)
   one-lib l section (kinds.Component component.Test) is e = absurd (false≢true e)
@@ -50,7 +51,7 @@ module _ (own : Option (List ℕ)) (all : List Section) where
   one-lib l section kinds.Flag is e = absurd (false≢true e)
   one-lib l section kinds.Setup is e = absurd (false≢true e)
 
-  one-exe : (exe : List ℕ) (section : Section) (kind : SectionKind) → section.kind ≡ kind → (is_executable kind && same exe section.name) ≡ true → list_any (λ c. is_exe c exe) (component_in own all section) ≡ true
+  one-exe : (exe : List ℕ) (section : Section) (kind : SectionKind) → section.kind ≡ kind → (is_executable kind && same exe section.name) ≡ true → list_any (λ c. is_exe c exe) (component_in file section) ≡ true
   one-exe exe section (kinds.Component component.Library) is e = absurd (false≢true e)
   one-exe exe section (kinds.Component component.Executable) is e = rw is (or_left (same section.name exe) false (same-back exe section.name e))
   one-exe exe section (kinds.Component component.Test) is e = absurd (false≢true e)
@@ -64,11 +65,11 @@ module _ (own : Option (List ℕ)) (all : List Section) where
   lib-name lib.Main = refl
   lib-name (lib.Named name) = refl
 
-  pub lib-found : (sections : List Section) (stanzas : Stanzas) (l : LibName) → declares is_library sections (library_name l) ≡ true → list_any (λ c. is_lib c l) (flat_map (component_in own all) (sections_from stanzas sections)) ≡ true
-  lib-found sections stanzas l e = declared-found own all is_library (λ c. is_lib c l) (name_of l) (one-lib l) sections stanzas (ap (declares is_library sections) (sym (lib-name l)) ∙ e)
+  pub lib-found : (sections : List Section) (stanzas : Stanzas) (l : LibName) → declares is_library sections (library_name l) ≡ true → list_any (λ c. is_lib c l) (flat_map (component_in file) (sections_from stanzas sections)) ≡ true
+  lib-found sections stanzas l e = declared-found file is_library (λ c. is_lib c l) (name_of l) (one-lib l) sections stanzas (ap (declares is_library sections) (sym (lib-name l)) ∙ e)
 
-  pub exe-found : (sections : List Section) (stanzas : Stanzas) (exe : List ℕ) → declares is_executable sections exe ≡ true → list_any (λ c. is_exe c exe) (flat_map (component_in own all) (sections_from stanzas sections)) ≡ true
-  exe-found sections stanzas exe e = declared-found own all is_executable (λ c. is_exe c exe) exe (one-exe exe) sections stanzas e
+  pub exe-found : (sections : List Section) (stanzas : Stanzas) (exe : List ℕ) → declares is_executable sections exe ≡ true → list_any (λ c. is_exe c exe) (flat_map (component_in file) (sections_from stanzas sections)) ≡ true
+  exe-found sections stanzas exe e = declared-found file is_executable (λ c. is_exe c exe) exe (one-exe exe) sections stanzas e
 
 -- ---- what a dependency is meant as
 
@@ -78,21 +79,21 @@ is_kept name components dep =
     is_of_components dep.kind && is_package_name dep.«package» && has_versions dep.range
     && (if dep.internal then same dep.«package» name && finds_all dep.kind dep components else true)
 
-module _ (name : List ℕ) (formed : is_package_name name ≡ true) (all : List Section) (components : List Component)
-    (libs : (l : LibName) → declares is_library all (library_name l) ≡ true → list_any (λ c. is_lib c l) components ≡ true)
-    (exes : (exe : List ℕ) → declares is_executable all exe ≡ true → list_any (λ c. is_exe c exe) components ≡ true) where
+module _ (file : File) (name : List ℕ) (named : own_name file.heads ≡ Some name) (formed : is_package_name name ≡ true) (components : List Component)
+    (libs : (l : LibName) → declares is_library file.sections (library_name l) ≡ true → list_any (λ c. is_lib c l) components ≡ true)
+    (exes : (exe : List ℕ) → declares is_executable file.sections exe ≡ true → list_any (λ c. is_exe c exe) components ≡ true) where
   -- what has to be known of a dependency that is meant so
   abbrev Finds : Meaning → Dep → Type 0
   Finds Other dep = Unit {0}
   Finds Own dep = (same name dep.«package» ≡ true) × (finds_all dep.kind dep components ≡ true)
-  Finds OwnLibrary dep = (dep.kind ≡ Library) × (declares is_library all dep.«package» ≡ true)
+  Finds OwnLibrary dep = (dep.kind ≡ Library) × (declares is_library file.sections dep.«package» ≡ true)
 
-  finds : (kind : DepKind) (dep : Dep) (own library libraries executable : Bool) → dep.kind ≡ kind → own ≡ same name dep.«package» → (library ≡ true → declares is_library all dep.«package» ≡ true)
-      → libraries ≡ list_all (λ l. declares is_library all (library_name l)) dep.libs → executable ≡ declares is_executable all dep.exe
+  finds : (kind : DepKind) (dep : Dep) (own library libraries executable : Bool) → dep.kind ≡ kind → own ≡ same name dep.«package» → (library ≡ true → declares is_library file.sections dep.«package» ≡ true)
+      → libraries ≡ list_all (λ l. declares is_library file.sections (library_name l)) dep.libs → executable ≡ declares is_executable file.sections dep.exe
       → known_by (meaning_by kind own library) kind libraries executable ≡ true → Finds (meaning_by kind own library) dep
   finds Library dep true library libraries executable is mine named here there known = (
     sym mine,
-    ap (λ k. finds_all k dep components) is ∙ all-less (λ l. declares is_library all (library_name l)) (λ l. list_any (λ c. is_lib c l) components) libs dep.libs (sym here ∙ known),
+    ap (λ k. finds_all k dep components) is ∙ all-less (λ l. declares is_library file.sections (library_name l)) (λ l. list_any (λ c. is_lib c l) components) libs dep.libs (sym here ∙ known),
   )
   finds Library dep false true libraries executable is mine named here there known = (is, named refl)
   finds Library dep false false libraries executable is mine named here there known = tt
@@ -123,9 +124,12 @@ module _ (name : List ℕ) (formed : is_package_name name ≡ true) (all : List 
       kept-is own (plain.0, formed, plain.2) (and_from (same name name) (finds_all dep.kind own components) (itself name)
       (ap (λ k. finds_all k own components) found.0 ∙ and_from (list_any (λ c. is_lib c (lib.Named dep.«package»)) components) true (libs (lib.Named dep.«package») found.1) refl))
 
-  pub meant-kept : (dep : Dep) → Plain dep → dep.internal ≡ false → is_known (Some name) all dep ≡ true → is_kept name components (meant (Some name) all dep) ≡ true
+  pub meant-kept : (dep : Dep) → Plain dep → dep.internal ≡ false → is_known file dep ≡ true → is_kept name components (meant file dep) ≡ true
   meant-kept dep plain outside known =
-      let library = is_main_alone dep.libs && declares is_library all dep.«package» in
-      as-meant (meaning (Some name) all dep) dep plain outside
-      (finds dep.kind dep (same name dep.«package») library (list_all (λ l. declares is_library all (library_name l)) dep.libs) (declares is_executable all dep.exe) refl refl
-      (λ e. (and_parts (is_main_alone dep.libs) (declares is_library all dep.«package») e).1) refl refl known)
+      let mine = is_own (own_name file.heads) dep.«package» in
+      let library = is_bare file.spec dep.libs && declares is_library file.sections dep.«package» in
+      subst (λ own. is_kept name components (meant_as (meaning file dep) own dep) ≡ true) (sym named)
+      (as-meant (meaning file dep) dep plain outside
+      (finds dep.kind dep mine library (list_all (λ l. declares is_library file.sections (library_name l)) dep.libs) (declares is_executable file.sections dep.exe) refl
+      (ap (λ own. is_own own dep.«package») named)
+      (λ e. (and_parts (is_bare file.spec dep.libs) (declares is_library file.sections dep.«package») e).1) refl refl known))

@@ -11,7 +11,7 @@ use Rattle.plan_types.specs.declared.dependency.Dep.{Dep}
 use Rattle.plan_types.specs.declared.dependency.DepKind.{DepKind}
 use Rattle.plan_types.specs.declared.dependency.DepKind.TheVariants.{Library, Tool, Setup}
 use Rattle.plan_types.specs.declared.range.Spec.{Spec}
-use Rattle.plan_types.specs.declared.range.Spec.TheVariants.{V2_4, V3_0}
+use Rattle.plan_types.specs.Format.{is_old}
 use Rattle.plan_types.specs.declared.refusal.Cause.{Cause}
 use Rattle.version_range.specs.Version.{has_versions}
 use Rattle.version_range.proofs.Forms.{stands_valid}
@@ -20,7 +20,7 @@ use Rattle.depend_text.specs.Depends.{LibraryEntry, ToolEntry, Depends, DependsF
 use Rattle.description_parts.specs.Branch.{Read}
 use Rattle.description_parts.specs.Items.{Items, FieldSays, SectionSays, is_import, imports_in_branches, placed, visible}
 use Rattle.description_parts.specs.Tree.{Tree, end, field, section}
-use Rattle.description_parts.specs.Words.{is, component_field, field_word, inner_word}
+use Rattle.description_parts.specs.Words.{is, visibility, component_field, field_word, inner_word}
 use Rattle.description_parts.specs.declared.part.Part.{Part}
 use Rattle.description_parts.specs.declared.part.Said.{Said}
 use Rattle.description_parts.specs.declared.part.Said.TheVariants as said
@@ -124,8 +124,11 @@ module _ (kinds : DepKind → Bool) where
   one-placed line branches found read = and_from (list_all (is_read kinds) (deps_said found)) true read refl
 
   visible-read : (spec : Spec) (line : ℕ) (branches : List Cond) (text : List ℕ) → list_all (is_read_part kinds) (placed line branches (visible spec text)) ≡ true
-  visible-read V2_4 line branches text = refl
-  visible-read V3_0 line branches text = refl
+  visible-read spec line branches text = by (is_old spec)
+    where
+      by : (old : Bool) → list_all (is_read_part kinds) (placed line branches (if old then None else Some (said.Visibility (visibility text)))) ≡ true
+      by true = refl
+      by false = refl
 
   field-read : (spec : Spec) (word : FieldWord) (line : ℕ) (branches : List Cond) (text : List ℕ) (fits : Bool) (found : Option Said) → states kinds word ≡ true
       → FieldSays spec word line text fits found → list_all (is_read_part kinds) (placed line branches found) ≡ true

@@ -18,7 +18,7 @@ use Rattle.description_parts.specs.declared.part.Section.{Section}
 use Rattle.description_parts.specs.declared.part.SectionKind.{SectionKind}
 use Rattle.description_parts.specs.declared.words.HeadWord.{HeadWord}
 use Rattle.description_parts.specs.declared.words.HeadWord.TheVariants as words
-use Rattle.description.specs.Declarations.{last, name_said, own_name}
+use Rattle.description.specs.Declarations.{joined, last, name_said, own_name}
 use Rattle.description.specs.Description.{version_said, version_of}
 use Rattle.described_well.proofs.Lists.{all-append, all-flat}
 
@@ -94,11 +94,20 @@ last-good p [] x all e = absurd (cc e)
 last-good {A} p (y ∷ []) x all e = let same : x ≡ y = cc e in ap p same ∙ (and_parts (p y) true all).0
 last-good p (y ∷ z ∷ xs) x all e = last-good p (z ∷ xs) x (and_parts (p y) (list_all p (z ∷ xs)) all).1 e
 
-said-names : (found : Head) → is_good found ≡ true → list_all is_package_name (name_said found) ≡ true
+-- none, or one of its form
+is_good_name : Option (List ℕ) → Bool
+is_good_name None = true
+is_good_name (Some name) = is_package_name name
+
+said-names : (found : Head) → is_good found ≡ true → list_all is_good_name (name_said found) ≡ true
 said-names (head.Name None) good = refl
 said-names (head.Name (Some name)) good = and_from (is_package_name name) true good refl
 said-names (head.Version version) good = refl
 said-names (head.BuildType custom) good = refl
+
+joined-some : {A : Type 0} (o : Option (Option A)) (x : A) → joined o ≡ Some x → o ≡ Some (Some x)
+joined-some None x e = absurd (cc e)
+joined-some (Some o) x e = ap Some e
 
 said-versions : (found : Head) → is_good found ≡ true → list_all (λ version. is_version version.parts) (version_said found) ≡ true
 said-versions (head.Name name) good = refl
@@ -109,8 +118,9 @@ said-versions (head.BuildType custom) good = refl
 module _ (spec : Spec) (tree : Tree) (heads : List HeadField) (sections : List Section) (says : Says spec tree heads sections) where
   pub name-formed : (name : List ℕ) → own_name heads ≡ Some name → is_package_name name ≡ true
   name-formed name e =
-      last-good is_package_name (flat_map (λ one. name_said one.head) heads) name
-      (all-flat is_good_field is_package_name (λ one. name_said one.head) (λ one. said-names one.head) heads (heads-good spec tree heads sections says)) e
+      last-good is_good_name (flat_map (λ one. name_said one.head) heads) (Some name)
+      (all-flat is_good_field is_good_name (λ one. name_said one.head) (λ one. said-names one.head) heads (heads-good spec tree heads sections says))
+      (joined-some (last (flat_map (λ one. name_said one.head) heads)) name e)
 
   pub version-formed : (version : Version) → version_of heads ≡ Some version → is_version version.parts ≡ true
   version-formed version e =

@@ -17,8 +17,8 @@ use Rattle.description_parts.specs.Tree.{tree_of}
 use Rattle.description_parts.specs.declared.part.File.{File}
 use Rattle.description.specs.Components.{components}
 use Rattle.description.specs.Cycles.{needs}
-use Rattle.description.specs.Declarations.{is_known, meant}
-use Rattle.description.specs.Description.{Describes, warnings}
+use Rattle.description.specs.Declarations.{is_known, meant, own_name}
+use Rattle.description.specs.Description.{Describes, description}
 use Rattle.description.specs.Faults.{repeated}
 use Rattle.description.specs.Flags.{flags}
 use Rattle.description.specs.Imports.{with_imports_replaced}
@@ -53,34 +53,20 @@ module _ (kinds : Bool) (inside : Bool) (name : Bool) (range : Bool) where
       let first = and_parts kinds inside before.0 in
       (first.0, first.1, before.1, last.1)
 
--- the description of a file, where this is the name that it states last
-abbrev pub described : Spec → File → List ℕ → List ℕ → Version → Option (List ℕ) → Description
-described spec file digest name version own = record {
-  spec = spec;
-  name = name;
-  version = version;
-  custom = is_custom file;
-  flags = flags file.sections;
-  components = components own file.sections;
-  setup = setup file;
-  digest = digest;
-  warnings = warnings file.sections;
-}
-
-module _ (spec : Spec) (file : File) (digest name : List ℕ) (version : Version) (formed : is_package_name name ≡ true)
-    (read : AllByRecursion (IsReadSection spec) file.sections) (faultless : AllByRecursion (IsFaultless (Some name) file.sections) file.sections)
+module _ (spec : Spec) (file : File) (digest name : List ℕ) (version : Version) (named : own_name file.heads ≡ Some name) (formed : is_package_name name ≡ true)
+    (read : AllByRecursion (IsReadSection spec) file.sections) (faultless : AllByRecursion (IsFaultless file) file.sections)
     (components_once : repeated OfComponent [] file.sections ≡ []) where
   abbrev all_components : List Component
-  all_components = components (Some name) file.sections
+  all_components = components file
 
   abbrev whole : Description
-  whole = described spec file digest name version (Some name)
+  whole = description file digest name version
 
-  kept : (dep : Dep) → is_stated (Some name) file.sections dep ≡ true → is_kept name all_components (meant (Some name) file.sections dep) ≡ true
+  kept : (dep : Dep) → is_stated file dep ≡ true → is_kept name all_components (meant file dep) ≡ true
   kept dep e =
-      let both = and_parts (is_read is_of_components dep) (is_known (Some name) file.sections dep) e in
+      let both = and_parts (is_read is_of_components dep) (is_known file dep) e in
       let parts = read-parts (is_of_components dep.kind) (not dep.internal) (is_package_name dep.«package») (has_versions dep.range) both.0 in
-      meant-kept name formed file.sections all_components (lib-found (Some name) file.sections file.sections []) (exe-found (Some name) file.sections file.sections [])
+      meant-kept file name named formed all_components (lib-found file file.sections []) (exe-found file file.sections [])
       dep (parts.0, parts.2, parts.3) (not-true dep.internal parts.1) both.1
 
   abbrev is_well : Component → Bool
@@ -91,8 +77,8 @@ module _ (spec : Spec) (file : File) (digest name : List ℕ) (version : Version
 
   all-well : list_all is_well all_components ≡ true
   all-well =
-      components-well (declares_flag whole) name all_components file.sections kept (with_imports_replaced file.sections)
-      (replaced-well spec (Some name) file.sections (declares_flag whole) (flag_found file.sections) read faultless)
+      components-well (declares_flag whole) name all_components file kept (with_imports_replaced file.sections)
+      (replaced-well spec file (declares_flag whole) (flag_found file.sections) read faultless)
 
   deps-of : (c : Component) → is_well c ≡ true → list_all is_guarded c.deps ≡ true
   deps-of c e = (and_parts (asks_well (declares_flag whole) c.buildable) (list_all is_guarded c.deps) e).1
@@ -115,7 +101,7 @@ module _ (spec : Spec) (file : File) (digest name : List ℕ) (version : Version
   setup-is = setup-read spec file read
 
   components-distinct : IsDistinct same (map (λ component. component.name) all_components)
-  components-distinct = subst (IsDistinct same) (sym (component-names (Some name) file.sections file.sections [])) (once OfComponent file.sections components_once)
+  components-distinct = subst (IsDistinct same) (sym (component-names file file.sections [])) (once OfComponent file.sections components_once)
 
   conditions-well : list_all (asks_well (declares_flag whole)) (conditions whole) ≡ true
   conditions-well =
@@ -128,9 +114,9 @@ module _ (spec : Spec) (file : File) (digest name : List ℕ) (version : Version
   pub sound : repeated OfFlag [] file.sections ≡ [] → IsFirstOnCycle (needs all_components) None → IsDescription whole
   sound flags_once none = record {
     flags_rise = flags_rise file.sections flags_once;
-    flag_names = flag_names (Some name) file.sections file.sections faultless;
+    flag_names = flag_names file file.sections faultless;
     components_once = components-distinct;
-    libraries_apart = libraries_apart (Some name) name file.sections file.sections [] faultless;
+    libraries_apart = libraries_apart file name named file.sections [] faultless;
     component_kinds = all-less (is_kept name all_components) (λ dep. is_of_components dep.kind) (λ dep e. (kept-parts dep e).0) (component_deps whole) deps-kept;
     setup_kinds = all-less (is_read is_of_setup) (λ dep. is_of_setup dep.kind && not dep.internal)
         (λ dep e. let parts = setup-parts dep e in and_from (is_of_setup dep.kind) (not dep.internal) parts.0 parts.1) (setup file) setup-is;
@@ -162,31 +148,22 @@ module _ (items : List Element) (digest : List ℕ) (d : Description) (describes
   of = is_of items digest d describes
 
   read : AllByRecursion (IsReadSection of.spec) of.file.sections
-  read = sections-read of.spec (tree_of items) of.file.heads of.file.sections of.says
-
-  faultless : AllByRecursion (IsFaultless (Some of.name) of.file.sections) of.file.sections
-  faultless = subst (λ own. AllByRecursion (IsFaultless own of.file.sections) of.file.sections) of.named of.faultless.sections
+  read = sections-read of.spec (tree_of items) of.file.heads of.file.sections of.says.1
 
   formed : is_package_name of.name ≡ true
-  formed = name-formed of.spec (tree_of items) of.file.heads of.file.sections of.says of.name of.named
-
-  acyclic : IsFirstOnCycle (needs (components (Some of.name) of.file.sections)) None
-  acyclic = subst (λ own. IsFirstOnCycle (needs (components own of.file.sections)) None) of.named of.acyclic
-
-  whole-is : d ≡ described of.spec of.file digest of.name of.version (Some of.name)
-  whole-is = of.is ∙ ap (described of.spec of.file digest of.name of.version) of.named
+  formed = name-formed of.spec (tree_of items) of.file.heads of.file.sections of.says.1 of.name of.named
 
   pub described_sound : IsDescription d
-  described_sound = subst IsDescription (sym whole-is) (sound of.spec of.file digest of.name of.version formed read faultless of.faultless.components of.faultless.flags acyclic)
+  described_sound = subst IsDescription (sym of.is) (sound of.spec of.file digest of.name of.version of.named formed read of.faultless.sections of.faultless.components of.faultless.flags of.acyclic)
 
   pub name_formed : is_package_name d.name ≡ true
   name_formed = ap (λ (e : Description). is_package_name e.name) of.is ∙ formed
 
   pub version_formed : is_version d.version.parts ≡ true
-  version_formed = ap (λ (e : Description). is_version e.version.parts) of.is ∙ version-formed of.spec (tree_of items) of.file.heads of.file.sections of.says of.version of.versioned
+  version_formed = ap (λ (e : Description). is_version e.version.parts) of.is ∙ version-formed of.spec (tree_of items) of.file.heads of.file.sections of.says.1 of.version of.versioned
 
   pub packages_formed : list_all is_package_name (asked_packages d) ≡ true
-  packages_formed = ap (λ e. list_all is_package_name (asked_packages e)) whole-is ∙ asked of.spec of.file digest of.name of.version formed read faultless of.faultless.components
+  packages_formed = ap (λ e. list_all is_package_name (asked_packages e)) of.is ∙ asked of.spec of.file digest of.name of.version of.named formed read of.faultless.sections of.faultless.components
 
   pub digest_kept : d.digest ≡ digest
   digest_kept = ap (λ (e : Description). e.digest) of.is

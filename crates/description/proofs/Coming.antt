@@ -13,13 +13,13 @@ use Rattle.description.specs.Cycles.{needs}
 use Rattle.description.specs.Description.{Comes, description, line_of}
 use Rattle.description.specs.Tables.{is_at}
 
-pub comes-circular : (spec : Spec) (file : File) (digest name : List ℕ) (version : Version) (named : Option (List ℕ)) (dated : Option Version) (d : Description) (components : List Component) (circular : Option ℕ) (number : ℕ) →
-    named ≡ Some name → dated ≡ Some version → d ≡ description spec file digest name version → components ≡ d.components →
+pub comes-circular : (file : File) (digest name : List ℕ) (version : Version) (named : Option (List ℕ)) (dated : Option Version) (d : Description) (components : List Component) (circular : Option ℕ) (number : ℕ) →
+    named ≡ Some name → dated ≡ Some version → d ≡ description file digest name version → components ≡ d.components →
     IsFirstOnCycle (needs components) circular → circular ≡ Some number →
-    Comes spec file digest named dated (Err (is_at (line_of components number) ComponentCycle))
-comes-circular spec file digest name version named dated d components circular number named-is dated-is d-is components-are cycle circular-is =
-    subst (λ n. Comes spec file digest n dated (Err (is_at (line_of components number) ComponentCycle))) (sym named-is)
-    (subst (λ v. Comes spec file digest (Some name) v (Err (is_at (line_of components number) ComponentCycle))) (sym dated-is) (
+    Comes file digest named dated (Err (is_at (line_of components number) ComponentCycle))
+comes-circular file digest name version named dated d components circular number named-is dated-is d-is components-are cycle circular-is =
+    subst (λ n. Comes file digest n dated (Err (is_at (line_of components number) ComponentCycle))) (sym named-is)
+    (subst (λ v. Comes file digest (Some name) v (Err (is_at (line_of components number) ComponentCycle))) (sym dated-is) (
       Some number,
       subst (λ v. IsFirstOnCycle (needs v.components) (Some number)) d-is
           (subst (λ cs. IsFirstOnCycle (needs cs) (Some number)) components-are (subst (IsFirstOnCycle (needs components)) circular-is cycle)),

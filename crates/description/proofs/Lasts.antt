@@ -1,9 +1,12 @@
 -- What is said last.
-use Rattle.std.proofs.Common.{◌≡◌, List, [], ◌∷◌, ◌++◌, ap, ◌∙◌, refl, flat_map}
+use Rattle.std.proofs.Common.{◌≡◌, ℕ, List, [], ◌∷◌, ◌++◌, ap, ◌∙◌, refl, flat_map}
 use Rattle.std.specs.Prelude.{Option, Some, None}
 use Rattle.std.proofs.lemmas.Grind.{flat_map-append}
 use Rattle.std.proofs.lemmas.List.{append-nil}
-use Rattle.description.specs.Declarations.{last, later}
+use Rattle.description_parts.specs.declared.part.Head.{Head}
+use Rattle.description_parts.specs.declared.part.Head.TheVariants as head
+use Rattle.description_parts.specs.declared.part.HeadField.{HeadField}
+use Rattle.description.specs.Declarations.{joined, last, later, name_behind, name_said, own_name}
 
 pub last-append : {A : Type 0} (xs ys : List A) → last (xs ++ ys) ≡ later (last xs) (last ys)
 last-append [] [] = refl
@@ -26,3 +29,13 @@ last-append (x ∷ z ∷ xs) ys = last-append (z ∷ xs) ys
 
 pub last-more : {A B : Type 0} (f : A → List B) (xs : List A) (x : A) → last (flat_map f (xs ++ x ∷ [])) ≡ later (last (flat_map f xs)) (last (f x))
 last-more f xs x = ap last (flat_map-append f xs (x ∷ [])) ∙ last-append (flat_map f xs) (flat_map f (x ∷ [])) ∙ ap (λ l. later (last (flat_map f xs)) (last l)) (append-nil (f x))
+
+-- a field with a name takes the place of those before it
+name-more : (before : Option (Option (List ℕ))) (h : Head) → joined (later before (last (name_said h))) ≡ name_behind (joined before) h
+name-more before (head.Name name) = refl
+name-more before (head.Version version) = refl
+name-more before (head.BuildType custom) = refl
+
+pub own-name-more : (heads : List HeadField) (field : HeadField) → own_name (heads ++ field ∷ []) ≡ name_behind (own_name heads) field.head
+own-name-more heads field =
+    ap joined (last-more (λ f. name_said f.head) heads field) ∙ name-more (last (flat_map (λ f. name_said f.head) heads)) field.head

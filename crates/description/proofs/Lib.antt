@@ -21,3 +21,4 @@ pub mod Badly
 pub mod Walking
 pub mod Coming
 pub mod Told
+pub mod Only

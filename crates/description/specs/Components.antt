@@ -9,6 +9,7 @@ use Rattle.plan_types.specs.declared.description.CompKind.TheVariants.{Library, 
 use Rattle.plan_types.specs.declared.description.Component.{Component}
 use Rattle.plan_types.specs.declared.description.GuardedDep.{GuardedDep}
 use Rattle.description_parts.specs.Branch.{all_of}
+use Rattle.description_parts.specs.declared.part.File.{File}
 use Rattle.description_parts.specs.declared.part.Part.{Part}
 use Rattle.description_parts.specs.declared.part.Said.{Said}
 use Rattle.description_parts.specs.declared.part.Said.TheVariants as said
@@ -31,8 +32,8 @@ deps_said (said.Branch condition fits) = []
 deps_said said.Misplaced = []
 
 -- a dependency counts where the branches in which it stands are taken
-abbrev pub guarded : Option (List ℕ) → List Section → Part → List GuardedDep
-guarded own sections part = map (λ dep. record { when = all_of part.branches; dep = meant own sections dep }) (deps_said part.said)
+abbrev pub guarded : File → Part → List GuardedDep
+guarded file part = map (λ dep. record { when = all_of part.branches; dep = meant file dep }) (deps_said part.said)
 
 -- whether a part says that the component isn't buildable
 abbrev pub unbuildable_said : Said → Bool
@@ -83,24 +84,24 @@ is_named_library Foreign name = false
 abbrev pub is_public : List Part → Bool
 is_public parts = elim (last (flat_map visibility_of parts)) [ None ↦ false | Some value ↦ value ]
 
-abbrev pub component : Option (List ℕ) → List Section → Section → CompKind → Component
-component own sections section kind = record {
+abbrev pub component : File → Section → CompKind → Component
+component file section kind = record {
   line = section.line;
   kind = kind;
   name = section.name;
   public = is_named_library kind section.name && is_public section.parts;
   buildable = buildable section.parts;
-  deps = flat_map (guarded own sections) section.parts;
+  deps = flat_map (guarded file) section.parts;
 }
 
-abbrev pub component_in : Option (List ℕ) → List Section → Section → List Component
-component_in own sections section = elim section.kind [
-  | kinds.Component kind ↦ component own sections section kind ∷ []
+abbrev pub component_in : File → Section → List Component
+component_in file section = elim section.kind [
+  | kinds.Component kind ↦ component file section kind ∷ []
   | kinds.Common ↦ []
   | kinds.Flag ↦ []
   | kinds.Setup ↦ []
 ]
 
 -- the components of a file, in file order
-abbrev pub components : Option (List ℕ) → List Section → List Component
-components own sections = flat_map (component_in own sections) (with_imports_replaced sections)
+abbrev pub components : File → List Component
+components file = flat_map (component_in file) (with_imports_replaced file.sections)

@@ -1,6 +1,7 @@
 -- What a package declares, and what its dependencies and conditions mean in it.
 use Rattle.std.specs.Prelude.{ℕ, Bool, true, false, ◌&&◌, if◌then◌else◌, List, [], ◌∷◌, flat_map, Option, Some, None}
 use Rattle.std.specs.List.{list_all, list_any}
+use Rattle.plan_types.specs.Format.{has_bare_libraries}
 use Rattle.plan_types.specs.declared.condition.Cond.{Cond}
 use Rattle.plan_types.specs.declared.condition.Cond.TheOpen.{Cond-F, Always, Never, Flag, Os, Arch, Impl, Not, And, Or}
 use Rattle.plan_types.specs.declared.condition.Cond.TheFolds.{fold-Cond}
@@ -10,6 +11,8 @@ use Rattle.plan_types.specs.declared.dependency.DepKind.TheVariants.{Library, To
 use Rattle.plan_types.specs.declared.dependency.LibName.{LibName}
 use Rattle.plan_types.specs.declared.dependency.LibName.TheVariants as lib
 use Rattle.plan_types.specs.declared.description.CompKind.TheVariants as component
+use Rattle.plan_types.specs.declared.range.Spec.{Spec}
+use Rattle.description_parts.specs.declared.part.File.{File}
 use Rattle.description_parts.specs.declared.part.Head.{Head}
 use Rattle.description_parts.specs.declared.part.Head.TheVariants as head
 use Rattle.description_parts.specs.declared.part.HeadField.{HeadField}
@@ -50,10 +53,9 @@ is_flag kinds.Setup = false
 abbrev pub declares : (SectionKind → Bool) → List Section → List ℕ → Bool
 declares of_kind sections name = list_any (λ s. of_kind s.kind && same name s.name) sections
 
--- the name of the package that a field states
-abbrev pub name_said : Head → List (List ℕ)
-name_said (head.Name None) = []
-name_said (head.Name (Some name)) = name ∷ []
+-- the name of the package that a field states, or that it has none of its form
+abbrev pub name_said : Head → List (Option (List ℕ))
+name_said (head.Name name) = name ∷ []
 name_said (head.Version version) = []
 name_said (head.BuildType custom) = []
 
@@ -67,9 +69,20 @@ abbrev pub later : {A : Type 0} → Option A → Option A → Option A
 later before None = before
 later before (Some said) = Some said
 
--- the last name that is of its form
+-- where there is nothing, there is nothing in it
+abbrev pub joined : {A : Type 0} → Option (Option A) → Option A
+joined None = None
+joined (Some x) = x
+
+-- that of the last field; where that one has no name of its form, the package has none
 abbrev pub own_name : List HeadField → Option (List ℕ)
-own_name heads = last (flat_map (λ field. name_said field.head) heads)
+own_name heads = joined (last (flat_map (λ field. name_said field.head) heads))
+
+-- the name of the package behind a field, with that of the fields before it
+abbrev pub name_behind : Option (List ℕ) → Head → Option (List ℕ)
+name_behind before (head.Name name) = name
+name_behind before (head.Version version) = before
+name_behind before (head.BuildType custom) = before
 
 abbrev pub is_own : Option (List ℕ) → List ℕ → Bool
 is_own None name = false
@@ -80,12 +93,13 @@ abbrev pub library_name : LibName → List ℕ
 library_name lib.Main = []
 library_name (lib.Named name) = name
 
--- no library is named: the main one of another package is meant, or a library of the package itself
-abbrev pub is_main_alone : List LibName → Bool
-is_main_alone [] = false
-is_main_alone (lib.Main ∷ []) = true
-is_main_alone (lib.Main ∷ more ∷ libs) = false
-is_main_alone (lib.Named name ∷ libs) = false
+abbrev pub is_main : LibName → Bool
+is_main lib.Main = true
+is_main (lib.Named name) = false
+
+-- no library with a name of its own is named, so that the name of the package may stand for a library of this one
+abbrev pub is_bare : Spec → List LibName → Bool
+is_bare spec libs = has_bare_libraries spec && list_all is_main libs
 
 -- what a dependency means that is on the own package, or names a library of it in place of a package
 abbrev pub meaning_by : DepKind → Bool → Bool → Meaning
@@ -93,8 +107,9 @@ meaning_by Library own library = if own then Own else if library then OwnLibrary
 meaning_by Tool own library = if own then Own else Other
 meaning_by Setup own library = Other
 
-abbrev pub meaning : Option (List ℕ) → List Section → Dep → Meaning
-meaning own sections dep = meaning_by dep.kind (is_own own dep.«package») (is_main_alone dep.libs && declares is_library sections dep.«package»)
+abbrev pub meaning : File → Dep → Meaning
+meaning file dep =
+    meaning_by dep.kind (is_own (own_name file.heads) dep.«package») (is_bare file.spec dep.libs && declares is_library file.sections dep.«package»)
 
 abbrev pub meant_as : Meaning → Option (List ℕ) → Dep → Dep
 meant_as Other own dep = dep
@@ -103,8 +118,8 @@ meant_as OwnLibrary None dep = dep
 meant_as OwnLibrary (Some own) dep = record dep { «package» = own; libs = lib.Named dep.«package» ∷ []; internal = true }
 
 -- a dependency, as it is meant
-abbrev pub meant : Option (List ℕ) → List Section → Dep → Dep
-meant own sections dep = meant_as (meaning own sections dep) own dep
+abbrev pub meant : File → Dep → Dep
+meant file dep = meant_as (meaning file dep) (own_name file.heads) dep
 
 -- whether what is meant of the own package is declared, its libraries or its executable
 abbrev pub known_by : Meaning → DepKind → Bool → Bool → Bool
@@ -114,9 +129,10 @@ known_by Own Library libraries executable = libraries
 known_by Own Tool libraries executable = executable
 known_by Own Setup libraries executable = true
 
-abbrev pub is_known : Option (List ℕ) → List Section → Dep → Bool
-is_known own sections dep =
-    known_by (meaning own sections dep) dep.kind (list_all (λ l. declares is_library sections (library_name l)) dep.libs) (declares is_executable sections dep.exe)
+abbrev pub is_known : File → Dep → Bool
+is_known file dep =
+    known_by (meaning file dep) dep.kind (list_all (λ l. declares is_library file.sections (library_name l)) dep.libs)
+    (declares is_executable file.sections dep.exe)
 
 -- each flag that a condition names passes this
 abbrev pub flags_step : (List ℕ → Bool) → Cond-F Bool → Bool

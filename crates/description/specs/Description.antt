@@ -7,7 +7,7 @@ use Rattle.plan_types.specs.declared.description.Component.{Component}
 use Rattle.plan_types.specs.declared.description.Description.{Description}
 use Rattle.plan_types.specs.declared.element.Element.{Element}
 use Rattle.plan_types.specs.declared.range.Spec.{Spec}
-use Rattle.plan_types.specs.declared.range.Spec.TheVariants.{V2_4, V3_0}
+use Rattle.plan_types.specs.declared.range.Spec.TheVariants.{V2_4, V3_0, V3_4}
 use Rattle.plan_types.specs.declared.refusal.Cause.TheVariants.{MissingField, WrongCabalVersion, ComponentCycle}
 use Rattle.plan_types.specs.declared.version.Version.{Version}
 use Rattle.component_cycle.specs.Cycle.{IsFirstOnCycle}
@@ -39,6 +39,7 @@ abbrev pub spec_of : ℕ → List ℕ → Result Spec At
 spec_of line text =
     if same text (codes "2.4") then Ok V2_4
     else if same text (codes "3.0") then Ok V3_0
+    else if same text (codes "3.4") then Ok V3_4
     else Err (record { line = line; cause = WrongCabalVersion })
 
 -- the first element states the cabal-version
@@ -74,17 +75,14 @@ warning part = is_build_tools part.said (part.line ∷ [])
 abbrev pub warnings : List Section → List ℕ
 warnings sections = flat_map (λ section. flat_map warning section.parts) sections
 
-abbrev pub components_of : File → List Component
-components_of file = components (own_name file.heads) file.sections
-
-abbrev pub description : Spec → File → List ℕ → List ℕ → Version → Description
-description spec file digest name version = record {
-  spec = spec;
+abbrev pub description : File → List ℕ → List ℕ → Version → Description
+description file digest name version = record {
+  spec = file.spec;
   name = name;
   version = version;
   custom = is_custom file;
   flags = flags file.sections;
-  components = components_of file;
+  components = components file;
   setup = setup file;
   digest = digest;
   warnings = warnings file.sections;
@@ -100,21 +98,21 @@ unless_circular None d = Ok d
 unless_circular (Some n) d = Err (record { line = line_of d.components n; cause = ComponentCycle })
 
 -- what a file without a fault by itself comes to
-abbrev pub Comes : Spec → File → List ℕ → Option (List ℕ) → Option Version → Result Description At → Type 0
-Comes spec file digest None version outcome = outcome ≡ Err missing
-Comes spec file digest (Some name) None outcome = outcome ≡ Err missing
-Comes spec file digest (Some name) (Some version) outcome =
-    let d = description spec file digest name version in
+abbrev pub Comes : File → List ℕ → Option (List ℕ) → Option Version → Result Description At → Type 0
+Comes file digest None version outcome = outcome ≡ Err missing
+Comes file digest (Some name) None outcome = outcome ≡ Err missing
+Comes file digest (Some name) (Some version) outcome =
+    let d = description file digest name version in
     (circular : Option ℕ) × IsFirstOnCycle (needs d.components) circular × (outcome ≡ unless_circular circular d)
 
 -- The faults of the file come first, then a name or version that is missing, then a cycle of components.
-abbrev pub ComesTo : Spec → File → List ℕ → Option At → Result Description At → Type 0
-ComesTo spec file digest (Some at) outcome = outcome ≡ Err at
-ComesTo spec file digest None outcome = Comes spec file digest (own_name file.heads) (version_of file.heads) outcome
+abbrev pub ComesTo : File → List ℕ → Option At → Result Description At → Type 0
+ComesTo file digest (Some at) outcome = outcome ≡ Err at
+ComesTo file digest None outcome = Comes file digest (own_name file.heads) (version_of file.heads) outcome
 
 abbrev pub OfVersion : Result Spec At → List Element → List ℕ → Result Description At → Type 0
 OfVersion (Err at) items digest outcome = outcome ≡ Err at
-OfVersion (Ok spec) items digest outcome = (file : File) × IsFile spec items file × ComesTo spec file digest (first (faults file)) outcome
+OfVersion (Ok spec) items digest outcome = (file : File) × IsFile spec items file × ComesTo file digest (first (faults file)) outcome
 
 -- the elements have this description, or this first fault
 abbrev pub Describes : List Element → List ℕ → Result Description At → Type 0

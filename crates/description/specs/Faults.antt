@@ -74,23 +74,23 @@ of_condition sections (Ok cond) = unless (has_flags sections cond) causes.Unknow
 of_condition sections (Err cause) = cause ∷ []
 
 -- what a part says can be read and may stand there, its dependencies on the package itself and the flags of its condition are declared
-abbrev pub of_said : Option (List ℕ) → List Section → Said → List Cause
-of_said own sections (said.Import names fits) = unless fits causes.ImportNotFirst
-of_said own sections (said.Depends (Ok deps)) = unless (list_all (is_known own sections) deps) causes.UnknownComponent
-of_said own sections (said.Depends (Err cause)) = cause ∷ []
-of_said own sections (said.Buildable value) = unless_some value causes.BadField
-of_said own sections (said.Visibility value) = []
-of_said own sections (said.Default value) = unless_some value causes.BadField
-of_said own sections (said.Manual value) = unless_some value causes.BadField
-of_said own sections said.BuildTools = []
-of_said own sections (said.Branch condition fits) = of_condition sections condition ++ unless fits causes.ElseWithoutIf
-of_said own sections said.Misplaced = causes.BadField ∷ []
+abbrev pub of_said : File → Said → List Cause
+of_said file (said.Import names fits) = unless fits causes.ImportNotFirst
+of_said file (said.Depends (Ok deps)) = unless (list_all (is_known file) deps) causes.UnknownComponent
+of_said file (said.Depends (Err cause)) = cause ∷ []
+of_said file (said.Buildable value) = unless_some value causes.BadField
+of_said file (said.Visibility value) = []
+of_said file (said.Default value) = unless_some value causes.BadField
+of_said file (said.Manual value) = unless_some value causes.BadField
+of_said file said.BuildTools = []
+of_said file (said.Branch condition fits) = of_condition file.sections condition ++ unless fits causes.ElseWithoutIf
+of_said file said.Misplaced = causes.BadField ∷ []
 
-abbrev pub in_part : Option (List ℕ) → List Section → Part → List At
-in_part own sections part = at part.line (of_said own sections part.said)
+abbrev pub in_part : File → Part → List At
+in_part file part = at part.line (of_said file part.said)
 
-abbrev pub in_section : Option (List ℕ) → List Section → Section → List At
-in_section own sections section = at section.line (of_name own section) ++ flat_map (in_part own sections) section.parts
+abbrev pub in_section : File → Section → List At
+in_section file section = at section.line (of_name (own_name file.heads) section) ++ flat_map (in_part file) section.parts
 
 -- what may stand once of each name
 abbrev pub class_of : SectionKind → Class
@@ -166,9 +166,8 @@ bad_visibilities section = if is_named_library_section section then flat_map bad
 -- the faults that stand in a file by themselves
 abbrev pub file_faults : File → List At
 file_faults file =
-    let own = own_name file.heads in
     flat_map in_head file.heads
-    ++ flat_map (in_section own file.sections) file.sections
+    ++ flat_map (in_section file) file.sections
     ++ repeated Component [] file.sections ++ repeated Common [] file.sections ++ repeated Flag [] file.sections ++ repeated Setup [] file.sections
     ++ unknown_stanzas [] file.sections
 

@@ -3,8 +3,9 @@ use Rattle.std.specs.Prelude.{◌≡◌, ℕ, Bool, List, map, flat_map, Option,
 use Rattle.std.specs.Borrow.{Bor}
 use Rattle.plan_types.specs.declared.refusal.Cause.{Cause}
 use Rattle.plan_types.specs.declared.version.Version.{Version}
+use Rattle.description_parts.specs.declared.part.File.{File}
 use Rattle.description_parts.specs.declared.part.Section.{Section}
-use Rattle.description.specs.Declarations.{declares, is_executable, is_flag, is_library}
+use Rattle.description.specs.Declarations.{declares, is_executable, is_flag, is_library, own_name}
 use Rattle.description.specs.Imports.{with_imports_replaced}
 use Rattle.description.specs.Names.{has}
 use Rattle.description.specs.Standing.{built_component, shown_in, table}
@@ -33,12 +34,13 @@ is_of Flag = is_flag
 is_of Library = is_library
 is_of Executable = is_executable
 
--- the tables of what a package of this name declares in these sections
-pub record Tells (declared : Declared) (own : Option (List ℕ)) (sections : List Section) : Type 0 where
-  pub name : shown declared.name ≡ own
-  pub flags : (name : List ℕ) → has declared.flags name ≡ declares is_flag sections name
-  pub libraries : (name : List ℕ) → has declared.libraries name ≡ declares is_library sections name
-  pub executables : (name : List ℕ) → has declared.executables name ≡ declares is_executable sections name
+-- the tables of what a file says of its package: the name, and what is declared in its sections
+pub record Tells (declared : Declared) (file : File) : Type 0 where
+  pub spec : declared.spec ≡ file.spec
+  pub name : shown declared.name ≡ own_name file.heads
+  pub flags : (name : List ℕ) → has declared.flags name ≡ declares is_flag file.sections name
+  pub libraries : (name : List ℕ) → has declared.libraries name ≡ declares is_library file.sections name
+  pub executables : (name : List ℕ) → has declared.executables name ≡ declares is_executable file.sections name
 
 -- the components of these sections, and the stanzas that they import
 pub record Stand (sections : List Section) (bodies : Bodies) : Type 0 where

@@ -1,6 +1,7 @@
 ghost use Rattle.std.specs.Prelude.{◌≡◌, ℕ, List, ◌∷◌, [], ◌++◌, map, flat_map, Option, IfOk, OnOk};
 ghost use Rattle.plan_types.specs.declared.dependency.Dep.{Dep};
 ghost use Rattle.description_parts.specs.Branch.{all_of};
+ghost use Rattle.description_parts.specs.declared.part.File.{File};
 ghost use Rattle.description_parts.specs.declared.part.Section.{Section};
 ghost use Rattle.description.specs.Components.{barrier, buildable, component, components, guarded, is_public, unbuildable_said, visibility_of};
 ghost use Rattle.description.specs.Declarations.{meant};
@@ -20,8 +21,8 @@ pub fn components(
     declared: &Declared,
     bodies: &Bodies,
 ) -> Result<List<Component>, NoMemory>
-    ensures { IfOk result (λ found. (own : Option (List ℕ)) (sections : List Section) → Tells declared.now own sections → Stand sections bodies.now
-        → found ≡ components own sections) }
+    ensures { IfOk result (λ found. (file : File) → Tells declared.now file → Stand file.sections bodies.now
+        → found ≡ components file) }
 {
     let mut components = List::new(alloc);
     for one in bodies.built.as_slice() {
@@ -36,8 +37,8 @@ fn component<'a>(
     stanzas: &Stanzas<'a>,
     built: &Built<'a>,
 ) -> Result<Component, NoMemory>
-    ensures { IfOk result (λ found. (own : Option (List ℕ)) (sections : List Section) → Tells declared.now own sections
-        → found ≡ component own sections (built_component (table stanzas.now.bodies.items) built.now).section built.now.kind) }
+    ensures { IfOk result (λ found. (file : File) → Tells declared.now file
+        → found ≡ component file (built_component (table stanzas.now.bodies.items) built.now).section built.now.kind) }
 {
     let placed = stanzas.replaced(alloc, &built.body)?;
     let name = built.section.name.copy()?;
@@ -116,8 +117,8 @@ fn condition(alloc: Global, branches: &List<Cond>) -> Result<Cond, NoMemory>
 }
 
 fn deps(alloc: Global, declared: &Declared, placed: &[Placed]) -> Result<List<GuardedDep>, NoMemory>
-    ensures { IfOk result (λ deps. (own : Option (List ℕ)) (sections : List Section) → Tells declared.now own sections
-        → deps ≡ flat_map (guarded own sections) (map placed_part placed.now)) }
+    ensures { IfOk result (λ deps. (file : File) → Tells declared.now file
+        → deps ≡ flat_map (guarded file) (map placed_part placed.now)) }
 {
     let mut deps = List::new(alloc);
     for one in placed {
@@ -132,8 +133,8 @@ fn push_deps(
     declared: &Declared,
     placed: &Placed,
 ) -> Result<(), NoMemory>
-    ensures { OnOk result ((own : Option (List ℕ)) (sections : List Section) → Tells declared.now own sections
-        → deps.new ≡ deps.old ++ guarded own sections (placed_part placed.now)) }
+    ensures { OnOk result ((file : File) → Tells declared.now file
+        → deps.new ≡ deps.old ++ guarded file (placed_part placed.now)) }
 {
     let Said::Depends(said) = &placed.part.said else {
         return Ok(());
@@ -152,8 +153,8 @@ fn push_guarded(
     found: &[Dep],
     branches: &List<Cond>,
 ) -> Result<(), NoMemory>
-    ensures { OnOk result ((own : Option (List ℕ)) (sections : List Section) → Tells declared.now own sections
-        → deps.new ≡ deps.old ++ map (λ dep. record { when = all_of branches.now; dep = meant own sections dep }) found.now) }
+    ensures { OnOk result ((file : File) → Tells declared.now file
+        → deps.new ≡ deps.old ++ map (λ dep. record { when = all_of branches.now; dep = meant file dep }) found.now) }
 {
     for dep in found {
         let dep = declared.meant(alloc, dep)?;

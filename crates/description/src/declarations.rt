@@ -1,19 +1,21 @@
 ghost use Rattle.std.specs.Prelude.{◌≡◌, ◌&&◌, ◌||◌, ℕ, true, List, [], ◌∷◌, Option, IfOk, OnOk};
 ghost use Rattle.std.specs.List.{list_all};
 ghost use Rattle.plan_types.specs.declared.dependency.LibName.TheVariants.{Named};
+ghost use Rattle.description_parts.specs.declared.part.File.{File};
 ghost use Rattle.description_parts.specs.declared.part.Section.{Section};
-ghost use Rattle.description.specs.Declarations.{declares, has_flags, is_executable, is_flag, is_known, is_library, is_main_alone, is_own, known_by, last, later, library_name, meaning, meaning_by, meant, meant_as, name_said, own_name};
+ghost use Rattle.description.specs.Declarations.{declares, has_flags, is_executable, is_flag, is_bare, is_known, is_library, is_main, is_own, known_by, library_name, meaning, meaning_by, meant, meant_as, name_behind, own_name};
 ghost use Rattle.description.specs.Names.{has, same};
 ghost use Rattle.description.specs.Tables.{Tells, is_of, shown};
 
 use crate::names::Names;
 use description_parts::{File, Head, HeadField, Section, SectionKind};
-use plan_types::{CompKind, Cond, Dep, DepKind, LibName, List, NoMemory, Text};
+use plan_types::{CompKind, Cond, Dep, DepKind, LibName, List, NoMemory, Spec, Text};
 use std::alloc::Global;
 
 /// What a package declares, by name. The main library has the empty name.
 #[derive(Drop)]
 pub struct Declared<'a> {
+    spec: Spec,
     /// The package's own name.
     pub name: Option<&'a Text>,
     flags: Names<'a>,
@@ -34,10 +36,11 @@ pub enum Meaning {
 
 impl<'a> Declared<'a> {
     pub fn of(alloc: Global, file: &'a File) -> Result<Declared<'a>, NoMemory>
-        ensures { IfOk result (λ declared. Tells declared (own_name file.now.heads) file.now.sections) }
+        ensures { IfOk result (λ declared. Tells declared file.now) }
     {
         let sections = file.sections.as_slice();
         Ok(Declared {
+            spec: file.spec,
             name: own_name(file.heads.as_slice()),
             flags: names_of(alloc, sections, Declares::Flag)?,
             libraries: names_of(alloc, sections, Declares::Library)?,
@@ -46,7 +49,7 @@ impl<'a> Declared<'a> {
     }
 
     fn has_library(&self, lib: &LibName) -> bool
-        ensures { (own : Option (List ℕ)) (sections : List Section) → Tells self.now own sections → result ≡ declares is_library sections (library_name lib.now) }
+        ensures { (file : File) → Tells self.now file → result ≡ declares is_library file.sections (library_name lib.now) }
     {
         match lib {
             LibName::Main => self.libraries.has(""),
@@ -55,16 +58,16 @@ impl<'a> Declared<'a> {
     }
 
     fn meaning_of(&self, dep: &Dep) -> Meaning
-        ensures { (own : Option (List ℕ)) (sections : List Section) → Tells self.now own sections → result ≡ meaning own sections dep.now }
+        ensures { (file : File) → Tells self.now file → result ≡ meaning file dep.now }
     {
         let own = self.is_own(&dep.package);
-        let alone = is_main_alone(dep.libs.as_slice());
-        let named = self.libraries.has(dep.package.as_str());
-        meaning_by(dep.kind, own, alone, named)
+        let bare = is_bare(self.spec, dep.libs.as_slice());
+        let library = self.libraries.has(dep.package.as_str());
+        meaning_by(dep.kind, own, bare, library)
     }
 
     pub fn is_own(&self, name: &Text) -> bool
-        ensures { (own : Option (List ℕ)) (sections : List Section) → Tells self.now own sections → result ≡ is_own own name.now }
+        ensures { (file : File) → Tells self.now file → result ≡ is_own (own_name file.heads) name.now }
     {
         match self.name {
             Some(own) => own == name,
@@ -74,7 +77,7 @@ impl<'a> Declared<'a> {
 
     /// Whether a dependency is on nothing of the package itself that isn't declared.
     pub fn is_known(&self, dep: &Dep) -> bool
-        ensures { (own : Option (List ℕ)) (sections : List Section) → Tells self.now own sections → result ≡ is_known own sections dep.now }
+        ensures { (file : File) → Tells self.now file → result ≡ is_known file dep.now }
     {
         let libraries = self.has_libraries(dep.libs.as_slice());
         let executable = self.executables.has(dep.exe.as_str());
@@ -82,8 +85,8 @@ impl<'a> Declared<'a> {
     }
 
     fn has_libraries(&self, libs: &[LibName]) -> bool
-        ensures { (own : Option (List ℕ)) (sections : List Section) → Tells self.now own sections
-            → result ≡ list_all (λ l. declares is_library sections (library_name l)) libs.now }
+        ensures { (file : File) → Tells self.now file
+            → result ≡ list_all (λ l. declares is_library file.sections (library_name l)) libs.now }
     {
         for lib in libs {
             if !self.has_library(lib) {
@@ -95,7 +98,7 @@ impl<'a> Declared<'a> {
 
     /// Whether each flag that a condition names is declared.
     pub fn has_flags(&self, cond: &Cond) -> bool
-        ensures { (own : Option (List ℕ)) (sections : List Section) → Tells self.now own sections → result ≡ has_flags sections cond.now }
+        ensures { (file : File) → Tells self.now file → result ≡ has_flags file.sections cond.now }
     {
         let mut left = cond;
         loop {
@@ -125,7 +128,7 @@ impl<'a> Declared<'a> {
 
     /// The dependency, as it is meant.
     pub fn meant(&self, alloc: Global, dep: &Dep) -> Result<Dep, NoMemory>
-        ensures { IfOk result (λ found. (own : Option (List ℕ)) (sections : List Section) → Tells self.now own sections → found ≡ meant own sections dep.now) }
+        ensures { IfOk result (λ found. (file : File) → Tells self.now file → found ≡ meant file dep.now) }
     {
         let meaning = self.meaning_of(dep);
         let found = meant_as(alloc, meaning, self.name, dep)?;
@@ -133,14 +136,14 @@ impl<'a> Declared<'a> {
     }
 }
 
-fn meaning_by(kind: DepKind, own: bool, alone: bool, named: bool) -> Meaning
-    ensures { result ≡ meaning_by kind own (alone && named) }
+fn meaning_by(kind: DepKind, own: bool, bare: bool, library: bool) -> Meaning
+    ensures { result ≡ meaning_by kind own (bare && library) }
 {
     match kind {
         DepKind::Library => {
             if own {
                 Meaning::Own
-            } else if alone && named {
+            } else if bare && library {
                 Meaning::OwnLibrary
             } else {
                 Meaning::Other
@@ -204,41 +207,41 @@ fn own_library(alloc: Global, own: &Text, dep: &Dep) -> Result<Dep, NoMemory>
     })
 }
 
-/// The last name that is of its form.
+/// That of the last field, also where it is none.
 fn own_name(heads: &[HeadField]) -> Option<&Text>
     ensures { shown result ≡ own_name heads.now }
 {
     let mut name = None;
     for field in heads {
-        name = later(name, name_said(&field.head));
+        name = name_behind(name, &field.head);
     }
     name
 }
 
-fn name_said(head: &Head) -> Option<&Text>
-    ensures { shown result ≡ last (name_said head.now) }
+/// The name of the package behind a field, with that of the fields before it.
+fn name_behind<'a>(before: Option<&'a Text>, head: &'a Head) -> Option<&'a Text>
+    ensures { shown result ≡ name_behind (shown before.entry) head.now }
 {
     match head {
-        Head::Name(Some(name)) => Some(name),
-        _ => None,
+        Head::Name(name) => name.as_ref(),
+        Head::Version(_) => before,
+        Head::BuildType(_) => before,
     }
 }
 
-fn later<'a>(before: Option<&'a Text>, said: Option<&'a Text>) -> Option<&'a Text>
-    ensures { shown result ≡ later (shown before.entry) (shown said.entry) }
+/// Whether the name of the package that is asked for may stand for a library of this one.
+fn is_bare(spec: Spec, libs: &[LibName]) -> bool
+    ensures { result ≡ is_bare spec libs.now }
 {
-    match said {
-        Some(name) => Some(name),
-        None => before,
-    }
+    spec.has_bare_libraries() && libs.iter().all(is_main)
 }
 
-fn is_main_alone(libs: &[LibName]) -> bool
-    ensures { result ≡ is_main_alone libs.now }
+fn is_main(lib: &LibName) -> bool
+    ensures { result ≡ is_main lib.now }
 {
-    match libs {
-        [LibName::Main] => true,
-        _ => false,
+    match lib {
+        LibName::Main => true,
+        LibName::Named(_) => false,
     }
 }
 

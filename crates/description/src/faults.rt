@@ -1,5 +1,6 @@
 ghost use Rattle.std.specs.Prelude.{◌≡◌, ◌&&◌, ℕ, true, not, List, [], flat_map, Option, IfOk, OnOk};
 ghost use Rattle.std.specs.List.{list_all};
+ghost use Rattle.description_parts.specs.declared.part.File.{File};
 ghost use Rattle.description_parts.specs.declared.part.Section.{Section};
 ghost use Rattle.description.specs.Declarations.{is_known, is_library, own_name};
 ghost use Rattle.description.specs.Faults.{again, at, class_of, file_faults, has_good_name, in_head, in_part, in_section, is_class, names_behind, of_condition, of_name, of_said, repeated, unknown_said, unknown_stanzas, unless};
@@ -18,7 +19,7 @@ use std::alloc::Global;
 
 /// The first of the faults that stand in a file by themselves, without those that come with imports.
 pub fn first_fault(alloc: Global, file: &File, declared: &Declared) -> Result<Option<At>, NoMemory>
-    ensures { IfOk result (λ found. Tells declared.now (own_name file.now.heads) file.now.sections → found ≡ first (file_faults file.now)) }
+    ensures { IfOk result (λ found. Tells declared.now file.now → found ≡ first (file_faults file.now)) }
 {
     let sections = file.sections.as_slice();
     let found = in_heads(file.heads.as_slice());
@@ -64,7 +65,7 @@ fn in_head(field: &HeadField) -> Option<At>
 }
 
 fn in_sections(sections: &[Section], declared: &Declared) -> Option<At>
-    ensures { (own : Option (List ℕ)) (all : List Section) → Tells declared.now own all → result ≡ first (flat_map (in_section own all) sections.now) }
+    ensures { (file : File) → Tells declared.now file → result ≡ first (flat_map (in_section file) sections.now) }
 {
     let mut found = None;
     for section in sections {
@@ -74,7 +75,7 @@ fn in_sections(sections: &[Section], declared: &Declared) -> Option<At>
 }
 
 fn in_section(section: &Section, declared: &Declared) -> Option<At>
-    ensures { (own : Option (List ℕ)) (all : List Section) → Tells declared.now own all → result ≡ first (in_section own all section.now) }
+    ensures { (file : File) → Tells declared.now file → result ≡ first (in_section file section.now) }
 {
     let named = of_name(section, declared);
     let inside = in_parts(section.parts.as_slice(), declared);
@@ -82,7 +83,7 @@ fn in_section(section: &Section, declared: &Declared) -> Option<At>
 }
 
 fn of_name(section: &Section, declared: &Declared) -> Option<At>
-    ensures { (own : Option (List ℕ)) (all : List Section) → Tells declared.now own all → result ≡ first (at section.now.line (of_name own section.now)) }
+    ensures { (file : File) → Tells declared.now file → result ≡ first (at section.now.line (of_name (own_name file.heads) section.now)) }
 {
     let good = has_good_name(section.kind, section.name.as_bytes());
     let own = declared.is_own(&section.name);
@@ -122,7 +123,7 @@ fn has_good_name(kind: SectionKind, name: &[u8]) -> bool
 }
 
 fn in_parts(parts: &[Part], declared: &Declared) -> Option<At>
-    ensures { (own : Option (List ℕ)) (all : List Section) → Tells declared.now own all → result ≡ first (flat_map (in_part own all) parts.now) }
+    ensures { (file : File) → Tells declared.now file → result ≡ first (flat_map (in_part file) parts.now) }
 {
     let mut found = None;
     for part in parts {
@@ -132,7 +133,7 @@ fn in_parts(parts: &[Part], declared: &Declared) -> Option<At>
 }
 
 fn in_part(part: &Part, declared: &Declared) -> Option<At>
-    ensures { (own : Option (List ℕ)) (all : List Section) → Tells declared.now own all → result ≡ first (in_part own all part.now) }
+    ensures { (file : File) → Tells declared.now file → result ≡ first (in_part file part.now) }
 {
     let line = part.line;
     match &part.said {
@@ -149,7 +150,7 @@ fn in_part(part: &Part, declared: &Declared) -> Option<At>
 }
 
 fn of_deps(line: u32, deps: &Result<List<Dep>, Cause>, declared: &Declared) -> Option<At>
-    ensures { (own : Option (List ℕ)) (all : List Section) → Tells declared.now own all → result ≡ first (at line (of_said own all (Said.Depends deps.now))) }
+    ensures { (file : File) → Tells declared.now file → result ≡ first (at line (of_said file (Said.Depends deps.now))) }
 {
     match deps {
         Ok(deps) => unless(
@@ -162,7 +163,7 @@ fn of_deps(line: u32, deps: &Result<List<Dep>, Cause>, declared: &Declared) -> O
 }
 
 fn are_known(deps: &[Dep], declared: &Declared) -> bool
-    ensures { (own : Option (List ℕ)) (all : List Section) → Tells declared.now own all → result ≡ list_all (is_known own all) deps.now }
+    ensures { (file : File) → Tells declared.now file → result ≡ list_all (is_known file) deps.now }
 {
     for dep in deps {
         if !declared.is_known(dep) {
@@ -178,7 +179,7 @@ fn of_branch(
     fits: bool,
     declared: &Declared,
 ) -> Option<At>
-    ensures { (own : Option (List ℕ)) (all : List Section) → Tells declared.now own all → result ≡ first (at line (of_said own all (Said.Branch condition.now fits))) }
+    ensures { (file : File) → Tells declared.now file → result ≡ first (at line (of_said file (Said.Branch condition.now fits))) }
 {
     let condition = of_condition(line, condition, declared);
     let place = unless(line, fits, Cause::ElseWithoutIf);
@@ -186,7 +187,7 @@ fn of_branch(
 }
 
 fn of_condition(line: u32, condition: &Result<Cond, Cause>, declared: &Declared) -> Option<At>
-    ensures { (own : Option (List ℕ)) (all : List Section) → Tells declared.now own all → result ≡ first (at line (of_condition all condition.now)) }
+    ensures { (file : File) → Tells declared.now file → result ≡ first (at line (of_condition file.sections condition.now)) }
 {
     match condition {
         Ok(cond) => unless(line, declared.has_flags(cond), Cause::UnknownFlag),

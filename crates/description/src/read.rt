@@ -1,11 +1,14 @@
-ghost use Rattle.std.specs.Prelude.{◌≡◌, ◌++◌, ℕ, List, Option, flat_map, IfOk, IfErr, OnOk};
+ghost use Rattle.std.specs.Prelude.{◌≡◌, ◌++◌, ℕ, List, Option, flat_map, IfOk, IfErr, MatchResult, OnOk};
 ghost use Rattle.std.specs.declared.result.Result.TheVariants.{Ok, Err};
 ghost use Rattle.plan_types.specs.Refusal.{RefusesAt};
+ghost use Rattle.plan_types.specs.declared.description.Description.{Description};
+ghost use Rattle.plan_types.specs.declared.refusal.Cause.{Cause};
 ghost use Rattle.description_parts.specs.Tree.{Tree, in_front, tree_of};
+ghost use Rattle.description_parts.specs.declared.part.File.{File};
 ghost use Rattle.description_parts.specs.declared.part.Section.{Section};
 ghost use Rattle.description.specs.Declarations.{last, later, own_name};
 ghost use Rattle.description.specs.Components.{components};
-ghost use Rattle.description.specs.Description.{Comes, ComesTo, Describes, cabal_version, components_of, description, line_of, version_of, version_said, spec_of, warning, warnings};
+ghost use Rattle.description.specs.Description.{Comes, ComesTo, Describes, cabal_version, description, line_of, version_of, version_said, spec_of, warning, warnings};
 ghost use Rattle.description.specs.Faults.{faults};
 ghost use Rattle.description.specs.First.{first};
 ghost use Rattle.description.specs.Tables.{Stand, Tells, is_at, shown_version};
@@ -16,6 +19,7 @@ use crate::declarations::Declared;
 use crate::faults::first_fault;
 use crate::first::{At, earlier};
 use crate::flags::flags;
+use crate::laws::one_outcome;
 use crate::setup::{is_custom, setup_deps};
 use crate::stanzas::{Bodies, bodies_of, first_bad_visibility, total_size};
 use description_parts::{File, Head, HeadField, Part, Said, Section, read_file};
@@ -35,10 +39,28 @@ pub fn read_description(
 ) -> Result<Description, Fault>
     ensures description { IfOk result (λ d. Describes items.now digest (Ok d)) }
     ensures fault { IfErr result (RefusesAt (λ line cause. Describes items.now digest (Err (is_at line cause)))) }
+    // What has a description isn't refused, but for want of memory.
+    ensures exactly_descriptions { (d : Description) → Describes items.now digest (Ok d) →
+        MatchResult result (λ found. found ≡ d) (RefusesAt (λ _ _. ⊥)) }
+    // What has a fault gives no description, and no other fault.
+    ensures exactly_faults { (line : ℕ) (cause : Cause) → Describes items.now digest (Err (is_at line cause)) →
+        MatchResult result (λ _. ⊥) (RefusesAt (λ at why. (at ≡ line) × (why ≡ cause))) }
+{
+    one_outcome();
+    described_items(alloc, items, digest)
+}
+
+fn described_items(
+    alloc: Global,
+    items: &List<Element>,
+    digest: Text,
+) -> Result<Description, Fault>
+    ensures description { IfOk result (λ d. Describes items.now digest (Ok d)) }
+    ensures fault { IfErr result (RefusesAt (λ line cause. Describes items.now digest (Err (is_at line cause)))) }
 {
     let spec = cabal_version(alloc, items.as_slice())?;
     let file = read_file(alloc, spec, items.as_slice())?;
-    let described = described(alloc, spec, &file, digest)?;
+    let described = described(alloc, &file, digest)?;
     Ok(described)
 }
 
@@ -91,6 +113,7 @@ fn spec_of(line: u32, text: &str) -> Result<Spec, Fault>
     match text {
         "2.4" => Ok(Spec::V2_4),
         "3.0" => Ok(Spec::V3_0),
+        "3.4" => Ok(Spec::V3_4),
         _ => Err(Fault::At {
             line,
             cause: Cause::WrongCabalVersion,
@@ -98,33 +121,32 @@ fn spec_of(line: u32, text: &str) -> Result<Spec, Fault>
     }
 }
 
-fn described(alloc: Global, spec: Spec, file: &File, digest: Text) -> Result<Description, Fault>
-    ensures description { IfOk result (λ d. ComesTo spec file.now digest (first (faults file.now)) (Ok d)) }
-    ensures fault { IfErr result (RefusesAt (λ line cause. ComesTo spec file.now digest (first (faults file.now)) (Err (is_at line cause)))) }
+fn described(alloc: Global, file: &File, digest: Text) -> Result<Description, Fault>
+    ensures description { IfOk result (λ d. ComesTo file.now digest (first (faults file.now)) (Ok d)) }
+    ensures fault { IfErr result (RefusesAt (λ line cause. ComesTo file.now digest (first (faults file.now)) (Err (is_at line cause)))) }
 {
     let declared = Declared::of(alloc, file)?;
     let bodies = bodies_of(alloc, file.sections.as_slice())?;
-    judged(alloc, spec, file, digest, &declared, &bodies)
+    judged(alloc, file, digest, &declared, &bodies)
 }
 
 /// What a file comes to, by the tables of what it declares and imports.
 fn judged(
     alloc: Global,
-    spec: Spec,
     file: &File,
     digest: Text,
     declared: &Declared,
     bodies: &Bodies,
 ) -> Result<Description, Fault>
-    ensures description { IfOk result (λ d. Tells declared.now (own_name file.now.heads) file.now.sections → Stand file.now.sections bodies.now
-        → ComesTo spec file.now digest (first (faults file.now)) (Ok d)) }
-    ensures fault { IfErr result (RefusesAt (λ line cause. Tells declared.now (own_name file.now.heads) file.now.sections → Stand file.now.sections bodies.now
-        → ComesTo spec file.now digest (first (faults file.now)) (Err (is_at line cause)))) }
+    ensures description { IfOk result (λ d. Tells declared.now file.now → Stand file.now.sections bodies.now
+        → ComesTo file.now digest (first (faults file.now)) (Ok d)) }
+    ensures fault { IfErr result (RefusesAt (λ line cause. Tells declared.now file.now → Stand file.now.sections bodies.now
+        → ComesTo file.now digest (first (faults file.now)) (Err (is_at line cause)))) }
 {
     let first = first_of_file(alloc, file, declared, bodies)?;
     match first {
         Some(at) => Err(at.fault()),
-        None => faultless(alloc, spec, file, digest, declared, bodies),
+        None => faultless(alloc, file, digest, declared, bodies),
     }
 }
 
@@ -135,7 +157,7 @@ fn first_of_file(
     declared: &Declared,
     bodies: &Bodies,
 ) -> Result<Option<At>, NoMemory>
-    ensures { IfOk result (λ found. Tells declared.now (own_name file.now.heads) file.now.sections → Stand file.now.sections bodies.now → found ≡ first (faults file.now)) }
+    ensures { IfOk result (λ found. Tells declared.now file.now → Stand file.now.sections bodies.now → found ≡ first (faults file.now)) }
 {
     let written = first_fault(alloc, file, declared)?;
     Ok(earlier(written, first_bad_visibility(bodies)))
@@ -144,16 +166,15 @@ fn first_of_file(
 /// What a file without a fault by itself comes to.
 fn faultless(
     alloc: Global,
-    spec: Spec,
     file: &File,
     digest: Text,
     declared: &Declared,
     bodies: &Bodies,
 ) -> Result<Description, Fault>
-    ensures description { IfOk result (λ d. Tells declared.now (own_name file.now.heads) file.now.sections → Stand file.now.sections bodies.now
-        → Comes spec file.now digest (own_name file.now.heads) (version_of file.now.heads) (Ok d)) }
-    ensures fault { IfErr result (RefusesAt (λ line cause. Tells declared.now (own_name file.now.heads) file.now.sections → Stand file.now.sections bodies.now
-        → Comes spec file.now digest (own_name file.now.heads) (version_of file.now.heads) (Err (is_at line cause)))) }
+    ensures description { IfOk result (λ d. Tells declared.now file.now → Stand file.now.sections bodies.now
+        → Comes file.now digest (own_name file.now.heads) (version_of file.now.heads) (Ok d)) }
+    ensures fault { IfErr result (RefusesAt (λ line cause. Tells declared.now file.now → Stand file.now.sections bodies.now
+        → Comes file.now digest (own_name file.now.heads) (version_of file.now.heads) (Err (is_at line cause)))) }
 {
     let Some(name) = declared.name else {
         return Err(missing());
@@ -162,7 +183,7 @@ fn faultless(
         return Err(missing());
     };
     let components = components_in(alloc, declared, bodies)?;
-    let described = whole(alloc, spec, file, digest, name, version, components)?;
+    let described = whole(alloc, file, digest, name, version, components)?;
     match first_circular(alloc, described.components.as_slice())? {
         Some(number) => Err(circular(described.components.as_slice(), number)),
         None => Ok(described),
@@ -174,8 +195,8 @@ fn components_in(
     declared: &Declared,
     bodies: &Bodies,
 ) -> Result<List<Component>, NoMemory>
-    ensures { IfOk result (λ found. (own : Option (List ℕ)) (sections : List Section) → Tells declared.now own sections → Stand sections bodies.now
-        → found ≡ components own sections) }
+    ensures { IfOk result (λ found. (file : File) → Tells declared.now file → Stand file.sections bodies.now
+        → found ≡ components file) }
 {
     room(alloc, total_size(bodies))?;
     let found = components(alloc, declared, bodies)?;
@@ -191,14 +212,13 @@ fn room(alloc: Global, parts: u64) -> Result<(), NoMemory> {
 
 fn whole(
     alloc: Global,
-    spec: Spec,
     file: &File,
     digest: Text,
     name: &Text,
     version: &Version,
     components: List<Component>,
 ) -> Result<Description, NoMemory>
-    ensures { IfOk result (λ d. components ≡ components_of file.now → d ≡ description spec file.now digest name.now version.now) }
+    ensures { IfOk result (λ d. components ≡ components file.now → d ≡ description file.now digest name.now version.now) }
 {
     let name = name.copy()?;
     let version = version.copy(alloc)?;
@@ -206,7 +226,7 @@ fn whole(
     let setup = setup_deps(alloc, file)?;
     let warnings = warnings(alloc, file.sections.as_slice())?;
     Ok(Description {
-        spec,
+        spec: file.spec,
         name,
         version,
         custom: is_custom(file),

@@ -8,6 +8,7 @@ use Rattle.plan_types.specs.declared.condition.Cond.{Cond}
 use Rattle.plan_types.specs.declared.dependency.Dep.{Dep}
 use Rattle.plan_types.specs.declared.dependency.DepKind.{DepKind}
 use Rattle.plan_types.specs.declared.dependency.DepKind.TheVariants.{Library, Setup}
+use Rattle.plan_types.specs.declared.element.Element.{Element}
 use Rattle.plan_types.specs.declared.range.Spec.{Spec}
 use Rattle.plan_types.specs.declared.refusal.Cause.{Cause}
 use Rattle.plan_types.specs.declared.version.Version.{Version}
@@ -18,10 +19,11 @@ use Rattle.depend_text.proofs.Only as only
 use Rattle.depend_text.proofs.OneLibrary.{library_settled, tool_settled}
 use Rattle.version_range.proofs.Numbers.{one_version, version_from}
 use Rattle.description_parts.specs.Branch.{Read, OwnCondition, branch_of, chain_of, condition}
-use Rattle.description_parts.specs.File.{Says, HeadSays, IsVersion, SectionIs, headed, section_name}
+use Rattle.description_parts.specs.File.{IsFile, Says, HeadSays, IsVersion, SectionIs, headed, section_name}
 use Rattle.description_parts.specs.Items.{Items, FieldSays, SectionSays, branch_fits, is_import, imports_in_branches, placed}
-use Rattle.description_parts.specs.Tree.{Tree, end, field, section}
+use Rattle.description_parts.specs.Tree.{Tree, end, field, section, tree_of}
 use Rattle.description_parts.specs.Words.{field_word, inner_word, head_word, section_kind}
+use Rattle.description_parts.specs.declared.part.File.{File}
 use Rattle.description_parts.specs.declared.part.Head.{Head}
 use Rattle.description_parts.specs.declared.part.Head.TheVariants as head
 use Rattle.description_parts.specs.declared.part.HeadField.{HeadField}
@@ -135,12 +137,19 @@ one_in_file spec (Some kind) line args items Behind Other a b behind p q =
       rest.1,
     )
 
-pub one_file : (spec : Spec) (tree : Tree) (heads heads' : List HeadField) (sections sections' : List Section) → Says spec tree heads sections → Says spec tree heads' sections' → (sections ≡ sections') × (heads ≡ heads')
+one_says : (spec : Spec) (tree : Tree) (heads heads' : List HeadField) (sections sections' : List Section) → Says spec tree heads sections → Says spec tree heads' sections' → (sections ≡ sections') × (heads ≡ heads')
 unfolding Says
-one_file spec end heads heads' sections sections' p q = (p.1 ∙ sym q.1, p.0 ∙ sym q.0)
-one_file spec (field line name values behind) heads heads' sections sections' p q =
-    let rest = one_file spec behind p.1 q.1 sections sections' p.3 q.3 in
+one_says spec end heads heads' sections sections' p q = (p.1 ∙ sym q.1, p.0 ∙ sym q.0)
+one_says spec (field line name values behind) heads heads' sections sections' p q =
+    let rest = one_says spec behind p.1 q.1 sections sections' p.3 q.3 in
     (rest.0, p.4 ∙ ap (λ h. headed line h ++ p.1) (one_head (head_word name) (joined_text values) p.0 q.0 p.2 q.2) ∙ ap (λ m. headed line q.0 ++ m) rest.1 ∙ sym q.4)
-one_file spec (section line name args items behind) heads heads' sections sections' p q =
+one_says spec (section line name args items behind) heads heads' sections sections' p q =
     one_in_file spec (section_kind name) line args items (λ more. Says spec behind heads more) (λ more. Says spec behind heads' more) sections sections'
-    (λ x y. one_file spec behind heads heads' x y) p q
+    (λ x y. one_says spec behind heads heads' x y) p q
+
+pub one_file : (spec : Spec) (items : List Element) (a b : File) → IsFile spec items a → IsFile spec items b → a ≡ b
+one_file spec items a b p q =
+    let same = one_says spec (tree_of items) a.heads b.heads a.sections b.sections p.1 q.1 in
+    ap (λ v. record { spec = v; heads = a.heads; sections = a.sections }) (p.0 ∙ sym q.0)
+    ∙ ap (λ s. record { spec = b.spec; heads = a.heads; sections = s }) same.0
+    ∙ ap (λ h. record { spec = b.spec; heads = h; sections = b.sections }) same.1

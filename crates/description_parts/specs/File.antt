@@ -64,4 +64,4 @@ Says spec (section line name args items behind) heads sections =
 
 -- what the elements of a file of this cabal-version say
 abbrev pub IsFile : Spec → List Element → File → Type 0
-IsFile spec items file = Says spec (tree_of items) file.heads file.sections
+IsFile spec items file = (file.spec ≡ spec) × Says spec (tree_of items) file.heads file.sections

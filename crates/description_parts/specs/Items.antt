@@ -1,12 +1,12 @@
 -- Which parts the elements of a section are.
-use Rattle.std.specs.Prelude.{◌≡◌, ℕ, Bool, true, false, ◌&&◌, List, [], ◌∷◌, ◌++◌, Option, Some, None, is_some}
+use Rattle.std.specs.Prelude.{◌≡◌, ℕ, Bool, true, false, ◌&&◌, not, if◌then◌else◌, List, [], ◌∷◌, ◌++◌, Option, Some, None, is_some}
 use Rattle.std.specs.declared.result.Result.{Result}
 use Rattle.plan_types.specs.Bytes.{joined_text}
 use Rattle.plan_types.specs.declared.condition.Cond.{Cond}
 use Rattle.plan_types.specs.declared.dependency.Dep.{Dep}
 use Rattle.plan_types.specs.declared.dependency.DepKind.TheVariants.{Library, Setup}
 use Rattle.plan_types.specs.declared.range.Spec.{Spec}
-use Rattle.plan_types.specs.declared.range.Spec.TheVariants.{V2_4, V3_0}
+use Rattle.plan_types.specs.Format.{is_old}
 use Rattle.plan_types.specs.declared.refusal.Cause.{Cause}
 use Rattle.depend_text.specs.Depends as depend
 use Rattle.description_parts.specs.Branch.{Read, OwnCondition, condition, branch_of, chain_of}
@@ -25,8 +25,7 @@ use Rattle.description_parts.specs.declared.words.InnerWord.TheVariants as inner
 
 -- it is read from 3.0 on
 abbrev pub visible : Spec → List ℕ → Option Said
-visible V2_4 text = None
-visible V3_0 text = Some (said.Visibility (visibility text))
+visible spec text = if is_old spec then None else Some (said.Visibility (visibility text))
 
 -- What a field says with this text, where it is read. An import tells whether it stands where one may.
 abbrev pub FieldSays : Spec → FieldWord → ℕ → List ℕ → Bool → Option Said → Type 0
@@ -68,8 +67,7 @@ branch_fits Else chain = is_some chain
 
 -- imports stand in front in a section, and from 3.0 on in a branch
 abbrev pub imports_in_branches : Spec → Bool
-imports_in_branches V2_4 = false
-imports_in_branches V3_0 = true
+imports_in_branches spec = not (is_old spec)
 
 abbrev pub imports_begin : {A : Type 0} → Spec → List A → Bool
 imports_begin spec [] = true

@@ -69,8 +69,9 @@ fn tools(alloc: Global, spec: Spec, line: u32, text: &Text) -> Result<Said, NoMe
 fn visible(spec: Spec, text: &[u8]) -> Option<Said>
     ensures { result ≡ visible spec text.now }
 {
-    match spec {
-        Spec::V2_4 => None,
-        Spec::V3_0 => Some(Said::Visibility(visibility(text))),
+    if spec.is_old() {
+        None
+    } else {
+        Some(Said::Visibility(visibility(text)))
     }
 }

@@ -25,7 +25,11 @@ pub fn read_file(alloc: Global, spec: Spec, items: &[Element]) -> Result<File, N
     for item in items {
         read_top(alloc, spec, item, &mut heads, &mut sections)?;
     }
-    Ok(File { heads, sections })
+    Ok(File {
+        spec,
+        heads,
+        sections,
+    })
 }
 
 fn read_top(

@@ -114,7 +114,7 @@ fn read_item(
 fn imports_begin(spec: Spec, branches: &[Branch]) -> bool
     ensures { result ≡ imports_begin spec branches.now }
 {
-    branches.is_empty() || spec == Spec::V3_0
+    branches.is_empty() || !spec.is_old()
 }
 
 fn imports_behind(fits: bool, word: FieldWord) -> bool

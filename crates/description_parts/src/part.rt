@@ -1,4 +1,4 @@
-use plan_types::{Cause, CompKind, Cond, Dep, List, Text, Version};
+use plan_types::{Cause, CompKind, Cond, Dep, List, Spec, Text, Version};
 
 /// What a field or a section inside a section says.
 #[derive(Debug, Drop)]
@@ -80,6 +80,7 @@ pub struct HeadField {
 /// What a file says, in file order.
 #[derive(Debug, Drop)]
 pub struct File {
+    pub spec: Spec,
     pub heads: List<HeadField>,
     pub sections: List<Section>,
 }

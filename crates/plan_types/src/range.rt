@@ -1,15 +1,39 @@
 ghost use Rattle.std.specs.Prelude.{◌≡◌, [], IfOk};
 ghost use Rattle.plan_types.specs.declared.range.Range.TheVariants.{Both, Either};
 ghost use Rattle.plan_types.specs.Range.{rebuilt};
+ghost use Rattle.plan_types.specs.Format.{is_old, has_bare_libraries};
 
 use crate::{Boxed, NoMemory, Version};
 use std::alloc::Global;
 
-/// Which texts of ranges a file may hold: those of cabal-version 2.4 or of 3.0.
+/// The cabal-version of a file, which says what its texts may hold and mean.
 #[derive(Clone, Copy, Debug, PartialEq, Eq)]
 pub enum Spec {
     V2_4,
     V3_0,
+    V3_4,
+}
+
+impl Spec {
+    /// Sets of versions, libraries of a package by name, `visibility` and imports in branches came with 3.0.
+    pub fn is_old(self) -> bool
+        ensures { result ≡ is_old self }
+    {
+        match self {
+            Spec::V2_4 => true,
+            Spec::V3_0 | Spec::V3_4 => false,
+        }
+    }
+
+    /// Whether the name of an own library stands for it in place of a package, as it did before 3.4.
+    pub fn has_bare_libraries(self) -> bool
+        ensures { result ≡ has_bare_libraries self }
+    {
+        match self {
+            Spec::V2_4 | Spec::V3_0 => true,
+            Spec::V3_4 => false,
+        }
+    }
 }
 
 /// A set of versions, as it is written.

@@ -1,10 +1,13 @@
-ghost use Rattle.std.specs.Prelude.{◌≡◌, ◌≤◌, length, IfOk, IfErr};
+ghost use Rattle.std.specs.Prelude.{◌≡◌, ◌≤◌, ℕ, length, IfOk, IfErr, MatchResult};
 ghost use Rattle.std.specs.declared.result.Result.TheVariants.{Ok, Err};
 ghost use Rattle.plan_types.specs.Refusal.{RefusesAt};
+ghost use Rattle.plan_types.specs.declared.refusal.Cause.{Cause};
 ghost use Rattle.description.specs.Description.{Describes};
 ghost use Rattle.description.specs.Tables.{is_at};
+ghost use Rattle.source_file.specs.declared.source.Source.{Source};
 ghost use Rattle.source_file.specs.Source.{IsSource, OfDescription, OfTree, digest_of};
 
+use crate::laws::one_source;
 use cabal_lexer::read_elements;
 use description::read_description;
 use flatten::{demands_of, exposed};
@@ -23,6 +26,21 @@ pub struct Source {
 /// Reads a `.cabal` file. The first fault is that of its layout, else that of its description, else that of a dependency which
 /// counts in more than 256 ways.
 pub fn read_source(alloc: Global, bytes: &[u8], env: &Env) -> Result<Source, Fault>
+    requires { length bytes.now ≤ 1048576 }
+    ensures source { IfOk result (λ source. IsSource env.now bytes.now (Ok source)) }
+    ensures fault { IfErr result (RefusesAt (λ line cause. IsSource env.now bytes.now (Err (is_at line cause)))) }
+    // What comes to a package isn't refused, but for want of memory.
+    ensures exactly_sources { (source : Source) → IsSource env.now bytes.now (Ok source) →
+        MatchResult result (λ found. found ≡ source) (RefusesAt (λ _ _. ⊥)) }
+    // What has a fault comes to no package, and has no other fault.
+    ensures exactly_faults { (line : ℕ) (cause : Cause) → IsSource env.now bytes.now (Err (is_at line cause)) →
+        MatchResult result (λ _. ⊥) (RefusesAt (λ at why. (at ≡ line) × (why ≡ cause))) }
+{
+    one_source();
+    source_of_bytes(alloc, bytes, env)
+}
+
+fn source_of_bytes(alloc: Global, bytes: &[u8], env: &Env) -> Result<Source, Fault>
     requires { length bytes.now ≤ 1048576 }
     ensures source { IfOk result (λ source. IsSource env.now bytes.now (Ok source)) }
     ensures fault { IfErr result (RefusesAt (λ line cause. IsSource env.now bytes.now (Err (is_at line cause)))) }

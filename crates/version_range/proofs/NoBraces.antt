@@ -11,12 +11,12 @@ use Rattle.plan_types.specs.Bytes.{is_blank, Blanks}
 use Rattle.plan_types.specs.declared.range.Range.{Range}
 use Rattle.plan_types.specs.declared.range.Range.TheVariants.{Both, Either}
 use Rattle.plan_types.specs.declared.range.Spec.{Spec}
-use Rattle.plan_types.specs.declared.range.Spec.TheVariants.{V2_4, V3_0}
 use Rattle.text_grammar.specs.Parts.{Led, led, Behind, behind, Chain, one, more}
 use Rattle.version_range.specs.declared.operator.Operator.{Operator}
 use Rattle.version_range.specs.declared.operator.Operator.TheVariants.{Equal, AtLeast, Above, AtMost, Below, Major}
 use Rattle.version_range.specs.Version.{IsNumber, IsVersion, is_version, version_text}
-use Rattle.version_range.specs.Grammar.{is_old, operator_text, has_sets, from_3, Compared, compared, Atom, any, none, version, prefix, set, Factor, atom, enclosed, Term, Terms, Inside, Stands, empty, range}
+use Rattle.plan_types.specs.Format.{is_old}
+use Rattle.version_range.specs.Grammar.{operator_text, has_sets, Compared, compared, Atom, any, none, version, prefix, set, Factor, atom, enclosed, Term, Terms, Inside, Stands, empty, range}
 use Rattle.version_range.proofs.Numbers.{decimal_digits, version_from}
 
 abbrev pub is_plain : ℕ → Bool
@@ -73,9 +73,9 @@ operator_plain Below = refl
 operator_plain Major = refl
 
 no_sets : (op : Operator) (spec : Spec) → is_old spec ≡ true → has_sets op spec ≡ true → ⊥
-no_sets op spec old sets = by spec old (from op sets)
+no_sets op spec old sets = by (is_old spec) old (from op sets)
   where
-    from : (op : Operator) → has_sets op spec ≡ true → from_3 spec ≡ true
+    from : (op : Operator) → has_sets op spec ≡ true → not (is_old spec) ≡ true
     from Equal h = h
     from AtLeast h = absurd (false≢true h)
     from Above h = absurd (false≢true h)
@@ -83,9 +83,9 @@ no_sets op spec old sets = by spec old (from op sets)
     from Below h = absurd (false≢true h)
     from Major h = h
 
-    by : (spec : Spec) → is_old spec ≡ true → from_3 spec ≡ true → ⊥
-    by V2_4 old three = false≢true three
-    by V3_0 old three = false≢true old
+    by : (old : Bool) → old ≡ true → not old ≡ true → ⊥
+    by true is new = false≢true new
+    by false is new = false≢true is
 
 module _ (L : List ℕ → Range → Type 0) (plain : AllPlain L) where
   led_plain : AllPlain (Led L)

@@ -7,7 +7,7 @@ use Rattle.std.proofs.Common.{sym, subst}
 use Rattle.plan_types.specs.Bytes.{is_blank, begins_with}
 use Rattle.plan_types.specs.declared.range.Spec.{Spec}
 use Rattle.plan_types.specs.declared.refusal.Cause.TheVariants.{BadVersion, BadRange, TooDeep}
-use Rattle.version_range.specs.Grammar.{is_old}
+use Rattle.plan_types.specs.Format.{is_old}
 use Rattle.text_grammar.proofs.TextKind.{Digits, Kind}
 
 -- what goes on a number

@@ -18,7 +18,8 @@ use Rattle.plan_types.specs.declared.refusal.Cause.TheVariants.{BadVersion, Need
 use Rattle.version_range.specs.Version.{IsNumber, IsVersion, is_version, version_text, led_by_points, begins_with_digit, number_after}
 use Rattle.version_range.specs.Read.{cause_at, digits_in, is_number, number_at, followed, next_number, version_at, byte_due, equal_at}
 use Rattle.text_grammar.specs.Reading.{◌>>=◌, byte_after, chained}
-use Rattle.version_range.specs.Grammar.{is_old, ends_with_digit, IsNewForm}
+use Rattle.plan_types.specs.Format.{is_old}
+use Rattle.version_range.specs.Grammar.{ends_with_digit, IsNewForm}
 use Rattle.plan_types.specs.Bytes.{begins_with}
 use Rattle.text_grammar.specs.Parts.{Chain, one, more}
 use Rattle.version_range.proofs.Numbers.{numeral_text, decimal_digits, decimal_some, decimal_few, decimal_plain, text_led, led_more, version_from, version_to, count_is}

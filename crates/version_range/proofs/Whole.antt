@@ -12,7 +12,8 @@ use Rattle.plan_types.specs.declared.refusal.Cause.TheVariants.{BadRange, TooDee
 use Rattle.version_range.specs.Read.{cause_at, range_in, inside, range_of}
 use Rattle.text_grammar.specs.Reading.{◌>>=◌, skip_blanks}
 use Rattle.version_range.specs.Version.{begins_with_digit}
-use Rattle.version_range.specs.Grammar.{is_old, atom, any, Factor, Term, Terms, Inside, Stands, empty, range, Viable, IsNewForm, OpensTooMany, CauseAt, needs_version, bad_version, too_deep, bad_range, FirstFault}
+use Rattle.plan_types.specs.Format.{is_old}
+use Rattle.version_range.specs.Grammar.{atom, any, Factor, Term, Terms, Inside, Stands, empty, range, Viable, IsNewForm, OpensTooMany, CauseAt, needs_version, bad_version, too_deep, bad_range, FirstFault}
 use Rattle.plan_types.specs.Bytes.{begins_with, is_blank, Blanks}
 use Rattle.text_grammar.specs.Parts.{Led, led, one, more}
 use Rattle.text_grammar.proofs.Fronts.{head_of, errs, Dead, NoDigit, Like, Why, new_form, digit_due, digit_more, wider, behind_digit, no_digit, Fault, fault_up_like, why_dead, head_some, digit_some, viable_by, stuck_of, no_viable_digit, not_wider}

@@ -1,12 +1,12 @@
 -- Which range a text stands for, and the first byte at which no reading goes on.
-use Rattle.std.specs.Prelude.{◌≡◌, ◌⊎◌, ℕ, zero, suc, Bool, true, false, ◌&&◌, List, [], ◌∷◌, ◌++◌, codes}
+use Rattle.std.specs.Prelude.{◌≡◌, ◌⊎◌, ℕ, zero, suc, Bool, true, false, ◌&&◌, not, List, [], ◌∷◌, ◌++◌, codes}
 use Rattle.std.specs.Char.{is_ascii_digit}
 use Rattle.plan_types.specs.declared.range.Range.{Range}
 use Rattle.plan_types.specs.declared.range.Range.TheVariants.{Any, Nothing, Prefix, Both, Either}
 use Rattle.plan_types.specs.declared.range.Range.TheVariants as ranges
 use Rattle.plan_types.specs.declared.range.Spec.{Spec}
-use Rattle.plan_types.specs.declared.range.Spec.TheVariants.{V2_4, V3_0}
 use Rattle.plan_types.specs.Bytes.{Blanks, begins_with}
+use Rattle.plan_types.specs.Format.{is_old}
 use Rattle.plan_types.specs.declared.version.Version.{Version}
 use Rattle.plan_types.specs.declared.refusal.Cause.{Cause}
 use Rattle.plan_types.specs.declared.refusal.Cause.TheVariants.{BadVersion, BadRange, NeedsVersion, TooDeep}
@@ -16,15 +16,6 @@ use Rattle.text_grammar.specs.FirstFault as first
 use Rattle.version_range.specs.declared.operator.Operator.{Operator}
 use Rattle.version_range.specs.declared.operator.Operator.TheVariants.{Equal, AtLeast, Above, AtMost, Below, Major}
 use Rattle.version_range.specs.Version.{is_version, version_text, begins_with_digit}
-
--- the texts of 3.0 and later may stand in it
-abbrev pub from_3 : Spec → Bool
-from_3 V2_4 = false
-from_3 V3_0 = true
-
-abbrev pub is_old : Spec → Bool
-is_old V2_4 = true
-is_old V3_0 = false
 
 abbrev pub operator_text : Operator → List ℕ
 operator_text Equal = codes "=="
@@ -45,12 +36,12 @@ of_version Major v = ranges.Major v
 
 -- a set may stand behind it
 abbrev pub has_sets : Operator → Spec → Bool
-has_sets Equal spec = from_3 spec
+has_sets Equal spec = not (is_old spec)
 has_sets AtLeast spec = false
 has_sets Above spec = false
 has_sets AtMost spec = false
 has_sets Below spec = false
-has_sets Major spec = from_3 spec
+has_sets Major spec = not (is_old spec)
 
 -- a version, compared so
 pub data Compared (op : Operator) : List ℕ → Range → Type 0 where

@@ -13,7 +13,8 @@ use Rattle.text_grammar.specs.Reading as reading
 use Rattle.version_range.specs.declared.operator.Operator.{Operator}
 use Rattle.version_range.specs.declared.operator.Operator.TheVariants.{Equal, AtLeast, Above, AtMost, Below, Major}
 use Rattle.version_range.specs.Version.{number_after}
-use Rattle.version_range.specs.Grammar.{is_old, of_version, has_sets}
+use Rattle.plan_types.specs.Format.{is_old}
+use Rattle.version_range.specs.Grammar.{of_version, has_sets}
 
 -- the cause at the byte that comes first in what is left
 abbrev pub cause_at : Spec → Cause → List ℕ → Cause

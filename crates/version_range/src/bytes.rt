@@ -10,7 +10,7 @@ use text_grammar::{begins_with, byte_after};
 pub fn fault_at(spec: Spec, cause: Cause, rest: &[u8]) -> TextFault
     ensures { result ≡ Bad (cause_at spec cause rest.now) }
 {
-    if spec == Spec::V2_4 && begins_with(rest, b'{') {
+    if spec.is_old() && begins_with(rest, b'{') {
         TextFault::Bad(Cause::NeedsVersion)
     } else {
         TextFault::Bad(cause)

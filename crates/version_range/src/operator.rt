@@ -1,5 +1,5 @@
 ghost use Rattle.std.specs.Prelude.{◌≡◌};
-ghost use Rattle.version_range.specs.Grammar.{of_version, has_sets, from_3};
+ghost use Rattle.version_range.specs.Grammar.{of_version, has_sets};
 
 use plan_types::{Range, Spec, Version};
 
@@ -33,22 +33,12 @@ impl Operator {
         ensures { result ≡ has_sets self spec }
     {
         match self {
-            Operator::Equal => from_3(spec),
+            Operator::Equal => !spec.is_old(),
             Operator::AtLeast => false,
             Operator::Above => false,
             Operator::AtMost => false,
             Operator::Below => false,
-            Operator::Major => from_3(spec),
+            Operator::Major => !spec.is_old(),
         }
-    }
-}
-
-// Whether the texts of 3.0 and later may stand in it.
-fn from_3(spec: Spec) -> bool
-    ensures { result ≡ from_3 spec }
-{
-    match spec {
-        Spec::V2_4 => false,
-        Spec::V3_0 => true,
     }
 }

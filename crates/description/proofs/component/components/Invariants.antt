@@ -1,6 +1,7 @@
 use Rattle.std.proofs.Common.{◌≡◌, ℕ, List, ◌++◌, drop, map}
 use Rattle.std.specs.Prelude.{Option}
 use Rattle.plan_types.specs.declared.description.Component.{Component}
+use Rattle.description_parts.specs.declared.part.File.{File}
 use Rattle.description_parts.specs.declared.part.Section.{Section}
 use Rattle.description.specs.Components.{component}
 use Rattle.description.specs.Standing.{built_component, table}
@@ -9,6 +10,6 @@ use Rattle.description.specs.declared.stanzas.Built.{Built}
 use Rattle.description.proofs.component.components.Given as goal
 
 abbrev pub invariant-loop-one : goal.invariant-loop-one
-invariant-loop-one l = (own : Option (List ℕ)) (sections : List Section) → Tells l.declared own sections →
-    let one : Built → Component = λ built. component own sections (built_component (table l.bodies.stanzas.bodies.items) built).section built.kind in
+invariant-loop-one l = (file : File) → Tells l.declared file →
+    let one : Built → Component = λ built. component file (built_component (table l.bodies.stanzas.bodies.items) built).section built.kind in
     l.components ++ map one (drop l.one-index l.one-items) ≡ map one l.one-items

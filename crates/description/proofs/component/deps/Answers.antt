@@ -5,9 +5,9 @@ use Rattle.description.proofs.Pushed.{some_pushed, each_pushed}
 use Rattle.description.proofs.component.deps.Goals as goal
 
 pub loop-one-preserved : goal.loop-one-preserved
-loop-one-preserved c own sections tells =
-    some_pushed placed_part (guarded own sections) c.args.placed.now c.loop-one.one-index c.one-item.result c.loop-one.deps (omega arith) c.one-item.is
-    (c.in_ok-push_deps.ensures own sections tells) (c.loop-one.invariant own sections tells)
+loop-one-preserved c file tells =
+    some_pushed placed_part (guarded file) c.args.placed.now c.loop-one.one-index c.one-item.result c.loop-one.deps (omega arith) c.one-item.is
+    (c.in_ok-push_deps.ensures file tells) (c.loop-one.invariant file tells)
 
 pub returns : goal.returns
-returns c own sections tells = each_pushed placed_part (guarded own sections) c.args.placed.now c.loop-one.one-index c.loop-one.deps (omega arith) (c.loop-one.invariant own sections tells)
+returns c file tells = each_pushed placed_part (guarded file) c.args.placed.now c.loop-one.one-index c.loop-one.deps (omega arith) (c.loop-one.invariant file tells)

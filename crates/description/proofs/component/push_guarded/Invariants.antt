@@ -3,12 +3,13 @@ use Rattle.std.specs.Prelude.{Option}
 use Rattle.plan_types.specs.declared.dependency.Dep.{Dep}
 use Rattle.plan_types.specs.declared.description.GuardedDep.{GuardedDep}
 use Rattle.description_parts.specs.Branch.{all_of}
+use Rattle.description_parts.specs.declared.part.File.{File}
 use Rattle.description_parts.specs.declared.part.Section.{Section}
 use Rattle.description.specs.Declarations.{meant}
 use Rattle.description.specs.Tables.{Tells}
 use Rattle.description.proofs.component.push_guarded.Given as goal
 
 abbrev pub invariant-loop-dep : goal.invariant-loop-dep
-invariant-loop-dep l = (own : Option (List ℕ)) (sections : List Section) → Tells l.declared own sections →
-    let guarded : Dep → GuardedDep = λ dep. record { when = all_of l.branches; dep = meant own sections dep } in
+invariant-loop-dep l = (file : File) → Tells l.declared file →
+    let guarded : Dep → GuardedDep = λ dep. record { when = all_of l.branches; dep = meant file dep } in
     l.deps ++ map guarded (drop l.dep-index l.found) ≡ l.fn.deps ++ map guarded l.found

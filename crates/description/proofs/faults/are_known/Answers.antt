@@ -6,14 +6,14 @@ use Rattle.description.proofs.NameList.{all-next, all-stops}
 use Rattle.description.proofs.faults.are_known.Goals as goal
 
 pub returns-then-not-is_known : goal.returns-then-not-is_known
-returns-then-not-is_known c own all tells =
-    all-stops (is_known own all) c.args.deps.now c.loop-dep.dep-index c.dep-item.result c.loop-dep-test.true (sym c.dep-item.is) (sym (c.is_known.ensures own all tells) ∙ c.if-not-is_known.true)
-    ∙ c.loop-dep.invariant own all tells
+returns-then-not-is_known c file tells =
+    all-stops (is_known file) c.args.deps.now c.loop-dep.dep-index c.dep-item.result c.loop-dep-test.true (sym c.dep-item.is) (sym (c.is_known.ensures file tells) ∙ c.if-not-is_known.true)
+    ∙ c.loop-dep.invariant file tells
 
 pub loop-dep-preserved : goal.loop-dep-preserved
-loop-dep-preserved c own all tells =
-    all-next (is_known own all) c.args.deps.now c.loop-dep.dep-index c.dep-item.result c.loop-dep-test.true (sym c.dep-item.is) (sym (c.is_known.ensures own all tells) ∙ c.if-not-is_known.false)
-    ∙ c.loop-dep.invariant own all tells
+loop-dep-preserved c file tells =
+    all-next (is_known file) c.args.deps.now c.loop-dep.dep-index c.dep-item.result c.loop-dep-test.true (sym c.dep-item.is) (sym (c.is_known.ensures file tells) ∙ c.if-not-is_known.false)
+    ∙ c.loop-dep.invariant file tells
 
 pub returns : goal.returns
-returns c own all tells = ap (list_all (is_known own all)) (sym (drop_all c.loop-dep.dep-index c.args.deps.now c.loop-dep-test.false)) ∙ c.loop-dep.invariant own all tells
+returns c file tells = ap (list_all (is_known file)) (sym (drop_all c.loop-dep.dep-index c.args.deps.now c.loop-dep-test.false)) ∙ c.loop-dep.invariant file tells

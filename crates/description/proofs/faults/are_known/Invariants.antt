@@ -1,10 +1,11 @@
 use Rattle.std.proofs.Common.{◌≡◌, ℕ, List, drop}
 use Rattle.std.specs.Prelude.{Option}
 use Rattle.std.specs.List.{list_all}
+use Rattle.description_parts.specs.declared.part.File.{File}
 use Rattle.description_parts.specs.declared.part.Section.{Section}
 use Rattle.description.specs.Declarations.{is_known}
 use Rattle.description.specs.Tables.{Tells}
 use Rattle.description.proofs.faults.are_known.Given as goal
 
 abbrev pub invariant-loop-dep : goal.invariant-loop-dep
-invariant-loop-dep l = (own : Option (List ℕ)) (all : List Section) → Tells l.declared own all → list_all (is_known own all) (drop l.dep-index l.deps) ≡ list_all (is_known own all) l.deps
+invariant-loop-dep l = (file : File) → Tells l.declared file → list_all (is_known file) (drop l.dep-index l.deps) ≡ list_all (is_known file) l.deps

@@ -1,5 +1,4 @@
 use Rattle.std.proofs.Common.{◌∙◌, ◌++◌, [], ap, sym, flat_map}
-use Rattle.description.specs.Declarations.{own_name}
 use Rattle.description.specs.Faults.{in_head, in_section, repeated, unknown_stanzas}
 use Rattle.description.specs.First.{first}
 use Rattle.description.specs.declared.faults.Class.TheVariants.{Component, Common, Flag, Setup}
@@ -9,12 +8,11 @@ use Rattle.description.proofs.faults.first_fault.Goals as goal
 pub returns : goal.returns
 returns c tells =
     let file = c.args.file.now in
-    let own = own_name file.heads in
     let slice = c.as_slice-sections.ensures in
     let heads = flat_map in_head file.heads in
-    let sections = flat_map (in_section own file.sections) file.sections in
+    let sections = flat_map (in_section file) file.sections in
     let one = earlier-of c.earlier-found.ensures (c.in_heads-found.ensures ∙ ap (λ h. first (flat_map in_head h)) c.as_slice.ensures)
-    (c.in_sections.ensures own file.sections tells ∙ ap (λ s. first (flat_map (in_section own file.sections) s)) slice) ∙ sym (first-append heads sections) in
+    (c.in_sections.ensures file tells ∙ ap (λ s. first (flat_map (in_section file) s)) slice) ∙ sym (first-append heads sections) in
     let two = earlier-of c.earlier-found-2.ensures one (c.in_ok-first_repeated.ensures ∙ ap (λ s. first (repeated Component [] s)) slice) ∙ sym (first-append (heads ++ sections) (repeated Component [] file.sections)) in
     let three = earlier-of c.earlier-found-3.ensures two (c.in_ok-first_repeated-2.ensures ∙ ap (λ s. first (repeated Common [] s)) slice) ∙ sym (first-append (heads ++ sections ++ repeated Component [] file.sections) (repeated Common [] file.sections)) in
     let four = earlier-of c.earlier-found-4.ensures three (c.in_ok-first_repeated-3.ensures ∙ ap (λ s. first (repeated Flag [] s)) slice)

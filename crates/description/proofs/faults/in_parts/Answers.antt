@@ -5,7 +5,7 @@ use Rattle.description.proofs.Firsts.{first-more}
 use Rattle.description.proofs.faults.in_parts.Goals as goal
 
 pub loop-part-preserved : goal.loop-part-preserved
-loop-part-preserved c own all tells =
-    c.earlier-found.ensures ∙ ap (λ v. earlier v c.in_part.result) (c.loop-part.invariant own all tells)
-    ∙ ap (earlier (first (flat_map (in_part own all) (take c.loop-part.part-index c.args.parts.now)))) (c.in_part.ensures own all tells)
-    ∙ first-more (in_part own all) c.args.parts.now c.loop-part.part-index c.part-item.result c.loop-part-test.true c.part-item.is
+loop-part-preserved c file tells =
+    c.earlier-found.ensures ∙ ap (λ v. earlier v c.in_part.result) (c.loop-part.invariant file tells)
+    ∙ ap (earlier (first (flat_map (in_part file) (take c.loop-part.part-index c.args.parts.now)))) (c.in_part.ensures file tells)
+    ∙ first-more (in_part file) c.args.parts.now c.loop-part.part-index c.part-item.result c.loop-part-test.true c.part-item.is

@@ -1,5 +1,6 @@
 use Rattle.std.proofs.Common.{◌≡◌, ℕ, List, take, flat_map}
 use Rattle.std.specs.Prelude.{Option}
+use Rattle.description_parts.specs.declared.part.File.{File}
 use Rattle.description_parts.specs.declared.part.Section.{Section}
 use Rattle.description.specs.Faults.{in_part}
 use Rattle.description.specs.First.{first}
@@ -7,4 +8,4 @@ use Rattle.description.specs.Tables.{Tells}
 use Rattle.description.proofs.faults.in_parts.Given as goal
 
 abbrev pub invariant-loop-part : goal.invariant-loop-part
-invariant-loop-part l = (own : Option (List ℕ)) (all : List Section) → Tells l.declared own all → l.found ≡ first (flat_map (in_part own all) (take l.part-index l.parts))
+invariant-loop-part l = (file : File) → Tells l.declared file → l.found ≡ first (flat_map (in_part file) (take l.part-index l.parts))

@@ -5,7 +5,7 @@ use Rattle.description.proofs.Firsts.{first-more}
 use Rattle.description.proofs.faults.in_sections.Goals as goal
 
 pub loop-section-preserved : goal.loop-section-preserved
-loop-section-preserved c own all tells =
-    c.earlier-found.ensures ∙ ap (λ v. earlier v c.in_section.result) (c.loop-section.invariant own all tells)
-    ∙ ap (earlier (first (flat_map (in_section own all) (take c.loop-section.section-index c.args.sections.now)))) (c.in_section.ensures own all tells)
-    ∙ first-more (in_section own all) c.args.sections.now c.loop-section.section-index c.section-item.result c.loop-section-test.true c.section-item.is
+loop-section-preserved c file tells =
+    c.earlier-found.ensures ∙ ap (λ v. earlier v c.in_section.result) (c.loop-section.invariant file tells)
+    ∙ ap (earlier (first (flat_map (in_section file) (take c.loop-section.section-index c.args.sections.now)))) (c.in_section.ensures file tells)
+    ∙ first-more (in_section file) c.args.sections.now c.loop-section.section-index c.section-item.result c.loop-section-test.true c.section-item.is

@@ -5,6 +5,6 @@ use Rattle.description.proofs.Firsts.{at-append, earlier-of}
 use Rattle.description.proofs.faults.of_branch.Goals as goal
 
 pub returns : goal.returns
-returns c own all tells =
-    earlier-of c.earlier.ensures (c.of_condition-condition.ensures own all tells) c.unless-place.ensures
-    ∙ sym (at-append c.args.line (of_condition all c.args.condition.now) (unless c.args.fits causes.ElseWithoutIf))
+returns c file tells =
+    earlier-of c.earlier.ensures (c.of_condition-condition.ensures file tells) c.unless-place.ensures
+    ∙ sym (at-append c.args.line (of_condition file.sections c.args.condition.now) (unless c.args.fits causes.ElseWithoutIf))

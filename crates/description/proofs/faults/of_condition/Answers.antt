@@ -5,6 +5,6 @@ use Rattle.description.specs.First.{first}
 use Rattle.description.proofs.faults.of_condition.Goals as goal
 
 pub returns-in-Ok : goal.returns-in-Ok
-returns-in-Ok c own all tells =
-    c.unless.ensures ∙ ap (λ b. first (at c.args.line (unless b causes.UnknownFlag))) (c.has_flags.ensures own all tells)
-    ∙ ap (λ v. first (at c.args.line (of_condition all v))) (sym c.in-Ok.is)
+returns-in-Ok c file tells =
+    c.unless.ensures ∙ ap (λ b. first (at c.args.line (unless b causes.UnknownFlag))) (c.has_flags.ensures file tells)
+    ∙ ap (λ v. first (at c.args.line (of_condition file.sections v))) (sym c.in-Ok.is)

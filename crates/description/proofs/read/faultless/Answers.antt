@@ -15,14 +15,14 @@ returns-in-Some-2-clause-fault c =
     let file = c.args.file.now in
     let d = c.in_ok-described.described in
     let number = c.in-Some-2.number in
-    let At : ℕ → Cause → Type 0 = λ line cause. Tells c.args.declared.now (own_name file.heads) file.sections → Stand file.sections c.args.bodies.now
-    → Comes c.args.spec file c.args.digest (own_name file.heads) (version_of file.heads) (Err (is_at line cause)) in
+    let At : ℕ → Cause → Type 0 = λ line cause. Tells c.args.declared.now file → Stand file.sections c.args.bodies.now
+    → Comes file c.args.digest (own_name file.heads) (version_of file.heads) (Err (is_at line cause)) in
     subst (RefusesAt At) (sym c.circular.ensures) (λ tells stand.
-    comes-circular c.args.spec file c.args.digest c.in-Some.name.now c.in-Some-version_of.version.now (own_name file.heads) (version_of file.heads) d
+    comes-circular file c.args.digest c.in-Some.name.now c.in-Some-version_of.version.now (own_name file.heads) (version_of file.heads) d
     c.as_slice-in-Some-2.result.now c.in_ok-number.field-0 number
     (sym tells.name ∙ ap shown c.in-Some.is)
     (ap version_of (sym c.as_slice.ensures) ∙ sym c.version_of.ensures ∙ ap shown_version c.in-Some-version_of.is)
-    (c.in_ok-described.ensures (c.in_ok-components.ensures (own_name file.heads) file.sections tells stand))
+    (c.in_ok-described.ensures (c.in_ok-components.ensures file tells stand))
     c.as_slice-in-Some-2.ensures
     (subst (λ cs. IsFirstOnCycle (needs cs) c.in_ok-number.field-0) (c.as_slice-2.ensures ∙ sym c.as_slice-in-Some-2.ensures) c.in_ok-number.ensures)
     c.in-Some-2.is)

@@ -1,4 +1,4 @@
-use Rattle.std.proofs.Common.{sym}
+use Rattle.std.proofs.Common.{refl, sym}
 use Rattle.description_parts.proofs.Files.{file_goes, file_ends}
 use Rattle.description_parts.proofs.file.read_file.Goals as goal
 
@@ -8,4 +8,4 @@ loop-item-preserved c =
     c.loop-item.invariant c.in_ok-read_top.ensures
 
 pub returns : goal.returns
-returns c = file_ends c.args.spec c.args.items.now c.loop-item.item-index _ _ c.loop-item-test.false c.loop-item.invariant
+returns c = (refl, file_ends c.args.spec c.args.items.now c.loop-item.item-index _ _ c.loop-item-test.false c.loop-item.invariant)

@@ -1,6 +1,7 @@
 use Rattle.std.proofs.Common.{◌≡◌, ◌≤◌, ℕ, List}
 use Rattle.std.specs.Prelude.{Option}
 use Rattle.plan_types.specs.declared.condition.Cond.{size-Cond}
+use Rattle.description_parts.specs.declared.part.File.{File}
 use Rattle.description_parts.specs.declared.part.Section.{Section}
 use Rattle.description.specs.Declarations.{has_flags}
 use Rattle.description.specs.Tables.{Tells}
@@ -9,5 +10,5 @@ use Rattle.description.proofs.declarations.Declared.+has_flags.Given as goal
 -- the flags of what was passed are declared, and what is left is no deeper than the whole
 abbrev pub invariant-loop-left : goal.invariant-loop-left
 invariant-loop-left l =
-    ((own : Option (List ℕ)) (sections : List Section) → Tells l.self own sections → has_flags sections l.left ≡ has_flags sections l.cond)
+    ((file : File) → Tells l.self file → has_flags file.sections l.left ≡ has_flags file.sections l.cond)
     × (size-Cond l.left ≤ size-Cond l.cond)

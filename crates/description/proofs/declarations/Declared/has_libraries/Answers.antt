@@ -8,18 +8,18 @@ use Rattle.description.proofs.NameList.{all-next, all-stops}
 use Rattle.description.proofs.declarations.Declared.has_libraries.Goals as goal
 
 pub returns-then-not-has_library : goal.returns-then-not-has_library
-returns-then-not-has_library c own sections tells =
-    let known : LibName → Bool = λ l. declares is_library sections (library_name l) in
-    all-stops known c.args.libs.now c.loop-lib.lib-index c.lib-item.result c.loop-lib-test.true (sym c.lib-item.is) (sym (c.has_library.ensures own sections tells) ∙ c.if-not-has_library.true)
-    ∙ c.loop-lib.invariant own sections tells
+returns-then-not-has_library c file tells =
+    let known : LibName → Bool = λ l. declares is_library file.sections (library_name l) in
+    all-stops known c.args.libs.now c.loop-lib.lib-index c.lib-item.result c.loop-lib-test.true (sym c.lib-item.is) (sym (c.has_library.ensures file tells) ∙ c.if-not-has_library.true)
+    ∙ c.loop-lib.invariant file tells
 
 pub loop-lib-preserved : goal.loop-lib-preserved
-loop-lib-preserved c own sections tells =
-    let known : LibName → Bool = λ l. declares is_library sections (library_name l) in
-    all-next known c.args.libs.now c.loop-lib.lib-index c.lib-item.result c.loop-lib-test.true (sym c.lib-item.is) (sym (c.has_library.ensures own sections tells) ∙ c.if-not-has_library.false)
-    ∙ c.loop-lib.invariant own sections tells
+loop-lib-preserved c file tells =
+    let known : LibName → Bool = λ l. declares is_library file.sections (library_name l) in
+    all-next known c.args.libs.now c.loop-lib.lib-index c.lib-item.result c.loop-lib-test.true (sym c.lib-item.is) (sym (c.has_library.ensures file tells) ∙ c.if-not-has_library.false)
+    ∙ c.loop-lib.invariant file tells
 
 pub returns : goal.returns
-returns c own sections tells =
-    let known : LibName → Bool = λ l. declares is_library sections (library_name l) in
-    ap (list_all known) (sym (drop_all c.loop-lib.lib-index c.args.libs.now c.loop-lib-test.false)) ∙ c.loop-lib.invariant own sections tells
+returns c file tells =
+    let known : LibName → Bool = λ l. declares is_library file.sections (library_name l) in
+    ap (list_all known) (sym (drop_all c.loop-lib.lib-index c.args.libs.now c.loop-lib-test.false)) ∙ c.loop-lib.invariant file tells
