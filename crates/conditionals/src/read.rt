@@ -10,26 +10,26 @@ ghost use Rattle.conditionals.specs.Reading.{bad, cond_tail, opened_at, factor_a
 
 use crate::name::{bad_cond, closed};
 use crate::words::atom_at;
-use plan_types::{Boxed, Cause, Cond, NoMemory, Spec, TextFault};
+use plan_types::{Shared, Cause, Cond, NoMemory, Spec, TextFault};
 use std::alloc::Global;
 use text_grammar::{byte_after, skip_blanks};
 
 fn both(alloc: Global, left: Cond, right: Cond) -> Result<Cond, NoMemory>
     ensures { IfOk result (λ c. c ≡ Cond.And left right) }
 {
-    Ok(Cond::And(Boxed::new(alloc, left)?, Boxed::new(alloc, right)?))
+    Ok(Cond::And(Shared::new(alloc, left)?, Shared::new(alloc, right)?))
 }
 
 fn either(alloc: Global, left: Cond, right: Cond) -> Result<Cond, NoMemory>
     ensures { IfOk result (λ c. c ≡ Cond.Or left right) }
 {
-    Ok(Cond::Or(Boxed::new(alloc, left)?, Boxed::new(alloc, right)?))
+    Ok(Cond::Or(Shared::new(alloc, left)?, Shared::new(alloc, right)?))
 }
 
 fn negated(alloc: Global, inner: Cond) -> Result<Cond, NoMemory>
     ensures { IfOk result (λ c. c ≡ Cond.Not inner) }
 {
-    Ok(Cond::Not(Boxed::new(alloc, inner)?))
+    Ok(Cond::Not(Shared::new(alloc, inner)?))
 }
 
 // What follows a byte that must stand here.

@@ -40,7 +40,7 @@ module _ (known : List ℕ → Bool) where
   pub asks-Not : (inner : Cond) → asks_well known (Not inner) ≡ asks_well known inner
   asks-Not inner = ap (asks_well known) (sym (rolls-Not inner)) ∙ fold-roll-Cond Bool (asks_step known) (layer.Not inner)
 
-  asks-And : (left right : Cond) → asks_well known (And left right) ≡ (asks_well known left && asks_well known right)
+  pub asks-And : (left right : Cond) → asks_well known (And left right) ≡ (asks_well known left && asks_well known right)
   asks-And left right = ap (asks_well known) (sym (rolls-And left right)) ∙ fold-roll-Cond Bool (asks_step known) (layer.And left right)
 
   asks-Or : (left right : Cond) → asks_well known (Or left right) ≡ (asks_well known left && asks_well known right)

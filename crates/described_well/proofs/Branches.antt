@@ -5,11 +5,11 @@ use Rattle.std.specs.declared.result.Result.{Result}
 use Rattle.std.specs.declared.result.Result.TheVariants.{Ok, Err}
 use Rattle.std.proofs.lemmas.Bool.{and_from}
 use Rattle.plan_types.specs.declared.condition.Cond.{Cond}
-use Rattle.plan_types.specs.declared.condition.Cond.TheVariants.{Always, Not}
+use Rattle.plan_types.specs.declared.condition.Cond.TheVariants.{Always, And, Not}
 use Rattle.plan_types.specs.declared.range.Spec.{Spec}
 use Rattle.plan_types.specs.declared.refusal.Cause.{Cause}
 use Rattle.plan_types.specs.declared.refusal.Cause.TheVariants as causes
-use Rattle.description_parts.specs.Branch.{OwnCondition, branch_of, chain_of, condition, tried}
+use Rattle.description_parts.specs.Branch.{OwnCondition, branch_of, chain_of, condition, tried_behind}
 use Rattle.description_parts.specs.Items.{Items, SectionSays, branch_fits, is_import, imports_in_branches, placed}
 use Rattle.description_parts.specs.Tree.{Tree, end, field, section}
 use Rattle.description_parts.specs.Words.{field_word, inner_word}
@@ -26,7 +26,7 @@ use Rattle.description_parts.specs.declared.words.InnerWord.TheVariants as inner
 use Rattle.description.specs.Declarations.{declares, has_flags, is_flag}
 use Rattle.description.specs.Faults.{of_condition, of_said, unless}
 use Rattle.flatten.specs.Conditions.{asks_well}
-use Rattle.described_well.proofs.Asking.{asks-Always, asks-Not, all-asked, stands-fits}
+use Rattle.described_well.proofs.Asking.{asks-Always, asks-And, asks-Not, stands-fits}
 use Rattle.described_well.proofs.Faultless.{unless-none}
 use Rattle.described_well.proofs.Lists.{all-append, all-map, none-front}
 
@@ -49,8 +49,8 @@ module _ (file : File) (known : List ℕ → Bool) (found : (name : List ℕ) �
   Sound parts = AllByRecursion (λ part. of_said file part.said ≡ []) parts
 
   condition-good : (spec : Spec) (word : BranchWord) (args : List ℕ) (cond : Cond) → OwnCondition spec word args (Ok cond) → has_flags file.sections cond ≡ true → asks_well known cond ≡ true
-  condition-good spec If args cond is flags = stands-fits all known found spec 64 args cond is flags
-  condition-good spec Elif args cond is flags = stands-fits all known found spec 64 args cond is flags
+  condition-good spec If args cond is flags = stands-fits file.sections known found spec 64 args cond is flags
+  condition-good spec Elif args cond is flags = stands-fits file.sections known found spec 64 args cond is flags
   condition-good spec Else [] cond is flags = let same : cond ≡ Always = cc is in rw same (asks-Always known)
   condition-good spec Else (b ∷ args) cond is flags = absurd (cc is)
 
@@ -63,25 +63,29 @@ module _ (file : File) (known : List ℕ → Bool) (found : (name : List ℕ) �
   own-good spec word args (Ok cond) is none = condition-good spec word args cond is (unless-none (has_flags file.sections cond) causes.UnknownFlag none)
   own-good spec word args (Err cause) is none = absurd (cc none)
 
-  negated-good : (conds : List Cond) → Good conds → Good (map Not conds)
-  negated-good conds good = all-map (asks_well known) (asks_well known) Not (λ c e. asks-Not known c ∙ e) conds good
+  -- that no branch of a chain was taken so far
+  abbrev GoodChain : Option Cond → Type 0
+  GoodChain None = Unit {0}
+  GoodChain (Some chain) = asks_well known chain ≡ true
 
-  tried-good : (conds : List Cond) (own : Cond) → Good conds → asks_well known own ≡ true → Good (map Not conds ++ own ∷ [])
-  tried-good conds own good here = all-append (asks_well known) (map Not conds) (own ∷ []) (negated-good conds good) (and_from (asks_well known own) true here refl)
+  behind-good : (chain : Option Cond) (cond : Cond) → GoodChain chain → asks_well known cond ≡ true → asks_well known (tried_behind chain cond) ≡ true
+  behind-good None cond good here = here
+  behind-good (Some chain) cond good here = asks-And known chain cond ∙ and_from (asks_well known chain) (asks_well known cond) good here
 
-  branch-good : (word : BranchWord) (chain : Option (List Cond)) (own : Result Cond Cause) → GoodOwn own → Good (tried chain) → asks_well known (condition (branch_of word chain own)) ≡ true
-  branch-good If chain (Ok own) here good = all-asked known (own ∷ []) (and_from (asks_well known own) true here refl)
+  branch-good : (word : BranchWord) (chain : Option Cond) (own : Result Cond Cause) → GoodOwn own → GoodChain chain → asks_well known (condition (branch_of word chain own)) ≡ true
+  branch-good If chain (Ok own) here good = here
   branch-good If chain (Err cause) here good = absurd here
-  branch-good Elif chain (Ok own) here good = all-asked known (map Not (tried chain) ++ own ∷ []) (tried-good (tried chain) own good here)
+  branch-good Elif chain (Ok own) here good = behind-good chain own good here
   branch-good Elif chain (Err cause) here good = absurd here
-  branch-good Else chain own here good = all-asked known (map Not (tried chain) ++ []) (all-append (asks_well known) (map Not (tried chain)) [] (negated-good (tried chain) good) refl)
+  branch-good Else None own here good = asks-Always known
+  branch-good Else (Some chain) own here good = good
 
-  chain-good : (word : BranchWord) (chain : Option (List Cond)) (own : Result Cond Cause) → GoodOwn own → Good (tried chain) → Good (tried (chain_of (branch_of word chain own)))
-  chain-good If chain (Ok own) here good = and_from (asks_well known own) true here refl
+  chain-good : (word : BranchWord) (chain : Option Cond) (own : Result Cond Cause) → GoodOwn own → GoodChain chain → GoodChain (chain_of (branch_of word chain own))
+  chain-good If chain (Ok own) here good = asks-Not known own ∙ here
   chain-good If chain (Err cause) here good = absurd here
-  chain-good Elif chain (Ok own) here good = all-append (asks_well known) (tried chain) (own ∷ []) good (and_from (asks_well known own) true here refl)
+  chain-good Elif chain (Ok own) here good = behind-good chain (Not own) good (asks-Not known own ∙ here)
   chain-good Elif chain (Err cause) here good = absurd here
-  chain-good Else chain own here good = refl
+  chain-good Else chain own here good = tt
 
   placed-good : (line : ℕ) (branches : List Cond) (found : Option Said) → Good branches → list_all is_good (placed line branches found) ≡ true
   placed-good line branches None good = refl
@@ -90,11 +94,11 @@ module _ (file : File) (known : List ℕ → Bool) (found : (name : List ℕ) �
   abbrev GoodWithin : (List Cond → List Part → Type 0) → Type 0
   GoodWithin Within = (inside : List Cond) (parts : List Part) → Good inside → Sound parts → Within inside parts → list_all is_good parts ≡ true
 
-  abbrev GoodBehind : (Option (List Cond) → List Part → Type 0) → Type 0
-  GoodBehind Behind = (left : Option (List Cond)) (parts : List Part) → Good (tried left) → Sound parts → Behind left parts → list_all is_good parts ≡ true
+  abbrev GoodBehind : (Option Cond → List Part → Type 0) → Type 0
+  GoodBehind Behind = (left : Option Cond) (parts : List Part) → GoodChain left → Sound parts → Behind left parts → list_all is_good parts ≡ true
 
-  section-good : (spec : Spec) (word : InnerWord) (line : ℕ) (args : List ℕ) (branches : List Cond) (chain : Option (List Cond)) (Within : List Cond → List Part → Type 0) (Behind : Option (List Cond) → List Part → Type 0)
-      → GoodWithin Within → GoodBehind Behind → Good branches → Good (tried chain) → (parts : List Part) → Sound parts → SectionSays spec word line args branches chain Within Behind parts → list_all is_good parts ≡ true
+  section-good : (spec : Spec) (word : InnerWord) (line : ℕ) (args : List ℕ) (branches : List Cond) (chain : Option Cond) (Within : List Cond → List Part → Type 0) (Behind : Option Cond → List Part → Type 0)
+      → GoodWithin Within → GoodBehind Behind → Good branches → GoodChain chain → (parts : List Part) → Sound parts → SectionSays spec word line args branches chain Within Behind parts → list_all is_good parts ≡ true
   section-good spec (inner.Branch word) line args branches chain Within Behind within behind good tried_good parts sound says =
       let here : Part = record { line = line; branches = branches; said = said.Branch says.own (branch_fits word chain) } in
       let all_sound : Sound (here ∷ says.within ++ says.behind) = subst Sound says.are sound in
@@ -113,20 +117,20 @@ module _ (file : File) (known : List ℕ → Bool) (found : (name : List ℕ) �
     where
       misplaced : causes.BadField ∷ [] ≡ [] → ⊥
       misplaced e = cc e
-  section-good spec inner.Unread line args branches chain Within Behind within behind good tried_good parts sound says = behind None parts refl sound says
+  section-good spec inner.Unread line args branches chain Within Behind within behind good tried_good parts sound says = behind None parts tt sound says
 
-  pub items-good : (spec : Spec) (kind : SectionKind) (tree : Tree) (branches : List Cond) (fits : Bool) (chain : Option (List Cond)) (parts : List Part)
-      → Good branches → Good (tried chain) → Sound parts → Items spec kind tree branches fits chain parts → list_all (λ part. list_all (asks_well known) part.branches) parts ≡ true
+  pub items-good : (spec : Spec) (kind : SectionKind) (tree : Tree) (branches : List Cond) (fits : Bool) (chain : Option Cond) (parts : List Part)
+      → Good branches → GoodChain chain → Sound parts → Items spec kind tree branches fits chain parts → list_all (λ part. list_all (asks_well known) part.branches) parts ≡ true
   unfolding Items
   items-good spec kind end branches fits chain parts good tried_good sound says = rw says refl
   items-good spec kind (field line name values behind) branches fits chain parts good tried_good sound says =
       let of_part = λ (part : Part). of_said file part.said ≡ [] in
       ap (list_all is_good) says.4
       ∙ all-append is_good (placed line branches says.0) says.1 (placed-good line branches says.0 good)
-      (items-good spec kind behind branches (fits && is_import (field_word kind name)) None says.1 good refl (each-back of_part (placed line branches says.0) says.1 (subst Sound says.4 sound)) says.3)
+      (items-good spec kind behind branches (fits && is_import (field_word kind name)) None says.1 good tt (each-back of_part (placed line branches says.0) says.1 (subst Sound says.4 sound)) says.3)
   items-good spec kind (section line name args items behind) branches fits chain parts good tried_good sound says =
       section-good spec (inner_word kind name) line args branches chain
       (λ within found. Items spec kind items within (imports_in_branches spec) None found) (λ left found. Items spec kind behind branches false left found)
-      (λ within found g s is. items-good spec kind items within (imports_in_branches spec) None found g refl s is)
+      (λ within found g s is. items-good spec kind items within (imports_in_branches spec) None found g tt s is)
       (λ left found g s is. items-good spec kind behind branches false left found good g s is)
       good tried_good parts sound says

@@ -149,16 +149,16 @@ module _ (kinds : DepKind → Bool) where
   field-read spec fields.BuildTools line branches text fits found of_kind says = rw says refl
   field-read spec fields.Unread line branches text fits found of_kind says = rw says refl
 
-  section-read : (spec : Spec) (word : InnerWord) (line : ℕ) (args : List ℕ) (branches : List Cond) (chain : Option (List Cond)) (Within : List Cond → List Part → Type 0) (Behind : Option (List Cond) → List Part → Type 0)
+  section-read : (spec : Spec) (word : InnerWord) (line : ℕ) (args : List ℕ) (branches : List Cond) (chain : Option Cond) (Within : List Cond → List Part → Type 0) (Behind : Option Cond → List Part → Type 0)
       → ((inside : List Cond) (parts : List Part) → Within inside parts → list_all (is_read_part kinds) parts ≡ true)
-      → ((left : Option (List Cond)) (parts : List Part) → Behind left parts → list_all (is_read_part kinds) parts ≡ true)
+      → ((left : Option Cond) (parts : List Part) → Behind left parts → list_all (is_read_part kinds) parts ≡ true)
       → (parts : List Part) → SectionSays spec word line args branches chain Within Behind parts → list_all (is_read_part kinds) parts ≡ true
   section-read spec (inner.Branch word) line args branches chain Within Behind within behind parts says =
       rw says.are (all-append (is_read_part kinds) says.within says.behind (within _ says.within says.inside) (behind _ says.behind says.others))
   section-read spec inner.Misplaced line args branches chain Within Behind within behind parts says = rw says.2 (behind None says.0 says.1)
   section-read spec inner.Unread line args branches chain Within Behind within behind parts says = behind None parts says
 
-pub items-read : (spec : Spec) (kind : SectionKind) (tree : Tree) (branches : List Cond) (fits : Bool) (chain : Option (List Cond)) (parts : List Part)
+pub items-read : (spec : Spec) (kind : SectionKind) (tree : Tree) (branches : List Cond) (fits : Bool) (chain : Option Cond) (parts : List Part)
     → Items spec kind tree branches fits chain parts → list_all (is_read_part (kinds_in kind)) parts ≡ true
 unfolding Items
 items-read spec kind end branches fits chain parts says = rw says refl

@@ -10,9 +10,9 @@ ghost use Rattle.description.specs.Standing.{placed_part, built_component, table
 ghost use Rattle.description.specs.Tables.{Tells, Stand};
 
 use crate::declarations::Declared;
-use crate::stanzas::{Bodies, Built, Placed, Stanzas, push_copies};
+use crate::stanzas::{Bodies, Built, Placed, Stanzas};
 use description_parts::{Said, all_of};
-use plan_types::{Boxed, Component, Cond, Dep, GuardedDep, List, NoMemory};
+use plan_types::{Component, Cond, Dep, GuardedDep, List, NoMemory, Shared};
 use std::alloc::Global;
 
 /// The components, in file order.
@@ -77,23 +77,27 @@ fn visibility(placed: &Placed, public: bool) -> bool
 }
 
 /// No branch with `buildable: False` is taken.
-fn buildable(alloc: Global, placed: &[Placed]) -> Result<Cond, NoMemory>
+fn buildable(alloc: Global, placed: &[Placed]) -> Result<Shared<Cond>, NoMemory>
     ensures { IfOk result (λ cond. cond ≡ buildable (map placed_part placed.now)) }
 {
     let mut conds = List::new(alloc);
     for one in placed {
         push_barrier(alloc, &mut conds, one)?;
     }
-    all_of(alloc, conds)
+    all_of(alloc, conds.as_slice())
 }
 
-fn push_barrier(alloc: Global, conds: &mut List<Cond>, placed: &Placed) -> Result<(), NoMemory>
+fn push_barrier(
+    alloc: Global,
+    conds: &mut List<Shared<Cond>>,
+    placed: &Placed,
+) -> Result<(), NoMemory>
     ensures { OnOk result (conds.new ≡ conds.old ++ barrier (placed_part placed.now)) }
 {
     if is_unbuildable(&placed.part.said) {
-        let branches = condition(alloc, &placed.branches)?;
-        let inner = Boxed::new(alloc, branches)?;
-        conds.push(Cond::Not(inner))?;
+        let branches = all_of(alloc, placed.branches.as_slice())?;
+        let barrier = Shared::new(alloc, Cond::Not(branches))?;
+        conds.push(barrier)?;
     }
     Ok(())
 }
@@ -105,15 +109,6 @@ fn is_unbuildable(said: &Said) -> bool
         Said::Buildable(Some(value)) => !*value,
         _ => false,
     }
-}
-
-/// All branches in which a part stands are taken.
-fn condition(alloc: Global, branches: &List<Cond>) -> Result<Cond, NoMemory>
-    ensures { IfOk result (λ cond. cond ≡ all_of branches.now) }
-{
-    let mut conds = List::new(alloc);
-    push_copies(alloc, &mut conds, branches.as_slice())?;
-    all_of(alloc, conds)
 }
 
 fn deps(alloc: Global, declared: &Declared, placed: &[Placed]) -> Result<List<GuardedDep>, NoMemory>
@@ -142,7 +137,8 @@ fn push_deps(
     let Ok(found) = said else {
         return Ok(());
     };
-    push_guarded(alloc, deps, declared, found.as_slice(), &placed.branches)?;
+    let when = all_of(alloc, placed.branches.as_slice())?;
+    push_guarded(alloc, deps, declared, found.as_slice(), &when)?;
     Ok(())
 }
 
@@ -151,14 +147,14 @@ fn push_guarded(
     deps: &mut List<GuardedDep>,
     declared: &Declared,
     found: &[Dep],
-    branches: &List<Cond>,
+    when: &Shared<Cond>,
 ) -> Result<(), NoMemory>
     ensures { OnOk result ((file : File) → Tells declared.now file
-        → deps.new ≡ deps.old ++ map (λ dep. record { when = all_of branches.now; dep = meant file dep }) found.now) }
+        → deps.new ≡ deps.old ++ map (λ dep. record { when = when.now; dep = meant file dep }) found.now) }
 {
     for dep in found {
         let dep = declared.meant(alloc, dep)?;
-        let when = condition(alloc, branches)?;
+        let when = when.copy()?;
         deps.push(GuardedDep { when, dep })?;
     }
     Ok(())

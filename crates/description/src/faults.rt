@@ -13,7 +13,7 @@ use crate::first::{At, earlier};
 use crate::names::Names;
 use description_parts::{File, Head, HeadField, Part, Said, Section, SectionKind};
 use plan_types::{
-    Cause, CompKind, Cond, Dep, List, NoMemory, Text, is_component_name, is_flag_name,
+    Cause, CompKind, Cond, Dep, List, NoMemory, Shared, Text, is_component_name, is_flag_name,
 };
 use std::alloc::Global;
 
@@ -175,7 +175,7 @@ fn are_known(deps: &[Dep], declared: &Declared) -> bool
 
 fn of_branch(
     line: u32,
-    condition: &Result<Cond, Cause>,
+    condition: &Result<Shared<Cond>, Cause>,
     fits: bool,
     declared: &Declared,
 ) -> Option<At>
@@ -186,11 +186,11 @@ fn of_branch(
     earlier(condition, place)
 }
 
-fn of_condition(line: u32, condition: &Result<Cond, Cause>, declared: &Declared) -> Option<At>
+fn of_condition(line: u32, condition: &Result<Shared<Cond>, Cause>, declared: &Declared) -> Option<At>
     ensures { (file : File) → Tells declared.now file → result ≡ first (at line (of_condition file.sections condition.now)) }
 {
     match condition {
-        Ok(cond) => unless(line, declared.has_flags(cond), Cause::UnknownFlag),
+        Ok(cond) => unless(line, declared.has_flags(cond.get()), Cause::UnknownFlag),
         Err(cause) => unless(line, false, *cause),
     }
 }

@@ -11,7 +11,7 @@ ghost use Rattle.description.specs.Tables.{Stand};
 use crate::first::{At, earlier};
 use crate::names::Names;
 use description_parts::{Part, Said, Section, SectionKind};
-use plan_types::{Cause, CompKind, Cond, List, NoMemory, Text};
+use plan_types::{Cause, CompKind, Cond, List, NoMemory, Shared, Text};
 use std::alloc::Global;
 
 /// A part, or an import of a common stanza by its number.
@@ -20,7 +20,7 @@ enum Step<'a> {
     Part(&'a Part),
     Import {
         stanza: usize,
-        branches: &'a List<Cond>,
+        branches: &'a List<Shared<Cond>>,
     },
 }
 
@@ -44,14 +44,14 @@ pub struct Stanzas<'a> {
 /// A part, and the conditions of the branches in which it stands once imports are replaced.
 #[derive(Drop)]
 pub struct Placed<'a> {
-    pub branches: List<Cond>,
+    pub branches: List<Shared<Cond>>,
     pub part: &'a Part,
 }
 
 /// What is left of a section or stanza, under these conditions, and the stanzas before it.
 #[derive(Drop)]
 struct Frame<'b, 'a> {
-    branches: List<Cond>,
+    branches: List<Shared<Cond>>,
     stanzas: &'b [Body<'a>],
     steps: &'b [Step<'a>],
 }
@@ -114,7 +114,7 @@ impl<'a> Stanzas<'a> {
         &self,
         body: &mut Body<'a>,
         names: &[Text],
-        branches: &'a List<Cond>,
+        branches: &'a List<Shared<Cond>>,
     ) -> Result<(), NoMemory>
         ensures { OnOk result ((known : List (List ℕ × List Part)) (said : List Part) → Knows known self.now → Means self.now.bodies.items body.old said
             → Means self.now.bodies.items body.new (said ++ flat_map (λ name. map (under branches.now) (parts_of known name)) names.now)) }
@@ -130,7 +130,7 @@ impl<'a> Stanzas<'a> {
         &self,
         body: &mut Body<'a>,
         name: &Text,
-        branches: &'a List<Cond>,
+        branches: &'a List<Shared<Cond>>,
     ) -> Result<(), NoMemory>
         ensures { OnOk result ((known : List (List ℕ × List Part)) (said : List Part) → Knows known self.now → Means self.now.bodies.items body.old said
             → Means self.now.bodies.items body.new (said ++ map (under branches.now) (parts_of known name.now))) }
@@ -178,7 +178,7 @@ impl<'a> Stanzas<'a> {
 // The walk is a stack and no recursion, since stanzas may import one another to any depth. What is left of a body waits below the stanza that it imports.
 fn go_on<'b, 'a>(
     alloc: Global,
-    branches: List<Cond>,
+    branches: List<Shared<Cond>>,
     stanzas: &'b [Body<'a>],
     steps: &'b [Step<'a>],
     frames: &mut Vec<Frame<'b, 'a>>,
@@ -226,7 +226,7 @@ fn enter<'b, 'a>(
     frames: &mut Vec<Frame<'b, 'a>>,
     stanzas: &'b [Body<'a>],
     stanza: usize,
-    branches: List<Cond>,
+    branches: List<Shared<Cond>>,
 ) -> Result<(), NoMemory>
     ensures parts { OnOk result (frames_parts frames.new.items ≡ map (under branches) (get_or (table stanzas.now) stanza []) ++ frames_parts frames.old.items) }
     ensures cost { OnOk result (frames_cost frames.new.items ≤ frames_cost frames.old.items + (1 + get_or (costs stanzas.now) stanza 0)) }
@@ -266,7 +266,7 @@ impl<'a> Body<'a> {
         &mut self,
         stanza: usize,
         imported: &Body<'a>,
-        branches: &'a List<Cond>,
+        branches: &'a List<Shared<Cond>>,
     ) -> Result<(), NoMemory>
         ensures { OnOk result ((stanzas : List Body) (said parts : List Part) → Means stanzas self.old said → stanza < length stanzas
             → get_or (table stanzas) stanza [] ≡ parts → imported.now.bad_visibility ≡ first_bad parts
@@ -279,7 +279,7 @@ impl<'a> Body<'a> {
     }
 
     // The first bad visibility where the body stands in these branches.
-    fn bad_within(&self, branches: &List<Cond>) -> Option<At>
+    fn bad_within(&self, branches: &List<Shared<Cond>>) -> Option<At>
         ensures { (parts : List Part) → self.now.bad_visibility ≡ first_bad parts → result ≡ first_bad (map (under branches.now) parts) }
     {
         if branches.is_empty() {
@@ -303,21 +303,24 @@ fn bad_visibility(part: &Part) -> Option<At>
 }
 
 /// The conditions of outer branches, and then those of inner ones.
-fn joined(alloc: Global, outer: &List<Cond>, inner: &List<Cond>) -> Result<List<Cond>, NoMemory>
+fn joined(
+    alloc: Global,
+    outer: &List<Shared<Cond>>,
+    inner: &List<Shared<Cond>>,
+) -> Result<List<Shared<Cond>>, NoMemory>
     ensures { IfOk result (λ conds. conds ≡ outer.now ++ inner.now) }
 {
     let mut conds = List::new(alloc);
-    push_copies(alloc, &mut conds, outer.as_slice())?;
-    push_copies(alloc, &mut conds, inner.as_slice())?;
+    push_copies(&mut conds, outer.as_slice())?;
+    push_copies(&mut conds, inner.as_slice())?;
     Ok(conds)
 }
 
-/// Puts copies of more conditions behind these.
-pub fn push_copies(alloc: Global, conds: &mut List<Cond>, more: &[Cond]) -> Result<(), NoMemory>
+fn push_copies(conds: &mut List<Shared<Cond>>, more: &[Shared<Cond>]) -> Result<(), NoMemory>
     ensures { OnOk result (conds.new ≡ conds.old ++ more.now) }
 {
     for cond in more {
-        conds.push(cond.copy(alloc)?)?;
+        conds.push(cond.copy()?)?;
     }
     Ok(())
 }

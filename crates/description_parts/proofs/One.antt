@@ -84,8 +84,8 @@ one_said spec fields.BuildTools line text fits a b p q = p ∙ sym q
 one_said spec fields.Unread line text fits a b p q = p ∙ sym q
 
 -- where what stands within and behind is one thing, a section and what is behind it are
-one_section : (spec : Spec) (word : InnerWord) (line : ℕ) (args : List ℕ) (branches : List Cond) (chain : Option (List Cond)) (Within : List Cond → List Part → Type 0) (Behind : Option (List Cond) → List Part → Type 0) →
-    ((inside : List Cond) (x y : List Part) → Within inside x → Within inside y → x ≡ y) → ((left : Option (List Cond)) (x y : List Part) → Behind left x → Behind left y → x ≡ y) →
+one_section : (spec : Spec) (word : InnerWord) (line : ℕ) (args : List ℕ) (branches : List Cond) (chain : Option Cond) (Within : List Cond → List Part → Type 0) (Behind : Option Cond → List Part → Type 0) →
+    ((inside : List Cond) (x y : List Part) → Within inside x → Within inside y → x ≡ y) → ((left : Option Cond) (x y : List Part) → Behind left x → Behind left y → x ≡ y) →
     (a b : List Part) → SectionSays spec word line args branches chain Within Behind a → SectionSays spec word line args branches chain Within Behind b → a ≡ b
 one_section spec (inner.Branch word) line args branches chain Within Behind within behind a b p q =
     let own = one_own spec word args p.own q.own p.reads q.reads in
@@ -98,7 +98,7 @@ one_section spec inner.Misplaced line args branches chain Within Behind within b
     p.2 ∙ ap (λ v. record { line = line; branches = branches; said = said.Misplaced } ∷ v) (behind None p.0 q.0 p.1 q.1) ∙ sym q.2
 one_section spec inner.Unread line args branches chain Within Behind within behind a b p q = behind None a b p q
 
-one_items : (spec : Spec) (kind : SectionKind) (tree : Tree) (branches : List Cond) (fits : Bool) (chain : Option (List Cond)) (a b : List Part) →
+one_items : (spec : Spec) (kind : SectionKind) (tree : Tree) (branches : List Cond) (fits : Bool) (chain : Option Cond) (a b : List Part) →
     Items spec kind tree branches fits chain a → Items spec kind tree branches fits chain b → a ≡ b
 unfolding Items
 one_items spec kind end branches fits chain a b p q = p ∙ sym q

@@ -36,7 +36,7 @@ begins-append spec [] branch = refl
 begins-append spec (outer ∷ branches) branch = refl
 
 module _ (spec : Spec) (kind : SectionKind) where
-  pub field_goes : {item : Element} (line : ℕ) (name : List ℕ) (values : List (List ℕ)) {word : FieldWord} {after : Bool} (fits : Bool) (chain : Option (List Cond)) (branches : List Cond) (found : Option Said) (old : List Part) {new : List Part} →
+  pub field_goes : {item : Element} (line : ℕ) (name : List ℕ) (values : List (List ℕ)) {word : FieldWord} {after : Bool} (fits : Bool) (chain : Option Cond) (branches : List Cond) (found : Option Said) (old : List Part) {new : List Part} →
       item ≡ Field line name values → word ≡ field_word kind name → after ≡ (fits && is_import word) → FieldSays spec word line (joined_text values) fits found →
       new ≡ old ++ placed line branches found →
       (behind : Tree) (more : List Part) → Items spec kind behind branches after None more →
@@ -49,7 +49,7 @@ module _ (spec : Spec) (kind : SectionKind) where
     added old (placed line branches found) more new-is,
   )
 
-  pub section_goes : {item : Element} (line : ℕ) (name args : List ℕ) (items : List Element) {word : InnerWord} (fits : Bool) (chain : Option (List Cond)) (branches : List Cond) (old new : List Part) (behind : Tree) (more : List Part) →
+  pub section_goes : {item : Element} (line : ℕ) (name args : List ℕ) (items : List Element) {word : InnerWord} (fits : Bool) (chain : Option Cond) (branches : List Cond) (old new : List Part) (behind : Tree) (more : List Part) →
       item ≡ Section line name args items → word ≡ inner_word kind name →
       Goes (λ x. SectionSays spec word line args branches chain
       (λ within said. Items spec kind (tree_of items) within (imports_in_branches spec) None said)
@@ -66,7 +66,7 @@ module _ (spec : Spec) (kind : SectionKind) where
   )
 
   -- one element further
-  pub loop_goes : (items : List Element) (n : ℕ) (item : Element) {outer inner : List Branch} (fits after : Bool) (chain left : Option (List Cond)) (Are : List Part → Type 0) (first old new : List Part) →
+  pub loop_goes : (items : List Element) (n : ℕ) (item : Element) {outer inner : List Branch} (fits after : Bool) (chain left : Option Cond) (Are : List Part → Type 0) (first old new : List Part) →
       n < length items → get_or items n item ≡ item → inner ≡ outer →
       ((more : List Part) → Items spec kind (tree_of (drop n items)) (map condition outer) fits chain more → Goes Are first old more) →
       ((behind : Tree) (more : List Part) → Items spec kind behind (map condition inner) after left more →
@@ -78,19 +78,19 @@ module _ (spec : Spec) (kind : SectionKind) where
       (subst (λ b. Items spec kind (in_front item (tree_of (drop (n + 1) items))) (map condition b) fits chain here.0) same here.1)) in
       (there.0, there.1, here.2 ∙ there.2)
 
-  pub unread_goes : {word : InnerWord} (line : ℕ) (args : List ℕ) (branches : List Cond) (chain : Option (List Cond)) (Within : List Cond → List Part → Type 0) (Behind : Option (List Cond) → List Part → Type 0) (old more : List Part) →
+  pub unread_goes : {word : InnerWord} (line : ℕ) (args : List ℕ) (branches : List Cond) (chain : Option Cond) (Within : List Cond → List Part → Type 0) (Behind : Option Cond → List Part → Type 0) (old more : List Part) →
       word ≡ inner.Unread → Behind None more → Goes (λ x. SectionSays spec word line args branches chain Within Behind x) old old more
   unread_goes line args branches chain Within Behind old more is rest =
       (more, subst (λ w. SectionSays spec w line args branches chain Within Behind more) (sym is) rest, refl)
 
-  pub misplaced_goes : {word : InnerWord} (line : ℕ) (args : List ℕ) (branches : List Cond) (chain : Option (List Cond)) (Within : List Cond → List Part → Type 0) (Behind : Option (List Cond) → List Part → Type 0) (old more : List Part) {new : List Part} →
+  pub misplaced_goes : {word : InnerWord} (line : ℕ) (args : List ℕ) (branches : List Cond) (chain : Option Cond) (Within : List Cond → List Part → Type 0) (Behind : Option Cond → List Part → Type 0) (old more : List Part) {new : List Part} →
       word ≡ inner.Misplaced → new ≡ old ++ placed line branches (Some said.Misplaced) → Behind None more → Goes (λ x. SectionSays spec word line args branches chain Within Behind x) old new more
   misplaced_goes line args branches chain Within Behind old more is new-is rest =
       let all = placed line branches (Some said.Misplaced) ++ more in
       (all, subst (λ w. SectionSays spec w line args branches chain Within Behind all) (sym is) (more, rest, refl), added old (placed line branches (Some said.Misplaced)) more new-is)
 
-  pub branch_goes : {word : InnerWord} (branch-word : BranchWord) (line : ℕ) (args : List ℕ) (outer : List Branch) {pushed : List Branch} (chain : Option (List Cond)) (items : Tree) (Behind : Option (List Cond) → List Part → Type 0)
-      (old more within : List Part) {opened new : List Part} (own : Result Cond Cause) {branch : Branch} {left : Option (List Cond)} →
+  pub branch_goes : {word : InnerWord} (branch-word : BranchWord) (line : ℕ) (args : List ℕ) (outer : List Branch) {pushed : List Branch} (chain : Option Cond) (items : Tree) (Behind : Option Cond → List Part → Type 0)
+      (old more within : List Part) {opened new : List Part} (own : Result Cond Cause) {branch : Branch} {left : Option Cond} →
       word ≡ inner.Branch branch-word → OwnCondition spec branch-word args own → branch ≡ branch_of branch-word chain own →
       opened ≡ old ++ placed line (map condition outer) (Some (said.Branch own (branch_fits branch-word chain))) →
       pushed ≡ outer ++ branch ∷ [] → Items spec kind items (map condition pushed) (imports_begin spec pushed) None within → new ≡ opened ++ within →

@@ -31,7 +31,7 @@ tree_from items n item lt is =
     ap tree_of (drop-cons items n item lt ∙ ap (λ v. v ∷ drop (suc n) items) is) ∙ ap (λ m. in_front item (tree_of (drop m items))) (sym (add-one n))
 
 module _ (spec : Spec) (kind : SectionKind) where
-  pub field_step : (line : ℕ) (name : List ℕ) (values : List (List ℕ)) (behind : Tree) (branches : List Cond) (fits : Bool) (chain : Option (List Cond))
+  pub field_step : (line : ℕ) (name : List ℕ) (values : List (List ℕ)) (behind : Tree) (branches : List Cond) (fits : Bool) (chain : Option Cond)
       (found : Option Said) (more : List Part) → FieldSays spec (field_word kind name) line (joined_text values) fits found →
       Items spec kind behind branches (fits && is_import (field_word kind name)) None more →
       Items spec kind (in_front (Field line name values) behind) branches fits chain (placed line branches found ++ more)
@@ -40,7 +40,7 @@ module _ (spec : Spec) (kind : SectionKind) where
       subst (λ t. Items spec kind t branches fits chain (placed line branches found ++ more)) (sym (field_in_front line name values behind))
       (found, more, says, rest, refl)
 
-  pub section_step : (line : ℕ) (name args : List ℕ) (items : List Element) (behind : Tree) (branches : List Cond) (fits : Bool) (chain : Option (List Cond)) (found : List Part) →
+  pub section_step : (line : ℕ) (name args : List ℕ) (items : List Element) (behind : Tree) (branches : List Cond) (fits : Bool) (chain : Option Cond) (found : List Part) →
       SectionSays spec (inner_word kind name) line args branches chain
       (λ within said. Items spec kind (tree_of items) within (imports_in_branches spec) None said)
       (λ left said. Items spec kind behind branches false left said) found →

@@ -35,13 +35,9 @@ abbrev pub all_of : List Cond → Cond
 all_of [] = Always
 all_of (cond ∷ conds) = joined cond conds
 
-abbrev pub as_list : Option Cond → List Cond
-as_list None = []
-as_list (Some cond) = cond ∷ []
-
--- none of those before it in its chain holds, and its own does
+-- the condition of a branch
 abbrev pub condition : Branch → Cond
-condition branch = all_of (map Not branch.before ++ as_list branch.own)
+condition branch = branch.condition
 
 -- the own condition of a branch; an `else` has none, and nothing stands behind the word
 abbrev pub bare : List ℕ → Result Cond Cause
@@ -58,25 +54,25 @@ abbrev pub or_never : Result Cond Cause → Cond
 or_never (Ok cond) = cond
 or_never (Err cause) = Never
 
--- the conditions of a chain, for a branch that stands directly behind it
-abbrev pub tried : Option (List Cond) → List Cond
-tried None = []
-tried (Some conds) = conds
+-- what is tried behind the branches of a chain, where there are any: none of them is taken, and this holds
+abbrev pub tried_behind : Option Cond → Cond → Cond
+tried_behind None cond = cond
+tried_behind (Some chain) cond = And chain cond
 
--- an `if` begins a chain
-abbrev pub tried_before : BranchWord → Option (List Cond) → List Cond
-tried_before If chain = []
-tried_before Elif chain = tried chain
-tried_before Else chain = tried chain
+-- a branch with a condition of its own, and the chain behind it
+abbrev pub tried : Option Cond → Cond → Branch
+tried chain own = record { condition = tried_behind chain own; chain = Some (tried_behind chain (Not own)) }
 
-abbrev pub own_in : BranchWord → Result Cond Cause → Option Cond
-own_in If own = Some (or_never own)
-own_in Elif own = Some (or_never own)
-own_in Else own = None
+-- an `else` is taken where none before it is; nothing stands behind it
+abbrev pub last : Option Cond → Branch
+last chain = record { condition = elim chain [ None ↦ Always | Some none ↦ none ]; chain = None }
 
-abbrev pub branch_of : BranchWord → Option (List Cond) → Result Cond Cause → Branch
-branch_of word chain own = record { before = tried_before word chain; own = own_in word own }
+-- A branch directly behind a chain, which says that none of its branches so far is taken. An `if` begins a chain.
+abbrev pub branch_of : BranchWord → Option Cond → Result Cond Cause → Branch
+branch_of If chain own = tried None (or_never own)
+branch_of Elif chain own = tried chain (or_never own)
+branch_of Else chain own = last chain
 
 -- the chain that ends with a branch; none behind an `else`
-abbrev pub chain_of : Branch → Option (List Cond)
-chain_of branch = elim branch.own [ None ↦ None | Some own ↦ Some (branch.before ++ own ∷ []) ]
+abbrev pub chain_of : Branch → Option Cond
+chain_of branch = branch.chain

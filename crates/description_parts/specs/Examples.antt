@@ -57,16 +57,16 @@ grouped_from_the_left : all_of (a ∷ b ∷ a ∷ []) ≡ And (And a b) a
 grouped_from_the_left = refl
 
 -- `elif flag(b)` behind `if flag(a)`, and the `else` behind both
-elif_negates : condition (branch_of Elif (Some (a ∷ [])) (Ok b)) ≡ And (Not a) b
+elif_negates : condition (branch_of Elif (Some (Not a)) (Ok b)) ≡ And (Not a) b
 elif_negates = refl
 
-else_negates_all : condition (branch_of Else (Some (a ∷ b ∷ [])) (Ok Always)) ≡ And (Not a) (Not b)
+else_negates_all : condition (branch_of Else (chain_of (branch_of Elif (Some (Not a)) (Ok b))) (Ok Always)) ≡ And (Not a) (Not b)
 else_negates_all = refl
 
-if_begins_a_chain : condition (branch_of If (Some (a ∷ [])) (Ok b)) ≡ b
+if_begins_a_chain : condition (branch_of If (Some a) (Ok b)) ≡ b
 if_begins_a_chain = refl
 
-nothing_behind_else : chain_of (branch_of Else (Some (a ∷ [])) (Ok Always)) ≡ None
+nothing_behind_else : chain_of (branch_of Else (Some a) (Ok Always)) ≡ None
 nothing_behind_else = refl
 
 a_lone_elif : branch_fits Elif None ≡ false

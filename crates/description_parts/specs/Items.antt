@@ -60,7 +60,7 @@ placed line branches None = []
 placed line branches (Some found) = record { line = line; branches = branches; said = found } ∷ []
 
 -- an `if` stands anywhere, the others directly behind a branch that isn't an `else`
-abbrev pub branch_fits : BranchWord → Option (List Cond) → Bool
+abbrev pub branch_fits : BranchWord → Option Cond → Bool
 branch_fits If chain = true
 branch_fits Elif chain = is_some chain
 branch_fits Else chain = is_some chain
@@ -74,8 +74,8 @@ imports_begin spec [] = true
 imports_begin spec (branch ∷ branches) = imports_in_branches spec
 
 -- a branch, what stands in it, and what stands behind it
-pub record BranchSays (spec : Spec) (word : BranchWord) (line : ℕ) (args : List ℕ) (branches : List Cond) (chain : Option (List Cond))
-    (Within : List Cond → List Part → Type 0) (Behind : Option (List Cond) → List Part → Type 0) (parts : List Part) : Type 0 where
+pub record BranchSays (spec : Spec) (word : BranchWord) (line : ℕ) (args : List ℕ) (branches : List Cond) (chain : Option Cond)
+    (Within : List Cond → List Part → Type 0) (Behind : Option Cond → List Part → Type 0) (parts : List Part) : Type 0 where
   pub own : Result Cond Cause
   pub within : List Part
   pub behind : List Part
@@ -85,14 +85,14 @@ pub record BranchSays (spec : Spec) (word : BranchWord) (line : ℕ) (args : Lis
   pub are : parts ≡ record { line = line; branches = branches; said = said.Branch own (branch_fits word chain) } ∷ within ++ behind
 
 -- a section, and what stands behind it
-abbrev pub SectionSays : Spec → InnerWord → ℕ → List ℕ → List Cond → Option (List Cond) → (List Cond → List Part → Type 0) → (Option (List Cond) → List Part → Type 0) → List Part → Type 0
+abbrev pub SectionSays : Spec → InnerWord → ℕ → List ℕ → List Cond → Option Cond → (List Cond → List Part → Type 0) → (Option Cond → List Part → Type 0) → List Part → Type 0
 SectionSays spec (inner.Branch word) line args branches chain Within Behind parts = BranchSays spec word line args branches chain Within Behind parts
 SectionSays spec inner.Misplaced line args branches chain Within Behind parts =
     (behind : List Part) × Behind None behind × (parts ≡ record { line = line; branches = branches; said = said.Misplaced } ∷ behind)
 SectionSays spec inner.Unread line args branches chain Within Behind parts = Behind None parts
 
 -- The elements are these parts, under these branches. An import may stand here or not, and the chain is that of a branch directly in front.
-unfoldable pub Items : Spec → SectionKind → Tree → List Cond → Bool → Option (List Cond) → List Part → Type 0
+unfoldable pub Items : Spec → SectionKind → Tree → List Cond → Bool → Option Cond → List Part → Type 0
 Items spec kind end branches fits chain parts = parts ≡ []
 Items spec kind (field line name values behind) branches fits chain parts =
     (found : Option Said) × (more : List Part) × FieldSays spec (field_word kind name) line (joined_text values) fits found

@@ -1,79 +1,105 @@
 ghost use Rattle.std.specs.Prelude.{◌≡◌, IfOk, map};
-ghost use Rattle.plan_types.specs.declared.condition.Cond.TheVariants.{Not};
-ghost use Rattle.description_parts.specs.Branch.{all_of, bare, condition, chain_of, or_never, OwnCondition, IsOutcome};
+ghost use Rattle.description_parts.specs.Branch.{all_of, bare, branch_of, condition, last, or_never, tried, tried_behind, OwnCondition, IsOutcome};
 
 use crate::words::BranchWord;
 use conditionals::read_cond;
-use plan_types::{Boxed, Cause, Cond, List, NoMemory, Spec, Text, TextFault};
+use plan_types::{Cause, Cond, List, NoMemory, Shared, Spec, Text, TextFault};
 use std::alloc::Global;
 
-/// A branch: the conditions of the branches of its chain before it, and its own unless it is an `else`.
+/// A branch: the condition of being in it, and that of not being in any branch of its chain so far. Nothing stands behind an `else`.
 #[derive(Drop)]
 pub struct Branch {
-    pub before: List<Cond>,
-    pub own: Option<Cond>,
+    pub condition: Shared<Cond>,
+    pub chain: Option<Shared<Cond>>,
 }
 
 impl Branch {
-    /// None of those before it holds, and its own does.
-    fn condition(&self, alloc: Global) -> Result<Cond, NoMemory>
-        ensures { IfOk result (λ cond. cond ≡ condition self.now) }
+    /// A branch behind what was tried before it in its chain.
+    pub fn of(
+        alloc: Global,
+        word: BranchWord,
+        chain: Option<Shared<Cond>>,
+        own: &Result<Shared<Cond>, Cause>,
+    ) -> Result<Branch, NoMemory>
+        ensures { IfOk result (λ branch. branch ≡ branch_of word chain own.now) }
     {
-        let mut conds = negations(alloc, self.before.as_slice())?;
-        if let Some(own) = &self.own {
-            conds.push(own.copy(alloc)?)?;
+        match word {
+            BranchWord::If => tried(alloc, None, own),
+            BranchWord::Elif => tried(alloc, chain, own),
+            BranchWord::Else => last(alloc, chain),
         }
-        all_of(alloc, conds)
-    }
-
-    /// The conditions of its chain, for a branch behind it; none behind an `else`.
-    pub fn into_chain(self) -> Result<Option<List<Cond>>, NoMemory>
-        ensures { IfOk result (λ chain. chain ≡ chain_of self) }
-    {
-        let Branch { mut before, own } = self;
-        let Some(own) = own else {
-            return Ok(None);
-        };
-        before.push(own)?;
-        Ok(Some(before))
     }
 }
 
-fn negations(alloc: Global, conds: &[Cond]) -> Result<List<Cond>, NoMemory>
-    ensures { IfOk result (λ negated. negated ≡ map Not conds.now) }
+/// A branch with a condition of its own.
+fn tried(
+    alloc: Global,
+    chain: Option<Shared<Cond>>,
+    own: &Result<Shared<Cond>, Cause>,
+) -> Result<Branch, NoMemory>
+    ensures { IfOk result (λ branch. branch ≡ tried chain (or_never own.now)) }
 {
-    let mut negated = List::new(alloc);
-    for cond in conds {
-        let inner = Boxed::new(alloc, cond.copy(alloc)?)?;
-        negated.push(Cond::Not(inner))?;
+    let own = or_never(alloc, own)?;
+    let other = Shared::new(alloc, Cond::Not(own.copy()?))?;
+    let condition = tried_behind(alloc, &chain, own)?;
+    let chain = tried_behind(alloc, &chain, other)?;
+    Ok(Branch {
+        condition,
+        chain: Some(chain),
+    })
+}
+
+/// An `else`.
+fn last(alloc: Global, chain: Option<Shared<Cond>>) -> Result<Branch, NoMemory>
+    ensures { IfOk result (λ branch. branch ≡ last chain) }
+{
+    let condition = match chain {
+        Some(tried) => tried,
+        None => Shared::new(alloc, Cond::Always)?,
+    };
+    Ok(Branch {
+        condition,
+        chain: None,
+    })
+}
+
+fn tried_behind(
+    alloc: Global,
+    chain: &Option<Shared<Cond>>,
+    cond: Shared<Cond>,
+) -> Result<Shared<Cond>, NoMemory>
+    ensures { IfOk result (λ found. found ≡ tried_behind chain.now cond) }
+{
+    match chain {
+        None => Ok(cond),
+        Some(tried) => {
+            let left = tried.copy()?;
+            Ok(Shared::new(alloc, Cond::And(left, cond))?)
+        }
     }
-    Ok(negated)
 }
 
 /// The conditions of branches.
-pub fn conditions(alloc: Global, branches: &[Branch]) -> Result<List<Cond>, NoMemory>
+pub fn conditions(alloc: Global, branches: &[Branch]) -> Result<List<Shared<Cond>>, NoMemory>
     ensures { IfOk result (λ conds. conds ≡ map condition branches.now) }
 {
     let mut conds = List::new(alloc);
     for branch in branches {
-        conds.push(branch.condition(alloc)?)?;
+        conds.push(branch.condition.copy()?)?;
     }
     Ok(conds)
 }
 
 /// Conditions joined by `&&`, from the left; `true` where there is none.
-pub fn all_of(alloc: Global, conds: List<Cond>) -> Result<Cond, NoMemory>
-    ensures { IfOk result (λ all. all ≡ all_of conds) }
+pub fn all_of(alloc: Global, conds: &[Shared<Cond>]) -> Result<Shared<Cond>, NoMemory>
+    ensures { IfOk result (λ all. all ≡ all_of conds.now) }
 {
-    let mut conds = conds.into_vec().into_iter();
-    let Some(first) = conds.next() else {
-        return Ok(Cond::Always);
+    let [first, rest @ ..] = conds else {
+        return Shared::new(alloc, Cond::Always);
     };
-    let mut all = first;
-    for cond in conds {
-        let left = Boxed::new(alloc, all)?;
-        let right = Boxed::new(alloc, cond)?;
-        all = Cond::And(left, right);
+    let mut all = first.copy()?;
+    for cond in rest {
+        all = Shared::new(alloc, Cond::And(all, cond.copy()?))?;
     }
     Ok(all)
 }
@@ -84,12 +110,25 @@ pub fn own_condition(
     spec: Spec,
     word: BranchWord,
     args: &Text,
-) -> Result<Result<Cond, Cause>, NoMemory>
+) -> Result<Result<Shared<Cond>, Cause>, NoMemory>
     ensures { IfOk result (OwnCondition spec word args.now) }
 {
-    match word {
-        BranchWord::Else => Ok(bare(args.as_bytes())),
-        BranchWord::If | BranchWord::Elif => outcome(read_cond(alloc, args.as_bytes(), spec)),
+    let read = match word {
+        BranchWord::Else => bare(args.as_bytes()),
+        BranchWord::If | BranchWord::Elif => outcome(read_cond(alloc, args.as_bytes(), spec))?,
+    };
+    shared(alloc, read)
+}
+
+fn shared(
+    alloc: Global,
+    read: Result<Cond, Cause>,
+) -> Result<Result<Shared<Cond>, Cause>, NoMemory>
+    ensures { IfOk result (λ found. found ≡ read) }
+{
+    match read {
+        Ok(cond) => Ok(Ok(Shared::new(alloc, cond)?)),
+        Err(cause) => Ok(Err(cause)),
     }
 }
 
@@ -116,11 +155,14 @@ pub fn outcome<T: Drop>(read: Result<T, TextFault>) -> Result<Result<T, Cause>, 
 }
 
 /// What stands for the condition where it can't be read.
-pub fn or_never(alloc: Global, condition: &Result<Cond, Cause>) -> Result<Cond, NoMemory>
+fn or_never(
+    alloc: Global,
+    condition: &Result<Shared<Cond>, Cause>,
+) -> Result<Shared<Cond>, NoMemory>
     ensures { IfOk result (λ cond. cond ≡ or_never condition.now) }
 {
     match condition {
-        Ok(cond) => cond.copy(alloc),
-        Err(_) => Ok(Cond::Never),
+        Ok(cond) => cond.copy(),
+        Err(_) => Shared::new(alloc, Cond::Never),
     }
 }

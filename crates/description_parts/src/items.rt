@@ -4,15 +4,15 @@ ghost use Rattle.plan_types.specs.declared.condition.Cond.{Cond};
 ghost use Rattle.plan_types.specs.declared.refusal.Cause.{Cause};
 ghost use Rattle.description_parts.specs.declared.branch.Branch.{Branch};
 ghost use Rattle.description_parts.specs.declared.part.Part.{Part};
-ghost use Rattle.description_parts.specs.Branch.{condition, branch_of, chain_of, tried_before, OwnCondition};
+ghost use Rattle.description_parts.specs.Branch.{condition, branch_of, chain_of, OwnCondition};
 ghost use Rattle.description_parts.specs.Items.{Items, SectionSays, branch_fits, imports_in_branches, imports_begin, is_import, placed};
 ghost use Rattle.description_parts.specs.Tree.{Tree, in_front, tree_of};
 
-use crate::branch::{Branch, conditions, or_never, own_condition};
+use crate::branch::{Branch, conditions, own_condition};
 use crate::field::said_by;
 use crate::part::{Part, Said, SectionKind};
 use crate::words::{BranchWord, FieldWord, InnerWord, field_word, inner_word};
-use plan_types::{Cause, Cond, Element, List, NoMemory, Spec, Text};
+use plan_types::{Cond, Element, List, NoMemory, Shared, Spec, Text};
 use std::alloc::Global;
 
 /// What is known of a section while its items are gone through.
@@ -28,7 +28,7 @@ struct Before {
     /// Whether an import may stand here.
     fits: bool,
     /// The conditions of a chain of branches, where one of it stands directly before.
-    chain: Option<List<Cond>>,
+    chain: Option<Shared<Cond>>,
 }
 
 /// The parts of a section.
@@ -164,10 +164,10 @@ fn read_section(
     line: u32,
     args: &Text,
     items: &[Element],
-    chain: Option<List<Cond>>,
+    chain: Option<Shared<Cond>>,
     branches: &mut List<Branch>,
     parts: &mut List<Part>,
-) -> Result<Option<List<Cond>>, NoMemory>
+) -> Result<Option<Shared<Cond>>, NoMemory>
     ensures parts { IfOk result (λ left. (behind : Tree) (more : List Part) → Items inside.spec inside.kind behind (map condition branches.old) false left more
         → (found : List Part) × SectionSays inside.spec word line args.now (map condition branches.old) chain
         (λ within said. Items inside.spec inside.kind (tree_of items.now) within (imports_in_branches inside.spec) None said)
@@ -194,7 +194,7 @@ fn read_section(
             )?;
             branches.push(branch)?;
             read_items(alloc, inside, items, branches, parts)?;
-            let left = close_branch(branches)?;
+            let left = close_branch(branches);
             Ok(left)
         }
     }
@@ -207,7 +207,7 @@ fn open_branch(
     word: BranchWord,
     line: u32,
     args: &Text,
-    chain: Option<List<Cond>>,
+    chain: Option<Shared<Cond>>,
     branches: &[Branch],
     parts: &mut List<Part>,
 ) -> Result<Branch, NoMemory>
@@ -216,7 +216,7 @@ fn open_branch(
 {
     let fits = word == BranchWord::If || chain.is_some();
     let condition = own_condition(alloc, spec, word, args)?;
-    let branch = branch_of(alloc, word, &condition, chain)?;
+    let branch = Branch::of(alloc, word, chain, &condition)?;
     place(
         alloc,
         branches,
@@ -227,41 +227,12 @@ fn open_branch(
     Ok(branch)
 }
 
-fn branch_of(
-    alloc: Global,
-    word: BranchWord,
-    condition: &Result<Cond, Cause>,
-    chain: Option<List<Cond>>,
-) -> Result<Branch, NoMemory>
-    ensures { IfOk result (λ branch. branch ≡ branch_of word chain condition.now) }
-{
-    let before = tried_before(alloc, word, chain);
-    let own = match word {
-        BranchWord::Else => None,
-        _ => Some(or_never(alloc, condition)?),
-    };
-    Ok(Branch { before, own })
-}
-
-/// An `if` begins a chain.
-fn tried_before(alloc: Global, word: BranchWord, chain: Option<List<Cond>>) -> List<Cond>
-    ensures { result ≡ tried_before word chain }
-{
-    if word == BranchWord::If {
-        return List::new(alloc);
-    }
-    match chain {
-        Some(tried) => tried,
-        None => List::new(alloc),
-    }
-}
-
 /// The chain of the branch that ends here.
-fn close_branch(branches: &mut List<Branch>) -> Result<Option<List<Cond>>, NoMemory>
-    ensures { IfOk result (λ left. (outer : List Branch) (branch : Branch) → branches.old ≡ outer ++ branch ∷ [] → (left ≡ chain_of branch) × (branches.new ≡ outer)) }
+fn close_branch(branches: &mut List<Branch>) -> Option<Shared<Cond>>
+    ensures { (outer : List Branch) (branch : Branch) → branches.old ≡ outer ++ branch ∷ [] → (result ≡ chain_of branch) × (branches.new ≡ outer) }
 {
     match branches.pop() {
-        Some(branch) => branch.into_chain(),
-        None => Ok(None),
+        Some(branch) => branch.chain,
+        None => None,
     }
 }

@@ -1,4 +1,4 @@
-use plan_types::{Cause, CompKind, Cond, Dep, List, Spec, Text, Version};
+use plan_types::{Cause, CompKind, Cond, Dep, List, Shared, Spec, Text, Version};
 
 /// What a field or a section inside a section says.
 #[derive(Debug, Drop)]
@@ -22,7 +22,7 @@ pub enum Said {
     BuildTools,
     /// `if`, `elif` or `else`: its own condition, and whether it is an `if` or directly behind one or an `elif`.
     Branch {
-        condition: Result<Cond, Cause>,
+        condition: Result<Shared<Cond>, Cause>,
         fits: bool,
     },
     /// Any other section.
@@ -35,7 +35,7 @@ pub struct Part {
     /// From 1.
     pub line: u32,
     /// The conditions of the branches in which it stands, the outermost first. What can't be read stands as `false`.
-    pub branches: List<Cond>,
+    pub branches: List<Shared<Cond>>,
     pub said: Said,
 }
 

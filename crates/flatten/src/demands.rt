@@ -6,7 +6,7 @@ ghost use Rattle.flatten.specs.Demands.{demands_of, demands_at, first_beyond, is
 
 use conditionals::{count_paths, paths};
 use plan_types::{
-    Boxed, Cause, CompKind, Component, Cond, Dep, Description, Env, Fault, FlagSet, FlatDep,
+    Cause, CompKind, Component, Cond, Dep, Description, Env, Fault, FlagSet, FlatDep,
     GuardedDep, List, Literal, NoMemory, PartName,
 };
 use std::alloc::Global;
@@ -62,7 +62,7 @@ fn push_demands(
     ensures refused { IfErr result (RefusesAt (λ line cause. (cause ≡ TooManyPaths)
         × (line ≡ guarded.now.dep.line) × (is_beyond env.now (outward_of component.now guarded.now) ≡ true))) }
 {
-    let whole = whole_condition(alloc, component, guarded)?;
+    let whole = whole_condition(component, guarded)?;
     if MOST_PATHS < count_paths(&whole, env, true) {
         return Err(Fault::At {
             line: guarded.dep.line,
@@ -75,17 +75,11 @@ fn push_demands(
     Ok(())
 }
 
-fn whole_condition(
-    alloc: Global,
-    component: &Component,
-    guarded: &GuardedDep,
-) -> Result<Cond, NoMemory>
+fn whole_condition(component: &Component, guarded: &GuardedDep) -> Result<Cond, NoMemory>
     ensures { IfOk result (λ whole. whole ≡ whole_condition component.now guarded.now) }
 {
-    let buildable = component.buildable.copy(alloc)?;
-    let when = guarded.when.copy(alloc)?;
-    let buildable = Boxed::new(alloc, buildable)?;
-    let when = Boxed::new(alloc, when)?;
+    let buildable = component.buildable.copy()?;
+    let when = guarded.when.copy()?;
     Ok(Cond::And(buildable, when))
 }
 

@@ -27,7 +27,7 @@ fn is_unbuildable(component: &Component, env: &Env, unset: &List<FlagSet>) -> bo
     requires { unset.now ≡ [] }
     ensures { result ≡ is_unbuildable env.now component.now }
 {
-    match eval(&component.buildable, env, unset) {
+    match eval(component.buildable.get(), env, unset) {
         Tri::Yes => false,
         Tri::No => true,
         Tri::Unknown => false,

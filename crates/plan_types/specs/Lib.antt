@@ -4,5 +4,4 @@ pub mod Members
 pub mod Bytes
 pub mod Refusal
 pub mod Range
-pub mod Condition
 pub mod Format

@@ -1,2 +1,3 @@
 pub mod boxed
 pub mod list
+pub mod shared

@@ -1,8 +1,7 @@
-ghost use Rattle.std.specs.Prelude.{◌≡◌, [], IfOk};
-ghost use Rattle.plan_types.specs.declared.condition.Cond.TheVariants.{Impl, Not, And, Or};
-ghost use Rattle.plan_types.specs.Condition.{rebuilt};
+ghost use Rattle.std.specs.Prelude.{◌≡◌, IfOk};
+ghost use Rattle.plan_types.specs.declared.condition.Cond.TheVariants.{Impl};
 
-use crate::{Boxed, NoMemory, Range, Text, Version};
+use crate::{NoMemory, Range, Shared, Text, Version};
 use std::alloc::Global;
 
 /// A condition, as it is written. Names are in lower case, and operating systems as they are compared.
@@ -21,11 +20,11 @@ pub enum Cond {
     /// `impl(c range)`
     Impl(Text, Range),
     /// `!`
-    Not(Boxed<Cond>),
+    Not(Shared<Cond>),
     /// `&&`
-    And(Boxed<Cond>, Boxed<Cond>),
+    And(Shared<Cond>, Shared<Cond>),
     /// `||`
-    Or(Boxed<Cond>, Boxed<Cond>),
+    Or(Shared<Cond>, Shared<Cond>),
 }
 
 /// What a condition asks besides flags. All names are in lower case.
@@ -44,67 +43,21 @@ pub struct FlagSet {
     pub on: bool,
 }
 
-/// What stands round a condition.
-#[derive(Clone, Copy)]
-pub enum Around<'a> {
-    Not,
-    And(&'a Cond),
-    Or(&'a Cond),
-}
-
 impl Cond {
+    /// The same condition, whose parts both hold.
     pub fn copy(&self, alloc: Global) -> Result<Cond, NoMemory>
         ensures { IfOk result (λ copied. copied ≡ self.now) }
     {
-        let mut waiting = Vec::new(alloc);
-        let mut copied = copy_first(alloc, &mut waiting, self)?;
-        while let Some(around) = waiting.pop() {
-            match around {
-                Around::Not => copied = not(alloc, copied)?,
-                Around::And(right) => {
-                    let right = right.copy(alloc)?;
-                    copied = and(alloc, copied, right)?;
-                }
-                Around::Or(right) => {
-                    let right = right.copy(alloc)?;
-                    copied = or(alloc, copied, right)?;
-                }
-            }
-        }
-        Ok(copied)
-    }
-}
-
-// The first test. The left side may be as deep as a file is long, so what stands round it is put aside.
-fn copy_first<'a>(
-    alloc: Global,
-    waiting: &mut Vec<Around<'a>>,
-    cond: &'a Cond,
-) -> Result<Cond, NoMemory>
-    requires { waiting.old.items ≡ [] }
-    ensures { IfOk result (λ copied. rebuilt waiting.new.items copied ≡ cond.now) }
-{
-    let mut left = cond;
-    loop {
-        match left {
-            Cond::Always => return Ok(Cond::Always),
-            Cond::Never => return Ok(Cond::Never),
-            Cond::Flag(name) => return Ok(Cond::Flag(name.copy()?)),
-            Cond::Os(name) => return Ok(Cond::Os(name.copy()?)),
-            Cond::Arch(name) => return Ok(Cond::Arch(name.copy()?)),
-            Cond::Impl(name, range) => return copy_impl(alloc, name, range),
-            Cond::Not(inner) => {
-                waiting.push(Around::Not)?;
-                left = inner.get();
-            }
-            Cond::And(l, r) => {
-                waiting.push(Around::And(r.get()))?;
-                left = l.get();
-            }
-            Cond::Or(l, r) => {
-                waiting.push(Around::Or(r.get()))?;
-                left = l.get();
-            }
+        match self {
+            Cond::Always => Ok(Cond::Always),
+            Cond::Never => Ok(Cond::Never),
+            Cond::Flag(name) => Ok(Cond::Flag(name.copy()?)),
+            Cond::Os(name) => Ok(Cond::Os(name.copy()?)),
+            Cond::Arch(name) => Ok(Cond::Arch(name.copy()?)),
+            Cond::Impl(name, range) => copy_impl(alloc, name, range),
+            Cond::Not(inner) => Ok(Cond::Not(inner.copy()?)),
+            Cond::And(left, right) => Ok(Cond::And(left.copy()?, right.copy()?)),
+            Cond::Or(left, right) => Ok(Cond::Or(left.copy()?, right.copy()?)),
         }
     }
 }
@@ -117,30 +70,7 @@ fn copy_impl(alloc: Global, name: &Text, range: &Range) -> Result<Cond, NoMemory
     Ok(Cond::Impl(name, range))
 }
 
-fn not(alloc: Global, inner: Cond) -> Result<Cond, NoMemory>
-    ensures { IfOk result (λ cond. cond ≡ Not inner) }
-{
-    let inner = Boxed::new(alloc, inner)?;
-    Ok(Cond::Not(inner))
-}
-
-fn and(alloc: Global, left: Cond, right: Cond) -> Result<Cond, NoMemory>
-    ensures { IfOk result (λ cond. cond ≡ And left right) }
-{
-    let left = Boxed::new(alloc, left)?;
-    let right = Boxed::new(alloc, right)?;
-    Ok(Cond::And(left, right))
-}
-
-fn or(alloc: Global, left: Cond, right: Cond) -> Result<Cond, NoMemory>
-    ensures { IfOk result (λ cond. cond ≡ Or left right) }
-{
-    let left = Boxed::new(alloc, left)?;
-    let right = Boxed::new(alloc, right)?;
-    Ok(Cond::Or(left, right))
-}
-
-// Chains group from the left, so that the left side may be as deep as a file is long.
+// Chains group from the left, so that the left side may be as deep as a file is long. What others hold too stays.
 impl Drop for Cond {
     fn drop(mut self) {
         loop {
@@ -151,16 +81,16 @@ impl Drop for Cond {
                 Cond::Os(_) => return,
                 Cond::Arch(_) => return,
                 Cond::Impl(_, _) => return,
-                Cond::Not(inner) => self = inner.into_inner(),
-                Cond::And(left, right) => {
-                    let right = right.into_inner();
+                Cond::Not(inner) => match inner.into_inner() {
+                    Some(inner) => self = inner,
+                    None => return,
+                },
+                Cond::And(left, right) | Cond::Or(left, right) => {
                     drop(right);
-                    self = left.into_inner();
-                }
-                Cond::Or(left, right) => {
-                    let right = right.into_inner();
-                    drop(right);
-                    self = left.into_inner();
+                    match left.into_inner() {
+                        Some(left) => self = left,
+                        None => return,
+                    }
                 }
             }
         }

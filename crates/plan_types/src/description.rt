@@ -1,4 +1,4 @@
-use crate::{Cond, Dep, List, Spec, Text, Version};
+use crate::{Cond, Dep, List, Shared, Spec, Text, Version};
 
 /// What a component is.
 #[derive(Clone, Copy, Debug, PartialEq, Eq)]
@@ -13,7 +13,8 @@ pub enum CompKind {
 /// A dependency, and the condition of the branches in which it stands.
 #[derive(Debug, Drop)]
 pub struct GuardedDep {
-    pub when: Cond,
+    /// Shared by those that stand in the same place.
+    pub when: Shared<Cond>,
     pub dep: Dep,
 }
 
@@ -27,7 +28,7 @@ pub struct Component {
     pub name: Text,
     /// Whether it is a library with a name of its own that others may use.
     pub public: bool,
-    pub buildable: Cond,
+    pub buildable: Shared<Cond>,
     /// In file order, imported ones in front.
     pub deps: List<GuardedDep>,
 }

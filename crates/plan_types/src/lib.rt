@@ -1,5 +1,5 @@
 //! Plain data of the planner. A contract sees a `Text` as its list of bytes, a `List` as its list of
-//! items and a `Boxed` as its value, so that the types of the crates above compare by what they hold.
+//! items and a `Boxed` or a `Shared` as its value, so that the types of the crates above compare by what they hold.
 #![tactic(auto)]
 
 mod boxed;
@@ -17,6 +17,7 @@ mod name;
 mod project;
 mod range;
 mod refusal;
+mod shared;
 mod text;
 mod version;
 
@@ -37,5 +38,6 @@ pub use name::{is_component_name, is_flag_name, is_package_name};
 pub use project::{Project, ProjectEntry, Settings};
 pub use range::{Range, Spec};
 pub use refusal::{Cause, Fault, Halt, Refusal, TextFault};
+pub use shared::Shared;
 pub use text::Text;
 pub use version::Version;

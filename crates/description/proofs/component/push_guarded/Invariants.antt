@@ -11,5 +11,5 @@ use Rattle.description.proofs.component.push_guarded.Given as goal
 
 abbrev pub invariant-loop-dep : goal.invariant-loop-dep
 invariant-loop-dep l = (file : File) → Tells l.declared file →
-    let guarded : Dep → GuardedDep = λ dep. record { when = all_of l.branches; dep = meant file dep } in
+    let guarded : Dep → GuardedDep = λ dep. record { when = l.when; dep = meant file dep } in
     l.deps ++ map guarded (drop l.dep-index l.found) ≡ l.fn.deps ++ map guarded l.found

@@ -1,7 +1,0 @@
-use Rattle.std.proofs.Common.{◌≡◌}
-use Rattle.plan_types.specs.Condition.{rebuilt}
-use Rattle.plan_types.proofs.condition.copy_first.Given as goal
-
--- the rest of the left side, and what was put aside, make the whole
-abbrev pub invariant-loop-left : goal.invariant-loop-left
-invariant-loop-left l = rebuilt l.waiting.items l.left ≡ l.cond
