@@ -7,7 +7,7 @@ ghost use Rattle.description_parts.specs.Tree.{Tree, in_front, tree_of};
 ghost use Rattle.description_parts.specs.declared.part.File.{File};
 ghost use Rattle.description_parts.specs.declared.part.Section.{Section};
 ghost use Rattle.description.specs.Declarations.{last, later, own_name};
-ghost use Rattle.description.specs.Components.{components};
+ghost use Rattle.description.specs.Components.{components, components as components_of};
 ghost use Rattle.description.specs.Description.{Comes, ComesTo, Describes, cabal_version, description, line_of, version_of, version_said, spec_of, warning, warnings};
 ghost use Rattle.description.specs.Faults.{faults};
 ghost use Rattle.description.specs.First.{first};
@@ -226,7 +226,7 @@ fn whole(
     version: &Version,
     components: List<Component>,
 ) -> Result<Description, NoMemory>
-    ensures { IfOk result (λ d. components ≡ components file.now → d ≡ description file.now digest name.now version.now) }
+    ensures { IfOk result (λ d. components ≡ components_of file.now → d ≡ description file.now digest name.now version.now) }
 {
     let name = name.copy()?;
     let version = version.copy(alloc)?;
