@@ -95,7 +95,7 @@ last-good {A} p (y ∷ []) x all e = let same : x ≡ y = cc e in ap p same ∙ 
 last-good p (y ∷ z ∷ xs) x all e = last-good p (z ∷ xs) x (and_parts (p y) (list_all p (z ∷ xs)) all).1 e
 
 -- none, or one of its form
-is_good_name : Option (List ℕ) → Bool
+abbrev is_good_name : Option (List ℕ) → Bool
 is_good_name None = true
 is_good_name (Some name) = is_package_name name
 
