@@ -11,7 +11,7 @@ use Rattle.component_cycle.specs.Cycle.{IsFirstOnCycle}
 use Rattle.description_parts.specs.declared.part.File.{File}
 use Rattle.description.specs.Cycles.{needs}
 use Rattle.description.specs.Description.{Comes, description, line_of}
-use Rattle.description.specs.Tables.{is_at}
+use Rattle.description.specs.First.{is_at}
 
 pub comes-circular : (file : File) (digest name : List ℕ) (version : Version) (named : Option (List ℕ)) (dated : Option Version) (d : Description) (components : List Component) (circular : Option ℕ) (number : ℕ) →
     named ≡ Some name → dated ≡ Some version → d ≡ description file digest name version → components ≡ d.components →

@@ -7,7 +7,7 @@ use Rattle.plan_types.specs.Refusal.{RefusesAt}
 use Rattle.plan_types.specs.declared.refusal.Cause.{Cause}
 use Rattle.plan_types.specs.declared.refusal.Fault.{Fault}
 use Rattle.plan_types.specs.declared.refusal.Fault.TheVariants as fault
-use Rattle.description.specs.Tables.{is_at}
+use Rattle.description.specs.First.{is_at}
 use Rattle.description.specs.declared.first.At.{At}
 
 module _ {A : Type 0} (Comes : Result A At → Type 0) (one : (a b : Result A At) → Comes a → Comes b → a ≡ b) where

@@ -4,6 +4,10 @@ use Rattle.plan_types.specs.declared.refusal.Cause.{Cause}
 use Rattle.plan_types.specs.declared.refusal.Cause.TheVariants as causes
 use Rattle.description.specs.declared.first.At.{At}
 
+-- a cause at a line
+abbrev pub is_at : ℕ → Cause → At
+is_at line cause = record { line = line; cause = cause }
+
 -- the place of a cause among those that may stand on one line
 abbrev pub rank : Cause → ℕ
 rank causes.NotUtf8 = 0

@@ -24,10 +24,6 @@ abbrev pub shown_version : Option (Bor Version) → Option Version
 shown_version None = None
 shown_version (Some version) = Some version.now
 
--- a cause at a line
-abbrev pub is_at : ℕ → Cause → At
-is_at line cause = record { line = line; cause = cause }
-
 -- which sections are asked for
 abbrev pub is_of : Declares → SectionKind → Bool
 is_of Flag = is_flag

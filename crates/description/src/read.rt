@@ -10,9 +10,9 @@ ghost use Rattle.description.specs.Declarations.{last, later, own_name};
 ghost use Rattle.description.specs.Components.{components, components as components_of};
 ghost use Rattle.description.specs.Description.{Comes, ComesTo, Describes, cabal_version, description, line_of, version_of, version_said, spec_of, warning, warnings};
 ghost use Rattle.description.specs.Faults.{faults};
-ghost use Rattle.description.specs.First.{first};
+ghost use Rattle.description.specs.First.{first, is_at};
 ghost use Rattle.description.specs.Standing.{capped};
-ghost use Rattle.description.specs.Tables.{Stand, Tells, is_at, shown_version};
+ghost use Rattle.description.specs.Tables.{Stand, Tells, shown_version};
 
 use crate::component::components;
 use crate::cycle::first_circular;

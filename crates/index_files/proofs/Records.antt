@@ -8,7 +8,7 @@ use Rattle.plan_types.specs.declared.refusal.Cause.TheVariants.{BadRecord}
 use Rattle.plan_types.specs.declared.refusal.Fault.{Fault}
 use Rattle.plan_types.specs.declared.refusal.Fault.TheVariants as fault
 use Rattle.version_range.specs.Version.{is_version}
-use Rattle.description.specs.Tables.{is_at}
+use Rattle.description.specs.First.{is_at}
 use Rattle.unit_record.specs.Record.{IsRecord}
 use Rattle.index_files.specs.Units.{OfRecord, is_formed}
 use Rattle.index_files.proofs.Put.{both-true}

@@ -7,7 +7,7 @@ use Rattle.plan_types.specs.declared.refusal.Cause.TheVariants.{TooLarge as ItIs
 use Rattle.outside_folder.specs.declared.calls.Content.{Content}
 use Rattle.outside_folder.specs.declared.calls.Content.TheVariants.{Missing, TooLarge, Bytes as Holds}
 use Rattle.outside_folder.specs.Files.{Bytes}
-use Rattle.description.specs.Tables.{is_at}
+use Rattle.description.specs.First.{is_at}
 use Rattle.description.specs.declared.first.At.{At}
 use Rattle.source_file.specs.Source.{IsSource}
 use Rattle.source_file.specs.declared.source.Source.{Source}

@@ -9,7 +9,7 @@ use Rattle.plan_types.specs.declared.refusal.Refusal.{Refusal}
 use Rattle.plan_types.specs.Name.{is_package_name}
 use Rattle.version_range.specs.Version.{is_version}
 use Rattle.conditionals.specs.Value.{same}
-use Rattle.description.specs.Tables.{is_at}
+use Rattle.description.specs.First.{is_at}
 use Rattle.description.specs.declared.first.At.{At}
 use Rattle.outside_folder.specs.Files.{Bytes, Files, listing}
 use Rattle.outside_folder.specs.declared.folder.Name.{Name}

@@ -2,7 +2,7 @@ ghost use Rattle.std.specs.Prelude.{IfOk, IfErr};
 ghost use Rattle.std.specs.declared.result.Result.TheVariants.{Ok, Err};
 ghost use Rattle.plan_types.specs.Refusal.{RefusesAt};
 ghost use Rattle.outside_folder.specs.Calls.{IsWithin};
-ghost use Rattle.description.specs.Tables.{is_at};
+ghost use Rattle.description.specs.First.{is_at};
 ghost use Rattle.index_files.specs.Sources.{Comes};
 
 use outside_folder::Content;

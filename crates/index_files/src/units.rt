@@ -3,7 +3,7 @@ ghost use Rattle.std.specs.Prelude.{◌≡◌, ◌≤◌, ◌++◌, ◌∷◌, [
 ghost use Rattle.std.specs.List.{AllByRecursion, list_all};
 ghost use Rattle.std.specs.declared.result.Result.TheVariants.{Ok, Err};
 ghost use Rattle.plan_types.specs.Refusal.{RefusesAt};
-ghost use Rattle.description.specs.Tables.{is_at};
+ghost use Rattle.description.specs.First.{is_at};
 ghost use Rattle.outside_folder.specs.Calls.{IsWithin};
 ghost use Rattle.index_files.specs.File.{IsReadable};
 ghost use Rattle.index_files.specs.InTurn.{Settles, Steps};

@@ -8,7 +8,7 @@ use Rattle.plan_types.specs.declared.element.Element.{Element}
 use Rattle.plan_types.specs.declared.refusal.Cause.{Cause}
 use Rattle.cabal_lexer.specs.Fault.{IsTree, IsFault}
 use Rattle.description.specs.Description.{Describes}
-use Rattle.description.specs.Tables.{is_at}
+use Rattle.description.specs.First.{is_at}
 use Rattle.description.specs.declared.first.At.{At}
 use Rattle.source_file.specs.declared.source.Source.{Source}
 use Rattle.source_file.specs.Source.{IsSource, OfDescription, OfTree, digest_of}

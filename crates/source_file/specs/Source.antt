@@ -11,7 +11,7 @@ use Rattle.plan_types.specs.declared.refusal.Cause.{Cause}
 use Rattle.plan_types.specs.declared.refusal.Cause.TheVariants.{TooManyPaths}
 use Rattle.cabal_lexer.specs.Fault.{IsTree, IsFault}
 use Rattle.description.specs.Description.{Describes}
-use Rattle.description.specs.Tables.{is_at}
+use Rattle.description.specs.First.{is_at}
 use Rattle.description.specs.declared.first.At.{At}
 use Rattle.flatten.specs.Demands.{demands_of, first_beyond}
 use Rattle.flatten.specs.Exposure.{exposed}

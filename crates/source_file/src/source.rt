@@ -3,7 +3,7 @@ ghost use Rattle.std.specs.declared.result.Result.TheVariants.{Ok, Err};
 ghost use Rattle.plan_types.specs.Refusal.{RefusesAt};
 ghost use Rattle.plan_types.specs.declared.refusal.Cause.{Cause};
 ghost use Rattle.description.specs.Description.{Describes};
-ghost use Rattle.description.specs.Tables.{is_at};
+ghost use Rattle.description.specs.First.{is_at};
 ghost use Rattle.source_file.specs.declared.source.Source.{Source};
 ghost use Rattle.source_file.specs.Source.{IsSource, OfDescription, OfTree, digest_of};
 

@@ -6,7 +6,8 @@ use Rattle.component_cycle.specs.Cycle.{IsFirstOnCycle}
 use Rattle.description.specs.Cycles.{needs}
 use Rattle.description.specs.Declarations.{own_name}
 use Rattle.description.specs.Description.{Comes, version_of}
-use Rattle.description.specs.Tables.{Stand, Tells, is_at, shown, shown_version}
+use Rattle.description.specs.First.{is_at}
+use Rattle.description.specs.Tables.{Stand, Tells, shown, shown_version}
 use Rattle.description.proofs.Coming.{comes-circular}
 use Rattle.description.proofs.read.faultless.Goals as goal
 
