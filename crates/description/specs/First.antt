@@ -1,12 +1,22 @@
 -- Which of some faults is the first.
-use Rattle.std.specs.Prelude.{ℕ, Bool, ◌&&◌, ◌||◌, ◌==◌, nat_lt, if◌then◌else◌, List, [], ◌∷◌, Option, Some, None}
+use Rattle.std.specs.Prelude.{◌≡◌, ℕ, Bool, ◌&&◌, ◌||◌, ◌==◌, nat_lt, if◌then◌else◌, List, [], ◌∷◌, Option, Some, None}
+use Rattle.std.specs.declared.result.Result.{Result}
+use Rattle.std.specs.declared.result.Result.TheVariants.{Ok, Err}
 use Rattle.plan_types.specs.declared.refusal.Cause.{Cause}
 use Rattle.plan_types.specs.declared.refusal.Cause.TheVariants as causes
+use Rattle.plan_types.specs.declared.refusal.Fault.{Fault}
+use Rattle.plan_types.specs.declared.refusal.Fault.TheVariants as fault
 use Rattle.description.specs.declared.first.At.{At}
 
 -- a cause at a line
 abbrev pub is_at : ℕ → Cause → At
 is_at line cause = record { line = line; cause = cause }
+
+-- Of all outcomes this answer is the only one that comes, unless memory was wanting.
+unfoldable pub IsOnly : {A : Type 0} → (Result A At → Type 0) → Result A Fault → Type 0
+IsOnly {A = A} Comes (Ok found) = (outcome : Result A At) → Comes outcome → outcome ≡ Ok found
+IsOnly Comes (Err fault.NoMemory) = Unit {0}
+IsOnly {A = A} Comes (Err (fault.At line cause)) = (outcome : Result A At) → Comes outcome → outcome ≡ Err (is_at line cause)
 
 -- the place of a cause among those that may stand on one line
 abbrev pub rank : Cause → ℕ

@@ -1,8 +1,6 @@
-ghost use Rattle.std.specs.Prelude.{◌≡◌, ◌++◌, ◌*◌, ℕ, List, Option, flat_map, IfOk, IfErr, MatchResult, OnOk};
+ghost use Rattle.std.specs.Prelude.{◌≡◌, ◌++◌, ◌*◌, ℕ, List, Option, flat_map, IfOk, IfErr, OnOk};
 ghost use Rattle.std.specs.declared.result.Result.TheVariants.{Ok, Err};
 ghost use Rattle.plan_types.specs.Refusal.{RefusesAt};
-ghost use Rattle.plan_types.specs.declared.description.Description.{Description};
-ghost use Rattle.plan_types.specs.declared.refusal.Cause.{Cause};
 ghost use Rattle.description_parts.specs.Tree.{Tree, in_front, tree_of};
 ghost use Rattle.description_parts.specs.declared.part.File.{File};
 ghost use Rattle.description_parts.specs.declared.part.Section.{Section};
@@ -10,7 +8,7 @@ ghost use Rattle.description.specs.Declarations.{last, later, own_name};
 ghost use Rattle.description.specs.Components.{components, components as components_of};
 ghost use Rattle.description.specs.Description.{Comes, ComesTo, Describes, cabal_version, description, line_of, version_of, version_said, spec_of, warning, warnings};
 ghost use Rattle.description.specs.Faults.{faults};
-ghost use Rattle.description.specs.First.{first, is_at};
+ghost use Rattle.description.specs.First.{IsOnly, first, is_at};
 ghost use Rattle.description.specs.Standing.{capped};
 ghost use Rattle.description.specs.Tables.{Stand, Tells, shown_version};
 
@@ -40,12 +38,7 @@ pub fn read_description(
 ) -> Result<Description, Fault>
     ensures description { IfOk result (λ d. Describes items.now digest (Ok d)) }
     ensures fault { IfErr result (RefusesAt (λ line cause. Describes items.now digest (Err (is_at line cause)))) }
-    // What has a description isn't refused, but for want of memory.
-    ensures exactly_descriptions { (d : Description) → Describes items.now digest (Ok d) →
-        MatchResult result (λ found. found ≡ d) (RefusesAt (λ _ _. ⊥)) }
-    // What has a fault gives no description, and no other fault.
-    ensures exactly_faults { (line : ℕ) (cause : Cause) → Describes items.now digest (Err (is_at line cause)) →
-        MatchResult result (λ _. ⊥) (RefusesAt (λ at why. (at ≡ line) × (why ≡ cause))) }
+    ensures only { IsOnly (Describes items.now digest) result }
 {
     one_outcome();
     described_items(alloc, items, digest)

@@ -1,10 +1,8 @@
-ghost use Rattle.std.specs.Prelude.{◌≡◌, ◌≤◌, ℕ, length, IfOk, IfErr, MatchResult};
+ghost use Rattle.std.specs.Prelude.{◌≡◌, ◌≤◌, length, IfOk, IfErr};
 ghost use Rattle.std.specs.declared.result.Result.TheVariants.{Ok, Err};
 ghost use Rattle.plan_types.specs.Refusal.{RefusesAt};
-ghost use Rattle.plan_types.specs.declared.refusal.Cause.{Cause};
 ghost use Rattle.description.specs.Description.{Describes};
-ghost use Rattle.description.specs.First.{is_at};
-ghost use Rattle.source_file.specs.declared.source.Source.{Source};
+ghost use Rattle.description.specs.First.{IsOnly, is_at};
 ghost use Rattle.source_file.specs.Source.{IsSource, OfDescription, OfTree, digest_of};
 
 use crate::laws::one_source;
@@ -29,12 +27,7 @@ pub fn read_source(alloc: Global, bytes: &[u8], env: &Env) -> Result<Source, Fau
     requires { length bytes.now ≤ 1048576 }
     ensures source { IfOk result (λ source. IsSource env.now bytes.now (Ok source)) }
     ensures fault { IfErr result (RefusesAt (λ line cause. IsSource env.now bytes.now (Err (is_at line cause)))) }
-    // What comes to a package isn't refused, but for want of memory.
-    ensures exactly_sources { (source : Source) → IsSource env.now bytes.now (Ok source) →
-        MatchResult result (λ found. found ≡ source) (RefusesAt (λ _ _. ⊥)) }
-    // What has a fault comes to no package, and has no other fault.
-    ensures exactly_faults { (line : ℕ) (cause : Cause) → IsSource env.now bytes.now (Err (is_at line cause)) →
-        MatchResult result (λ _. ⊥) (RefusesAt (λ at why. (at ≡ line) × (why ≡ cause))) }
+    ensures only { IsOnly (IsSource env.now bytes.now) result }
 {
     one_source();
     source_of_bytes(alloc, bytes, env)
