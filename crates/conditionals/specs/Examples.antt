@@ -1,19 +1,28 @@
 -- What the definitions give on small conditions.
-use Rattle.std.specs.Prelude.{◌≡◌, true, false, [], ◌∷◌, refl, codes, length}
+use Rattle.std.specs.Prelude.{◌≡◌, Bool, true, false, [], ◌∷◌, refl, codes, length}
+use Rattle.std.proofs.Common.{sym, ap, ◌∙◌}
 use Rattle.plan_types.specs.declared.condition.Cond.{Cond}
-use Rattle.plan_types.specs.declared.condition.Cond.TheVariants.{Never, Flag, Os, Impl, Not, And, Or}
+use Rattle.plan_types.specs.declared.condition.Cond.TheVariants.{Never, Flag, Os, Arch, Impl, Not, And, Or}
 use Rattle.plan_types.specs.declared.condition.Env.{Env}
 use Rattle.plan_types.specs.declared.condition.FlagSet.{FlagSet}
-use Rattle.plan_types.specs.declared.range.Range.TheVariants.{Any}
+use Rattle.plan_types.specs.declared.range.Range.TheOpen as layer
+use Rattle.plan_types.specs.declared.range.Range.TheFolds.{fold-roll-Range}
+use Rattle.plan_types.specs.declared.range.Range.TheVariants.{Any, rolls-Any}
+use Rattle.plan_types.specs.declared.version.Version.{Version}
+use Rattle.plan_types.specs.Members.{members, members_step}
 use Rattle.conditionals.specs.declared.value.Tri.TheVariants.{Yes, No, Unknown}
-use Rattle.conditionals.specs.Value.{flag_in, value}
-use Rattle.conditionals.specs.Layers.{value-Never, value-Flag, value-Os, value-Impl, value-And, value-Or, paths-Flag, paths-Not, paths-And, paths-Or}
+use Rattle.conditionals.specs.Value.{tri_of, flag_in, value}
+use Rattle.conditionals.specs.Layers.{value-Never, value-Flag, value-Os, value-Arch, value-Impl, value-And, value-Or, paths-Flag, paths-Os, paths-Not, paths-And, paths-Or}
 use Rattle.conditionals.specs.Paths.{sets, paths_of, clean_paths, holds}
 
 ruleset by_kind = (paths-Flag, paths-Not, paths-And, paths-Or)
 
 abbrev linux : Env
 linux = record { os = codes "linux"; arch = codes "x86_64"; compiler = codes "ghc"; compiler_version = record { parts = 9 ∷ 4 ∷ 7 ∷ [] } }
+
+-- the names of an environment may stand in any case, and a system by any of its names
+abbrev shouted : Env
+shouted = record { os = codes "MinGW32"; arch = codes "X86_64"; compiler = codes "GHC"; compiler_version = record { parts = 9 ∷ 4 ∷ 7 ∷ [] } }
 
 abbrev a : Cond
 a = Flag (codes "a")
@@ -54,6 +63,27 @@ another_system = rw value-Or (rw value-Os (rw value-Flag refl))
 
 another_compiler : value linux (flag_in []) (Impl (codes "ghcjs") Any) ≡ No
 another_compiler = rw value-Impl refl
+
+any_version : (v : Version) → members Any v ≡ true
+any_version v = ap (λ r. members r v) (sym rolls-Any) ∙ ap (λ f. f v) (fold-roll-Range (Version → Bool) members_step layer.Any)
+
+an_alias : value shouted (flag_in []) (Os (codes "windows")) ≡ Yes
+an_alias = rw value-Os refl
+
+two_aliases : value shouted (flag_in []) (Os (codes "Win32")) ≡ Yes
+two_aliases = rw value-Os refl
+
+no_alias : value shouted (flag_in []) (Os (codes "osx")) ≡ No
+no_alias = rw value-Os refl
+
+a_processor : value shouted (flag_in []) (Arch (codes "x86_64")) ≡ Yes
+a_processor = rw value-Arch refl
+
+a_compiler : value shouted (flag_in []) (Impl (codes "ghc") Any) ≡ Yes
+a_compiler = rw value-Impl (ap tri_of (any_version shouted.compiler_version))
+
+a_path_by_an_alias : paths_of shouted (Os (codes "windows")) true ≡ [] ∷ []
+a_path_by_an_alias = rw paths-Os refl
 
 two_paths : clean_paths (paths_of linux (And a (Or b (Not c))) true) ≡ (a_on ∷ b_on ∷ []) ∷ (a_on ∷ b_off ∷ c_off ∷ []) ∷ []
 two_paths = simp by_kind

@@ -4,13 +4,14 @@ use Rattle.std.proofs.Common.{sym, ap, ◌∙◌}
 use Rattle.plan_types.specs.declared.condition.Cond.{Cond}
 use Rattle.plan_types.specs.declared.condition.Cond.TheOpen as layer
 use Rattle.plan_types.specs.declared.condition.Cond.TheFolds.{fold-roll-Cond}
-use Rattle.plan_types.specs.declared.condition.Cond.TheVariants.{Never, Flag, Os, Impl, Not, And, Or, rolls-Never, rolls-Flag, rolls-Os, rolls-Impl, rolls-Not, rolls-And, rolls-Or}
+use Rattle.plan_types.specs.declared.condition.Cond.TheVariants.{Never, Flag, Os, Arch, Impl, Not, And, Or, rolls-Never, rolls-Flag, rolls-Os, rolls-Arch, rolls-Impl, rolls-Not, rolls-And, rolls-Or}
 use Rattle.plan_types.specs.declared.condition.Env.{Env}
 use Rattle.plan_types.specs.declared.range.Range.{Range}
 use Rattle.conditionals.specs.declared.value.Tri.{Tri}
 use Rattle.conditionals.specs.declared.value.Tri.TheVariants.{No}
-use Rattle.conditionals.specs.Value.{Flags, same, is_compiler, tri_of, flag_value, and_then, or_else, value, value_step}
-use Rattle.conditionals.specs.Paths.{Path, sets, paths_step, paths_of}
+use Rattle.conditionals.specs.Environment.{is_system, is_processor, is_compiler}
+use Rattle.conditionals.specs.Value.{Flags, tri_of, flag_value, and_then, or_else, value, value_step}
+use Rattle.conditionals.specs.Paths.{Path, fixed, sets, paths_step, paths_of}
 
 abbrev Paths : Type 0
 Paths = Bool → List Path
@@ -22,8 +23,11 @@ module _ (env : Env) (flags : Flags) where
   pub value-Flag : (name : List ℕ) → value env flags (Flag name) ≡ flag_value (flags name)
   value-Flag name = ap (value env flags) (sym (rolls-Flag name)) ∙ fold-roll-Cond Tri (value_step env flags) (layer.Flag name)
 
-  pub value-Os : (name : List ℕ) → value env flags (Os name) ≡ tri_of (same name env.os)
+  pub value-Os : (name : List ℕ) → value env flags (Os name) ≡ tri_of (is_system env name)
   value-Os name = ap (value env flags) (sym (rolls-Os name)) ∙ fold-roll-Cond Tri (value_step env flags) (layer.Os name)
+
+  pub value-Arch : (name : List ℕ) → value env flags (Arch name) ≡ tri_of (is_processor env name)
+  value-Arch name = ap (value env flags) (sym (rolls-Arch name)) ∙ fold-roll-Cond Tri (value_step env flags) (layer.Arch name)
 
   pub value-Impl : (name : List ℕ) (range : Range) → value env flags (Impl name range) ≡ tri_of (is_compiler env name range)
   value-Impl name range = ap (value env flags) (sym (rolls-Impl name range)) ∙ fold-roll-Cond Tri (value_step env flags) (layer.Impl name range)
@@ -37,6 +41,9 @@ module _ (env : Env) (flags : Flags) where
 module _ (env : Env) (want : Bool) where
   pub paths-Flag : (name : List ℕ) → paths_of env (Flag name) want ≡ (sets name want ∷ []) ∷ []
   paths-Flag name = ap (λ c. paths_of env c want) (sym (rolls-Flag name)) ∙ ap (λ f. f want) (fold-roll-Cond Paths (paths_step env) (layer.Flag name))
+
+  pub paths-Os : (name : List ℕ) → paths_of env (Os name) want ≡ fixed (is_system env name) want
+  paths-Os name = ap (λ c. paths_of env c want) (sym (rolls-Os name)) ∙ ap (λ f. f want) (fold-roll-Cond Paths (paths_step env) (layer.Os name))
 
   pub paths-Not : (inner : Cond) → paths_of env (Not inner) want ≡ paths_of env inner (not want)
   paths-Not inner = ap (λ c. paths_of env c want) (sym (rolls-Not inner)) ∙ ap (λ f. f want) (fold-roll-Cond Paths (paths_step env) (layer.Not inner))

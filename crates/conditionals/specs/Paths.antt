@@ -8,7 +8,8 @@ use Rattle.plan_types.specs.declared.condition.Env.{Env}
 use Rattle.plan_types.specs.declared.condition.FlagSet.{FlagSet}
 use Rattle.conditionals.specs.declared.value.Tri.{Tri}
 use Rattle.conditionals.specs.declared.value.Tri.TheVariants.{Yes, No, Unknown}
-use Rattle.conditionals.specs.Value.{Flags, same, is_compiler}
+use Rattle.conditionals.specs.Environment.{is_system, is_processor, is_compiler}
+use Rattle.conditionals.specs.Value.{Flags, same}
 
 abbrev pub Path : Type 0
 Path = List FlagSet
@@ -33,8 +34,8 @@ abbrev pub paths_step : Env → Cond-F (Bool → List Path) → Bool → List Pa
 paths_step env Always want = fixed true want
 paths_step env Never want = fixed false want
 paths_step env (Flag name) want = (sets name want ∷ []) ∷ []
-paths_step env (Os name) want = fixed (same name env.os) want
-paths_step env (Arch name) want = fixed (same name env.arch) want
+paths_step env (Os name) want = fixed (is_system env name) want
+paths_step env (Arch name) want = fixed (is_processor env name) want
 paths_step env (Impl name range) want = fixed (is_compiler env name range) want
 paths_step env (Not inner) want = inner (not want)
 paths_step env (And left right) true = followed (left true) (right true)

@@ -6,22 +6,17 @@ use Rattle.plan_types.specs.declared.condition.Cond.TheOpen.{Cond-F, Always, Nev
 use Rattle.plan_types.specs.declared.condition.Cond.TheFolds.{fold-Cond}
 use Rattle.plan_types.specs.declared.condition.Env.{Env}
 use Rattle.plan_types.specs.declared.condition.FlagSet.{FlagSet}
-use Rattle.plan_types.specs.declared.range.Range.{Range}
-use Rattle.plan_types.specs.Members.{members}
 use Rattle.conditionals.specs.declared.value.Tri.{Tri}
 use Rattle.conditionals.specs.declared.value.Tri.TheVariants.{Yes, No, Unknown}
+use Rattle.conditionals.specs.Environment.{is_system, is_processor, is_compiler}
 
--- names are compared by their bytes
+-- two names are the same, byte for byte
 abbrev pub same : List ℕ → List ℕ → Bool
 same = pointwise nat_eq
 
 -- what is known of some flags, by their names
 abbrev pub Flags : Type 0
 Flags = List ℕ → Option Bool
-
--- the compiler has this name, and its version is in the range
-abbrev pub is_compiler : Env → List ℕ → Range → Bool
-is_compiler env name range = same name env.compiler && members range env.compiler_version
 
 abbrev pub tri_of : Bool → Tri
 tri_of true = Yes
@@ -59,8 +54,8 @@ abbrev pub value_step : Env → Flags → Cond-F Tri → Tri
 value_step env flags Always = Yes
 value_step env flags Never = No
 value_step env flags (Flag name) = flag_value (flags name)
-value_step env flags (Os name) = tri_of (same name env.os)
-value_step env flags (Arch name) = tri_of (same name env.arch)
+value_step env flags (Os name) = tri_of (is_system env name)
+value_step env flags (Arch name) = tri_of (is_processor env name)
 value_step env flags (Impl name range) = tri_of (is_compiler env name range)
 value_step env flags (Not inner) = negated inner
 value_step env flags (And left right) = and_then left right

@@ -1,6 +1,7 @@
 ghost use Rattle.std.specs.Prelude.{◌≡◌, ◌+◌, ◌*◌, ◌^◌, ◌-◌, min, length, true, false};
 ghost use Rattle.conditionals.specs.Paths.{paths_of, fixed};
 
+use crate::environment::{is_compiler, is_processor, is_system};
 use plan_types::{Cond, Env};
 
 /// How many paths of a condition there are, wanted true and wanted false, or factors of these numbers.
@@ -32,11 +33,10 @@ pub fn numbers_of(cond: &Cond, env: &Env) -> Numbers
             Cond::Always => return whole(for_yes, for_no, one(true)),
             Cond::Never => return whole(for_yes, for_no, one(false)),
             Cond::Flag(_) => return whole(for_yes, for_no, Numbers { yes: 1, no: 1 }),
-            Cond::Os(name) => return whole(for_yes, for_no, one(*name == env.os)),
-            Cond::Arch(name) => return whole(for_yes, for_no, one(*name == env.arch)),
+            Cond::Os(name) => return whole(for_yes, for_no, one(is_system(env, name))),
+            Cond::Arch(name) => return whole(for_yes, for_no, one(is_processor(env, name))),
             Cond::Impl(name, range) => {
-                let holds = *name == env.compiler && range.has(&env.compiler_version);
-                return whole(for_yes, for_no, one(holds));
+                return whole(for_yes, for_no, one(is_compiler(env, name, range)));
             }
             Cond::Not(inner) => {
                 for_yes = swapped(for_yes);

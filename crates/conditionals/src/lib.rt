@@ -6,6 +6,7 @@
 
 mod clean;
 mod count;
+mod environment;
 mod laws;
 mod name;
 mod path;

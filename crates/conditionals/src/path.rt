@@ -5,6 +5,7 @@ ghost use Rattle.conditionals.specs.Steps.{lists_of, swap_lists, join_and, join_
 
 use crate::clean::clean;
 use crate::count::{Numbers, numbers_of};
+use crate::environment::{is_compiler, is_processor, is_system};
 use plan_types::{Cond, Env, FlagSet, List, NoMemory, Text};
 use std::alloc::Global;
 
@@ -95,11 +96,10 @@ fn first<'a>(
             Cond::Always => return test(alloc, true, need),
             Cond::Never => return test(alloc, false, need),
             Cond::Flag(name) => return flag(alloc, name, need),
-            Cond::Os(name) => return test(alloc, *name == env.os, need),
-            Cond::Arch(name) => return test(alloc, *name == env.arch, need),
+            Cond::Os(name) => return test(alloc, is_system(env, name), need),
+            Cond::Arch(name) => return test(alloc, is_processor(env, name), need),
             Cond::Impl(name, range) => {
-                let holds = *name == env.compiler && range.has(&env.compiler_version);
-                return test(alloc, holds, need);
+                return test(alloc, is_compiler(env, name, range), need);
             }
             Cond::Not(inner) => {
                 steps.push(Step::Not)?;

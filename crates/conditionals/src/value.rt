@@ -1,6 +1,7 @@
 ghost use Rattle.std.specs.Prelude.{◌≡◌, true};
 ghost use Rattle.conditionals.specs.Value.{value, tri_of, flag_in, flag_value, answer, each_once};
 
+use crate::environment::{is_compiler, is_processor, is_system};
 use plan_types::{Cond, Env, FlagSet, List, Text};
 
 /// The value of a condition while some flags are set.
@@ -26,11 +27,10 @@ pub fn eval(cond: &Cond, env: &Env, flags: &List<FlagSet>) -> Tri
             Cond::Always => return if_yes,
             Cond::Never => return if_no,
             Cond::Flag(name) => return answer(if_yes, if_no, setting(flags, name)),
-            Cond::Os(name) => return answer(if_yes, if_no, known(*name == env.os)),
-            Cond::Arch(name) => return answer(if_yes, if_no, known(*name == env.arch)),
+            Cond::Os(name) => return answer(if_yes, if_no, known(is_system(env, name))),
+            Cond::Arch(name) => return answer(if_yes, if_no, known(is_processor(env, name))),
             Cond::Impl(name, range) => {
-                let holds = *name == env.compiler && range.has(&env.compiler_version);
-                return answer(if_yes, if_no, known(holds));
+                return answer(if_yes, if_no, known(is_compiler(env, name, range)));
             }
             Cond::Not(inner) => {
                 (if_yes, if_no) = (if_no, if_yes);

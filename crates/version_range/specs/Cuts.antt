@@ -3,6 +3,9 @@ use Rattle.std.specs.Prelude.{◌≡◌, ℕ, ◌+◌, ◌<◌, Bool, true, fals
 use Rattle.std.specs.Ordering.{is_lt}
 use Rattle.plan_types.specs.declared.version.Version.{Version}
 use Rattle.plan_types.specs.declared.range.Range.{Range, size-Range}
+use Rattle.plan_types.specs.declared.range.Range.TheOpen as layer
+use Rattle.plan_types.specs.declared.range.Range.TheFolds.{fold-Range}
+use Rattle.plan_types.specs.declared.range.Range.TheVariants as ranges
 use Rattle.plan_types.specs.Members.{order, members}
 use Rattle.version_range.specs.Version.{has_versions}
 use Rattle.version_range.specs.declared.merge.Joint.{Joint}
@@ -73,8 +76,34 @@ joined Both [] v = true
 joined Either [] v = false
 joined joint (ends ∷ more) v = join joint (inside ends v) (joined joint more v)
 
--- The range is these two, joined so.
+-- the range that joins two so
+abbrev pub joined_range : Joint → Range → Range → Range
+joined_range Both left right = ranges.Both left right
+joined_range Either left right = ranges.Either left right
+
+-- one layer of a range: whether it joins two so
+abbrev pub joined_step : Joint → layer.Range-F Bool → Bool
+joined_step joint layer.Any = false
+joined_step joint layer.Nothing = false
+joined_step joint (layer.Equal x) = false
+joined_step joint (layer.Prefix x) = false
+joined_step joint (layer.AtLeast x) = false
+joined_step joint (layer.Above x) = false
+joined_step joint (layer.AtMost x) = false
+joined_step joint (layer.Below x) = false
+joined_step joint (layer.Major x) = false
+joined_step Both (layer.Both left right) = true
+joined_step Either (layer.Both left right) = false
+joined_step Both (layer.Either left right) = false
+joined_step Either (layer.Either left right) = true
+
+-- whether a range joins two so
+abbrev pub is_joined : Joint → Range → Bool
+is_joined joint = fold-Range Bool (joined_step joint)
+
+-- The range joins these two so, and what follows of its members, its versions and its size.
 pub record IsSplit (joint : Joint) (range left right : Range) : Type 0 where
+  pub is : range ≡ joined_range joint left right
   pub members_are : (v : Version) → members range v ≡ join joint (members left v) (members right v)
   pub versions_are : has_versions range ≡ true → (has_versions left ≡ true) × (has_versions right ≡ true)
   pub left_smaller : size-Range left < size-Range range

@@ -1,8 +1,8 @@
-ghost use Rattle.std.specs.Prelude.{◌≡◌, ◌<◌, ◌↔◌, IsTrue, IfOk, IfSome, true, false, length};
+ghost use Rattle.std.specs.Prelude.{◌≡◌, ◌<◌, ◌↔◌, IsTrue, IfOk, MatchOption, true, false, length};
 ghost use Rattle.plan_types.specs.declared.version.Version.{Version};
 ghost use Rattle.plan_types.specs.Members.{members};
 ghost use Rattle.version_range.specs.Version.{has_versions};
-ghost use Rattle.version_range.specs.Cuts.{inside, are_ends, join, joined, HasNumbers, IsSplit, Relaxes};
+ghost use Rattle.version_range.specs.Cuts.{inside, are_ends, join, joined, is_joined, HasNumbers, IsSplit, Relaxes};
 
 use crate::interval::{above, any, at_least, at_most, below, equal, major, prefix};
 use crate::merge::{Joint, merged};
@@ -146,12 +146,26 @@ fn chain(alloc: Global, left: &Range, right: &Range, joint: Joint) -> Result<Cut
 
 // The two sides of a range that is joined so.
 fn sides(range: &Range, joint: Joint) -> Option<(&Range, &Range)>
-    ensures { IfSome result (λ p. IsSplit joint range.now p.0.now p.1.now) }
+    ensures { MatchOption result (is_joined joint range.now ≡ false) (λ p. IsSplit joint range.now p.0.now p.1.now) }
 {
-    match (range, joint) {
-        (Range::Both(left, right), Joint::Both) => Some((left.get(), right.get())),
-        (Range::Either(left, right), Joint::Either) => Some((left.get(), right.get())),
-        _ => None,
+    match range {
+        Range::Any => None,
+        Range::Nothing => None,
+        Range::Equal(_) => None,
+        Range::Prefix(_) => None,
+        Range::AtLeast(_) => None,
+        Range::Above(_) => None,
+        Range::AtMost(_) => None,
+        Range::Below(_) => None,
+        Range::Major(_) => None,
+        Range::Both(left, right) => match joint {
+            Joint::Both => Some((left.get(), right.get())),
+            Joint::Either => None,
+        },
+        Range::Either(left, right) => match joint {
+            Joint::Both => None,
+            Joint::Either => Some((left.get(), right.get())),
+        },
     }
 }
 

@@ -1,0 +1,23 @@
+-- What a condition asks of an environment. Names are compared in lower case, however they are written.
+use Rattle.std.specs.Prelude.{ℕ, Bool, ◌&&◌, List}
+use Rattle.std.specs.Str.{bytes_eq, str_to_ascii_lowercase, str_eq_ignore_ascii_case}
+use Rattle.plan_types.specs.declared.condition.Env.{Env}
+use Rattle.plan_types.specs.declared.range.Range.{Range}
+use Rattle.plan_types.specs.Members.{members}
+use Rattle.conditionals.specs.Grammar.{system_of}
+
+-- the system that a name stands for, in lower case
+abbrev pub system_named : List ℕ → List ℕ
+system_named name = system_of (str_to_ascii_lowercase name)
+
+-- the environment's system has this name, or another of its names
+abbrev pub is_system : Env → List ℕ → Bool
+is_system env name = bytes_eq (system_named name) (system_named env.os)
+
+-- its processor has this name
+abbrev pub is_processor : Env → List ℕ → Bool
+is_processor env name = str_eq_ignore_ascii_case name env.arch
+
+-- its compiler has this name, and a version in the range
+abbrev pub is_compiler : Env → List ℕ → Range → Bool
+is_compiler env name range = str_eq_ignore_ascii_case name env.compiler && members range env.compiler_version
