@@ -13,7 +13,7 @@ use Rattle.description_parts.specs.declared.part.SectionKind.{SectionKind}
 use Rattle.description_parts.specs.declared.part.SectionKind.TheVariants as kinds
 use Rattle.description.specs.Imports.{Stanzas, all_replaced, parts_of, sections_from, stanzas_behind, under}
 use Rattle.description.specs.Names.{has, with_name}
-use Rattle.description.specs.Standing.{IsMore, Means, Knows, Standing, all_behind, body_parts, first_bad, is_within, built_component, shown_in, table}
+use Rattle.description.specs.Standing.{IsMore, Means, Knows, Standing, all_behind, body_parts, is_within, built_component, shown_in, summary, table}
 use Rattle.description.specs.Tables.{Stand}
 use Rattle.description.specs.declared.stanzas.Body.{Body}
 use Rattle.description.specs.declared.stanzas.Bodies.{Bodies}
@@ -57,12 +57,12 @@ module _ (known : Stanzas) (name : List ℕ) (parts : List Part) (body : Body) (
             ap table bodies ∙ table-push old.bodies.items body
             ∙ (λ i. knows.parts i ++ means.parts i ∷ [])
             ∙ sym (map-append (λ (s : List ℕ × List Part). s.1) knows.ones (one ∷ []));
-        bad =
-            ap (map (λ (b : Body). b.bad_visibility)) bodies
-            ∙ map-append (λ (b : Body). b.bad_visibility) old.bodies.items (body ∷ [])
-            ∙ (λ i. knows.bad i ++ (means.bad ∙ ap first_bad (sym means.parts)) i ∷ [])
-            ∙ sym (map-append first_bad (table old.bodies.items) (body_parts (table old.bodies.items) body ∷ []))
-            ∙ ap (map first_bad) (sym (ap table bodies ∙ table-push old.bodies.items body));
+        told =
+            ap (map (λ (b : Body). b.summary)) bodies
+            ∙ map-append (λ (b : Body). b.summary) old.bodies.items (body ∷ [])
+            ∙ (λ i. knows.told i ++ (means.told ∙ ap summary (sym means.parts)) i ∷ [])
+            ∙ sym (map-append summary (table old.bodies.items) (body_parts (table old.bodies.items) body ∷ []))
+            ∙ ap (map summary) (sym (ap table bodies ∙ table-push old.bodies.items body));
         found = found_too known knows.ones name parts knows.has knows.found;
         has = has_too known knows.ones name parts knows.has;
       }
@@ -74,7 +74,7 @@ module _ (known : Stanzas) (name : List ℕ) (parts : List Part) (body : Body) (
         ones = knows.ones;
         names = names ∙ ap (λ b. if b then old.names else (old.names ++ name ∷ [])) is ∙ knows.names;
         parts = ap table bodies ∙ knows.parts;
-        bad = ap (map (λ (b : Body). b.bad_visibility)) bodies ∙ knows.bad ∙ ap (λ v. map first_bad (table v)) (sym bodies);
+        told = ap (map (λ (b : Body). b.summary)) bodies ∙ knows.told ∙ ap (λ v. map summary (table v)) (sym bodies);
         found = found_already known knows.ones name parts knows.has knows.found there;
         has = has_already known knows.ones name parts knows.has there;
       }
@@ -106,7 +106,7 @@ module _ (stanzas more : List Body) where
       (λ i. record {
         section = record one.section.now { parts = steps_kept stanzas more one.body.steps.items (left here rest e) i };
         kind = one.kind;
-        bad = one.body.bad_visibility;
+        told = one.body.summary;
       } ∷ shown_kept built (right here rest e) i)
 
   within_kept : (built : List Built) → list_all (λ one. is_within (length stanzas) one.body) built ≡ true → list_all (λ one. is_within (length (stanzas ++ more)) one.body) built ≡ true
@@ -117,10 +117,10 @@ module _ (stanzas more : List Body) where
 
 shown_one : (line : ℕ) (name : List ℕ) (parts : List Part) (found : SectionKind) (kind : CompKind) → found ≡ kinds.Component kind →
     let one : Section = record { line = line; kind = found; name = name; parts = parts } in
-    shown_in one ≡ record { section = one; kind = kind; bad = first_bad parts } ∷ []
+    shown_in one ≡ record { section = one; kind = kind; told = summary parts } ∷ []
 shown_one line name parts (kinds.Component found) kind is =
     let same : found ≡ kind = cc is in
-    λ i. record { section = record { line = line; kind = kinds.Component found; name = name; parts = parts }; kind = same i; bad = first_bad parts } ∷ []
+    λ i. record { section = record { line = line; kind = kinds.Component found; name = name; parts = parts }; kind = same i; told = summary parts } ∷ []
 shown_one line name parts kinds.Common kind is = absurd (cc is)
 shown_one line name parts kinds.Flag kind is = absurd (cc is)
 shown_one line name parts kinds.Setup kind is = absurd (cc is)
@@ -164,7 +164,7 @@ module _ (sections : List Section) (section : Section) (old new : Bodies) (stand
         ∙ (λ i. standing.shown i ++ record {
           section = record (its_section i) { parts = (ap (body_parts (table old.stanzas.bodies.items)) its_body ∙ means.parts) i };
           kind = its_kind i;
-          bad = (ap (λ (b : Body). b.bad_visibility) its_body ∙ means.bad) i;
+          told = (ap (λ (b : Body). b.summary) its_body ∙ means.told) i;
         } ∷ [])
         ∙ sym (shown-push sections section ∙ ap (λ v. flat_map shown_in (sections_from [] sections) ++ v)
         (shown_one section.line section.name (all_replaced (all_behind [] sections) section.parts) section.kind kind is));

@@ -18,7 +18,7 @@ use Rattle.description.proofs.Firsts.{earlier-earlier, earlier-none, first-appen
 use Rattle.description.proofs.Shown.{mapped}
 
 abbrev pub bad_in : Built → Option At
-bad_in one = if is_named_library one.kind one.section.now.name then one.body.bad_visibility else None
+bad_in one = if is_named_library one.kind one.section.now.name then one.body.summary.bad_visibility else None
 
 -- the first of those that are there
 abbrev pub least : List (Option At) → Option At
@@ -36,7 +36,7 @@ pub worst-push : (xs : List Built) (x : Built) → worst (xs ++ x ∷ []) ≡ ea
 worst-push xs x = ap least (map-append bad_in xs (x ∷ [])) ∙ least-push (map bad_in xs) (bad_in x)
 
 abbrev bad_shown : Shown → Option At
-bad_shown s = if is_named_library s.kind s.section.name then s.bad else None
+bad_shown s = if is_named_library s.kind s.section.name then s.told.bad_visibility else None
 
 one_bad : (b : Bool) (section : Section) → (if b then first_bad section.parts else None) ≡ first (if b then flat_map bad_visibility section.parts else [])
 one_bad true section = refl

@@ -22,3 +22,4 @@ pub mod Walking
 pub mod Coming
 pub mod Told
 pub mod Only
+pub mod Weighing

@@ -1,10 +1,11 @@
 -- What bodies stand for, as they grow and as stanzas are added behind those that they import.
-use Rattle.std.proofs.Common.{◌≡◌, ℕ, ◌<◌, ◌≤◌, Bool, true, false, ◌&&◌, length, List, [], ◌∷◌, ◌++◌, map, flat_map, get_or, take, sym, ap, ◌∙◌, refl, arith, length-append}
-use Rattle.std.specs.Prelude.{None, Some, nat_lt}
+use Rattle.std.proofs.Common.{◌≡◌, ℕ, ◌+◌, ◌<◌, ◌≤◌, Bool, true, false, ◌&&◌, length, List, [], ◌∷◌, ◌++◌, map, flat_map, get_or, take, sym, ap, ◌∙◌, refl, arith, length-append}
+use Rattle.std.specs.Prelude.{None, Some, nat_lt, sum_by}
 use Rattle.std.specs.List.{list_all}
 use Rattle.std.proofs.lemmas.Bool.Decides.{nat_tests}
 use Rattle.std.proofs.lemmas.Grind.{common_steps, flat_map-append}
 use Rattle.std.proofs.lemmas.List.{append-nil, get_or_past, get_or-map}
+use Rattle.std.proofs.lemmas.List.Sums.{sum_by-append, sum_by-cons}
 use Rattle.std.proofs.lemmas.List.Folds.{list_all-append}
 use Rattle.std.proofs.lemmas.Option.{slice_get_read}
 use Rattle.plan_types.specs.declared.condition.Cond.{Cond}
@@ -13,7 +14,7 @@ use Rattle.description.specs.Faults.{bad_visibility}
 use Rattle.description.specs.First.{earlier, first}
 use Rattle.description.specs.Imports.{Stanzas, parts_of, under}
 use Rattle.description.specs.Names.{number_of}
-use Rattle.description.specs.Standing.{Means, Knows, body_parts, first_bad, is_below, step_parts, table}
+use Rattle.description.specs.Standing.{Means, Knows, body_parts, capped, first_bad, is_below, joined, step_parts, summary, summary_under, table, weight, weight_of}
 use Rattle.description.specs.declared.stanzas.Body.{Body}
 use Rattle.description.specs.declared.stanzas.Stanzas as tables
 use Rattle.description.specs.declared.stanzas.Step.{Step}
@@ -24,6 +25,24 @@ use Rattle.description.proofs.Turns.{told_at, in_front, length-in_turn, in_turn-
 
 pub first_bad-append : (xs ys : List Part) → first_bad (xs ++ ys) ≡ earlier (first_bad xs) (first_bad ys)
 first_bad-append xs ys = ap first (flat_map-append bad_visibility xs ys) ∙ first-append (flat_map bad_visibility xs) (flat_map bad_visibility ys)
+
+capped-add : (a b : ℕ) → capped (capped a + capped b) ≡ capped (a + b)
+capped-add a b = grind (arith, common_steps)
+
+weight-append : (xs ys : List Part) → weight_of (xs ++ ys) ≡ capped (weight_of xs + weight_of ys)
+weight-append xs ys =
+    ap capped (sum_by-append weight xs ys) ∙ sym (capped-add (sum_by weight xs) (sum_by weight ys))
+
+pub summary-append : (xs ys : List Part) → summary (xs ++ ys) ≡ joined (summary xs) (summary ys)
+summary-append xs ys = λ i. record { bad_visibility = first_bad-append xs ys i; weight = weight-append xs ys i }
+
+-- branches weigh nothing
+weight-under : (branches : List Cond) (parts : List Part) → sum_by weight (map (under branches) parts) ≡ sum_by weight parts
+weight-under branches [] = refl
+weight-under branches (part ∷ parts) =
+    sum_by-cons weight (under branches part) (map (under branches) parts)
+    ∙ ap (λ n. weight part + n) (weight-under branches parts)
+    ∙ sym (sum_by-cons weight part parts)
 
 none_within : (c : Cond) (branches : List Cond) (parts : List Part) → flat_map bad_visibility (map (under (c ∷ branches)) parts) ≡ []
 none_within c branches [] = refl
@@ -36,12 +55,10 @@ pub under_none : (parts : List Part) → map (under []) parts ≡ parts
 under_none [] = refl
 under_none (part ∷ parts) = ap (λ v. part ∷ v) (under_none parts)
 
-pub bad_outside : (branches : List Cond) (parts : List Part) → branches ≡ [] → first_bad (map (under branches) parts) ≡ first_bad parts
-bad_outside branches parts none = rw none (ap first_bad (under_none parts))
-
-pub bad_within : (branches : List Cond) (parts : List Part) → (branches ≡ [] → ⊥) → first_bad (map (under branches) parts) ≡ None
-bad_within [] parts some = absurd (some refl)
-bad_within (c ∷ branches) parts some = bad_inside c branches parts
+pub summary-under : (branches : List Cond) (parts : List Part) → summary (map (under branches) parts) ≡ summary_under branches (summary parts)
+summary-under [] parts = ap summary (under_none parts)
+summary-under (c ∷ branches) parts =
+    λ i. record { bad_visibility = bad_inside c branches parts i; weight = capped (weight-under (c ∷ branches) parts i) }
 
 pub both : {a b : Bool} → a ≡ true → b ≡ true → (a && b) ≡ true
 both p q = λ i. p i && q i
@@ -56,14 +73,14 @@ right false b e = absurd (cc e)
 
 -- a step more
 pub means_more : (stanzas : List Body) (old new : Body) (said parts : List Part) (one : Step) → new.steps.items ≡ old.steps.items ++ one ∷ [] →
-    step_parts (table stanzas) one ≡ parts → is_below (length stanzas) one ≡ true → new.bad_visibility ≡ earlier old.bad_visibility (first_bad parts) →
+    step_parts (table stanzas) one ≡ parts → is_below (length stanzas) one ≡ true → new.summary ≡ joined old.summary (summary parts) →
     Means stanzas old said → Means stanzas new (said ++ parts)
-means_more stanzas old new said parts one steps is below bad means = record {
+means_more stanzas old new said parts one steps is below told means = record {
   parts =
       ap (flat_map (step_parts (table stanzas))) steps
       ∙ flat_map-append (step_parts (table stanzas)) old.steps.items (one ∷ [])
       ∙ (λ i. means.parts i ++ (append-nil (step_parts (table stanzas) one) ∙ is) i);
-  bad = bad ∙ ap (λ v. earlier v (first_bad parts)) means.bad ∙ sym (first_bad-append said parts);
+  told = told ∙ ap (λ v. joined v (summary parts)) means.told ∙ sym (summary-append said parts);
   within =
       ap (list_all (is_below (length stanzas))) steps
       ∙ list_all-append (is_below (length stanzas)) old.steps.items (one ∷ [])
@@ -93,15 +110,15 @@ module _ (known : Stanzas) (stanzas : tables.Stanzas) (knows : Knows known stanz
   empty_there n body e h is none =
       sym (there n e) ∙ told_at body_parts [] n stanzas.bodies.items body (slice_get_read stanzas.bodies.items (length stanzas.bodies.items) n body refl h is) ∙ ap (flat_map (step_parts (table (take n stanzas.bodies.items)))) none
 
-  pub bad_there : (n : ℕ) (body : Body) → number_of stanzas.names name ≡ Some n → n < length stanzas.bodies.items → body ≡ get_or stanzas.bodies.items n body → body.bad_visibility ≡ first_bad (parts_of known name)
-  bad_there n body e h is =
+  pub told_there : (n : ℕ) (body : Body) → number_of stanzas.names name ≡ Some n → n < length stanzas.bodies.items → body ≡ get_or stanzas.bodies.items n body → body.summary ≡ summary (parts_of known name)
+  told_there n body e h is =
       let bodies = stanzas.bodies.items in
       let l = length-in_turn body_parts [] bodies in
-      sym (ap (λ (v : Body). v.bad_visibility) (sym is))
-      ∙ sym (get_or-map (λ (v : Body). v.bad_visibility) bodies n body None h)
-      ∙ ap (λ v. get_or v n None) knows.bad
-      ∙ get_or-map first_bad (table bodies) n [] None (omega arith)
-      ∙ ap first_bad (there n e)
+      sym (ap (λ (v : Body). v.summary) (sym is))
+      ∙ sym (get_or-map (λ (v : Body). v.summary) bodies n body (summary []) h)
+      ∙ ap (λ v. get_or v n (summary [])) knows.told
+      ∙ get_or-map summary (table bodies) n [] (summary []) (omega arith)
+      ∙ ap summary (there n e)
 
 -- stanzas behind those that a body imports
 module _ (stanzas more : List Body) where

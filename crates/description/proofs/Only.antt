@@ -1,5 +1,5 @@
 -- An answer that meets a relation with one outcome at most is that outcome, unless memory was wanting.
-use Rattle.std.proofs.Common.{◌≡◌, ℕ, IfOk}
+use Rattle.std.proofs.Common.{◌≡◌, ℕ, IfOk, ap}
 use Rattle.std.specs.Prelude.{IfErr, MatchResult}
 use Rattle.std.specs.declared.result.Result.{Result}
 use Rattle.std.specs.declared.result.Result.TheVariants.{Ok, Err}
@@ -22,4 +22,5 @@ module _ {A : Type 0} (Comes : Result A At → Type 0) (one : (a b : Result A At
   only-fault (Ok found) found-is refused-is line cause is = absurd (cc (one (Ok found) (Err (is_at line cause)) found-is is))
   only-fault (Err fault.NoMemory) found-is refused-is line cause is = tt
   only-fault (Err (fault.At at why)) found-is refused-is line cause is =
-      let same = one (Err (is_at at why)) (Err (is_at line cause)) refused-is is in (cc same, cc same)
+      let same : is_at at why ≡ is_at line cause = cc (one (Err (is_at at why)) (Err (is_at line cause)) refused-is is) in
+      (ap (λ (a : At). a.line) same, ap (λ (a : At). a.cause) same)

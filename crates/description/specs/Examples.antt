@@ -1,5 +1,5 @@
 -- What the definitions give on small files.
-use Rattle.std.specs.Prelude.{◌≡◌, ℕ, true, false, List, [], ◌∷◌, refl, codes, Some}
+use Rattle.std.specs.Prelude.{◌≡◌, ℕ, true, false, List, [], ◌∷◌, map, refl, codes, Option, None, Some}
 use Rattle.std.specs.declared.result.Result.TheVariants.{Err}
 use Rattle.plan_types.specs.declared.condition.Cond.{Cond}
 use Rattle.plan_types.specs.declared.condition.Cond.TheVariants.{Always, Flag, Not, And}
@@ -11,6 +11,11 @@ use Rattle.plan_types.specs.declared.description.FlagDecl.{FlagDecl}
 use Rattle.plan_types.specs.declared.range.Range.TheVariants.{Any}
 use Rattle.plan_types.specs.declared.refusal.Cause.{Cause}
 use Rattle.plan_types.specs.declared.refusal.Cause.TheVariants.{BadField, BadName, DuplicateName, UnknownFlag, UnknownStanza, WrongCabalVersion}
+use Rattle.plan_types.specs.declared.range.Spec.{Spec}
+use Rattle.plan_types.specs.declared.range.Spec.TheVariants.{V3_0, V3_4}
+use Rattle.description_parts.specs.declared.part.File.{File}
+use Rattle.description_parts.specs.declared.part.Head.TheVariants as head
+use Rattle.description_parts.specs.declared.part.HeadField.{HeadField}
 use Rattle.description_parts.specs.declared.part.Part.{Part}
 use Rattle.description_parts.specs.declared.part.Said.{Said}
 use Rattle.description_parts.specs.declared.part.Said.TheVariants as said
@@ -19,7 +24,7 @@ use Rattle.description_parts.specs.declared.part.SectionKind.{SectionKind}
 use Rattle.description_parts.specs.declared.part.SectionKind.TheVariants as kinds
 use Rattle.description_parts.specs.Tree.{end, field}
 use Rattle.description.specs.Components.{buildable, is_public}
-use Rattle.description.specs.Declarations.{meaning, meant}
+use Rattle.description.specs.Declarations.{meaning, meant, own_name}
 use Rattle.description.specs.Description.{cabal_version, missing}
 use Rattle.description.specs.Faults.{repeated, unknown_stanzas}
 use Rattle.description.specs.First.{first}
@@ -69,15 +74,44 @@ sections = section 4 (kinds.Component Library) (codes "sub") [] ∷ []
 abbrev on : List ℕ → Dep
 on name = record { line = 9; kind = dep_kind.Library; «package» = name; libs = Main ∷ []; exe = []; range = Any; internal = false }
 
-another_package : meaning (Some (codes "main")) sections (on (codes "base")) ≡ Other
+abbrev named : List (Option (List ℕ)) → List HeadField
+named names = map (λ name. record { line = 2; head = head.Name name }) names
+
+abbrev file : Spec → File
+file spec = record { spec = spec; heads = named (Some (codes "main") ∷ []); sections = sections }
+
+another_package : meaning (file V3_0) (on (codes "base")) ≡ Other
 another_package = refl
 
-the_own_package : meaning (Some (codes "main")) sections (on (codes "main")) ≡ Own
+the_own_package : meaning (file V3_0) (on (codes "main")) ≡ Own
 the_own_package = refl
 
-an_own_library : meant (Some (codes "main")) sections (on (codes "sub"))
-    ≡ record { line = 9; kind = dep_kind.Library; «package» = codes "main"; libs = Named (codes "sub") ∷ []; exe = []; range = Any; internal = true }
+abbrev its_library : Dep
+its_library = record { line = 9; kind = dep_kind.Library; «package» = codes "main"; libs = Named (codes "sub") ∷ []; exe = []; range = Any; internal = true }
+
+an_own_library : meant (file V3_0) (on (codes "sub")) ≡ its_library
 an_own_library = refl
+
+-- `sub:{sub,sub}`
+named_twice : meant (file V3_0) (record (on (codes "sub")) { libs = Main ∷ Main ∷ [] }) ≡ its_library
+named_twice = refl
+
+-- `sub:{sub,other}`
+beside_another : meaning (file V3_0) (record (on (codes "sub")) { libs = Main ∷ Named (codes "other") ∷ [] }) ≡ Other
+beside_another = refl
+
+-- in 3.4 a name alone is that of a package
+a_package_in_3_4 : meant (file V3_4) (on (codes "sub")) ≡ on (codes "sub")
+a_package_in_3_4 = refl
+
+the_own_package_in_3_4 : meaning (file V3_4) (record (on (codes "main")) { libs = Named (codes "sub") ∷ [] }) ≡ Own
+the_own_package_in_3_4 = refl
+
+the_last_name : own_name (named (Some (codes "a") ∷ Some (codes "b") ∷ [])) ≡ Some (codes "b")
+the_last_name = refl
+
+no_name_behind_a_bad_one : own_name (named (Some (codes "a") ∷ None ∷ [])) ≡ None
+no_name_behind_a_bad_one = refl
 
 a_second_library : repeated Component [] (section 4 (kinds.Component Library) [] [] ∷ section 5 (kinds.Component Library) [] [] ∷ []) ≡ fault 5 DuplicateName ∷ []
 a_second_library = refl
@@ -91,7 +125,7 @@ flag name = record { line = 4; name = name; default = true; manual = false }
 flags_by_name : by_name (flag (codes "b") ∷ flag (codes "a") ∷ []) ≡ flag (codes "a") ∷ flag (codes "b") ∷ []
 flags_by_name = refl
 
-another_version : cabal_version (field 1 (codes "cabal-version") (codes "3.4" ∷ []) end) ≡ Err (fault 1 WrongCabalVersion)
+another_version : cabal_version (field 1 (codes "cabal-version") (codes "3.6" ∷ []) end) ≡ Err (fault 1 WrongCabalVersion)
 another_version = refl
 
 no_version : cabal_version (field 1 (codes "name") (codes "main" ∷ []) end) ≡ Err missing

@@ -1,13 +1,14 @@
 -- What bodies stand for whose imports are numbers.
-use Rattle.std.specs.Prelude.{◌≡◌, ℕ, Bool, true, nat_lt, length, List, [], ◌∷◌, ◌++◌, map, flat_map, get_or, sum, ◌+◌, Option}
+use Rattle.std.specs.Prelude.{◌≡◌, ℕ, Bool, true, nat_lt, length, List, [], ◌∷◌, ◌++◌, map, flat_map, get_or, sum, sum_by, ◌+◌, ◌-◌, ◌^◌, min, Option, None}
 use Rattle.std.specs.List.{list_all}
 use Rattle.plan_types.specs.declared.condition.Cond.{Cond}
 use Rattle.plan_types.specs.declared.description.CompKind.{CompKind}
 use Rattle.description_parts.specs.declared.part.Part.{Part}
 use Rattle.description_parts.specs.declared.part.Section.{Section}
 use Rattle.description_parts.specs.declared.part.SectionKind.TheVariants as kinds
+use Rattle.description.specs.Components.{deps_said}
 use Rattle.description.specs.Faults.{bad_visibility}
-use Rattle.description.specs.First.{first}
+use Rattle.description.specs.First.{earlier, first}
 use Rattle.description.specs.Imports.{Stanzas, parts_of, sections_from, stanzas_behind, under}
 use Rattle.description.specs.Names.{has}
 use Rattle.description.specs.declared.first.At.{At}
@@ -18,6 +19,7 @@ use Rattle.description.specs.declared.stanzas.Frame.{Frame}
 use Rattle.description.specs.declared.stanzas.Placed.{Placed}
 use Rattle.description.specs.declared.stanzas.Stanzas as tables
 use Rattle.description.specs.declared.stanzas.Step.{Step}
+use Rattle.description.specs.declared.stanzas.Summary.{Summary}
 use Rattle.description.specs.declared.stanzas.Step.TheVariants as step
 
 -- what a step stands for, where this is what the stanzas stand for
@@ -40,6 +42,29 @@ table = in_turn body_parts []
 abbrev pub first_bad : List Part → Option At
 first_bad parts = first (flat_map bad_visibility parts)
 
+-- what a part holds: itself and its dependencies
+abbrev pub weight : Part → ℕ
+weight part = 1 + length (deps_said part.said)
+
+-- as far as numbers go
+abbrev pub capped : ℕ → ℕ
+capped n = min n (2 ^ 64 - 1)
+
+abbrev pub weight_of : List Part → ℕ
+weight_of parts = capped (sum_by weight parts)
+
+-- what is known of parts as a whole
+abbrev pub summary : List Part → Summary
+summary parts = record { bad_visibility = first_bad parts; weight = weight_of parts }
+
+abbrev pub joined : Summary → Summary → Summary
+joined front back = record { bad_visibility = earlier front.bad_visibility back.bad_visibility; weight = capped (front.weight + back.weight) }
+
+-- a `visibility` doesn't count in branches
+abbrev pub summary_under : List Cond → Summary → Summary
+summary_under [] told = told
+summary_under (branch ∷ branches) told = record told { bad_visibility = None }
+
 -- all of its imports are of the first so many stanzas
 abbrev pub is_below : ℕ → Step → Bool
 is_below stanzas (step.Part part) = true
@@ -55,7 +80,7 @@ IsMore bodies all = (more : List Body) × (all ≡ bodies ++ more)
 -- a body that stands for these parts
 pub record Means (stanzas : List Body) (body : Body) (said : List Part) : Type 0 where
   pub parts : body_parts (table stanzas) body ≡ said
-  pub bad : body.bad_visibility ≡ first_bad said
+  pub told : body.summary ≡ summary said
   pub within : is_within (length stanzas) body ≡ true
 
 -- the stanzas that can be imported, of which the first ones of each name are in the table
@@ -63,30 +88,34 @@ pub record Knows (known : Stanzas) (stanzas : tables.Stanzas) : Type 0 where
   pub ones : Stanzas
   pub names : stanzas.names ≡ map (λ s. s.0) ones
   pub parts : table stanzas.bodies.items ≡ map (λ s. s.1) ones
-  pub bad : map (λ body. body.bad_visibility) stanzas.bodies.items ≡ map first_bad (table stanzas.bodies.items)
+  pub told : map (λ body. body.summary) stanzas.bodies.items ≡ map summary (table stanzas.bodies.items)
   pub found : (name : List ℕ) → parts_of known name ≡ parts_of ones name
   pub has : (name : List ℕ) → has (map (λ s. s.0) known) name ≡ has (map (λ s. s.0) ones) name
 
--- a component, and the first bad visibility in it
+-- a component, and what is known of its parts as a whole
 pub record Shown : Type 0 where
   pub section : Section
   pub kind : CompKind
-  pub bad : Option At
+  pub told : Summary
 
 abbrev pub built_component : List (List Part) → Built → Shown
 built_component table built = record {
   section = record built.section.now { parts = body_parts table built.body };
   kind = built.kind;
-  bad = built.body.bad_visibility;
+  told = built.body.summary;
 }
 
 abbrev pub shown_in : Section → List Shown
 shown_in section = elim section.kind [
-  | kinds.Component kind ↦ record { section = section; kind = kind; bad = first_bad section.parts } ∷ []
+  | kinds.Component kind ↦ record { section = section; kind = kind; told = summary section.parts } ∷ []
   | kinds.Common ↦ []
   | kinds.Flag ↦ []
   | kinds.Setup ↦ []
 ]
+
+-- what the components of these sections hold in all
+abbrev pub total_weight : List Section → ℕ
+total_weight sections = capped (sum_by (λ one. one.told.weight) (flat_map shown_in sections))
 
 -- the stanzas that may be imported behind these sections
 abbrev pub all_behind : Stanzas → List Section → Stanzas

@@ -233,7 +233,13 @@ fn name_behind<'a>(before: Option<&'a Text>, head: &'a Head) -> Option<&'a Text>
 fn is_bare(spec: Spec, libs: &[LibName]) -> bool
     ensures { result ≡ is_bare spec libs.now }
 {
-    spec.has_bare_libraries() && libs.iter().all(is_main)
+    spec.has_bare_libraries() && are_main(libs)
+}
+
+fn are_main(libs: &[LibName]) -> bool
+    ensures { result ≡ list_all is_main libs.now }
+{
+    libs.iter().all(is_main)
 }
 
 fn is_main(lib: &LibName) -> bool

@@ -1,4 +1,4 @@
-ghost use Rattle.std.specs.Prelude.{◌≡◌, ◌++◌, ℕ, List, Option, flat_map, IfOk, IfErr, MatchResult, OnOk};
+ghost use Rattle.std.specs.Prelude.{◌≡◌, ◌++◌, ◌*◌, ℕ, List, Option, flat_map, IfOk, IfErr, MatchResult, OnOk};
 ghost use Rattle.std.specs.declared.result.Result.TheVariants.{Ok, Err};
 ghost use Rattle.plan_types.specs.Refusal.{RefusesAt};
 ghost use Rattle.plan_types.specs.declared.description.Description.{Description};
@@ -7,10 +7,11 @@ ghost use Rattle.description_parts.specs.Tree.{Tree, in_front, tree_of};
 ghost use Rattle.description_parts.specs.declared.part.File.{File};
 ghost use Rattle.description_parts.specs.declared.part.Section.{Section};
 ghost use Rattle.description.specs.Declarations.{last, later, own_name};
-ghost use Rattle.description.specs.Components.{components};
+ghost use Rattle.description.specs.Components.{components, components as components_of};
 ghost use Rattle.description.specs.Description.{Comes, ComesTo, Describes, cabal_version, description, line_of, version_of, version_said, spec_of, warning, warnings};
 ghost use Rattle.description.specs.Faults.{faults};
 ghost use Rattle.description.specs.First.{first};
+ghost use Rattle.description.specs.Standing.{capped};
 ghost use Rattle.description.specs.Tables.{Stand, Tells, is_at, shown_version};
 
 use crate::component::components;
@@ -21,7 +22,7 @@ use crate::first::{At, earlier};
 use crate::flags::flags;
 use crate::laws::one_outcome;
 use crate::setup::{is_custom, setup_deps};
-use crate::stanzas::{Bodies, bodies_of, first_bad_visibility, total_size};
+use crate::stanzas::{Bodies, bodies_of, first_bad_visibility, total_weight};
 use description_parts::{File, Head, HeadField, Part, Said, Section, read_file};
 use plan_types::{
     Cause, Component, Description, Element, Fault, List, NoMemory, Spec, Text, Version, joined_text,
@@ -198,16 +199,23 @@ fn components_in(
     ensures { IfOk result (λ found. (file : File) → Tells declared.now file → Stand file.sections bodies.now
         → found ≡ components file) }
 {
-    room(alloc, total_size(bodies))?;
+    room(alloc, total_weight(bodies))?;
     let found = components(alloc, declared, bodies)?;
     Ok(found)
 }
 
-/// Asks at once for about the memory that so many parts take, and gives it back. Imports may describe more than any
-/// machine holds, which is to be said before its memory is filled.
-fn room(alloc: Global, parts: u64) -> Result<(), NoMemory> {
-    let _room: Vec<u64> = Vec::with_capacity(alloc, parts.saturating_mul(64) as usize)?;
+/// Asks at once for about the memory that so many parts and dependencies take, and gives it back. Imports may describe more
+/// than any machine holds, which is to be said before its memory is filled.
+fn room(alloc: Global, weight: u64) -> Result<(), NoMemory> {
+    let _room: Vec<u64> = Vec::with_capacity(alloc, words_for(weight))?;
     Ok(())
+}
+
+/// About so many words of memory are taken by each part and dependency.
+fn words_for(weight: u64) -> usize
+    ensures { result ≡ capped (weight * 64) }
+{
+    weight.saturating_mul(64) as usize
 }
 
 fn whole(
@@ -218,7 +226,7 @@ fn whole(
     version: &Version,
     components: List<Component>,
 ) -> Result<Description, NoMemory>
-    ensures { IfOk result (λ d. components ≡ components file.now → d ≡ description file.now digest name.now version.now) }
+    ensures { IfOk result (λ d. components ≡ components_of file.now → d ≡ description file.now digest name.now version.now) }
 {
     let name = name.copy()?;
     let version = version.copy(alloc)?;

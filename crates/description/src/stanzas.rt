@@ -5,7 +5,7 @@ ghost use Rattle.description.specs.Components.{is_named_library};
 ghost use Rattle.description.specs.Faults.{bad_visibilities, bad_visibility};
 ghost use Rattle.description.specs.First.{first};
 ghost use Rattle.description.specs.Imports.{all_replaced, parts_of, under, with_imports_replaced};
-ghost use Rattle.description.specs.Standing.{IsMore, Knows, Means, Standing, body_parts, costs, first_bad, frames_cost, frames_parts, left_cost, left_parts, placed_part, table};
+ghost use Rattle.description.specs.Standing.{IsMore, Knows, Means, Standing, body_parts, capped, costs, frames_cost, frames_parts, left_cost, joined, left_parts, placed_part, summary, summary_under, table, total_weight, weight};
 ghost use Rattle.description.specs.Tables.{Stand};
 
 use crate::first::{At, earlier};
@@ -28,10 +28,60 @@ enum Step<'a> {
 #[derive(Drop)]
 pub struct Body<'a> {
     steps: Vec<Step<'a>>,
-    /// How many parts there are once its imports are replaced, at most 2^64 - 1.
-    size: u64,
-    /// The first `visibility` outside of branches that is neither public nor private, imported ones among them.
-    bad_visibility: Option<At>,
+    /// Of the parts that there are once its imports are replaced.
+    summary: Summary,
+}
+
+/// What is known of parts as a whole.
+#[derive(Clone, Copy, Debug)]
+pub struct Summary {
+    /// The first `visibility` outside of branches that is neither public nor private.
+    pub bad_visibility: Option<At>,
+    /// How many parts and dependencies they are, at most 2^64 - 1.
+    pub weight: u64,
+}
+
+impl Summary {
+    fn of_none() -> Summary
+        ensures { result ≡ summary [] }
+    {
+        Summary {
+            bad_visibility: None,
+            weight: 0,
+        }
+    }
+
+    fn of(part: &Part) -> Summary
+        ensures { result ≡ summary (part.now ∷ []) }
+    {
+        Summary {
+            bad_visibility: bad_visibility(part),
+            weight: weight(part),
+        }
+    }
+
+    /// Of these parts and those behind them.
+    fn joined(self, more: Summary) -> Summary
+        ensures { result ≡ joined self more }
+    {
+        Summary {
+            bad_visibility: earlier(self.bad_visibility, more.bad_visibility),
+            weight: self.weight.saturating_add(more.weight),
+        }
+    }
+
+    /// Of the same parts in these branches.
+    fn under(self, branches: &[Shared<Cond>]) -> Summary
+        ensures { result ≡ summary_under branches.now self }
+    {
+        match branches {
+            [] => self,
+            [_, ..] => Summary {
+                bad_visibility: None,
+                weight: self.weight,
+            },
+        }
+    }
 }
 
 /// The common stanzas so far, by name. None imports itself or a later one.
@@ -85,8 +135,7 @@ impl<'a> Stanzas<'a> {
     {
         let mut body = Body {
             steps: Vec::new(alloc),
-            size: 0,
-            bad_visibility: None,
+            summary: Summary::of_none(),
         };
         for part in parts {
             self.push(&mut body, part)?;
@@ -243,22 +292,11 @@ fn enter<'b, 'a>(
 }
 
 impl<'a> Body<'a> {
-    pub fn size(&self) -> u64 {
-        self.size
-    }
-
-    pub fn bad_visibility(&self) -> Option<At>
-        ensures { result ≡ self.now.bad_visibility }
-    {
-        self.bad_visibility
-    }
-
     fn push_part(&mut self, part: &'a Part) -> Result<(), NoMemory>
         ensures { OnOk result ((stanzas : List Body) (said : List Part) → Means stanzas self.old said → Means stanzas self.new (said ++ part.now ∷ [])) }
     {
         self.steps.push(Step::Part(part))?;
-        self.size = self.size.saturating_add(1);
-        self.bad_visibility = earlier(self.bad_visibility, bad_visibility(part));
+        self.summary = self.summary.joined(Summary::of(part));
         Ok(())
     }
 
@@ -269,25 +307,25 @@ impl<'a> Body<'a> {
         branches: &'a List<Shared<Cond>>,
     ) -> Result<(), NoMemory>
         ensures { OnOk result ((stanzas : List Body) (said parts : List Part) → Means stanzas self.old said → stanza < length stanzas
-            → get_or (table stanzas) stanza [] ≡ parts → imported.now.bad_visibility ≡ first_bad parts
+            → get_or (table stanzas) stanza [] ≡ parts → imported.now.summary ≡ summary parts
             → Means stanzas self.new (said ++ map (under branches.now) parts)) }
     {
         self.steps.push(Step::Import { stanza, branches })?;
-        self.size = self.size.saturating_add(imported.size);
-        self.bad_visibility = earlier(self.bad_visibility, imported.bad_within(branches));
+        let imported = imported.summary.under(branches.as_slice());
+        self.summary = self.summary.joined(imported);
         Ok(())
     }
+}
 
-    // The first bad visibility where the body stands in these branches.
-    fn bad_within(&self, branches: &List<Shared<Cond>>) -> Option<At>
-        ensures { (parts : List Part) → self.now.bad_visibility ≡ first_bad parts → result ≡ first_bad (map (under branches.now) parts) }
-    {
-        if branches.is_empty() {
-            self.bad_visibility
-        } else {
-            None
-        }
-    }
+/// The part itself and its dependencies.
+fn weight(part: &Part) -> u64
+    ensures { result ≡ capped (weight part.now) }
+{
+    let deps = match &part.said {
+        Said::Depends(Ok(deps)) => deps.len(),
+        _ => 0,
+    };
+    (deps as u64).saturating_add(1)
 }
 
 fn bad_visibility(part: &Part) -> Option<At>
@@ -397,21 +435,23 @@ impl<'a> Built<'a> {
     }
 
     fn bad_visibility(&self) -> Option<At>
-        ensures { result ≡ (if is_named_library self.now.kind self.now.section.now.name then self.now.body.bad_visibility else None) }
+        ensures { result ≡ (if is_named_library self.now.kind self.now.section.now.name then self.now.body.summary.bad_visibility else None) }
     {
         if self.is_named_library() {
-            self.body.bad_visibility()
+            self.body.summary.bad_visibility
         } else {
             None
         }
     }
 }
 
-/// How many parts the components have in all, at most 2^64 - 1.
-pub fn total_size(bodies: &Bodies) -> u64 {
-    let mut size: u64 = 0;
+/// How many parts and dependencies the components have in all, at most 2^64 - 1.
+pub fn total_weight(bodies: &Bodies) -> u64
+    ensures { (sections : List Section) → Stand sections bodies.now → result ≡ total_weight (with_imports_replaced sections) }
+{
+    let mut weight: u64 = 0;
     for one in bodies.built.as_slice() {
-        size = size.saturating_add(one.body.size());
+        weight = weight.saturating_add(one.body.summary.weight);
     }
-    size
+    weight
 }

@@ -50,12 +50,12 @@ read_section-returns-in_ok-place-in-Misplaced-clause-parts t c behind more rest 
     misplaced_goes c.args.inside.spec c.args.inside.kind c.args.line c.args.args.now (map condition c.args.branches.now) c.args.chain _ _ c.args.parts.now more c.in-Misplaced.is
     (c.in_ok-place-in-Misplaced.ensures ∙ ap (λ b. c.args.parts.now ++ placed c.args.line (map condition b) (Some said.Misplaced)) c.as_slice.ensures) rest
 
-pub read_section-returns-in_ok-left-in-Branch-clause-parts :
-    goal.read_section-returns-in_ok-left-in-Branch-clause-parts
-read_section-returns-in_ok-left-in-Branch-clause-parts t c behind more rest =
+pub read_section-returns-in_ok-read_items-in-Branch-clause-parts :
+    goal.read_section-returns-in_ok-read_items-in-Branch-clause-parts
+read_section-returns-in_ok-read_items-in-Branch-clause-parts t c behind more rest =
     let opened = c.in_ok-branch-in-Branch.ensures in
     let read = (c.in_ok-read_items-in-Branch.ensures).parts in
-    let closed = c.in_ok-left-in-Branch.ensures c.args.branches.now c.in_ok-branch-in-Branch.branch (c.in_ok-read_items-in-Branch.ensures.branches ∙ c.in_ok-push-in-Branch.ensures.ok) in
+    let closed = c.close_branch-left.ensures c.args.branches.now c.in_ok-branch-in-Branch.branch (c.in_ok-read_items-in-Branch.ensures.branches ∙ c.in_ok-push-in-Branch.ensures.ok) in
     branch_goes c.args.inside.spec c.args.inside.kind c.in-Branch.word c.args.line c.args.args.now c.args.branches.now c.args.chain (tree_of c.args.items.now) _ c.args.parts.now more read.0 opened.0
     c.in-Branch.is opened.1 opened.2
     (opened.3 ∙ ap (λ b. c.args.parts.now ++ placed c.args.line (map condition b) (Some (said.Branch opened.0 (branch_fits c.in-Branch.word c.args.chain)))) c.as_slice-in-Branch.ensures)

@@ -5,7 +5,7 @@ use Rattle.std.proofs.lemmas.Grind.{common_steps}
 use Rattle.description.specs.Imports.{under, parts_of}
 use Rattle.description.specs.Names.{number_of}
 use Rattle.description.specs.declared.stanzas.Step.{Step}
-use Rattle.description.proofs.Meanings.{means_same, not_there, there, empty_there, bad_there}
+use Rattle.description.proofs.Meanings.{means_same, not_there, there, empty_there, told_there}
 use Rattle.description.proofs.stanzas.Stanzas.import_one.Goals as goal
 
 within : (n m : ℕ) → true ≡ nat_lt n m → n < m
@@ -36,6 +36,6 @@ pub returns : goal.returns
 returns c known said knows means =
     c.in_ok-push_import.ensures c.args.self.now.bodies.items said (parts_of known c.args.name.now) means (within _ _ (c.in-Some-get.ensures.lookup.0 ∙ ap (λ v. nat_lt c.in-Some.stanza (length v)) c.deref.ensures.value))
     (there known c.args.self.now knows c.args.name.now c.in-Some.stanza (ap (number_of c.args.self.now.names) (sym c.as_str.ensures) ∙ sym c.number_of.ensures ∙ c.in-Some.is))
-    (bad_there known c.args.self.now knows c.args.name.now c.in-Some.stanza c.in-Some-get.imported.now (ap (number_of c.args.self.now.names) (sym c.as_str.ensures) ∙ sym c.number_of.ensures ∙ c.in-Some.is)
+    (told_there known c.args.self.now knows c.args.name.now c.in-Some.stanza c.in-Some-get.imported.now (ap (number_of c.args.self.now.names) (sym c.as_str.ensures) ∙ sym c.number_of.ensures ∙ c.in-Some.is)
     (within _ _ (c.in-Some-get.ensures.lookup.0 ∙ ap (λ v. nat_lt c.in-Some.stanza (length v)) c.deref.ensures.value))
     (c.in-Some-get.ensures.lookup.1 ∙ ap (λ v. get_or v c.in-Some.stanza c.in-Some-get.imported.now) c.deref.ensures.value))
