@@ -32,10 +32,10 @@ module _ (front back : Path) where
   back_gone : is_consistent back ≡ false → clean_path (front ++ back) ≡ None
   back_gone e =
       sym (not_clean (front ++ back) (
-        consistent_parts front back
-        ∙ ap (λ b. is_consistent front && (across front back && b)) e
-        ∙ ap (λ b. is_consistent front && b) (and_false (across front back))
-        ∙ and_false (is_consistent front)
+      consistent_parts front back
+      ∙ ap (λ b. is_consistent front && (across front back && b)) e
+      ∙ ap (λ b. is_consistent front && b) (and_false (across front back))
+      ∙ and_false (is_consistent front)
       ))
 
   front_cleaned : is_consistent front ≡ true → clean_path (kept_once front ++ back) ≡ clean_path (front ++ back)

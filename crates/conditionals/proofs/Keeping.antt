@@ -55,10 +55,10 @@ pub front_kept : (front back : Path) → kept_once (kept_once front ++ back) ≡
 front_kept [] back = refl
 front_kept (s ∷ front) back =
     ap (λ l. s ∷ l) (
-      unlike_kept s (unlike s (kept_once front) ++ back)
-      ∙ ap kept_once (filter_front (other s) (kept_once front) back)
-      ∙ sym (unlike_kept s (kept_once front ++ back))
-      ∙ ap (unlike s) (front_kept front back)
+    unlike_kept s (unlike s (kept_once front) ++ back)
+    ∙ ap kept_once (filter_front (other s) (kept_once front) back)
+    ∙ sym (unlike_kept s (kept_once front ++ back))
+    ∙ ap (unlike s) (front_kept front back)
     )
 
 pub back_kept : (front back : Path) → kept_once (front ++ kept_once back) ≡ kept_once (front ++ back)

@@ -1,8 +1,9 @@
 -- The paths of a dependency, by those on which its component is built and those of its own condition.
-use Rattle.std.proofs.Common.{◌≡◌, ℕ, zero, suc, ◌*◌, ◌<◌, ◌≤◌, ◌-◌, ◌^◌, min, Bool, true, false, not, ◌||◌, cond, None, List, [], ◌∷◌, ◌++◌, length, map, flat_map, refl, sym, ap, ◌∙◌, append-nil, suc-mul, mul_comm, lt-ltb, le-ltb, arith}
+use Rattle.std.proofs.Common.{◌≡◌, ◌≢◌, ℕ, zero, suc, ◌*◌, ◌<◌, ◌≤◌, Bool, true, false, not, ◌||◌, cond, None, List, [], ◌∷◌, ◌++◌, length, map, flat_map, refl, sym, ap, ◌∙◌, append-nil, suc-mul, mul_comm, lt-ltb, le-ltb, arith}
 use Rattle.std.specs.Prelude.{filter}
 use Rattle.std.specs.List.{list_any}
 use Rattle.std.proofs.lemmas.List.{nil_from_length}
+use Rattle.plan_types.specs.declared.condition.Cond.{Cond}
 use Rattle.plan_types.specs.declared.condition.Env.{Env}
 use Rattle.plan_types.specs.declared.description.Component.{Component}
 use Rattle.plan_types.specs.declared.description.GuardedDep.{GuardedDep}
@@ -23,12 +24,15 @@ many number size e more = omega arith
 few : (number size : ℕ) → number ≡ capped size → number ≤ 256 → size ≤ 256
 few number size e less = omega arith
 
+nothing : (number size : ℕ) → number ≡ capped size → number ≡ 0 → size ≡ 0
+nothing number size e none = omega arith
+
 -- a factor of a number that isn't 0 is no greater
 factor : (a b m : ℕ) → 1 ≤ a * b → a * b ≤ m → b ≤ m
 factor zero b m some le = absurd (omega arith)
 factor (suc a) b m some le = let more = suc-mul a b in omega (arith, more)
 
-both_few : (a b size number : ℕ) → size ≡ a * b → number ≡ capped size → number ≤ 256 → 1 ≤ number → (a ≤ 256) × (b ≤ 256)
+both_few : (a b size number : ℕ) → size ≡ a * b → number ≡ capped size → number ≤ 256 → number ≢ 0 → (a ≤ 256) × (b ≤ 256)
 both_few a b size number product is less some =
     let turned = mul_comm a b in
     (factor b a 256 (omega (arith, turned)) (omega (arith, turned)), factor a b 256 (omega arith) (omega arith))
@@ -74,14 +78,14 @@ module _ (env : Env) (component : Component) (guarded : GuardedDep) where
   size_is : length (paths_at env at) ≡ length first * length second
   size_is = ap length paths_are ∙ length_followed first second
 
-  pub number_is : (ways : Ways) (count number : ℕ) → ways ≡ ways_of env component.buildable → count ≡ capped (length second) → number ≡ capped (ways.number * count) → number ≡ capped (length (paths_at env at))
-  number_is ways count number known counted is =
+  pub number_is : {ways : Ways} {when : Cond} {count number : ℕ} → ways ≡ ways_of env component.buildable → when ≡ guarded.when → count ≡ capped (length (paths_of env when true)) → number ≡ capped (ways.number * count) → number ≡ capped (length (paths_at env at))
+  number_is known of-when counted is =
       is
-      ∙ (λ i. capped ((known i).number * counted i))
+      ∙ (λ i. capped ((known i).number * (counted ∙ ap (λ when. capped (length (paths_of env when true))) of-when) i))
       ∙ capped_product (length first) (length second)
       ∙ ap capped (sym size_is)
 
-  module _ (number : ℕ) (is : number ≡ capped (length (paths_at env at))) where
+  module _ {number : ℕ} (is : number ≡ capped (length (paths_at env at))) where
     pub beyond : 256 < number → is_beyond env at ≡ true
     beyond more = lt-ltb 256 (length (paths_at env at)) (many number (length (paths_at env at)) is more)
 
@@ -92,21 +96,13 @@ module _ (env : Env) (component : Component) (guarded : GuardedDep) where
     no_demands none flat =
         let nil = nil_from_length (paths_at env at) (nothing number (length (paths_at env at)) is none) in
         sym (ap (λ paths. flat ++ map (flat_of component.kind guarded.dep) (clean_paths paths)) nil ∙ append-nil flat)
-      where
-        nothing : (n size : ℕ) → n ≡ capped size → n ≡ 0 → size ≡ 0
-        nothing n size e z = omega arith
 
-    module _ (less : number ≤ 256) (some : 1 ≤ number) where
-      few_each : (length first ≤ 256) × (length second ≤ 256)
-      few_each = both_few (length first) (length second) (length (paths_at env at)) number size_is is less some
-
-      pub second_few : length second ≤ 256
-      second_few = few_each.1
-
-      pub joined_are : (ways : Ways) (rest joined : List Path) → ways ≡ ways_of env component.buildable → rest ≡ clean_paths second → joined ≡ clean_paths (followed ways.paths rest) → joined ≡ clean_paths (paths_at env at)
-      joined_are ways rest joined known of-rest made =
-          let front : ways.paths ≡ clean_paths first = ap (λ w. w.paths) known ∙ few_are first few_each.0 in
-          made
-          ∙ (λ i. clean_paths (followed (front i) (of-rest i)))
-          ∙ cleaned_before_joined first second
-          ∙ ap clean_paths (sym paths_are)
+    pub joined_are : {ways : Ways} {when : Cond} {rest joined : List Path} → number ≤ 256 → number ≢ 0 → ways ≡ ways_of env component.buildable → when ≡ guarded.when → rest ≡ clean_paths (paths_of env when true) → joined ≡ clean_paths (followed ways.paths rest) → joined ≡ clean_paths (paths_at env at)
+    joined_are less some known of-when of-rest made =
+        let each = both_few (length first) (length second) (length (paths_at env at)) number size_is is less some in
+        let front = ap (λ w. w.paths) known ∙ few_are first each.0 in
+        let back = of-rest ∙ ap (λ when. clean_paths (paths_of env when true)) of-when in
+        made
+        ∙ (λ i. clean_paths (followed (front i) (back i)))
+        ∙ cleaned_before_joined first second
+        ∙ ap clean_paths (sym paths_are)

@@ -40,14 +40,9 @@ fn push_component(
     ensures refused { IfErr result (RefusesAt (λ line cause. (cause ≡ TooManyPaths)
         × (first_among env.now (outward_in component.now) ≡ Some line))) }
 {
-    if !asks_others(component) {
-        return Ok(());
-    }
-    let ways = ways_of(alloc, component.buildable.get(), env)?;
-    for guarded in component.deps.as_slice() {
-        if !guarded.dep.internal {
-            push_demands(alloc, flat, component, &ways, guarded, env)?;
-        }
+    if asks_others(component) {
+        let ways = ways_of(alloc, component.buildable.get(), env)?;
+        push_outward(alloc, flat, component, &ways, env)?;
     }
     Ok(())
 }
@@ -60,6 +55,29 @@ fn asks_others(component: &Component) -> bool
         .as_slice()
         .iter()
         .any(|guarded| !guarded.dep.internal)
+}
+
+// What the dependencies of a component on other packages ask for, under the ways to build it.
+fn push_outward(
+    alloc: Global,
+    flat: &mut List<FlatDep>,
+    component: &Component,
+    ways: &Ways,
+    env: &Env,
+) -> Result<(), Fault>
+    requires { ways.now ≡ ways_of env.now component.now.buildable }
+    ensures none_beyond { OnOk result (first_among env.now (outward_in component.now) ≡ None) }
+    ensures demands { OnOk result (flat.new
+        ≡ flat.old ++ flat_map (demands_at env.now) (outward_in component.now)) }
+    ensures refused { IfErr result (RefusesAt (λ line cause. (cause ≡ TooManyPaths)
+        × (first_among env.now (outward_in component.now) ≡ Some line))) }
+{
+    for guarded in component.deps.as_slice() {
+        if !guarded.dep.internal {
+            push_demands(alloc, flat, component, ways, guarded, env)?;
+        }
+    }
+    Ok(())
 }
 
 // What one dependency asks for, under the ways to build its component.
