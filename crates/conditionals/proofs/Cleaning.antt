@@ -39,7 +39,7 @@ all_false : (path rest : Path) (t s : FlagSet) → agree t s ≡ false → list_
 all_false [] rest t s e = (λ i. e i && list_all (agree t) rest)
 all_false (u ∷ path) rest t s e = ap (λ b. agree t u && b) (all_false path rest t s e) ∙ and_false (agree t u)
 
-abbrev unlike : FlagSet → List FlagSet → List FlagSet
+abbrev pub unlike : FlagSet → List FlagSet → List FlagSet
 unlike t = filter (λ u. not (same t.name u.name))
 
 -- a name that is the same as one of two is told apart from the other

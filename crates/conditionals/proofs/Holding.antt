@@ -1,6 +1,6 @@
 -- How many of the paths of a condition hold.
 use Rattle.std.proofs.Common.{◌≡◌, ℕ, zero, suc, ◌+◌, ◌*◌, ◌≤◌, Bool, true, false, not, ◌&&◌, ◌||◌, cond, Option, Some, None, List, [], ◌∷◌, ◌++◌, map, refl, sym, ap, ◌∙◌, subst, zero-add, arith}
-use Rattle.std.specs.Prelude.{filter, slice_get}
+use Rattle.std.specs.Prelude.{slice_get}
 use Rattle.std.specs.List.{list_all, list_any, count_by, cons_option}
 use Rattle.std.proofs.lemmas.List.Sums.{sum_by-append}
 use Rattle.std.proofs.lemmas.List.Folds.{list_all-append}
@@ -13,7 +13,8 @@ use Rattle.conditionals.specs.declared.value.Tri.{Tri}
 use Rattle.conditionals.specs.declared.value.Tri.TheVariants.{Yes, No, Unknown}
 use Rattle.conditionals.specs.Value.{Flags, same, value, value_step, tri_of, flag_value, negated, and_then, or_else}
 use Rattle.conditionals.specs.Paths.{Path, paths_of, paths_step, followed, fixed, is_same, agree, is_consistent, kept_once, clean_paths, says, holds, is_wanted}
-use Rattle.conditionals.proofs.Cleaning.{same-is, is_both, and_false}
+use Rattle.conditionals.proofs.Cleaning.{same-is, and_false}
+use Rattle.conditionals.proofs.Keeping.{all_kept}
 
 abbrev one : Bool → ℕ
 one b = cond b 1 0
@@ -173,15 +174,6 @@ module _ (flags : Flags) where
   abbrev is_set : FlagSet → Bool
   is_set s = says (flags s.name) s.on
 
-  same_answer : (a b : Bool) → is_same a b ≡ true → a ≡ b
-  same_answer true true e = refl
-  same_answer true false e = absurd (cc e)
-  same_answer false true e = absurd (cc e)
-  same_answer false false e = refl
-
-  set_alike : (s t : FlagSet) → same s.name t.name ≡ true → is_same s.on t.on ≡ true → is_set t ≡ is_set s
-  set_alike s t e o = λ i. says (flags (sym (same-is s.name t.name e) i)) (sym (same_answer s.on t.on o) i)
-
   says_one : (known : Option Bool) (a b : Bool) → is_same a b ≡ false → (says known a && says known b) ≡ false
   says_one None a b e = refl
   says_one (Some true) true true e = absurd (cc e)
@@ -190,14 +182,6 @@ module _ (flags : Flags) where
   says_one (Some false) true b e = refl
   says_one (Some false) false true e = refl
   says_one (Some false) false false e = absurd (cc e)
-
-  under : (a b c d : Bool) → (a && c) ≡ (a && d) → (a && (b && c)) ≡ (a && (b && d))
-  under true b c d e = ap (λ x. b && x) e
-  under false b c d e = refl
-
-  under_same : (a b c d : Bool) → b ≡ a → (a && c) ≡ (a && d) → (a && c) ≡ (a && (b && d))
-  under_same true b c d same e = e ∙ ap (λ x. x && d) (sym same)
-  under_same false b c d same e = refl
 
   under_false : (a b c : Bool) → (a && c) ≡ false → (a && (b && c)) ≡ false
   under_false true true c e = e
@@ -208,35 +192,6 @@ module _ (flags : Flags) where
   two_false true true c e = absurd (cc e)
   two_false true false c e = refl
   two_false false b c e = refl
-
-  filtered_all : (p q : FlagSet → Bool) (path : Path) → list_all p path ≡ true → list_all p (filter q path) ≡ true
-  filtered_all p q [] all = refl
-  filtered_all p q (s ∷ path) all =
-      let parts = is_both {a = p s} {b = list_all p path} all in
-      by (q s) parts.0 (filtered_all p q path parts.1)
-    where
-      by : (b : Bool) → p s ≡ true → list_all p (filter q path) ≡ true → list_all p (cond b (s ∷ filter q path) (filter q path)) ≡ true
-      by true here more = λ i. here i && more i
-      by false here more = more
-
-  kept_all : (p : FlagSet → Bool) (path : Path) → list_all p path ≡ true → list_all p (kept_once path) ≡ true
-  kept_all p [] all = refl
-  kept_all p (s ∷ path) all =
-      let parts = is_both {a = p s} {b = list_all p path} all in
-      λ i. parts.0 i && filtered_all p (λ t. not (same s.name t.name)) (kept_once path) (kept_all p path parts.1) i
-
-  dropped : (s : FlagSet) (path : Path) → list_all (agree s) path ≡ true → (is_set s && holds flags (filter (λ t. not (same s.name t.name)) path)) ≡ (is_set s && holds flags path)
-  dropped s [] all = refl
-  dropped s (t ∷ path) all = by (same s.name t.name) refl (is_both all).0 (dropped s path (is_both all).1)
-    where
-      by : (b : Bool) → same s.name t.name ≡ b → cond b (is_same s.on t.on) true ≡ true → (is_set s && holds flags (filter (λ u. not (same s.name u.name)) path)) ≡ (is_set s && holds flags path)
-          → (is_set s && holds flags (cond (not b) (t ∷ filter (λ u. not (same s.name u.name)) path) (filter (λ u. not (same s.name u.name)) path))) ≡ (is_set s && holds flags (t ∷ path))
-      by true e o more = under_same (is_set s) (is_set t) _ _ (set_alike s t e o) more
-      by false e o more = under (is_set s) (is_set t) _ _ more
-
-  holds_kept : (path : Path) → is_consistent path ≡ true → holds flags (kept_once path) ≡ holds flags path
-  holds_kept [] e = refl
-  holds_kept (s ∷ path) e = dropped s (kept_once path) (kept_all (agree s) path (is_both e).0) ∙ ap (λ b. is_set s && b) (holds_kept path (is_both e).1)
 
   disagree : (s : FlagSet) (path : Path) → list_all (agree s) path ≡ false → (is_set s && holds flags path) ≡ false
   disagree s [] e = absurd (cc e)
@@ -264,7 +219,7 @@ module _ (flags : Flags) where
       by true e more =
           ap (λ b. number (cons_option (cond b (Some (kept_once path)) None) (clean_paths paths))) e
           ∙ number_cons (kept_once path) (clean_paths paths)
-          ∙ (λ i. one (holds_kept path e i) + more i)
+          ∙ (λ i. one (all_kept is_set path e i) + more i)
           ∙ sym (number_cons path paths)
       by false e more =
           ap (λ b. number (cons_option (cond b (Some (kept_once path)) None) (clean_paths paths))) e

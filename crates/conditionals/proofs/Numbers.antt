@@ -22,6 +22,20 @@ capped_at m x y z (inr ge) (inr some) = let e : min x m ≡ m = omega arith in r
 capped_factor : (x y z : ℕ) → capped (capped x * y + z) ≡ capped (x * y + z)
 capped_factor x y z = capped_at (2 ^ 64 - 1) x y z (grind arith) (grind arith)
 
+plain : (x y : ℕ) → x * y ≡ x * y + 0
+plain x y = omega arith
+
+turned : (x y : ℕ) → x * y + 0 ≡ y * x + 0
+turned x y = omega arith
+
+pub capped_product : (x y : ℕ) → capped (capped x * capped y) ≡ capped (x * y)
+capped_product x y =
+    ap capped (plain (capped x) (capped y))
+    ∙ capped_factor x (capped y) 0
+    ∙ ap capped (turned x (capped y))
+    ∙ capped_factor y x 0
+    ∙ ap capped (turned y x ∙ sym (plain x y))
+
 regrouped : (a b r s lt lf : ℕ) → (a * r + b * s) * lt + b * lf ≡ r * (a * lt) + (b * lt * s + b * lf)
 regrouped a b r s lt lf = omega arith
 

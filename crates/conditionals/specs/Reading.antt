@@ -1,5 +1,5 @@
 -- How a condition is read from left to right. What a text stands for and which fault is the first is in Grammar.
-use Rattle.std.specs.Prelude.{ℕ, zero, suc, Bool, false, ◌&&◌, ◌==◌, not, if◌then◌else◌, List, [], ◌∷◌, codes, length, Some, None, Result, Ok, Err}
+use Rattle.std.specs.Prelude.{ℕ, zero, suc, Bool, ◌&&◌, ◌==◌, not, if◌then◌else◌, List, [], ◌∷◌, codes, length, Some, None, Result, Ok, Err}
 use Rattle.std.specs.Str.{str_to_ascii_lowercase}
 use Rattle.plan_types.specs.Name.{is_letter_or_digit, is_component_byte}
 use Rattle.plan_types.specs.declared.condition.Cond.{Cond}

@@ -16,9 +16,9 @@ mod value;
 mod words;
 
 pub use count::count_paths;
-pub use laws::{no_two_paths_hold, some_path_holds};
+pub use laws::{cleaned_before_joined, no_two_paths_hold, some_path_holds};
 pub use name::system_of;
-pub use path::paths;
+pub use path::{joined_paths, paths};
 pub use read::read_cond;
 pub use text_laws::{condition_or_fault, one_condition, one_condition_fault};
 pub use value::{Tri, eval};

@@ -54,6 +54,19 @@ pub fn paths(
     }
 }
 
+/// Each path of the first followed by each of the second. A path that sets a flag both ways is left out, and
+/// a setting stands in a path once.
+pub fn joined_paths(
+    alloc: Global,
+    first: &List<List<FlagSet>>,
+    second: &List<List<FlagSet>>,
+) -> Result<List<List<FlagSet>>, NoMemory>
+    ensures { IfOk result (λ paths. paths ≡ clean_paths (followed first.now second.now)) }
+{
+    let paths = joined(alloc, List::new(alloc), first, second)?;
+    clean(alloc, paths)
+}
+
 fn build(alloc: Global, cond: &Cond, env: &Env, need: Need) -> Result<Lists, NoMemory>
     ensures { IfOk result (λ lists. lists ≡ lists_of env.now cond.now need) }
 {

@@ -10,7 +10,7 @@ ghost use Rattle.conditionals.specs.Reading.{bad, cond_tail, opened_at, factor_a
 
 use crate::name::{bad_cond, closed};
 use crate::words::atom_at;
-use plan_types::{Shared, Cause, Cond, NoMemory, Spec, TextFault};
+use plan_types::{Cause, Cond, NoMemory, Shared, Spec, TextFault};
 use std::alloc::Global;
 use text_grammar::{byte_after, skip_blanks};
 

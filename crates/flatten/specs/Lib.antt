@@ -1,4 +1,5 @@
 pub mod Demands
+pub mod Ways
 pub mod Counting
 pub mod Exposure
 pub mod Conditions

@@ -1,17 +1,17 @@
-ghost use Rattle.std.specs.Prelude.{◌≡◌, ◌++◌, [], ◌∷◌, true, false, IfOk, IfErr, OnOk, Some, None, map, flat_map};
+ghost use Rattle.std.specs.Prelude.{◌≡◌, ◌++◌, [], ◌∷◌, true, false, not, IfOk, IfErr, OnOk, Some, None, map, flat_map};
+ghost use Rattle.std.specs.List.{list_any};
 ghost use Rattle.plan_types.specs.Refusal.{RefusesAt};
 ghost use Rattle.plan_types.specs.declared.refusal.Cause.TheVariants.{TooManyPaths};
-ghost use Rattle.description.specs.WholeCondition.{whole_condition};
 ghost use Rattle.flatten.specs.Demands.{demands_of, demands_at, first_beyond, is_beyond, outward_of, outward_in, first_among, stanza_of, flat_of, literal_of};
+ghost use Rattle.flatten.specs.Ways.{ways_of};
 
-use conditionals::{count_paths, paths};
+use crate::ways::{MOST_PATHS, Ways, ways_of};
+use conditionals::{count_paths, joined_paths, paths};
 use plan_types::{
-    Cause, CompKind, Component, Cond, Dep, Description, Env, Fault, FlagSet, FlatDep,
-    GuardedDep, List, Literal, NoMemory, PartName,
+    Cause, CompKind, Component, Dep, Description, Env, Fault, FlagSet, FlatDep, GuardedDep, List,
+    Literal, NoMemory, PartName,
 };
 use std::alloc::Global;
-
-const MOST_PATHS: u64 = 256;
 
 /// The dependencies of all components on other packages, in order, each once for each way to set flags so
 /// that it counts. The first one with more than 256 ways is refused, at its line.
@@ -40,47 +40,78 @@ fn push_component(
     ensures refused { IfErr result (RefusesAt (λ line cause. (cause ≡ TooManyPaths)
         × (first_among env.now (outward_in component.now) ≡ Some line))) }
 {
+    if asks_others(component) {
+        let ways = ways_of(alloc, component.buildable.get(), env)?;
+        push_outward(alloc, flat, component, &ways, env)?;
+    }
+    Ok(())
+}
+
+fn asks_others(component: &Component) -> bool
+    ensures { result ≡ list_any (λ guarded. not guarded.dep.internal) component.now.deps }
+{
+    component
+        .deps
+        .as_slice()
+        .iter()
+        .any(|guarded| !guarded.dep.internal)
+}
+
+// What the dependencies of a component on other packages ask for, under the ways to build it.
+fn push_outward(
+    alloc: Global,
+    flat: &mut List<FlatDep>,
+    component: &Component,
+    ways: &Ways,
+    env: &Env,
+) -> Result<(), Fault>
+    requires { ways.now ≡ ways_of env.now component.now.buildable }
+    ensures none_beyond { OnOk result (first_among env.now (outward_in component.now) ≡ None) }
+    ensures demands { OnOk result (flat.new
+        ≡ flat.old ++ flat_map (demands_at env.now) (outward_in component.now)) }
+    ensures refused { IfErr result (RefusesAt (λ line cause. (cause ≡ TooManyPaths)
+        × (first_among env.now (outward_in component.now) ≡ Some line))) }
+{
     for guarded in component.deps.as_slice() {
         if !guarded.dep.internal {
-            push_demands(alloc, flat, component, guarded, env)?;
+            push_demands(alloc, flat, component, ways, guarded, env)?;
         }
     }
     Ok(())
 }
 
-// What one dependency asks for.
+// What one dependency asks for, under the ways to build its component.
 fn push_demands(
     alloc: Global,
     flat: &mut List<FlatDep>,
     component: &Component,
+    ways: &Ways,
     guarded: &GuardedDep,
     env: &Env,
 ) -> Result<(), Fault>
+    requires { ways.now ≡ ways_of env.now component.now.buildable }
     ensures within { OnOk result (is_beyond env.now (outward_of component.now guarded.now) ≡ false) }
     ensures demands { OnOk result (flat.new
         ≡ flat.old ++ demands_at env.now (outward_of component.now guarded.now)) }
     ensures refused { IfErr result (RefusesAt (λ line cause. (cause ≡ TooManyPaths)
         × (line ≡ guarded.now.dep.line) × (is_beyond env.now (outward_of component.now guarded.now) ≡ true))) }
 {
-    let whole = whole_condition(component, guarded)?;
-    if MOST_PATHS < count_paths(&whole, env, true) {
+    let when = guarded.when.get();
+    let number = ways.number.saturating_mul(count_paths(when, env, true));
+    if MOST_PATHS < number {
         return Err(Fault::At {
             line: guarded.dep.line,
             cause: Cause::TooManyPaths,
         });
     }
-    for path in paths(alloc, &whole, env, true)?.into_vec() {
+    if number == 0 {
+        return Ok(());
+    }
+    let rest = paths(alloc, when, env, true)?;
+    for path in joined_paths(alloc, &ways.paths, &rest)?.into_vec() {
         flat.push(flat_of(alloc, component.kind, path, &guarded.dep)?)?;
     }
     Ok(())
-}
-
-fn whole_condition(component: &Component, guarded: &GuardedDep) -> Result<Cond, NoMemory>
-    ensures { IfOk result (λ whole. whole ≡ whole_condition component.now guarded.now) }
-{
-    let buildable = component.buildable.copy()?;
-    let when = guarded.when.copy()?;
-    Ok(Cond::And(buildable, when))
 }
 
 // A dependency under one way to set flags.

@@ -7,6 +7,7 @@
 mod demands;
 mod exposure;
 mod laws;
+mod ways;
 
 pub use demands::demands_of;
 pub use exposure::exposed;

@@ -1,6 +1,6 @@
 use Rattle.std.proofs.Common.{◌≡◌, ◌++◌, drop, map, flat_map}
 use Rattle.flatten.specs.Demands.{demands_at, first_among, external, outward_of, outward_in}
-use Rattle.flatten.proofs.demands.push_component.Given as goal
+use Rattle.flatten.proofs.demands.push_outward.Given as goal
 
 abbrev pub invariant-loop-guarded : goal.invariant-loop-guarded
 invariant-loop-guarded l =
