@@ -50,6 +50,70 @@ choose main 1 local
 visited 1 exhausted 0
 
 $ cabal-plan plan
+main.cabal: cabal-version: 3.4;name: main;version: 1;library util;library;  build-depends: util, main:util
+index/util/1/util.cabal util 1
+=> 0
+plan
+choose main 1 local
+choose util 1 source
+visited 2 exhausted 0
+
+$ cabal-plan plan
+main.cabal: cabal-version: 3.0;name: main;version: 1;library util;library;  build-depends: util, main:util
+index/util/1/util.cabal util 1
+=> 0
+plan
+choose main 1 local
+visited 1 exhausted 0
+
+$ cabal-plan plan
+main.cabal: cabal-version: 2.4;name: main;version: 1;library util;library;  build-depends: util, main:util
+index/util/1/util.cabal util 1
+=> 3
+refused main.cabal:6 NeedsVersion
+
+$ cabal-plan plan
+main.cabal: cabal-version: 3.0;name: main;version: 1;library util;library;  build-depends: util:{util, util} ==2
+index/util/1/util.cabal util 1
+=> 0
+plan
+choose main 1 local
+visited 1 exhausted 0
+
+$ cabal-plan plan
+main.cabal: cabal-version: 3.0;name: main;version: 1;library other;library util;library;  build-depends: util:{util, other}
+=> 1
+no plan
+conflict main util
+visited 1 exhausted 2
+
+$ cabal-plan plan
+main.cabal: cabal-version: 3.4;name: main;version: 1;library;  if os(linux);    import: s
+=> 3
+refused main.cabal:6 UnknownStanza
+
+$ cabal-plan plan
+main.cabal main 1 a:sub
+index/a/1/a.cabal: cabal-version: 3.4;name: a;version: 1;library sub;  visibility: public
+=> 3
+refused main.cabal:5 NeedsVersion
+
+$ cabal-plan plan
+main.cabal: cabal-version: 3.4;name: main;version: 1;library;  build-depends: a:sub =={1, 2}
+index/a/1/a.cabal: cabal-version: 3.4;name: a;version: 1;library sub;  visibility: public
+index/a/2/a.cabal: cabal-version: 3.4;name: a;version: 2;library sub
+=> 0
+plan
+choose main 1 local
+choose a 1 source
+visited 3 exhausted 0
+
+$ cabal-plan plan
+main.cabal: cabal-version: 3.0;version: 1;name: main;library;  build-depends: main:lost;name: -
+=> 3
+refused main.cabal:6 BadName
+
+$ cabal-plan plan
 main.cabal: cabal-version: 2.4;name: main;version: 1;flag f;  default: True;library;  if flag(f);    build-depends: gone
 => 0
 plan
