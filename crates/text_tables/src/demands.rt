@@ -1,8 +1,9 @@
+use crate::shared::{environment, shown};
 use conditionals::read_cond;
 use flatten::{demands_of, exposed};
 use plan_types::{
-    Cause, CompKind, Component, Dep, DepKind, Description, Env, Exposed, Fault, FlatDep,
-    GuardedDep, LibName, List, Literal, NoMemory, PartName, Range, Spec, Text, TextFault, Version,
+    Cause, CompKind, Component, Dep, DepKind, Description, Env, FlatDep, GuardedDep, LibName, List,
+    NoMemory, PartName, Range, Spec, Text, TextFault, Version,
 };
 use std::alloc::Global;
 use std::test::Fail;
@@ -11,36 +12,24 @@ use std::test::Fail;
 // kind, its name and when it is buildable, and then its dependencies with their branches, of which those on
 // the package itself begin with `=`. Each component and each dependency is a line of its file.
 pub const CASES: &str = "\
-library - if true =>  | lib\n\
-library - if true,x if flag(a) || flag(b) => x [a+] x [a- b+] | lib\n\
-library - if flag(c),x if true,y if flag(a) => x [c+] y [c+ a+] | lib\n\
-library - if flag(a),x if flag(a),y if !flag(a) => x [a+] | lib\n\
-library - if true,x if os(windows),y if !os(windows) => y [] | lib\n\
-library - if true,=in if true,x if true => x [] | lib\n\
-test t if true,x if flag(a) => x [tests+ a+] |\n\
-bench b if flag(b),x if flag(a) || flag(b) => x [benches+ b+ a+] x [benches+ b+ a-] |\n\
-foreign f if true,x if true => x [] |\n\
-exe e if true,x if true;library - if true,y if true;exe f if true,x if true => x [] y [] x [] | lib exe:e exe:f\n\
-library in if true,x if true;public out if true,=in if true => x [] | lib:out\n\
-exe e if true;public out if true;library - if true;public on if true;exe f if true =>  | lib:out lib lib:on exe:e exe:f\n\
-library - if false,x if true;exe e if os(windows),y if true =>  |\n\
-library - if flag(a) && false;exe e if false && flag(a);public out if !flag(a) =>  | lib lib:out\n\
-library - if true,w if true,x if (flag(a) || flag(b)) && (flag(c) || flag(d)) && (flag(e) || flag(f)) && (flag(g) || flag(h)) && (flag(i) || flag(j)) && (flag(k) || flag(l)) && (flag(m) || flag(n)) && (flag(o) || flag(p)) => 257 demands | lib\n\
-library - if true,w if true,x if (flag(a) || flag(b)) && (flag(c) || flag(d)) && (flag(e) || flag(f)) && (flag(g) || flag(h)) && (flag(i) || flag(j)) && (flag(k) || flag(l)) && (flag(m) || flag(n)) && (flag(o) || flag(p)) && (flag(q) || flag(r)) => fault 3 | lib\n\
-library - if true,=x if (flag(a) || flag(b)) && (flag(c) || flag(d)) && (flag(e) || flag(f)) && (flag(g) || flag(h)) && (flag(i) || flag(j)) && (flag(k) || flag(l)) && (flag(m) || flag(n)) && (flag(o) || flag(p)) && (flag(q) || flag(r)) =>  | lib\n\
-library - if true,x if true;exe e if flag(a) || flag(b),y if (flag(a) || flag(b)) && (flag(a) || flag(b)) && (flag(a) || flag(b)) && (flag(a) || flag(b)) && (flag(a) || flag(b)) && (flag(a) || flag(b)) && (flag(a) || flag(b)) && (flag(a) || flag(b)) => fault 4 | lib exe:e\n";
-
-fn environment(alloc: Global) -> Result<Env, NoMemory> {
-    let parts = [9, 4, 7].to_vec(alloc)?;
-    Ok(Env {
-        os: Text::from_str(alloc, "linux")?,
-        arch: Text::from_str(alloc, "x86_64")?,
-        compiler: Text::from_str(alloc, "ghc")?,
-        compiler_version: Version {
-            parts: List::from_vec(parts),
-        },
-    })
-}
+library - if true => | Exposed { libs: [Main], exes: [] }\n\
+library - if true,x if flag(a) || flag(b) => x [a+] x [a- b+] | Exposed { libs: [Main], exes: [] }\n\
+library - if flag(c),x if true,y if flag(a) => x [c+] y [c+ a+] | Exposed { libs: [Main], exes: [] }\n\
+library - if flag(a),x if flag(a),y if !flag(a) => x [a+] | Exposed { libs: [Main], exes: [] }\n\
+library - if true,x if os(windows),y if !os(windows) => y [] | Exposed { libs: [Main], exes: [] }\n\
+library - if true,=in if true,x if true => x [] | Exposed { libs: [Main], exes: [] }\n\
+test t if true,x if flag(a) => x [tests+ a+] | Exposed { libs: [], exes: [] }\n\
+bench b if flag(b),x if flag(a) || flag(b) => x [benches+ b+ a+] x [benches+ b+ a-] | Exposed { libs: [], exes: [] }\n\
+foreign f if true,x if true => x [] | Exposed { libs: [], exes: [] }\n\
+exe e if true,x if true;library - if true,y if true;exe f if true,x if true => x [] y [] x [] | Exposed { libs: [Main], exes: [e, f] }\n\
+library in if true,x if true;public out if true,=in if true => x [] | Exposed { libs: [Named(out)], exes: [] }\n\
+exe e if true;public out if true;library - if true;public on if true;exe f if true => | Exposed { libs: [Named(out), Main, Named(on)], exes: [e, f] }\n\
+library - if false,x if true;exe e if os(windows),y if true => | Exposed { libs: [], exes: [] }\n\
+library - if flag(a) && false;exe e if false && flag(a);public out if !flag(a) => | Exposed { libs: [Main, Named(out)], exes: [] }\n\
+library - if true,w if true,x if (flag(a) || flag(b)) && (flag(c) || flag(d)) && (flag(e) || flag(f)) && (flag(g) || flag(h)) && (flag(i) || flag(j)) && (flag(k) || flag(l)) && (flag(m) || flag(n)) && (flag(o) || flag(p)) => 257 demands | Exposed { libs: [Main], exes: [] }\n\
+library - if true,w if true,x if (flag(a) || flag(b)) && (flag(c) || flag(d)) && (flag(e) || flag(f)) && (flag(g) || flag(h)) && (flag(i) || flag(j)) && (flag(k) || flag(l)) && (flag(m) || flag(n)) && (flag(o) || flag(p)) && (flag(q) || flag(r)) => At { line: 3, cause: TooManyPaths } | Exposed { libs: [Main], exes: [] }\n\
+library - if true,=x if (flag(a) || flag(b)) && (flag(c) || flag(d)) && (flag(e) || flag(f)) && (flag(g) || flag(h)) && (flag(i) || flag(j)) && (flag(k) || flag(l)) && (flag(m) || flag(n)) && (flag(o) || flag(p)) && (flag(q) || flag(r)) => | Exposed { libs: [Main], exes: [] }\n\
+library - if true,x if true;exe e if flag(a) || flag(b),y if (flag(a) || flag(b)) && (flag(a) || flag(b)) && (flag(a) || flag(b)) && (flag(a) || flag(b)) && (flag(a) || flag(b)) && (flag(a) || flag(b)) && (flag(a) || flag(b)) && (flag(a) || flag(b)) => At { line: 4, cause: TooManyPaths } | Exposed { libs: [Main], exes: [e] }\n";
 
 fn dependency(alloc: Global, line: u32, text: &str) -> Result<GuardedDep, TextFault> {
     let Some((name, when)) = text.split_once(" if ") else {
@@ -121,111 +110,50 @@ fn description(alloc: Global, text: &str) -> Result<Description, TextFault> {
     })
 }
 
-fn push_literal(text: &mut Text, literal: &Literal) -> Result<(), NoMemory> {
-    match &literal.part {
-        PartName::Flag(name) => text.push_str(name.as_str())?,
-        PartName::Tests => text.push_str("tests")?,
-        PartName::Benches => text.push_str("benches")?,
-    }
-    text.push_str(if literal.on { "+" } else { "-" })
-}
-
-fn push_demand(text: &mut Text, flat: &FlatDep) -> Result<(), NoMemory> {
+fn push_demand(text: &mut String, flat: &FlatDep) -> Result<(), NoMemory> {
     text.push_str(flat.dep.package.as_str())?;
     text.push_str(" [")?;
     for (at, literal) in flat.when.as_slice().iter().enumerate() {
-        if at > 0 {
-            text.push_str(" ")?;
-        }
-        push_literal(text, literal)?;
+        let gap = if at > 0 { " " } else { "" };
+        let part = match &literal.part {
+            PartName::Flag(name) => name.as_str(),
+            PartName::Tests => "tests",
+            PartName::Benches => "benches",
+        };
+        let sign = if literal.on { "+" } else { "-" };
+        write!(text, "{gap}{part}{sign}")?;
     }
-    text.push_str("]")
-}
-
-fn push_demands(text: &mut Text, flat: &[FlatDep]) -> Result<(), NoMemory> {
-    for (at, flat) in flat.iter().enumerate() {
-        if at > 0 {
-            text.push_str(" ")?;
-        }
-        push_demand(text, flat)?;
-    }
+    text.push_str("] ")?;
     Ok(())
 }
 
-fn push_number(alloc: Global, text: &mut Text, number: usize) -> Result<(), NoMemory> {
-    let digits = format!(in alloc; "{number}")?;
-    text.push_str(digits.as_str())
-}
-
-fn push_asked(alloc: Global, text: &mut Text, flat: &[FlatDep]) -> Result<(), NoMemory> {
-    if flat.len() > 8 {
-        push_number(alloc, text, flat.len())?;
-        return text.push_str(" demands");
+fn asked(alloc: Global, flat: &[FlatDep]) -> Result<String, NoMemory> {
+    let count = flat.len();
+    if count > 8 {
+        return Ok(format!(in alloc; "{count} demands ")?);
     }
-    push_demands(text, flat)
-}
-
-fn push_fault(alloc: Global, text: &mut Text, fault: Fault) -> Result<(), NoMemory> {
-    text.push_str("fault ")?;
-    match fault {
-        Fault::NoMemory => Err(NoMemory),
-        Fault::At { line, cause: _ } => push_number(alloc, text, line as usize),
+    let mut text = String::new(alloc);
+    for one in flat {
+        push_demand(&mut text, one)?;
     }
+    Ok(text)
 }
 
-fn asked(alloc: Global, d: &Description, env: &Env) -> Result<Text, NoMemory> {
-    let mut text = Text::new(alloc);
+fn demands(alloc: Global, d: &Description, env: &Env) -> Result<String, NoMemory> {
     match demands_of(alloc, d, env) {
-        Ok(flat) => push_asked(alloc, &mut text, flat.as_slice())?,
-        Err(fault) => push_fault(alloc, &mut text, fault)?,
-    }
-    Ok(text)
-}
-
-fn push_offer(text: &mut Text, offer: &Exposed) -> Result<(), NoMemory> {
-    text.push_str(" |")?;
-    for lib in offer.libs.as_slice() {
-        push_lib(text, lib)?;
-    }
-    for exe in offer.exes.as_slice() {
-        text.push_str(" exe:")?;
-        text.push_str(exe.as_str())?;
-    }
-    Ok(())
-}
-
-fn push_lib(text: &mut Text, lib: &LibName) -> Result<(), NoMemory> {
-    match lib {
-        LibName::Main => text.push_str(" lib"),
-        LibName::Named(name) => {
-            text.push_str(" lib:")?;
-            text.push_str(name.as_str())
-        }
+        Ok(flat) => asked(alloc, flat.as_slice()),
+        Err(fault) => Ok(format!(in alloc; "{fault:?} ")?),
     }
 }
 
-fn offered(alloc: Global, text: &mut Text, d: &Description, env: &Env) -> Result<(), NoMemory> {
-    let offer = exposed(alloc, d, env)?;
-    push_offer(text, &offer)
-}
-
-fn shown(alloc: Global, d: &Description, env: &Env) -> Result<Text, NoMemory> {
-    let mut text = asked(alloc, d, env)?;
-    offered(alloc, &mut text, d, env)?;
-    Ok(text)
-}
-
-fn shown_here(alloc: Global, d: &Description) -> Result<Text, NoMemory> {
-    let env = environment(alloc)?;
-    shown(alloc, d, &env)
-}
-
-fn text_of(alloc: Global, d: &Description) -> Result<String, Fail> {
-    let text = shown_here(alloc, d)?;
-    Ok(String::from_str(alloc, text.as_str())?)
+fn told(alloc: Global, d: &Description, env: &Env) -> Result<String, Fail> {
+    let demands = demands(alloc, d, env)?;
+    let offer = shown(alloc, &exposed(alloc, d, env)?)?;
+    Ok(format!(in alloc; "{demands}| {offer}")?)
 }
 
 pub fn answer(alloc: Global, text: &str) -> Result<String, Fail> {
     let description = description(alloc, text)?;
-    text_of(alloc, &description)
+    let env = environment(alloc)?;
+    told(alloc, &description, &env)
 }

@@ -7,24 +7,24 @@ use std::test::Fail;
 // `read` and a file, with `;` at the end of a line: its first fault, or its dependencies with the conditions of their branches.
 // `doubled`: so many stanzas which each import the one before twice, so that the dependencies would fill any machine.
 pub const CASES: &str = "\
-read  => 0 MissingField\n\
-read name: main;cabal-version: 2.4 => 0 MissingField\n\
-read cabal-version: 3.4;name: - => 1 WrongCabalVersion\n\
-read cabal-version: 2.4;version: 1 => 0 MissingField\n\
-read cabal-version: 2.4;version: 01 => 2 BadVersion\n\
-read cabal-version: 2.4;name: main;version: 1;library;  import: s => 5 UnknownStanza\n\
-read cabal-version: 2.4;name: main;version: 1;library;  if flag(g) => 5 UnknownFlag\n\
-read cabal-version: 2.4;name: main;version: 1;library;  else => 5 ElseWithoutIf\n\
-read cabal-version: 2.4;name: main;version: 1;library;  build-depends: base;  import: s => 6 ImportNotFirst\n\
-read cabal-version: 2.4;name: main;version: 1;library;library => 5 DuplicateName\n\
-read cabal-version: 2.4;name: main;version: 1;library;  build-tool-depends: main:x => 5 UnknownComponent\n\
+read  => At { line: 0, cause: MissingField }\n\
+read name: main;cabal-version: 2.4 => At { line: 0, cause: MissingField }\n\
+read cabal-version: 3.4;name: - => At { line: 1, cause: WrongCabalVersion }\n\
+read cabal-version: 2.4;version: 1 => At { line: 0, cause: MissingField }\n\
+read cabal-version: 2.4;version: 01 => At { line: 2, cause: BadVersion }\n\
+read cabal-version: 2.4;name: main;version: 1;library;  import: s => At { line: 5, cause: UnknownStanza }\n\
+read cabal-version: 2.4;name: main;version: 1;library;  if flag(g) => At { line: 5, cause: UnknownFlag }\n\
+read cabal-version: 2.4;name: main;version: 1;library;  else => At { line: 5, cause: ElseWithoutIf }\n\
+read cabal-version: 2.4;name: main;version: 1;library;  build-depends: base;  import: s => At { line: 6, cause: ImportNotFirst }\n\
+read cabal-version: 2.4;name: main;version: 1;library;library => At { line: 5, cause: DuplicateName }\n\
+read cabal-version: 2.4;name: main;version: 1;library;  build-tool-depends: main:x => At { line: 5, cause: UnknownComponent }\n\
 read cabal-version: 3.0;name: main;version: 1;flag f;common s;  build-depends: q;library;  if flag(f);    import: s => q Flag(Text { string: \"f\" })\n\
-read cabal-version: 2.4;name: main;version: 1;flag f;common s;  build-depends: q;library;  if flag(f);    import: s => 9 ImportNotFirst\n\
-read cabal-version: 3.0;name: main;version: 1;library a;  build-depends: b;library b;  build-depends: a => 4 ComponentCycle\n\
+read cabal-version: 2.4;name: main;version: 1;flag f;common s;  build-depends: q;library;  if flag(f);    import: s => At { line: 9, cause: ImportNotFirst }\n\
+read cabal-version: 3.0;name: main;version: 1;library a;  build-depends: b;library b;  build-depends: a => At { line: 4, cause: ComponentCycle }\n\
 read cabal-version: 3.0;name: main;version: 1;common c;  visibility: x;library;  import: c => \n\
-read cabal-version: 3.0;name: main;version: 1;common c;  visibility: x;library a;  import: c => 5 BadField\n\
+read cabal-version: 3.0;name: main;version: 1;common c;  visibility: x;library a;  import: c => At { line: 5, cause: BadField }\n\
 read cabal-version: 2.4;name: main;version: 1;library a;executable b;  build-depends: a, c => main Always c Always\n\
-doubled 40 => no memory\n";
+doubled 40 => NoMemory\n";
 
 fn described(alloc: Global, text: &str) -> Result<Description, Fault> {
     if text.len() > 1_048_576 {
@@ -34,25 +34,23 @@ fn described(alloc: Global, text: &str) -> Result<Description, Fault> {
     read_description(alloc, &items, Text::new(alloc))
 }
 
-fn shown(alloc: Global, read: &Result<Description, Fault>) -> Result<String, Fail> {
-    match read {
-        Ok(description) => deps_of(alloc, description),
-        Err(Fault::At { line, cause }) => Ok(format!(in alloc; "{line} {cause:?}")?),
-        Err(Fault::NoMemory) => Ok(String::from_str(alloc, "no memory")?),
-    }
-}
-
 fn deps_of(alloc: Global, description: &Description) -> Result<String, Fail> {
     let mut text = String::new(alloc);
     for component in description.components.as_slice() {
         for guarded in component.deps.as_slice() {
-            let name = guarded.dep.package.as_str();
-            let when = &guarded.when;
-            let one = format!(in alloc; " {name} {when:?}")?;
-            text.push_str(one.as_str())?;
+            let gap = if text.is_empty() { "" } else { " " };
+            let (name, when) = (guarded.dep.package.as_str(), &guarded.when);
+            write!(&mut text, "{gap}{name} {when:?}")?;
         }
     }
     Ok(text)
+}
+
+fn read(alloc: Global, text: &str) -> Result<String, Fail> {
+    match described(alloc, text) {
+        Ok(description) => deps_of(alloc, &description),
+        Err(fault) => Ok(format!(in alloc; "{fault:?}")?),
+    }
 }
 
 fn doubled(alloc: Global, count: &str) -> Result<String, Fail> {
@@ -63,23 +61,20 @@ fn doubled(alloc: Global, count: &str) -> Result<String, Fail> {
     let count = count.parse::<u32>()?;
     for number in 0..count {
         let next = u64::from(number) + 1;
-        let stanza = format!(in alloc; "common s{next}\n  import: s{number}, s{number}\n")?;
-        text.push_str(stanza.as_str())?;
+        write!(
+            &mut text,
+            "common s{next}\n  import: s{number}, s{number}\n"
+        )?;
     }
-    let library = format!(in alloc; "library\n  import: s{count}\n")?;
-    text.push_str(library.as_str())?;
+    write!(&mut text, "library\n  import: s{count}\n")?;
     Ok(text)
-}
-
-fn read(alloc: Global, text: &str) -> Result<String, Fail> {
-    let found = shown(alloc, &described(alloc, text))?;
-    Ok(String::from_str(alloc, found.as_str().trim_start())?)
 }
 
 pub fn answer(alloc: Global, case: &str) -> Result<String, Fail> {
     let (call, rest) = case.split_once(' ').ok_or("no file")?;
-    if call == "read" {
-        return read(alloc, rest.replace(alloc, ";", "\n")?.as_str());
-    }
-    read(alloc, doubled(alloc, rest)?.as_str())
+    let text = match call {
+        "read" => rest.replace(alloc, ";", "\n")?,
+        _ => doubled(alloc, rest)?,
+    };
+    read(alloc, text.as_str())
 }

@@ -18,6 +18,8 @@ mod ranges;
 #[cfg(test)]
 mod records;
 #[cfg(test)]
+mod shared;
+#[cfg(test)]
 mod tables;
 #[cfg(test)]
 mod versions;

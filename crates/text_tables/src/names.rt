@@ -4,38 +4,24 @@ use std::test::Fail;
 
 // A text, and what it may name.
 pub const CASES: &str = "\
-main => package component flag\n\
-A1-b2-3c => package component flag\n\
-z => package component flag\n\
-\x20=> nothing\n\
-- => component\n\
--a => component\n\
-a- => component flag\n\
-a--b => component flag\n\
-a-1 => component flag\n\
-7 => component flag\n\
-a_b => component flag\n\
-_ => component flag\n\
-a.b => nothing\n\
-\u{e4} => nothing\n";
-
-fn kinds(alloc: Global, text: &str) -> Result<String, Fail> {
-    let mut kinds = String::new(alloc);
-    if is_package_name(text.as_bytes()) {
-        kinds.push_str("package ")?;
-    }
-    if is_component_name(text.as_bytes()) {
-        kinds.push_str("component ")?;
-    }
-    if is_flag_name(text.as_bytes()) {
-        kinds.push_str("flag ")?;
-    }
-    Ok(kinds)
-}
+main => package true, component true, flag true\n\
+A1-b2-3c => package true, component true, flag true\n\
+z => package true, component true, flag true\n\
+\x20=> package false, component false, flag false\n\
+- => package false, component true, flag false\n\
+-a => package false, component true, flag false\n\
+a- => package false, component true, flag true\n\
+a--b => package false, component true, flag true\n\
+a-1 => package false, component true, flag true\n\
+7 => package false, component true, flag true\n\
+a_b => package false, component true, flag true\n\
+_ => package false, component true, flag true\n\
+a.b => package false, component false, flag false\n\
+\u{e4} => package false, component false, flag false\n";
 
 pub fn answer(alloc: Global, text: &str) -> Result<String, Fail> {
-    let kinds = kinds(alloc, text)?;
-    let kinds = kinds.as_str().trim_end();
-    let found = if kinds.is_empty() { "nothing" } else { kinds };
-    Ok(String::from_str(alloc, found)?)
+    let package = is_package_name(text.as_bytes());
+    let component = is_component_name(text.as_bytes());
+    let flag = is_flag_name(text.as_bytes());
+    Ok(format!(in alloc; "package {package}, component {component}, flag {flag}")?)
 }

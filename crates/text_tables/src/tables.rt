@@ -61,55 +61,24 @@ fn others(alloc: Global, table: Table) -> Result<String, Fail> {
 }
 
 #[test]
-fn names_and_what_they_name(rt: HostRuntime) -> Result<(), Fail> {
-    assert_eq!(rt; others(rt.alloc(), Table::Names)?.as_str(), "");
-    Ok(())
-}
-
-#[test]
-fn versions_and_their_order(rt: HostRuntime) -> Result<(), Fail> {
-    assert_eq!(rt; others(rt.alloc(), Table::Versions)?.as_str(), "");
-    Ok(())
-}
-
-#[test]
-fn ranges_and_their_members(rt: HostRuntime) -> Result<(), Fail> {
-    assert_eq!(rt; others(rt.alloc(), Table::Ranges)?.as_str(), "");
-    Ok(())
-}
-
-#[test]
-fn conditions_and_their_paths(rt: HostRuntime) -> Result<(), Fail> {
-    assert_eq!(rt; others(rt.alloc(), Table::Conditions)?.as_str(), "");
-    Ok(())
-}
-
-#[test]
-fn entries_of_fields(rt: HostRuntime) -> Result<(), Fail> {
-    assert_eq!(rt; others(rt.alloc(), Table::Dependencies)?.as_str(), "");
+fn texts_of_packages(rt: HostRuntime) -> Result<(), Fail> {
+    for table in [
+        Table::Names,
+        Table::Versions,
+        Table::Ranges,
+        Table::Conditions,
+        Table::Dependencies,
+        Table::Descriptions,
+        Table::Demands,
+        Table::Records,
+    ] {
+        assert_eq!(rt; others(rt.alloc(), table)?.as_str(), "");
+    }
     Ok(())
 }
 
 #[test]
 fn elements_of_files(rt: HostRuntime) -> Result<(), Fail> {
     assert_eq!(rt; others(rt.alloc(), Table::Elements)?.as_str(), "");
-    Ok(())
-}
-
-#[test]
-fn descriptions_of_files(rt: HostRuntime) -> Result<(), Fail> {
-    assert_eq!(rt; others(rt.alloc(), Table::Descriptions)?.as_str(), "");
-    Ok(())
-}
-
-#[test]
-fn demands_and_offers(rt: HostRuntime) -> Result<(), Fail> {
-    assert_eq!(rt; others(rt.alloc(), Table::Demands)?.as_str(), "");
-    Ok(())
-}
-
-#[test]
-fn records_of_units(rt: HostRuntime) -> Result<(), Fail> {
-    assert_eq!(rt; others(rt.alloc(), Table::Records)?.as_str(), "");
     Ok(())
 }
