@@ -4,6 +4,12 @@ use plan_types::{Boxed, Cond, List, NoMemory, Range, Text, Version};
 use std::alloc::Global;
 use std::test::Fail;
 
+// A chain, and whether it has a version and its copy does, or that it is copied and given up.
+pub(crate) const CASES: &str = "\
+ranges => true true
+conditions => copied
+";
+
 fn both(alloc: Global, left: Range, right: Range) -> Result<Range, NoMemory> {
     let left = Boxed::new(alloc, left)?;
     let right = Boxed::new(alloc, right)?;
@@ -23,53 +29,48 @@ fn ranges(alloc: Global) -> Result<Range, NoMemory> {
     Ok(range)
 }
 
-#[test]
-fn a_chain_of_ranges(rt: HostRuntime) -> Result<(), Fail> {
-    let alloc = rt.alloc();
+fn asked_ranges(alloc: Global) -> Result<String, Fail> {
     let version = version(alloc)?;
     let range = ranges(alloc)?;
     let copied = range.copy(alloc)?;
-    assert!(rt; range.has(&version));
+    let before = range.has(&version);
     drop(range);
-    assert!(rt; copied.has(&version));
-    Ok(())
+    let after = copied.has(&version);
+    Ok(format!(in alloc; "{before} {after}")?)
 }
 
-fn not(alloc: Global, inner: Cond) -> Result<Cond, NoMemory> {
-    let inner = Boxed::new(alloc, inner)?;
-    Ok(Cond::Not(inner))
-}
-
-fn and(alloc: Global, left: Cond, right: Cond) -> Result<Cond, NoMemory> {
-    let left = Boxed::new(alloc, left)?;
-    let right = Boxed::new(alloc, right)?;
-    Ok(Cond::And(left, right))
-}
-
-fn or(alloc: Global, left: Cond, right: Cond) -> Result<Cond, NoMemory> {
-    let left = Boxed::new(alloc, left)?;
-    let right = Boxed::new(alloc, right)?;
-    Ok(Cond::Or(left, right))
+fn longer(alloc: Global, turn: u32, cond: Cond) -> Result<Cond, NoMemory> {
+    let inner = Boxed::new(alloc, cond)?;
+    if turn % 3 == 0 {
+        return Ok(Cond::Not(inner));
+    }
+    let right = Boxed::new(alloc, Cond::Always)?;
+    if turn % 3 == 1 {
+        return Ok(Cond::And(inner, right));
+    }
+    Ok(Cond::Or(inner, right))
 }
 
 fn conditions(alloc: Global) -> Result<Cond, NoMemory> {
     let mut cond = Cond::Flag(Text::from_str(alloc, "a")?);
     for turn in 0..300_000_u32 {
-        cond = match turn % 3 {
-            0 => not(alloc, cond)?,
-            1 => and(alloc, cond, Cond::Always)?,
-            _ => or(alloc, cond, Cond::Always)?,
-        };
+        cond = longer(alloc, turn, cond)?;
     }
     Ok(cond)
 }
 
-#[test]
-fn a_chain_of_conditions(rt: HostRuntime) -> Result<(), Fail> {
-    let alloc = rt.alloc();
+fn copied_conditions(alloc: Global) -> Result<String, Fail> {
     let cond = conditions(alloc)?;
     let copied = cond.copy(alloc)?;
     drop(cond);
     drop(copied);
-    Ok(())
+    Ok(String::from_str(alloc, "copied")?)
+}
+
+pub(crate) fn answer(alloc: Global, case: &str) -> Result<String, Fail> {
+    if case == "ranges" {
+        asked_ranges(alloc)
+    } else {
+        copied_conditions(alloc)
+    }
 }
