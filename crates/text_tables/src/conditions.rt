@@ -30,6 +30,7 @@ read 2.4 impl(GHC) => Ok(Impl(ghc, Any))\n\
 read 2.4 impl( ghc-any ) => Ok(Impl(ghc, Any))\n\
 read 2.4 impl(ghc >=9.2 && (<10 || ==11.*)) => Ok(Impl(ghc, Both(AtLeast([9, 2]), Either(Below([10]), Prefix([11])))))\n\
 read 2.4 impl(9>=9) => Ok(Impl(9, AtLeast([9])))\n\
+read 3.4 impl(ghc =={9,10}) => Ok(Impl(ghc, Either(Equal([9]), Equal([10]))))\n\
 read 3.0 impl(ghc =={9,10}) => Ok(Impl(ghc, Either(Equal([9]), Equal([10]))))\n\
 read 2.4 impl(ghc =={9,10}) => Err(Bad(NeedsVersion))\n\
 read 2.4 impl(ghc{ => Err(Bad(NeedsVersion))\n\

@@ -1,10 +1,7 @@
 use crate::shared::{environment, shown};
 use conditionals::read_cond;
 use flatten::{demands_of, exposed};
-use plan_types::{
-    Cause, CompKind, Component, Dep, DepKind, Description, Env, FlatDep, GuardedDep, LibName, List,
-    NoMemory, PartName, Range, Spec, Text, TextFault, Version,
-};
+use plan_types::{Cause, CompKind, Component, Dep, DepKind, Description, Env, FlatDep, GuardedDep, LibName, List, NoMemory, PartName, Range, Shared, Spec, Text, TextFault, Version};
 use std::alloc::Global;
 use std::test::Fail;
 
@@ -47,6 +44,7 @@ fn dependency(alloc: Global, line: u32, text: &str) -> Result<GuardedDep, TextFa
         internal: name.starts_with('='),
     };
     let when = read_cond(alloc, when.as_bytes(), Spec::V3_0)?;
+    let when = Shared::new(alloc, when)?;
     Ok(GuardedDep { when, dep })
 }
 
@@ -57,6 +55,7 @@ fn component(alloc: Global, line: u32, text: &str) -> Result<Component, TextFaul
     let Some((kind, name)) = head.split_once(' ') else {
         return Err(TextFault::Bad(Cause::BadField));
     };
+    let buildable = read_cond(alloc, buildable.as_bytes(), Spec::V3_0)?;
     Ok(Component {
         line,
         kind: match kind {
@@ -68,7 +67,7 @@ fn component(alloc: Global, line: u32, text: &str) -> Result<Component, TextFaul
         },
         name: Text::from_str(alloc, if name == "-" { "" } else { name })?,
         public: kind == "public",
-        buildable: read_cond(alloc, buildable.as_bytes(), Spec::V3_0)?,
+        buildable: Shared::new(alloc, buildable)?,
         deps: List::new(alloc),
     })
 }

@@ -4,7 +4,7 @@ use plan_types::{DepKind, Spec};
 use std::alloc::Global;
 use std::test::Fail;
 
-// The call, with `old` for dependencies in 2.4 and `new` in 3.0; a text; what it stands for, or its fault.
+// The call, with `old` for dependencies in 2.4, `new` in 3.0 and `newest` in 3.4; a text; what it stands for, or its fault.
 pub const CASES: &str = "\
 new  => Ok([])\n\
 new , => Ok([])\n\
@@ -22,6 +22,8 @@ new a:{a,} => Err(Bad(BadDepend))\n\
 new a:{a => Err(Bad(BadDepend))\n\
 new a =={1,2}, b => Ok([Dep { line: 7, kind: Setup, package: a, libs: [Main], exe: , range: Either(Equal([1]), Equal([2])), internal: false }, Dep { line: 7, kind: Setup, package: b, libs: [Main], exe: , range: Any, internal: false }])\n\
 new a >=1 x, 1 => Err(Bad(BadRange))\n\
+newest a:sub =={1,2} => Ok([Dep { line: 7, kind: Library, package: a, libs: [Named(sub)], exe: , range: Either(Equal([1]), Equal([2])), internal: false }])\n\
+newest a: sub => Err(Bad(BadDepend))\n\
 old a:sub => Err(Bad(NeedsVersion))\n\
 old a:{a => Err(Bad(NeedsVersion))\n\
 old a: => Err(Bad(BadDepend))\n\
@@ -62,6 +64,10 @@ pub fn answer(alloc: Global, case: &str) -> Result<String, Fail> {
         "tool" => shown(alloc, &read_tools(alloc, bytes, 7, Spec::V3_0)),
         "old" => {
             let deps = read_depends(alloc, bytes, 7, DepKind::Library, Spec::V2_4);
+            shown(alloc, &deps)
+        }
+        "newest" => {
+            let deps = read_depends(alloc, bytes, 7, DepKind::Library, Spec::V3_4);
             shown(alloc, &deps)
         }
         _ => {

@@ -9,7 +9,7 @@ use std::test::Fail;
 pub const CASES: &str = "\
 read  => At { line: 0, cause: MissingField }\n\
 read name: main;cabal-version: 2.4 => At { line: 0, cause: MissingField }\n\
-read cabal-version: 3.4;name: - => At { line: 1, cause: WrongCabalVersion }\n\
+read cabal-version: 3.6;name: - => At { line: 1, cause: WrongCabalVersion }\n\
 read cabal-version: 2.4;version: 1 => At { line: 0, cause: MissingField }\n\
 read cabal-version: 2.4;version: 01 => At { line: 2, cause: BadVersion }\n\
 read cabal-version: 2.4;name: main;version: 1;library;  import: s => At { line: 5, cause: UnknownStanza }\n\
@@ -24,6 +24,10 @@ read cabal-version: 3.0;name: main;version: 1;library a;  build-depends: b;libra
 read cabal-version: 3.0;name: main;version: 1;common c;  visibility: x;library;  import: c => \n\
 read cabal-version: 3.0;name: main;version: 1;common c;  visibility: x;library a;  import: c => At { line: 5, cause: BadField }\n\
 read cabal-version: 2.4;name: main;version: 1;library a;executable b;  build-depends: a, c => main Always c Always\n\
+read cabal-version: 3.4;name: main;version: 1;library a;executable b;  build-depends: a, main:a => a Always main Always\n\
+read cabal-version: 3.4;name: main;version: 1;library a;executable b;  build-depends: main:{a,main} => At { line: 6, cause: UnknownComponent }\n\
+read cabal-version: 3.0;name: main;version: 1;library a;library c;executable b;  build-depends: a:{a, a}, a:{a, c} => main Always a Always\n\
+read cabal-version: 3.0;version: 1;name: main;library;  build-depends: main:lost;name: - => At { line: 6, cause: BadName }\n\
 doubled 40 => NoMemory\n";
 
 fn described(alloc: Global, text: &str) -> Result<Description, Fault> {
@@ -39,7 +43,7 @@ fn deps_of(alloc: Global, description: &Description) -> Result<String, Fail> {
     for component in description.components.as_slice() {
         for guarded in component.deps.as_slice() {
             let gap = if text.is_empty() { "" } else { " " };
-            let (name, when) = (guarded.dep.package.as_str(), &guarded.when);
+            let (name, when) = (guarded.dep.package.as_str(), guarded.when.get());
             write!(&mut text, "{gap}{name} {when:?}")?;
         }
     }

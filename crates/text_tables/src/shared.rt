@@ -17,10 +17,10 @@ pub fn environment(alloc: Global) -> Result<Env, NoMemory> {
 }
 
 pub fn spec_of(word: &str) -> Spec {
-    if word == "2.4" {
-        Spec::V2_4
-    } else {
-        Spec::V3_0
+    match word {
+        "2.4" => Spec::V2_4,
+        "3.0" => Spec::V3_0,
+        _ => Spec::V3_4,
     }
 }
 
@@ -31,6 +31,7 @@ pub fn shown<T: Debug>(alloc: Global, value: &T) -> Result<String, Fail> {
     let text = text.as_str().replace(alloc, "List { items: ", "\u{1}")?;
     let text = text.as_str().replace(alloc, "Version { parts: ", "\u{1}")?;
     let text = text.as_str().replace(alloc, "Boxed { inner: ", "\u{1}")?;
+    let text = text.as_str().replace(alloc, "Shared { inner: ", "\u{1}")?;
     bare(alloc, text.as_str())
 }
 

@@ -1,6 +1,7 @@
-use crate::calls::{answered, others};
-use outside_folder::RealFolder;
+use crate::calls::answered;
+use outside_folder::{Folder, RealFolder, RealSink, write_all};
 use plan_types::Text;
+use std::alloc::Global;
 use std::os::unix::fs::symlink;
 use std::test::Fail;
 use std::{env, fs, process};
@@ -24,7 +25,7 @@ read ./d => none
 
 // Two directories, two files at the limit and a link that leads nowhere.
 fn made(rt: &HostRuntime) -> Result<Text, Fail> {
-    let name = format!(in rt.alloc(); "folder-tables-{}", process::id(rt.process()))?;
+    let name = format!(in rt.alloc(); "base-tables-{}", process::id(rt.process()))?;
     let root = env::temp_dir(rt)?.join(rt.alloc(), name.as_str())?;
     fs::create_dir_all(rt, root.join(rt.alloc(), "b/empty")?.as_path())?;
     fs::write(rt, root.join(rt.alloc(), "b/c")?.as_path(), "the bytes")?;
@@ -35,14 +36,34 @@ fn made(rt: &HostRuntime) -> Result<Text, Fail> {
     Ok(Text::from_str(rt.alloc(), root.as_str())?)
 }
 
+// The calls with another answer, and what they answer.
+fn others<F: Folder>(alloc: Global, folder: &mut F) -> Result<String, Fail> {
+    let mut others = String::new(alloc);
+    for line in CALLS.lines() {
+        let (call, wanted) = line.split_once(" => ").ok_or("no answer")?;
+        let found = answered(alloc, folder, call)?;
+        if found.as_str() != wanted {
+            write!(&mut others, "{call} => {found}\n")?;
+        }
+    }
+    Ok(others)
+}
+
+fn is_printed(rt: &HostRuntime, text: &str) -> bool {
+    let mut sink = RealSink::new(rt);
+    write_all(&mut sink, text.as_bytes()).is_ok()
+}
+
 #[test]
-fn lists_and_reads_a_folder(rt: HostRuntime) -> Result<(), Fail> {
+fn a_folder_and_standard_output(rt: HostRuntime) -> Result<(), Fail> {
     let alloc = rt.alloc();
     let root = made(&rt)?;
     let mut folder = RealFolder::new(&rt, root.copy()?);
-    let found = others(alloc, &mut folder, CALLS)?;
+    let found = others(alloc, &mut folder)?;
     fs::remove_dir_all(&rt, root.as_str())?;
     assert_eq!(rt; found.as_str(), "");
     assert_eq!(rt; answered(alloc, &mut folder, "list ./")?.as_str(), "Failed");
+    assert!(rt; is_printed(&rt, ""));
+    assert!(rt; is_printed(&rt, "a line of the test\n"));
     Ok(())
 }

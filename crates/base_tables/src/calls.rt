@@ -4,8 +4,12 @@ use outside_folder::{Folder, Name};
 use std::alloc::Global;
 use std::test::Fail;
 
-// The names, with a `/` behind those of directories.
+// The names, with a `/` behind those of directories, or how many there are of many.
 fn shown_names(alloc: Global, names: &[Name]) -> Result<String, Fail> {
+    let count = names.len();
+    if count > 100 {
+        return Ok(format!(in alloc; "{count} names")?);
+    }
     let mut line = String::from_str(alloc, "names")?;
     for name in names {
         line.push_str(" ")?;
@@ -52,22 +56,4 @@ pub(crate) fn answered<F: Folder>(
     } else {
         read(alloc, folder, path)
     }
-}
-
-/// Of calls and answers, a line each, the calls with another answer, and what they answer.
-pub(crate) fn others<F: Folder>(
-    alloc: Global,
-    folder: &mut F,
-    calls: &str,
-) -> Result<String, Fail> {
-    let mut others = String::new(alloc);
-    for line in calls.lines() {
-        let (call, wanted) = line.split_once(" => ").ok_or("no answer")?;
-        let found = answered(alloc, folder, call)?;
-        if found.as_str() != wanted {
-            let other = format!(in alloc; "{call} => {found}\n")?;
-            others.push_str(other.as_str())?;
-        }
-    }
-    Ok(others)
 }

@@ -1,11 +1,11 @@
-use outside_folder::{MemSink, RealSink, write_all};
+use outside_folder::{MemSink, write_all};
 use plan_types::List;
 use std::alloc::Global;
 use std::test::Fail;
 
 // The room, the most bytes of a write, and the write that fails; whether all of two lines is written, and what is left in
 // the sink, with `;` for the end of a line.
-const CASES: &str = "\
+pub(crate) const CASES: &str = "\
 100 100 9 => all [plan;choose main 1 local;]
 26 1 27 => all [plan;choose main 1 local;]
 100 10 3 => cut [plan;choose main 1 l]
@@ -32,25 +32,8 @@ fn shown(alloc: Global, whole: bool, bytes: &[u8]) -> Result<String, Fail> {
     Ok(format!(in alloc; "{written} [{left}]")?)
 }
 
-fn answered(alloc: Global, line: &str) -> Result<String, Fail> {
-    let mut sink = sink(alloc, line)?;
+pub(crate) fn answer(alloc: Global, case: &str) -> Result<String, Fail> {
+    let mut sink = sink(alloc, case)?;
     let written = write_all(&mut sink, LINES.as_bytes());
     shown(alloc, written.is_ok(), sink.bytes())
-}
-
-#[test]
-fn pieces_until_it_fails(rt: HostRuntime) -> Result<(), Fail> {
-    let alloc = rt.alloc();
-    for line in CASES.lines() {
-        let (sizes, wanted) = line.split_once(" => ").ok_or("no answer")?;
-        assert_eq!(rt; answered(alloc, sizes)?.as_str(), wanted, "{line}");
-    }
-    Ok(())
-}
-
-#[test]
-fn standard_output(rt: HostRuntime) {
-    let mut sink = RealSink::new(&rt);
-    assert_eq!(rt; write_all(&mut sink, b""), Ok(()));
-    assert_eq!(rt; write_all(&mut sink, b"a line of the test\n"), Ok(()));
 }

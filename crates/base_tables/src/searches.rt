@@ -10,13 +10,14 @@ use std::marker::Brand;
 use std::sync::ledger::{Blank, Ledger};
 use std::test::Fail;
 
-// A problem, the limit, and the outcome.
+// A problem, the limit, and the outcome. `ends` and the numbers of packages: whether the search of the five ends with their set.
+// `asked`: the outcome of the five, where it asks at most 17 questions for orders and 20 for demands.
 //
 // In the third the packages are, in goal order, a, b, c, main, and one without values. The package main asks for b and c;
 // b's value 1 asks for c's value 0, which asks for the fifth; b's value 0 asks for a. The next is a problem to which those
 // behind it add a word that breaks a law: a variable that is listed twice, an order that is no permutation, a root of what
 // isn't listed, a root with a condition, a demand without one, and a condition on two packages.
-const CASES: &str = "\
+pub(crate) const CASES: &str = "\
 - => unlimited => found; visited 0 exhausted 0
 0: >>0: => unlimited => no plan 0; visited 0 exhausted 1
 0:10 1:10 2:10 3:0 4: >>3:0 3.0>1:01 3.0>2:01 1.1>2:0 1.0>0:01 2.0>4: => unlimited => found 3.0 1.0 0.1 2.1; visited 7 exhausted 2
@@ -27,6 +28,12 @@ const CASES: &str = "\
 0:0 1:012/2 2:0 >>0:0 0.0>1:02 0.0>2:0 2.0>1: 0.0>>1:0 => unlimited => refused
 0:0 1:012/2 2:0 >>0:0 0.0>1:02 0.0>2:0 2.0>1: >1:0 => unlimited => refused
 0:0 1:012/2 2:0 >>0:0 0.0>1:02 0.0>2:0 2.0>1: 0.0,1.0>2:0 => unlimited => refused
+thirty => unlimited => no plan 0 1 31; visited 125 exhausted 6
+thirty => 5 => no plan 0 1 31; visited 125 exhausted 6
+thirty => 4 => gave up; visited 125 exhausted 4
+ends 4 0 4 => true
+ends 4 1 => false
+asked => no plan 0 4; visited 20 exhausted 5; few questions
 ";
 
 // The package 0 asks for 1 to 30, which have four values each, and for 31, whose one value allows none of 1's.
@@ -39,13 +46,6 @@ const THIRTY: &str = "\
 0.0>11:0123 0.0>12:0123 0.0>13:0123 0.0>14:0123 0.0>15:0123 0.0>16:0123 0.0>17:0123 0.0>18:0123 0.0>19:0123 0.0>20:0123 \
 0.0>21:0123 0.0>22:0123 0.0>23:0123 0.0>24:0123 0.0>25:0123 0.0>26:0123 0.0>27:0123 0.0>28:0123 0.0>29:0123 0.0>30:0123 \
 31:0 0.0>31:0 31.0>1:";
-
-// A limit, and the outcome for the thirty.
-const LIMITS: &str = "\
-unlimited => no plan 0 1 31; visited 125 exhausted 6
-5 => no plan 0 1 31; visited 125 exhausted 6
-4 => gave up; visited 125 exhausted 4
-";
 
 // Four packages, and a fifth that allows no value of the first.
 const FIVE: &str =
@@ -79,30 +79,26 @@ fn push_trail(text: &mut String, trail: &[Choice]) -> Result<(), NoMemory> {
     Ok(())
 }
 
-fn push_counts(text: &mut String, counts: Counts) -> Result<(), NoMemory> {
-    let Counts { visited, exhausted } = counts;
-    write!(text, "; visited {visited} exhausted {exhausted}")?;
-    Ok(())
-}
-
 fn shown(alloc: Global, outcome: &Outcome) -> Result<String, NoMemory> {
     let mut text = String::new(alloc);
-    match outcome {
+    let counts = match outcome {
         Outcome::Found { trail, counts } => {
             text.push_str("found")?;
             push_trail(&mut text, trail.as_slice())?;
-            push_counts(&mut text, *counts)?;
+            counts
         }
         Outcome::NoPlan { set, counts } => {
             text.push_str("no plan")?;
             push_names(&mut text, set.vars())?;
-            push_counts(&mut text, *counts)?;
+            counts
         }
         Outcome::GaveUp { counts } => {
             text.push_str("gave up")?;
-            push_counts(&mut text, *counts)?;
+            counts
         }
-    }
+    };
+    let Counts { visited, exhausted } = *counts;
+    write!(&mut text, "; visited {visited} exhausted {exhausted}")?;
     Ok(text)
 }
 
@@ -121,61 +117,24 @@ fn outcome_at(alloc: Global, line: &str, limit: &str) -> Result<String, Fail> {
     Ok(shown(alloc, &outcome)?)
 }
 
-fn answered(alloc: Global, asked: &str) -> Result<String, Fail> {
-    let (line, limit) = asked.split_once(" => ").ok_or("no limit")?;
-    outcome_at(alloc, line, limit)
-}
-
-#[test]
-fn outcomes(rt: HostRuntime) -> Result<(), Fail> {
-    let alloc = rt.alloc();
-    for line in CASES.lines() {
-        let (asked, wanted) = line.rsplit_once(" => ").ok_or("no answer")?;
-        assert_eq!(rt; answered(alloc, asked)?.as_str(), wanted, "{line}");
-    }
-    Ok(())
-}
-
-#[test]
-fn outcomes_at_limits(rt: HostRuntime) -> Result<(), Fail> {
-    let alloc = rt.alloc();
-    for line in LIMITS.lines() {
-        let (limit, wanted) = line.split_once(" => ").ok_or("no answer")?;
-        assert_eq!(rt;
-            outcome_at(alloc, THIRTY, limit)?.as_str(),
-            wanted,
-            "{line}"
-        );
-    }
-    Ok(())
-}
-
-fn no_plan(alloc: Global, numbers: &[u64], counts: Counts) -> Result<Outcome, NoMemory> {
+fn no_plan(alloc: Global, numbers: &str) -> Result<Outcome, Fail> {
     let mut vars = Vec::new(alloc);
-    for number in numbers {
-        vars.push(package(*number))?;
+    for number in numbers.split(' ') {
+        vars.push(package(number.parse::<u64>()?))?;
     }
     let set = ConflictSet::of(alloc, vars.as_slice())?;
-    Ok(Outcome::NoPlan { set, counts })
-}
-
-// Whether the search of the five ends with the set of these packages.
-fn ends(alloc: Global, numbers: &[u64]) -> Result<bool, Fail> {
-    let problem = problem(alloc, FIVE)?.ok_or("refused")?;
-    let outcome = searched(alloc, &problem, Limit::Unlimited)?;
     let counts = Counts {
         visited: 20,
         exhausted: 5,
     };
-    Ok(outcome == no_plan(alloc, numbers, counts)?)
+    Ok(Outcome::NoPlan { set, counts })
 }
 
-// Outcomes are the same where sets and counts are.
-#[test]
-fn same_outcomes(rt: HostRuntime) -> Result<(), Fail> {
-    assert!(rt; ends(rt.alloc(), &[4, 0, 4])?);
-    assert!(rt; !ends(rt.alloc(), &[4, 1])?);
-    Ok(())
+fn ends(alloc: Global, numbers: &str) -> Result<String, Fail> {
+    let problem = problem(alloc, FIVE)?.ok_or("refused")?;
+    let outcome = searched(alloc, &problem, Limit::Unlimited)?;
+    let is_same = outcome == no_plan(alloc, numbers)?;
+    Ok(format!(in alloc; "{is_same}")?)
 }
 
 // A problem that counts two of the questions that it is asked.
@@ -230,13 +189,24 @@ fn questions<C: Choices + Drop>(alloc: Global, choices: C) -> Result<(String, u6
     Ok((text, asked.orders.get(), asked.demands.get()))
 }
 
-#[test]
-fn asks_few_questions(rt: HostRuntime) -> Result<(), Fail> {
-    let alloc = rt.alloc();
+fn questioned(alloc: Global) -> Result<String, Fail> {
     let problem = problem(alloc, FIVE)?.ok_or("refused")?;
     let (outcome, orders, demands) = questions(alloc, problem)?;
-    assert_eq!(rt; outcome.as_str(), "no plan 0 4; visited 20 exhausted 5");
-    assert!(rt; orders <= 17);
-    assert!(rt; demands <= 20);
-    Ok(())
+    let amount = if orders <= 17 && demands <= 20 {
+        "few"
+    } else {
+        "many"
+    };
+    Ok(format!(in alloc; "{outcome}; {amount} questions")?)
+}
+
+pub(crate) fn answer(alloc: Global, case: &str) -> Result<String, Fail> {
+    if let Some((line, limit)) = case.split_once(" => ") {
+        let line = if line == "thirty" { THIRTY } else { line };
+        return outcome_at(alloc, line, limit);
+    }
+    match case.strip_prefix("ends ") {
+        Some(numbers) => ends(alloc, numbers),
+        None => questioned(alloc),
+    }
 }

@@ -13,19 +13,20 @@ use std::test::Fail;
 use validation::{State, Verdict};
 
 // A problem, the moves, and what is answered to each. A digit tries that value of the least open variable, `<` takes the
-// last choice back, and `?` asks what is open.
+// last choice back, and `?` asks what is open. `often`: moves that are made a thousand times in the first problem, and others.
 //
 // The first has a bar, an active demand that refuses the value, and one that becomes active and is broken. The next three
 // are rings of packages, of which the first also asks for one that is on no cycle. The set of the cycle in the fifth has
 // the flag in its condition, and with the flag off there is none. In the last, what became active first is the reason, and
 // refuses first, wherever its owner stands.
-const CASES: &str = "\
+pub(crate) const CASES: &str = "\
 0:0 1:012/2 2:0 >>0:0 0.0>1:02 0.0>2:0 2.0>1: => ?0?210?0<? => 0 by; ok; 1 by 0; not 1; not 0 1; ok; 2 by 0; not 1 2; back; 1 by 0
 0:0 9:0 >>0:0 0.0>0:0 0.0>9:0 => 0? => not 0; 0 by
 0:0 1:0 9:0 >>0:0 0.0>1:0 1.0>0:0 0.0>9:0 => 00? => ok; not 0 1; 1 by 0
 0:0 1:0 2:0 9:0 >>0:0 0.0>1:0 1.0>2:0 2.0>0:0 0.0>9:0 => 000?<? => ok; ok; not 0 1 2; 2 by 1; back; 1 by 0
 0:0 1:0 1f:10 3:0 >>0:0 0.0>1:0 0.0>3:0 1.0>1f:01 1.0,1f.1>0:0 => 001?0? => ok; ok; not 0 1 1f; 1f by 1; ok; 3 by 0
 3:0 5:0 5f:10 7:10 >>5:0 5.0>5f:01 5.0,5f.1>7:0 5.0>3:0 3.0>7:0 => 0?0?1?10?<?<0? => ok; 3 by 5; ok; 5f by 5; ok; 7 by 3; not 3 7; ok; all; back; 7 by 3; back; ok; 7 by 3
+often 0< ? => ok; back, 1000 times; 0 by
 ";
 
 // The first of them.
@@ -59,19 +60,14 @@ fn tried<C: Choices, L: Ledger>(
 }
 
 // Takes the last choice back, where there is one.
-fn undone(state: &mut State) -> bool
+fn undone(state: &mut State) -> &'static str
     ensures { (p : Problem) → Stands p state.old → Stands p state.new }
 {
     if state.trail().is_empty() {
-        return false;
+        return "none";
     }
     state.undo();
-    true
-}
-
-fn push_undone(text: &mut String, undone: bool) -> Result<(), NoMemory> {
-    text.push_str(if undone { "back" } else { "none" })?;
-    Ok(())
+    "back"
 }
 
 fn push_verdict(text: &mut String, verdict: &Option<Verdict>) -> Result<(), NoMemory> {
@@ -98,13 +94,6 @@ fn push_open(alloc: Global, text: &mut String, state: &State) -> Result<(), NoMe
     push_names(text, reason.vars())
 }
 
-fn push_gap(text: &mut String) -> Result<(), NoMemory> {
-    if !text.is_empty() {
-        text.push_str("; ")?;
-    }
-    Ok(())
-}
-
 fn made<C: Choices, L: Ledger>(
     alloc: Global,
     choices: &C,
@@ -116,9 +105,9 @@ fn made<C: Choices, L: Ledger>(
     requires { Stands (C.problem choices.now) state.old }
     ensures { Stands (C.problem choices.now) state.new }
 {
-    push_gap(text)?;
+    text.push_str("; ")?;
     match byte {
-        b'<' => push_undone(text, undone(state)),
+        b'<' => Ok(text.push_str(undone(state))?),
         b'?' => push_open(alloc, text, state),
         _ => {
             let verdict = tried(alloc, choices, state, u64::from(byte & 15), steps)?;
@@ -155,29 +144,26 @@ fn answers_of(alloc: Global, line: &str, moves: &str) -> Result<String, Fail> {
     Ok(answers(alloc, &problem, moves)?)
 }
 
-fn answered(alloc: Global, asked: &str) -> Result<String, Fail> {
-    let (line, moves) = asked.split_once(" => ").ok_or("no moves")?;
-    answers_of(alloc, line, moves)
-}
-
-#[test]
-fn conflicts_and_reasons(rt: HostRuntime) -> Result<(), Fail> {
-    let alloc = rt.alloc();
-    for line in CASES.lines() {
-        let (asked, wanted) = line.rsplit_once(" => ").ok_or("no answer")?;
-        assert_eq!(rt; answered(alloc, asked)?.as_str(), wanted, "{line}");
-    }
-    Ok(())
-}
-
-#[test]
-fn a_thousand_choices_on_one_state(rt: HostRuntime) -> Result<(), Fail> {
-    let alloc = rt.alloc();
-    let mut moves = "0<".repeat(alloc, 1000)?;
-    moves.push_str("?")?;
-    let mut wanted = "ok; back; ".repeat(alloc, 1000)?;
-    wanted.push_str("0 by")?;
+fn often(alloc: Global, moves: &str) -> Result<String, Fail> {
+    let (often, last) = moves.split_once(' ').ok_or("no last move")?;
+    let mut moves = often.repeat(alloc, 1000)?;
+    moves.push_str(last)?;
     let found = answers_of(alloc, FIRST, moves.as_str())?;
-    assert_eq!(rt; found.as_str(), wanted.as_str());
-    Ok(())
+    let wanted = "; ok; back".repeat(alloc, 1000)?;
+    Ok(
+        found
+            .as_str()
+            .replace(alloc, wanted.as_str(), "; ok; back, 1000 times")?,
+    )
+}
+
+pub(crate) fn answer(alloc: Global, case: &str) -> Result<String, Fail> {
+    let found = match case.strip_prefix("often ") {
+        Some(moves) => often(alloc, moves)?,
+        None => {
+            let (line, moves) = case.split_once(" => ").ok_or("no moves")?;
+            answers_of(alloc, line, moves)?
+        }
+    };
+    Ok(String::from_str(alloc, found.as_str().trim_start_matches("; "))?)
 }
