@@ -186,7 +186,11 @@ fn of_branch(
     earlier(condition, place)
 }
 
-fn of_condition(line: u32, condition: &Result<Shared<Cond>, Cause>, declared: &Declared) -> Option<At>
+fn of_condition(
+    line: u32,
+    condition: &Result<Shared<Cond>, Cause>,
+    declared: &Declared,
+) -> Option<At>
     ensures { (file : File) → Tells declared.now file → result ≡ first (at line (of_condition file.sections condition.now)) }
 {
     match condition {

@@ -44,11 +44,7 @@ pub fn read_description(
     described_items(alloc, items, digest)
 }
 
-fn described_items(
-    alloc: Global,
-    items: &List<Element>,
-    digest: Text,
-) -> Result<Description, Fault>
+fn described_items(alloc: Global, items: &List<Element>, digest: Text) -> Result<Description, Fault>
     ensures description { IfOk result (λ d. Describes items.now digest (Ok d)) }
     ensures fault { IfErr result (RefusesAt (λ line cause. Describes items.now digest (Err (is_at line cause)))) }
 {

@@ -120,10 +120,7 @@ pub fn own_condition(
     shared(alloc, read)
 }
 
-fn shared(
-    alloc: Global,
-    read: Result<Cond, Cause>,
-) -> Result<Result<Shared<Cond>, Cause>, NoMemory>
+fn shared(alloc: Global, read: Result<Cond, Cause>) -> Result<Result<Shared<Cond>, Cause>, NoMemory>
     ensures { IfOk result (λ found. found ≡ read) }
 {
     match read {

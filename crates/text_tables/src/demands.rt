@@ -1,7 +1,10 @@
 use crate::shared::{environment, shown};
 use conditionals::read_cond;
 use flatten::{demands_of, exposed};
-use plan_types::{Cause, CompKind, Component, Dep, DepKind, Description, Env, FlatDep, GuardedDep, LibName, List, NoMemory, PartName, Range, Shared, Spec, Text, TextFault, Version};
+use plan_types::{
+    Cause, CompKind, Component, Dep, DepKind, Description, Env, FlatDep, GuardedDep, LibName, List,
+    NoMemory, PartName, Range, Shared, Spec, Text, TextFault, Version,
+};
 use std::alloc::Global;
 use std::test::Fail;
 
