@@ -3,7 +3,7 @@ use Rattle.std.proofs.Common.{◌≡◌, ℕ, ◌+◌, ◌<◌, ◌≤◌, Bool,
 use Rattle.std.specs.Prelude.{◌==◌}
 use Rattle.std.proofs.lemmas.Bool.{and_from, true≢false, eqb-true}
 use Rattle.std.proofs.lemmas.List.{take_more, take_all, map-append}
-use Rattle.depend_text.specs.Entries.{depth_behind, left_open, commas_inside, Pieces, last, joined, are_blanks, without_last}
+use Rattle.depend_text.specs.Entries.{depth_behind, left_open, commas_inside, Pieces, joined, are_blanks, without_last}
 
 pub open_push : (depth : ℕ) (text : List ℕ) (b : ℕ) → left_open depth (text ++ b ∷ []) ≡ depth_behind (left_open depth text) b
 open_push depth [] b = refl

@@ -4,7 +4,6 @@ use Rattle.std.specs.Prelude.{Option, Some}
 use Rattle.std.specs.declared.result.Result.TheVariants.{Err}
 use Rattle.plan_types.specs.declared.description.Component.{Component}
 use Rattle.plan_types.specs.declared.description.Description.{Description}
-use Rattle.plan_types.specs.declared.range.Spec.{Spec}
 use Rattle.plan_types.specs.declared.refusal.Cause.TheVariants.{ComponentCycle}
 use Rattle.plan_types.specs.declared.version.Version.{Version}
 use Rattle.component_cycle.specs.Cycle.{IsFirstOnCycle}

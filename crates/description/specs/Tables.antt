@@ -1,7 +1,6 @@
 -- What the tables of the code stand for.
 use Rattle.std.specs.Prelude.{◌≡◌, ℕ, Bool, List, map, flat_map, Option, None, Some}
 use Rattle.std.specs.Borrow.{Bor}
-use Rattle.plan_types.specs.declared.refusal.Cause.{Cause}
 use Rattle.plan_types.specs.declared.version.Version.{Version}
 use Rattle.description_parts.specs.declared.part.File.{File}
 use Rattle.description_parts.specs.declared.part.Section.{Section}
@@ -11,7 +10,6 @@ use Rattle.description.specs.Names.{has}
 use Rattle.description.specs.Standing.{built_component, shown_in, table}
 use Rattle.description_parts.specs.declared.part.SectionKind.{SectionKind}
 use Rattle.description.specs.declared.declarations.Declared.{Declared}
-use Rattle.description.specs.declared.first.At.{At}
 use Rattle.description.specs.declared.stanzas.Bodies.{Bodies}
 use Rattle.description.specs.declared.declarations.Declares.{Declares}
 use Rattle.description.specs.declared.declarations.Declares.TheVariants.{Flag, Library, Executable}

@@ -1,5 +1,4 @@
-use Rattle.std.proofs.Common.{true, ◌∙◌, sym, refl}
-use Rattle.plan_types.specs.Name.{is_package_name}
+use Rattle.std.proofs.Common.{◌∙◌, sym, refl}
 use Rattle.depend_text.specs.Relaxes.{Owner}
 use Rattle.depend_text.proofs.Fits.{ok_so, fault_so}
 use Rattle.depend_text.proofs.OneRelax.{star_text, not_star, bad_owner}

@@ -1,8 +1,6 @@
-use Rattle.std.proofs.Common.{◌≡◌, ℕ, List, ◌++◌, drop, map}
-use Rattle.std.specs.Prelude.{Option}
+use Rattle.std.proofs.Common.{◌≡◌, ◌++◌, drop, map}
 use Rattle.plan_types.specs.declared.description.Component.{Component}
 use Rattle.description_parts.specs.declared.part.File.{File}
-use Rattle.description_parts.specs.declared.part.Section.{Section}
 use Rattle.description.specs.Components.{component}
 use Rattle.description.specs.Standing.{built_component, table}
 use Rattle.description.specs.Tables.{Tells}

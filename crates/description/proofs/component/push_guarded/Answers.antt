@@ -1,6 +1,5 @@
 use Rattle.std.proofs.Common.{arith}
 use Rattle.plan_types.specs.declared.dependency.Dep.{Dep}
-use Rattle.description_parts.specs.Branch.{all_of}
 use Rattle.description.specs.Declarations.{meant}
 use Rattle.description.proofs.Pushed.{one_pushed, all_pushed}
 use Rattle.description.proofs.component.push_guarded.Goals as goal

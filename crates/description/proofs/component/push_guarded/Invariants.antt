@@ -1,10 +1,7 @@
-use Rattle.std.proofs.Common.{◌≡◌, ℕ, List, ◌++◌, drop, map}
-use Rattle.std.specs.Prelude.{Option}
+use Rattle.std.proofs.Common.{◌≡◌, ◌++◌, drop, map}
 use Rattle.plan_types.specs.declared.dependency.Dep.{Dep}
 use Rattle.plan_types.specs.declared.description.GuardedDep.{GuardedDep}
-use Rattle.description_parts.specs.Branch.{all_of}
 use Rattle.description_parts.specs.declared.part.File.{File}
-use Rattle.description_parts.specs.declared.part.Section.{Section}
 use Rattle.description.specs.Declarations.{meant}
 use Rattle.description.specs.Tables.{Tells}
 use Rattle.description.proofs.component.push_guarded.Given as goal

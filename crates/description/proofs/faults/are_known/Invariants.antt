@@ -1,8 +1,6 @@
-use Rattle.std.proofs.Common.{◌≡◌, ℕ, List, drop}
-use Rattle.std.specs.Prelude.{Option}
+use Rattle.std.proofs.Common.{◌≡◌, drop}
 use Rattle.std.specs.List.{list_all}
 use Rattle.description_parts.specs.declared.part.File.{File}
-use Rattle.description_parts.specs.declared.part.Section.{Section}
 use Rattle.description.specs.Declarations.{is_known}
 use Rattle.description.specs.Tables.{Tells}
 use Rattle.description.proofs.faults.are_known.Given as goal

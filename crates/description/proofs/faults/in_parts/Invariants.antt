@@ -1,7 +1,5 @@
-use Rattle.std.proofs.Common.{◌≡◌, ℕ, List, take, flat_map}
-use Rattle.std.specs.Prelude.{Option}
+use Rattle.std.proofs.Common.{◌≡◌, take, flat_map}
 use Rattle.description_parts.specs.declared.part.File.{File}
-use Rattle.description_parts.specs.declared.part.Section.{Section}
 use Rattle.description.specs.Faults.{in_part}
 use Rattle.description.specs.First.{first}
 use Rattle.description.specs.Tables.{Tells}

@@ -1,4 +1,4 @@
-use Rattle.std.proofs.Common.{ℕ, List, ap, ◌∙◌, sym, take, map, arith}
+use Rattle.std.proofs.Common.{ℕ, List, ap, ◌∙◌, sym, take, arith}
 use Rattle.std.specs.Prelude.{sum_by}
 use Rattle.std.proofs.lemmas.List.{take_all}
 use Rattle.description.specs.Standing.{Shown, built_component, capped, table}

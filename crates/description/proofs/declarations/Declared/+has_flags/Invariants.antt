@@ -1,8 +1,6 @@
-use Rattle.std.proofs.Common.{◌≡◌, ◌≤◌, ℕ, List}
-use Rattle.std.specs.Prelude.{Option}
+use Rattle.std.proofs.Common.{◌≡◌, ◌≤◌}
 use Rattle.plan_types.specs.declared.condition.Cond.{size-Cond}
 use Rattle.description_parts.specs.declared.part.File.{File}
-use Rattle.description_parts.specs.declared.part.Section.{Section}
 use Rattle.description.specs.Declarations.{has_flags}
 use Rattle.description.specs.Tables.{Tells}
 use Rattle.description.proofs.declarations.Declared.+has_flags.Given as goal
