@@ -14,8 +14,6 @@ mod packages;
 #[cfg(test)]
 mod projects;
 #[cfg(test)]
-mod shared;
-#[cfg(test)]
 mod tables;
 #[cfg(test)]
 mod variables;

@@ -34,10 +34,14 @@ fn bytes_of(alloc: Global, lines: &str) -> Result<List<u8>, Fail> {
     Ok(List::from_vec(lines.as_bytes().to_vec(alloc)?))
 }
 
-// Too large is one byte more than is read.
+// One byte more than is read.
+fn too_large(alloc: Global) -> Result<List<u8>, Fail> {
+    Ok(List::from_vec(vec![in alloc; b' '; 1_048_577]?))
+}
+
 fn content(alloc: Global, written: &str) -> Result<List<u8>, Fail> {
     if written == "too large" {
-        return Ok(List::from_vec(vec![in alloc; b' '; 1_048_577]?));
+        return too_large(alloc);
     }
     let lines = plain(alloc, written)?;
     bytes_of(alloc, lines.as_str())
@@ -122,10 +126,21 @@ fn others(alloc: Global, runs: &str) -> Result<String, Fail> {
 
 #[test]
 fn answers(rt: HostRuntime) -> Result<(), Fail> {
+    let others = others(rt.alloc(), RUNS)?;
+    assert_eq!(rt; others.as_str(), "");
+    Ok(())
+}
+
+#[test]
+fn answers_to_projects(rt: HostRuntime) -> Result<(), Fail> {
+    let others = others(rt.alloc(), PROJECT_RUNS)?;
+    assert_eq!(rt; others.as_str(), "");
+    Ok(())
+}
+
+#[test]
+fn words_without_a_reading(rt: HostRuntime) -> Result<(), Fail> {
     let alloc = rt.alloc();
-    for runs in [RUNS, PROJECT_RUNS] {
-        assert_eq!(rt; others(alloc, runs)?.as_str(), "");
-    }
     for asked in NO_READING.lines() {
         let found = answer_to(alloc, asked, 0)?;
         let wanted = "64\nusage: cabal-plan plan or generate, with options\n";
@@ -134,10 +149,28 @@ fn answers(rt: HostRuntime) -> Result<(), Fail> {
     Ok(())
 }
 
-fn planned(alloc: Global, files: List<MemFile>, out: MemSink) -> Result<String, Fail> {
+// The run makes nine calls: it reads three project files, lists the root, the records and the releases, and reads a file of
+// each.
+#[test]
+fn each_call_fails_in_turn(rt: HostRuntime) -> Result<(), Fail> {
+    let alloc = rt.alloc();
+    for call in 1..=10 {
+        let found = answer_to(alloc, SMALL, call)?;
+        let wanted = if call < 10 { "4\n" } else { SMALL_ANSWER };
+        assert_eq!(rt; found.as_str(), wanted, "{call}");
+    }
+    Ok(())
+}
+
+#[test]
+fn a_write_fails(rt: HostRuntime) -> Result<(), Fail> {
+    let alloc = rt.alloc();
     let words = words(alloc, "$ cabal-plan plan")?;
+    let files = files(alloc, "\nmain.cabal main 1")?;
     let folder = folder(alloc, files, 0)?;
-    answer(alloc, &words, folder, out)
+    let found = answer(alloc, &words, folder, sink(alloc, 10, 3)?)?;
+    assert_eq!(rt; found.as_str(), "5\nplan\nchoose main 1 l");
+    Ok(())
 }
 
 fn many_records(alloc: Global) -> Result<List<MemFile>, Fail> {
@@ -150,20 +183,12 @@ fn many_records(alloc: Global) -> Result<List<MemFile>, Fail> {
     Ok(files)
 }
 
-// The run makes nine calls, which fail in turn: it reads three project files, lists the root, the records and the releases, and
-// reads a file of each. Then a write fails, and there are too many records.
 #[test]
-fn faults_and_limits(rt: HostRuntime) -> Result<(), Fail> {
+fn too_many_records(rt: HostRuntime) -> Result<(), Fail> {
     let alloc = rt.alloc();
-    for call in 1..=10 {
-        let found = answer_to(alloc, SMALL, call)?;
-        let wanted = if call < 10 { "4\n" } else { SMALL_ANSWER };
-        assert_eq!(rt; found.as_str(), wanted, "{call}");
-    }
-    let files = files(alloc, "\nmain.cabal main 1")?;
-    let found = planned(alloc, files, sink(alloc, 10, 3)?)?;
-    assert_eq!(rt; found.as_str(), "5\nplan\nchoose main 1 l");
-    let found = planned(alloc, many_records(alloc)?, sink(alloc, 2000, 0)?)?;
+    let words = words(alloc, "$ cabal-plan plan")?;
+    let folder = folder(alloc, many_records(alloc)?, 0)?;
+    let found = answer(alloc, &words, folder, sink(alloc, 2000, 0)?)?;
     assert_eq!(rt; found.as_str(), "3\nrefused installed TooMany\n");
     Ok(())
 }
