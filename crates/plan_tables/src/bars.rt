@@ -1,11 +1,12 @@
 ghost use Rattle.std.specs.Prelude.{◌≡◌, true, IfOk};
 ghost use Rattle.version_range.specs.Version.{has_versions};
 
-use crate::packages::{names, version};
+use crate::packages::{instance, names, version};
+use crate::shared::project;
 use crate::variables::variable;
 use constraint_set::Constraints;
 use depend_text::{read_constraints, read_relax};
-use plan_types::{Instance, Limit, List, Origin, Project, Range, Spec, Text, TextFault};
+use plan_types::{Instance, Project, Range, Spec, Text, TextFault};
 use qualified_goals::Names;
 use std::alloc::Global;
 use std::test::Fail;
@@ -13,7 +14,7 @@ use version_range::{Cuts, read_range};
 
 // `bar`, a project's constraints, before which `boot|`, `tests|` and `benchmarks|` may stand, a variable and a value of it: whether
 // that is barred. `name`, constraints and a flag: whether some constraint names it on, and off. `relax`, what is relaxed to newer
-// and to older versions, who asks, for what, in which range: which of the versions 1 to 5 are let in.
+// and, behind a `/`, to older versions, who asks, for what, in which range: which of the versions 1 to 5 are let in.
 pub const CASES: &str = "\
 bar a >=2\ta\t1 source => barred\n\
 bar a >=2\ta\t2 source => free\n\
@@ -74,74 +75,84 @@ bar tests|\ta:*test\ton => free\n\
 bar tests|\ta:*bench\toff => free\n\
 bar benchmarks|\tmain:*bench\toff => barred\n\
 bar tests|benchmarks|\ta:f\toff => free\n\
-name \ta:f => no no\n\
-name a +f\ta:f => yes no\n\
-name a -f\ta:f => no yes\n\
-name a +f\tmain:setup.a:f => yes no\n\
-name main:setup.a -f\ta:f => no yes\n\
-name c:setup.a +f\ta:f => yes no\n\
-name any.a +f, setup.a -f\ta:f => yes yes\n\
-name a +g\ta:f => no no\n\
-name main +f\ta:f => no no\n\
-relax \t\ta 1\tb\t>=2 && <4 => 23\n\
-relax all\t\ta 1\tb\t>=2 && <4 => 2345\n\
-relax \tall\ta 1\tb\t>=2 && <4 => 123\n\
-relax all\tall\ta 1\tb\t>=2 && <4 => 12345\n\
-relax *:b\t\ta 1\tb\t>=2 && <4 => 2345\n\
-relax *:b\t\ta 1\tc\t>=2 && <4 => 23\n\
-relax b\t\ta 1\tb\t>=2 && <4 => 2345\n\
-relax a:*\t\ta 1\tb\t>=2 && <4 => 2345\n\
-relax a:*\t\tc 1\tb\t>=2 && <4 => 23\n\
-relax a:b\t\ta 1\tb\t>=2 && <4 => 2345\n\
-relax a:b\t\ta 1\tc\t>=2 && <4 => 23\n\
-relax a:b\t\tc 1\tb\t>=2 && <4 => 23\n\
-relax a-1.2:b\t\ta 1.2\tb\t>=2 && <4 => 2345\n\
-relax a-1.2:b\t\ta 1.2.0\tb\t>=2 && <4 => 23\n\
-relax a-1.2:b\t\tc 1.2\tb\t>=2 && <4 => 23\n\
-relax a:c, a:b\t\ta 1\tb\t>=2 && <4 => 2345\n\
-relax a:b\ta:c\ta 1\tb\t>=2 && <4 => 2345\n\
-relax none\tnone\ta 1\tb\t>=2 && <4 => 23\n\
-relax all\t\ta 1\tb\t==2 || ==4 => 245\n\
-relax \tall\ta 1\tb\t==2 || ==4 => 124\n\
-relax all\tall\ta 1\tb\t-none => \n";
+name \ta:f => false false\n\
+name a +f\ta:f => true false\n\
+name a -f\ta:f => false true\n\
+name a +f\tmain:setup.a:f => true false\n\
+name main:setup.a -f\ta:f => false true\n\
+name c:setup.a +f\ta:f => true false\n\
+name any.a +f, setup.a -f\ta:f => true true\n\
+name a +g\ta:f => false false\n\
+name main +f\ta:f => false false\n\
+relax /\ta 1\tb\t>=2 && <4 => 23\n\
+relax all/\ta 1\tb\t>=2 && <4 => 2345\n\
+relax /all\ta 1\tb\t>=2 && <4 => 123\n\
+relax all/all\ta 1\tb\t>=2 && <4 => 12345\n\
+relax *:b/\ta 1\tb\t>=2 && <4 => 2345\n\
+relax *:b/\ta 1\tc\t>=2 && <4 => 23\n\
+relax b/\ta 1\tb\t>=2 && <4 => 2345\n\
+relax a:*/\ta 1\tb\t>=2 && <4 => 2345\n\
+relax a:*/\tc 1\tb\t>=2 && <4 => 23\n\
+relax a:b/\ta 1\tb\t>=2 && <4 => 2345\n\
+relax a:b/\ta 1\tc\t>=2 && <4 => 23\n\
+relax a:b/\tc 1\tb\t>=2 && <4 => 23\n\
+relax a-1.2:b/\ta 1.2\tb\t>=2 && <4 => 2345\n\
+relax a-1.2:b/\ta 1.2.0\tb\t>=2 && <4 => 23\n\
+relax a-1.2:b/\tc 1.2\tb\t>=2 && <4 => 23\n\
+relax a:c, a:b/\ta 1\tb\t>=2 && <4 => 2345\n\
+relax a:b/a:c\ta 1\tb\t>=2 && <4 => 2345\n\
+relax none/none\ta 1\tb\t>=2 && <4 => 23\n\
+relax all/\ta 1\tb\t==2 || ==4 => 245\n\
+relax /all\ta 1\tb\t==2 || ==4 => 124\n\
+relax all/all\ta 1\tb\t-none => \n";
 
 // A project with the constraints of a text.
-fn project(alloc: Global, text: &str) -> Result<Project, TextFault> {
+fn constraining(alloc: Global, text: &str) -> Result<Project, TextFault> {
     let (words, constraints) = text.rsplit_once('|').unwrap_or(("", text));
-    Ok(Project {
-        entries: List::new(alloc),
-        extra: List::new(alloc),
-        constraints: read_constraints(alloc, constraints.as_bytes())?,
-        preferences: List::new(alloc),
-        newer: List::new(alloc),
-        older: List::new(alloc),
-        tests: words.contains("tests"),
-        benchmarks: words.contains("benchmarks"),
-        limit: Limit::Unlimited,
-        prefer_oldest: false,
-        boot_installs: words.contains("boot"),
-        warnings: List::new(alloc),
-    })
+    let constraints = read_constraints(alloc, constraints.as_bytes())?;
+    let mut project = project(alloc);
+    project.constraints = constraints;
+    project.tests = words.contains("tests");
+    project.benchmarks = words.contains("benchmarks");
+    project.boot_installs = words.contains("boot");
+    Ok(project)
 }
 
-fn constraints(alloc: Global, names: &Names, text: &str) -> Result<Constraints, TextFault> {
-    let project = project(alloc, text)?;
+// A project that relaxes to newer versions and, behind a `/`, to older ones.
+fn relaxing(alloc: Global, text: &str) -> Result<Project, TextFault> {
+    let (newer, older) = text.split_once('/').unwrap_or((text, ""));
+    let newer = read_relax(alloc, newer.as_bytes())?;
+    let older = read_relax(alloc, older.as_bytes())?;
+    let mut project = project(alloc);
+    project.newer = newer;
+    project.older = older;
+    Ok(project)
+}
+
+fn written(alloc: Global, call: &str, text: &str) -> Result<Project, TextFault> {
+    if call == "relax" {
+        relaxing(alloc, text)
+    } else {
+        constraining(alloc, text)
+    }
+}
+
+fn constraints(
+    alloc: Global,
+    names: &Names,
+    call: &str,
+    text: &str,
+) -> Result<Constraints, TextFault> {
+    let project = written(alloc, call, text)?;
     Ok(Constraints::of(alloc, &project, names)?)
 }
 
-// An instance of a package, by its version and its origin.
-fn instance(alloc: Global, name: &str, text: &str) -> Result<Instance, TextFault> {
+// The instance of a package in a version, with its origin behind a blank.
+fn named(alloc: Global, name: &str, text: &str) -> Result<Instance, TextFault> {
     let (numbers, origin) = text.split_once(' ').unwrap_or((text, ""));
-    Ok(Instance {
-        name: Text::from_str(alloc, name)?,
-        version: version(alloc, numbers)?,
-        origin: match origin {
-            "local" => Origin::Local,
-            "installed" => Origin::Installed,
-            _ => Origin::Source,
-        },
-        unit: Text::new(alloc),
-    })
+    let mut named = instance(alloc, numbers, origin, "")?;
+    named.name = Text::from_str(alloc, name)?;
+    Ok(named)
 }
 
 // The name of the package of a variable as it is shown.
@@ -158,25 +169,16 @@ fn is_barred(alloc: Global, kept: &Constraints, names: &Names, case: &str) -> Re
         "on" => Ok(kept.bars_part(v, true)),
         "off" => Ok(kept.bars_part(v, false)),
         _ => {
-            let instance = instance(alloc, package_in(shown), value)?;
+            let instance = named(alloc, package_in(shown), value)?;
             Ok(kept.bars(v, &instance))
         }
     }
 }
 
-fn naming(
-    alloc: Global,
-    kept: &Constraints,
-    names: &Names,
-    shown: &str,
-) -> Result<&'static str, Fail> {
+fn naming(alloc: Global, kept: &Constraints, names: &Names, shown: &str) -> Result<String, Fail> {
     let v = variable(alloc, names, shown)?.ok_or("no variable")?;
-    match (kept.names_flag(v, true), kept.names_flag(v, false)) {
-        (true, true) => Ok("yes yes"),
-        (true, false) => Ok("yes no"),
-        (false, true) => Ok("no yes"),
-        (false, false) => Ok("no no"),
-    }
+    let (on, off) = (kept.names_flag(v, true), kept.names_flag(v, false));
+    Ok(format!(in alloc; "{on} {off}")?)
 }
 
 fn range(alloc: Global, text: &str) -> Result<Range, TextFault>
@@ -193,7 +195,7 @@ fn relaxed(
     text: &str,
 ) -> Result<Cuts, TextFault> {
     let (name, numbers) = owner.split_once(' ').unwrap_or((owner, "1"));
-    let owner = instance(alloc, name, numbers)?;
+    let owner = named(alloc, name, numbers)?;
     let range = range(alloc, text)?;
     Ok(kept.relaxed(alloc, &owner, dep, &range)?)
 }
@@ -209,48 +211,12 @@ fn let_in(alloc: Global, cuts: &Cuts) -> Result<String, Fail> {
     Ok(found)
 }
 
-fn relaxing(alloc: Global, newer: &str, older: &str) -> Result<Project, TextFault> {
-    let mut project = project(alloc, "")?;
-    project.newer = read_relax(alloc, newer.as_bytes())?;
-    project.older = read_relax(alloc, older.as_bytes())?;
-    Ok(project)
-}
-
-// Who asks for what in which range.
-#[derive(Clone, Copy)]
-struct Asked<'a> {
-    owner: &'a str,
-    dep: &'a str,
-    range: &'a str,
-}
-
-fn asked_in(case: &str) -> Result<Asked<'_>, Fail> {
+// Who asks for what in which range, and what is let in.
+fn lets_in(alloc: Global, kept: &Constraints, case: &str) -> Result<String, Fail> {
     let (owner, rest) = case.split_once('\t').ok_or("no dependency")?;
     let (dep, range) = rest.split_once('\t').ok_or("no range")?;
-    Ok(Asked { owner, dep, range })
-}
-
-fn lets_in(alloc: Global, kept: &Constraints, asked: Asked<'_>) -> Result<String, Fail> {
-    let cuts = relaxed(alloc, kept, asked.owner, asked.dep, asked.range)?;
+    let cuts = relaxed(alloc, kept, owner, dep, range)?;
     let_in(alloc, &cuts)
-}
-
-fn relaxed_constraints(
-    alloc: Global,
-    names: &Names,
-    newer: &str,
-    older: &str,
-) -> Result<Constraints, TextFault> {
-    let project = relaxing(alloc, newer, older)?;
-    Ok(Constraints::of(alloc, &project, names)?)
-}
-
-fn relaxing_lets_in(alloc: Global, names: &Names, case: &str) -> Result<String, Fail> {
-    let (newer, rest) = case.split_once('\t').ok_or("no older")?;
-    let (older, rest) = rest.split_once('\t').ok_or("no owner")?;
-    let asked = asked_in(rest)?;
-    let kept = relaxed_constraints(alloc, names, newer, older)?;
-    lets_in(alloc, &kept, asked)
 }
 
 fn answer_of(
@@ -259,27 +225,23 @@ fn answer_of(
     names: &Names,
     call: &str,
     case: &str,
-) -> Result<&'static str, Fail> {
-    if call == "name" {
-        return naming(alloc, kept, names, case);
+) -> Result<String, Fail> {
+    match call {
+        "name" => naming(alloc, kept, names, case),
+        "relax" => lets_in(alloc, kept, case),
+        _ => {
+            let is_barred = is_barred(alloc, kept, names, case)?;
+            let word = if is_barred { "barred" } else { "free" };
+            Ok(String::from_str(alloc, word)?)
+        }
     }
-    let is_barred = is_barred(alloc, kept, names, case)?;
-    Ok(if is_barred { "barred" } else { "free" })
-}
-
-fn constrained(alloc: Global, names: &Names, call: &str, case: &str) -> Result<&'static str, Fail> {
-    let (asked, rest) = case.split_once('\t').ok_or("no variable")?;
-    let kept = constraints(alloc, names, asked)?;
-    answer_of(alloc, &kept, names, call, rest)
 }
 
 fn answer_in(alloc: Global, names: &Names, case: &str) -> Result<String, Fail> {
     let (call, rest) = case.split_once(' ').ok_or("no case")?;
-    if call == "relax" {
-        return relaxing_lets_in(alloc, names, rest);
-    }
-    let found = constrained(alloc, names, call, rest)?;
-    Ok(String::from_str(alloc, found)?)
+    let (text, rest) = rest.split_once('\t').ok_or("no project")?;
+    let kept = constraints(alloc, names, call, text)?;
+    answer_of(alloc, &kept, names, call, rest)
 }
 
 pub fn answer(alloc: Global, case: &str) -> Result<String, Fail> {

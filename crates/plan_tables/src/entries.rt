@@ -1,5 +1,6 @@
+use crate::shared::{project, shown};
 use outside_folder::{MemFault, MemFile, MemFolder};
-use plan_types::{Halt, Limit, List, NoMemory, Project, ProjectEntry, Refusal, Text};
+use plan_types::{Halt, List, NoMemory, ProjectEntry, Text};
 use project_paths::find_packages;
 use std::alloc::Global;
 use std::test::Fail;
@@ -7,39 +8,39 @@ use std::test::Fail;
 // The files of a folder, the entries of a project (`!` stands where there is no `cabal.project`, and a `?` behind one that
 // may match nothing), and the local files or the first refusal.
 pub const CASES: &str = "\
-main.cabal => ! => main.cabal\n\
-x/p.cabal => ! => .:0 NoPackages\n\
-main.cabal x/p.cabal => !,x => main.cabal x/p.cabal\n\
-main.cabal => . => main.cabal\n\
-a.cabal b.cabal => . => e:2 TwoCabalFiles .\n\
-a.cabal b.cabal b.txt => *.cabal => a.cabal b.cabal\n\
-y/p.cabal x/p.cabal => y,x,./x/,x/p.cabal => x/p.cabal y/p.cabal\n\
-a/b.cabal a-b/c.cabal => */ => a-b/c.cabal a/b.cabal\n\
-x/.cabal => x => x/.cabal\n\
-.cabal => *.cabal? => .:0 NoPackages\n\
-.cabal => .cab* => .cabal\n\
-.h/p.cabal => */p.cabal => e:2 NoMatch */p.cabal\n\
-.h/p.cabal => .*/p.cabal => .h/p.cabal\n\
-x/y/p.cabal => x*.cabal => e:2 NoMatch x*.cabal\n\
-x/y/p.cabal => x//y => e:2 NoMatch x//y\n\
-x/y/p.cabal => x/y// => e:2 NoMatch x/y//\n\
-x/y/p.cabal => ././x/./y/. => x/y/p.cabal\n\
-x.cabal/p.cabal => *.cabal => x.cabal/p.cabal\n\
-x.cabal => x.cabal/ => e:2 NoMatch x.cabal/\n\
-x/p => x => e:2 NoMatch x\n\
-x/p y/p.cabal => x?,y => y/p.cabal\n\
-x/a.cabal x/b.cabal => gone,x => e:2 NoMatch gone\n\
-x/a.cabal x/b.cabal => gone?,x,gone => e:2 TwoCabalFiles x\n\
-a/c/x.cabal a/c/y.cabal a-b/c/x.cabal a-b/c/y.cabal => */c => e:2 TwoCabalFiles a-b/c\n\
-aaab.cabal => *a*a*b.c*l => aaab.cabal\n\
-aaac.cabal => *a*a*a*d* => e:2 NoMatch *a*a*a*d*\n\
-x/p.cabal => x,/x => e:2 Unsupported\n\
-x/p.cabal => ~x => e:2 Unsupported\n\
-x/p.cabal => y/../x? => e:2 Unsupported\n\
-x/p.cabal => x/** => e:2 Unsupported\n\
-x/p.cabal => {x => e:2 Unsupported\n\
-x/p.cabal => x} => e:2 Unsupported\n\
-x/p.cabal => file://x => e:2 Unsupported\n";
+main.cabal => ! => Ok([main.cabal])\n\
+x/p.cabal => ! => Err(Refused(Refusal { path: ., line: 0, cause: NoPackages, detail:  }))\n\
+main.cabal x/p.cabal => !,x => Ok([main.cabal, x/p.cabal])\n\
+main.cabal => . => Ok([main.cabal])\n\
+a.cabal b.cabal => . => Err(Refused(Refusal { path: e, line: 2, cause: TwoCabalFiles, detail: . }))\n\
+a.cabal b.cabal b.txt => *.cabal => Ok([a.cabal, b.cabal])\n\
+y/p.cabal x/p.cabal => y,x,./x/,x/p.cabal => Ok([x/p.cabal, y/p.cabal])\n\
+a/b.cabal a-b/c.cabal => */ => Ok([a-b/c.cabal, a/b.cabal])\n\
+x/.cabal => x => Ok([x/.cabal])\n\
+.cabal => *.cabal? => Err(Refused(Refusal { path: ., line: 0, cause: NoPackages, detail:  }))\n\
+.cabal => .cab* => Ok([.cabal])\n\
+.h/p.cabal => */p.cabal => Err(Refused(Refusal { path: e, line: 2, cause: NoMatch, detail: */p.cabal }))\n\
+.h/p.cabal => .*/p.cabal => Ok([.h/p.cabal])\n\
+x/y/p.cabal => x*.cabal => Err(Refused(Refusal { path: e, line: 2, cause: NoMatch, detail: x*.cabal }))\n\
+x/y/p.cabal => x//y => Err(Refused(Refusal { path: e, line: 2, cause: NoMatch, detail: x//y }))\n\
+x/y/p.cabal => x/y// => Err(Refused(Refusal { path: e, line: 2, cause: NoMatch, detail: x/y// }))\n\
+x/y/p.cabal => ././x/./y/. => Ok([x/y/p.cabal])\n\
+x.cabal/p.cabal => *.cabal => Ok([x.cabal/p.cabal])\n\
+x.cabal => x.cabal/ => Err(Refused(Refusal { path: e, line: 2, cause: NoMatch, detail: x.cabal/ }))\n\
+x/p => x => Err(Refused(Refusal { path: e, line: 2, cause: NoMatch, detail: x }))\n\
+x/p y/p.cabal => x?,y => Ok([y/p.cabal])\n\
+x/a.cabal x/b.cabal => gone,x => Err(Refused(Refusal { path: e, line: 2, cause: NoMatch, detail: gone }))\n\
+x/a.cabal x/b.cabal => gone?,x,gone => Err(Refused(Refusal { path: e, line: 2, cause: TwoCabalFiles, detail: x }))\n\
+a/c/x.cabal a/c/y.cabal a-b/c/x.cabal a-b/c/y.cabal => */c => Err(Refused(Refusal { path: e, line: 2, cause: TwoCabalFiles, detail: a-b/c }))\n\
+aaab.cabal => *a*a*b.c*l => Ok([aaab.cabal])\n\
+aaac.cabal => *a*a*a*d* => Err(Refused(Refusal { path: e, line: 2, cause: NoMatch, detail: *a*a*a*d* }))\n\
+x/p.cabal => x,/x => Err(Refused(Refusal { path: e, line: 2, cause: Unsupported, detail:  }))\n\
+x/p.cabal => ~x => Err(Refused(Refusal { path: e, line: 2, cause: Unsupported, detail:  }))\n\
+x/p.cabal => y/../x? => Err(Refused(Refusal { path: e, line: 2, cause: Unsupported, detail:  }))\n\
+x/p.cabal => x/** => Err(Refused(Refusal { path: e, line: 2, cause: Unsupported, detail:  }))\n\
+x/p.cabal => {x => Err(Refused(Refusal { path: e, line: 2, cause: Unsupported, detail:  }))\n\
+x/p.cabal => x} => Err(Refused(Refusal { path: e, line: 2, cause: Unsupported, detail:  }))\n\
+x/p.cabal => file://x => Err(Refused(Refusal { path: e, line: 2, cause: Unsupported, detail:  }))\n";
 
 fn entry(alloc: Global, text: &str) -> Result<ProjectEntry, NoMemory> {
     let (name, optional) = match text.strip_suffix('?') {
@@ -54,27 +55,14 @@ fn entry(alloc: Global, text: &str) -> Result<ProjectEntry, NoMemory> {
     })
 }
 
-fn project(alloc: Global, entries: &str) -> Result<Project, NoMemory> {
-    let mut list = List::new(alloc);
-    for text in entries.split(',') {
+fn entries(alloc: Global, texts: &str) -> Result<List<ProjectEntry>, NoMemory> {
+    let mut entries = List::new(alloc);
+    for text in texts.split(',') {
         if text != "!" {
-            list.push(entry(alloc, text)?)?;
+            entries.push(entry(alloc, text)?)?;
         }
     }
-    Ok(Project {
-        entries: list,
-        extra: List::new(alloc),
-        constraints: List::new(alloc),
-        preferences: List::new(alloc),
-        newer: List::new(alloc),
-        older: List::new(alloc),
-        tests: false,
-        benchmarks: false,
-        limit: Limit::Unlimited,
-        prefer_oldest: false,
-        boot_installs: false,
-        warnings: List::new(alloc),
-    })
+    Ok(entries)
 }
 
 fn folder(alloc: Global, paths: &str) -> Result<MemFolder, MemFault> {
@@ -88,49 +76,15 @@ fn folder(alloc: Global, paths: &str) -> Result<MemFolder, MemFault> {
     MemFolder::new(alloc, files, List::new(alloc))
 }
 
-fn push_paths(text: &mut String, paths: &[Text]) -> Result<(), NoMemory> {
-    for path in paths {
-        text.push_str(path.as_str())?;
-        text.push_str(" ")?;
-    }
-    Ok(())
-}
-
-fn push_refusal(text: &mut String, refusal: &Refusal) -> Result<(), NoMemory> {
-    let (path, line) = (refusal.path.as_str(), refusal.line);
-    let (cause, detail) = (refusal.cause, refusal.detail.as_str());
-    write!(text, "{path}:{line} {cause:?} {detail}")?;
-    Ok(())
-}
-
-fn shown(alloc: Global, answer: &Result<List<Text>, Halt>) -> Result<String, NoMemory> {
-    let mut text = String::new(alloc);
-    match answer {
-        Ok(paths) => push_paths(&mut text, paths.as_slice())?,
-        Err(Halt::NoMemory) => text.push_str("no memory")?,
-        Err(Halt::Failed) => text.push_str("failed")?,
-        Err(Halt::Refused(refusal)) => push_refusal(&mut text, refusal)?,
-    }
-    Ok(text)
-}
-
-fn found(alloc: Global, folder: &mut MemFolder, entries: &str) -> Result<List<Text>, Halt> {
-    let project = project(alloc, entries)?;
-    find_packages(alloc, &project, entries.starts_with('!'), folder)
-}
-
-fn trimmed(alloc: Global, text: &str) -> Result<String, Fail> {
-    Ok(String::from_str(alloc, text.trim_end())?)
-}
-
-fn shown_in(alloc: Global, folder: &mut MemFolder, entries: &str) -> Result<String, NoMemory> {
-    let found = found(alloc, folder, entries);
-    shown(alloc, &found)
+fn found(alloc: Global, folder: &mut MemFolder, texts: &str) -> Result<List<Text>, Halt> {
+    let entries = entries(alloc, texts)?;
+    let mut project = project(alloc);
+    project.entries = entries;
+    find_packages(alloc, &project, texts.starts_with('!'), folder)
 }
 
 pub fn answer(alloc: Global, case: &str) -> Result<String, Fail> {
-    let (paths, entries) = case.split_once(" => ").ok_or("no entries")?;
+    let (paths, texts) = case.split_once(" => ").ok_or("no entries")?;
     let mut folder = folder(alloc, paths)?;
-    let text = shown_in(alloc, &mut folder, entries)?;
-    trimmed(alloc, text.as_str())
+    shown(alloc, &found(alloc, &mut folder, texts))
 }

@@ -14,6 +14,8 @@ mod packages;
 #[cfg(test)]
 mod projects;
 #[cfg(test)]
+mod shared;
+#[cfg(test)]
 mod tables;
 #[cfg(test)]
 mod variables;

@@ -14,11 +14,21 @@ pub fn version(alloc: Global, text: &str) -> Result<Version, TextFault> {
     read_version(alloc, text.as_bytes())
 }
 
-fn instance(alloc: Global, text: &str, origin: Origin, unit: &str) -> Result<Instance, TextFault> {
+// The origin is told by the first letter of a word.
+pub fn instance(
+    alloc: Global,
+    numbers: &str,
+    origin: &str,
+    unit: &str,
+) -> Result<Instance, TextFault> {
     Ok(Instance {
         name: Text::new(alloc),
-        version: version(alloc, text)?,
-        origin,
+        version: version(alloc, numbers)?,
+        origin: match origin.as_bytes().first() {
+            Some(b'l') => Origin::Local,
+            Some(b'i') => Origin::Installed,
+            _ => Origin::Source,
+        },
         unit: Text::from_str(alloc, unit)?,
     })
 }
@@ -36,7 +46,7 @@ fn declared(alloc: Global, names: &str) -> Result<List<FlagDecl>, NoMemory> {
     Ok(flags)
 }
 
-fn source(alloc: Global, text: &str, origin: Origin, flags: &str) -> Result<Entry, TextFault> {
+fn source(alloc: Global, text: &str, origin: &str, flags: &str) -> Result<Entry, TextFault> {
     let description = Description {
         spec: Spec::V3_0,
         name: Text::new(alloc),
@@ -63,7 +73,7 @@ fn source(alloc: Global, text: &str, origin: Origin, flags: &str) -> Result<Entr
 
 fn unit(alloc: Global, text: &str, id: &str) -> Result<Entry, TextFault> {
     Ok(Entry {
-        instance: instance(alloc, text, Origin::Installed, id)?,
+        instance: instance(alloc, text, "installed", id)?,
         body: Body::Installed {
             record_of: UnitRecord {
                 name: Text::new(alloc),
@@ -145,14 +155,14 @@ fn units(alloc: Global) -> Result<List<Entry>, TextFault> {
 
 fn local(alloc: Global) -> Result<List<Entry>, TextFault> {
     let mut local = List::new(alloc);
-    local.push(source(alloc, "1", Origin::Local, "fast debug")?)?;
+    local.push(source(alloc, "1", "local", "fast debug")?)?;
     Ok(local)
 }
 
 fn sources(alloc: Global) -> Result<List<Entry>, TextFault> {
     let mut sources = List::new(alloc);
-    sources.push(source(alloc, "1.0", Origin::Source, "debug c")?)?;
-    sources.push(source(alloc, "2", Origin::Source, "f g")?)?;
+    sources.push(source(alloc, "1.0", "source", "debug c")?)?;
+    sources.push(source(alloc, "2", "source", "f g")?)?;
     Ok(sources)
 }
 

@@ -53,43 +53,17 @@ fn others(alloc: Global, table: Table) -> Result<String, Fail> {
 }
 
 #[test]
-fn project_files(rt: HostRuntime) -> Result<(), Fail> {
-    assert_eq!(rt; others(rt.alloc(), Table::Projects)?.as_str(), "");
-    Ok(())
-}
-
-#[test]
-fn entries_of_projects(rt: HostRuntime) -> Result<(), Fail> {
-    assert_eq!(rt; others(rt.alloc(), Table::Entries)?.as_str(), "");
-    Ok(())
-}
-
-#[test]
-fn words_and_their_meaning(rt: HostRuntime) -> Result<(), Fail> {
-    assert_eq!(rt; others(rt.alloc(), Table::Words)?.as_str(), "");
-    Ok(())
-}
-
-#[test]
-fn variables_in_goal_order(rt: HostRuntime) -> Result<(), Fail> {
-    assert_eq!(rt; others(rt.alloc(), Table::Variables)?.as_str(), "");
-    Ok(())
-}
-
-#[test]
-fn bars_and_relaxed_ranges(rt: HostRuntime) -> Result<(), Fail> {
-    assert_eq!(rt; others(rt.alloc(), Table::Bars)?.as_str(), "");
-    Ok(())
-}
-
-#[test]
-fn orders_of_instances(rt: HostRuntime) -> Result<(), Fail> {
-    assert_eq!(rt; others(rt.alloc(), Table::Orders)?.as_str(), "");
-    Ok(())
-}
-
-#[test]
-fn texts_of_answers(rt: HostRuntime) -> Result<(), Fail> {
-    assert_eq!(rt; others(rt.alloc(), Table::Answers)?.as_str(), "");
+fn every_table(rt: HostRuntime) -> Result<(), Fail> {
+    for table in [
+        Table::Projects,
+        Table::Entries,
+        Table::Words,
+        Table::Variables,
+        Table::Bars,
+        Table::Orders,
+        Table::Answers,
+    ] {
+        assert_eq!(rt; others(rt.alloc(), table)?.as_str(), "");
+    }
     Ok(())
 }

@@ -81,22 +81,15 @@ pub fn variable(alloc: Global, names: &Names, shown: &str) -> Result<Option<Var>
     }))
 }
 
-fn push_var(alloc: Global, text: &mut String, names: &Names, v: Var) -> Result<(), NoMemory> {
-    let printed = names.print_var(alloc, v)?;
-    text.push_str(printed.as_str())?;
-    Ok(())
-}
-
 fn compared(alloc: Global, names: &Names, v: Var, w: Var) -> Result<String, NoMemory> {
-    let mut text = String::new(alloc);
-    push_var(alloc, &mut text, names, v)?;
-    text.push_str(if is_before(v, w) {
-        " before "
+    let one = names.print_var(alloc, v)?;
+    let other = names.print_var(alloc, w)?;
+    let word = if is_before(v, w) {
+        "before"
     } else {
-        " not before "
-    })?;
-    push_var(alloc, &mut text, names, w)?;
-    Ok(text)
+        "not before"
+    };
+    Ok(format!(in alloc; "{} {word} {}", one.as_str(), other.as_str())?)
 }
 
 fn compared_in(alloc: Global, names: &Names, case: &str) -> Result<String, Fail> {
