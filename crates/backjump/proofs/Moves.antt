@@ -13,7 +13,7 @@ use Rattle.choice_problem.specs.Active.{least_open, reason}
 use Rattle.choice_problem.specs.Conflict.{conflict}
 use Rattle.choice_problem.specs.ConflictSet.{has, set_of, union}
 use Rattle.choice_problem.specs.Answer.{GaveUp, Answer, cap, counts_of, one_visited, one_exhausted, is_reached, gives_up, of_values, answer_of}
-use Rattle.validation.specs.Standing.{Standing, Stands}
+use Rattle.validation.specs.View.{View, Represents}
 use Rattle.choice_tree.specs.declared.tree.Node.{Node}
 use Rattle.choice_tree.specs.Tree.{fresh, stepped, values_left, choice_at, GivesNext}
 use Rattle.choice_tree.proofs.Path.{snoc-nil, snoc-front, snoc-last}
@@ -24,7 +24,7 @@ use Rattle.backjump.specs.declared.walk.Step.{Step}
 use Rattle.backjump.specs.declared.walk.Step.TheVariants.{On, Done}
 use Rattle.backjump.specs.Walk.{Point, manner_of, below, of_point_after, resume, nodes_of, sets_of, IsChain, IsHeld, counts_at, failed_with, AtLook, AtTry, AtBack, AtCut, AtExhausted, AtValue, load, IsLighter, Moves}
 use Rattle.backjump.proofs.Rises.{resume-found, resume-stopped, resume-none, resume-point, after-lacking, after-having, value-kept, value-failed, below-none, below-some}
-use Rattle.validation.proofs.Standings.{least-known}
+use Rattle.validation.proofs.Views.{least-known}
 use Rattle.backjump.proofs.Room.{fuel-left}
 
 -- what a `pop` leaves of a list whose last item is known
@@ -40,13 +40,13 @@ with_tree w tree = record { tree = tree; failed = w.failed; state = w.state; cou
 abbrev pub with_node : Walk → List Node → List (List Var) → Walk
 with_node w tree failed = record { tree = tree; failed = failed; state = w.state; counts = w.counts }
 
-abbrev pub with_state : Walk → Standing → ℕ → Walk
+abbrev pub with_state : Walk → View → ℕ → Walk
 with_state w state visited = record { tree = w.tree; failed = w.failed; state = state; counts = counts_of visited w.counts.exhausted }
 
 abbrev pub with_exhausted : Walk → ℕ → Walk
 with_exhausted w exhausted = record { tree = w.tree; failed = w.failed; state = w.state; counts = counts_of w.counts.visited exhausted }
 
-abbrev pub with_less : Walk → List Node → List (List Var) → Standing → Walk
+abbrev pub with_less : Walk → List Node → List (List Var) → View → Walk
 with_less w tree failed state = record { tree = tree; failed = failed; state = state; counts = w.counts }
 
 pub lighter-more : (most more : ℕ) (w : Walk) (step : Step) → IsLighter most w step → most ≤ more → IsLighter more w step
@@ -65,7 +65,7 @@ chain-some p [] prefix fuel h some e = some refl
 chain-some p (point ∷ outer) prefix fuel h some e = snoc-nil point.prefix (choice_at point.node) (sym e ∙ h.0.prefix_is)
 
 module _ (p : Problem) (limit : Limit) where
-  pub start-at : (w : Walk) → Stands p w.state → w.state.trail ≡ [] → w.tree ≡ [] → w.failed ≡ [] → w.counts ≡ counts_of 0 0 → AtLook p limit w 0
+  pub start-at : (w : Walk) → Represents p w.state → w.state.trail ≡ [] → w.tree ≡ [] → w.failed ≡ [] → w.counts ≡ counts_of 0 0 → AtLook p limit w 0
   unfolding answer_of resume
   start-at w stands none tree failed counts = record {
     points = [];
@@ -120,9 +120,9 @@ module _ (p : Problem) (limit : Limit) where
   next-visited : (now before visited : ℕ) → now ≡ min (before + 1) cap → before ≡ min visited cap → now ≡ min (visited + 1) cap
   next-visited now before visited h k = omega (arith, h, k)
 
-  pub choose-kept : (w : Walk) (visited n now : ℕ) (state : Standing) (at : AtValue p limit w visited n)
+  pub choose-kept : (w : Walk) (visited n now : ℕ) (state : View) (at : AtValue p limit w visited n)
       → now ≡ min (w.counts.visited + 1) cap → conflict p w.state.trail (choice_of at.at.point.node.var n) ≡ None
-      → Stands p state → state.trail ≡ w.state.trail ++ choice_of at.at.point.node.var n ∷ []
+      → Represents p state → state.trail ≡ w.state.trail ++ choice_of at.at.point.node.var n ∷ []
       → Moves p limit (with_state w state now) (visited + 1) (4 + load w Try) (On Look)
   choose-kept w visited n now state at v e stands t =
       let point = at.at.point in
@@ -189,9 +189,9 @@ module _ (p : Problem) (limit : Limit) where
     lighter = tt;
   }
 
-  back-at : (w : Walk) (visited : ℕ) (set : List Var) (tree : List Node) (failed : List (List Var)) (state : Standing) (prefix : List Choice) (fuel : ℕ) (outer : List Point)
+  back-at : (w : Walk) (visited : ℕ) (set : List Var) (tree : List Node) (failed : List (List Var)) (state : View) (prefix : List Choice) (fuel : ℕ) (outer : List Point)
       → tree ≡ nodes_of outer → failed ≡ sets_of outer → (length tree ≡ 0 → ⊥)
-      → Stands p state → ((front : List Choice) (c : Choice) → w.state.trail ≡ front ++ c ∷ [] → state.trail ≡ front)
+      → Represents p state → ((front : List Choice) (c : Choice) → w.state.trail ≡ front ++ c ∷ [] → state.trail ≡ front)
       → w.state.trail ≡ prefix → w.counts.visited ≡ min visited cap → IsChain p outer prefix fuel
       → answer_of p limit ≡ resume limit p outer (failed_with set (counts_at w visited))
       → AtBack p limit (with_less w tree failed state) visited set
@@ -206,10 +206,10 @@ module _ (p : Problem) (limit : Limit) where
     answer = answer ∙ resume-point limit p point outer (failed_with set (counts_at w visited));
   }
 
-  pub cut-back : (w : Walk) (visited : ℕ) (set : List Var) (tree : List Node) (failed : List (List Var)) (state : Standing) (popped_off : Option (List Var))
+  pub cut-back : (w : Walk) (visited : ℕ) (set : List Var) (tree : List Node) (failed : List (List Var)) (state : View) (popped_off : Option (List Var))
       → ((outer : List Node) (node : Node) → w.tree ≡ outer ++ node ∷ [] → tree ≡ outer)
       → MatchOption popped_off ((w.failed ≡ []) × (failed ≡ [])) (λ last. w.failed ≡ failed ++ last ∷ [])
-      → (length tree ≡ 0 → ⊥) → (Stands p w.state → Stands p state)
+      → (length tree ≡ 0 → ⊥) → (Represents p w.state → Represents p state)
       → ((front : List Choice) (c : Choice) → w.state.trail ≡ front ++ c ∷ [] → state.trail ≡ front)
       → AtCut p limit w visited set → Moves p limit (with_less w tree failed state) visited (load w Try) (On (Back set))
   cut-back w visited set tree failed state popped_off t f some s u at =

@@ -10,10 +10,10 @@ use Rattle.qualified_goals.specs.Variable.{same_var}
 use Rattle.choice_problem.specs.Problem.{Problem, IsChoice, Lawful}
 use Rattle.choice_problem.specs.Trail.{value_in}
 use Rattle.choice_problem.specs.Active.{least_open}
-use Rattle.choice_problem.specs.Lists.{contains-head, contains-left, contains-right, without}
+use Rattle.common_laws.specs.Lists.{contains-head, contains-left, contains-right, without}
 use Rattle.qualified_goals.specs.SameVariable.{same_var-refl}
-use Rattle.validation.specs.Standing.{AreNew, none, on}
-use Rattle.validation.proofs.Standings.{least-known}
+use Rattle.validation.specs.View.{AreNew, none, on}
+use Rattle.validation.proofs.Views.{least-known}
 use Rattle.choice_tree.specs.Tree.{choice_at}
 use Rattle.backjump.specs.Walk.{Point, IsChain}
 

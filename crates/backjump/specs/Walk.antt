@@ -6,10 +6,10 @@ use Rattle.choice_problem.specs.declared.problem.Choice.{Choice}
 use Rattle.choice_problem.specs.declared.outcome.Counts.{Counts}
 use Rattle.choice_problem.specs.Problem.{Problem}
 use Rattle.choice_problem.specs.Trail.{choice_of}
-use Rattle.choice_problem.specs.Active.{least_open}
-use Rattle.choice_problem.specs.ConflictSet.{union}
+use Rattle.choice_problem.specs.Active.{least_open, reason}
+use Rattle.choice_problem.specs.ConflictSet.{union, set_of}
 use Rattle.choice_problem.specs.Answer.{Ended, Found, Failed, GaveUp, Answer, Manner, cap, counts_of, one_visited, exhausts, of_value, after_value, of_values, answer_from, answer_of}
-use Rattle.validation.specs.Standing.{Stands}
+use Rattle.validation.specs.View.{Represents}
 use Rattle.choice_tree.specs.declared.tree.Node.{Node}
 use Rattle.choice_tree.specs.Tree.{values_left, choice_at}
 use Rattle.backjump.specs.declared.walk.Walk.{Walk}
@@ -28,6 +28,7 @@ pub record Point : Type 0 where
   pub failed : List Var
   pub fuel : ℕ
 
+-- a search with a limit that leaves points early
 abbrev pub manner_of : Limit → Manner
 manner_of limit = record { limit = limit; jumps = true }
 
@@ -55,6 +56,7 @@ abbrev pub nodes_of : List Point → List Node
 nodes_of [] = []
 nodes_of (point ∷ outer) = nodes_of outer ++ point.node ∷ []
 
+-- the sets of the points, innermost last
 abbrev pub sets_of : List Point → List (List Var)
 sets_of [] = []
 sets_of (point ∷ outer) = sets_of outer ++ point.failed ∷ []
@@ -78,14 +80,16 @@ IsChain p (point ∷ outer) prefix fuel = IsMade p point prefix fuel × IsChain 
 
 -- a walk holds these points, after so many tries
 pub record IsHeld (p : Problem) (w : Walk) (visited : ℕ) (points : List Point) : Type 0 where
-  pub stands : Stands p w.state
+  pub stands : Represents p w.state
   pub nodes : w.tree ≡ nodes_of points
   pub sets : w.failed ≡ sets_of points
   pub visited_is : w.counts.visited ≡ min visited cap
 
+-- the counts of a walk after so many tries
 abbrev pub counts_at : Walk → ℕ → Counts
 counts_at w visited = counts_of visited w.counts.exhausted
 
+-- an answer that names a set
 abbrev pub failed_with : List Var → Counts → Answer
 failed_with set counts = record { ended = Failed set; counts = counts }
 
@@ -131,6 +135,7 @@ pub record AtValue (p : Problem) (limit : Limit) (w : Walk) (visited n : ℕ) : 
   pub choice : choice_at at.point.node ≡ choice_of at.point.node.var n
   pub value : n < p.domain at.point.node.var
 
+-- where a walk is at a turn
 abbrev pub IsAt : Problem → Limit → Walk → ℕ → Turn → Type 0
 IsAt p limit w visited Look = AtLook p limit w visited
 IsAt p limit w visited Try = AtTry p limit w visited
@@ -141,11 +146,13 @@ pub record HasEnded (p : Problem) (limit : Limit) (w : Walk) (visited : ℕ) (en
   pub visited_is : w.counts.visited ≡ min visited cap
   pub answer : answer_of p limit ≡ record { ended = ended; counts = counts_at w visited }
 
+-- the search's answer is this end
 abbrev pub IsEnd : Problem → Limit → Walk → ℕ → End → Type 0
 IsEnd p limit w visited Whole = HasEnded p limit w visited (Found w.state.trail)
 IsEnd p limit w visited (NoPlan set) = HasEnded p limit w visited (Failed set)
 IsEnd p limit w visited Stopped = HasEnded p limit w visited GaveUp
 
+-- where a step leads
 abbrev pub IsNext : Problem → Limit → Walk → ℕ → Step → Type 0
 IsNext p limit w visited (On turn) = IsAt p limit w visited turn
 IsNext p limit w visited (Done end) = IsEnd p limit w visited end
@@ -156,9 +163,11 @@ weight Look = 3
 weight Try = 0
 weight (Back set) = 1
 
+-- what is left to do at a turn, but for the tries
 abbrev pub load : Walk → Turn → ℕ
 load w turn = 2 * length w.tree + weight turn
 
+-- a step leaves less to do than this
 abbrev pub IsLighter : ℕ → Walk → Step → Type 0
 IsLighter most w (On turn) = load w turn < most
 IsLighter most w (Done end) = Unit {0}
@@ -170,6 +179,7 @@ pub record GoesOn (p : Problem) (limit : Limit) (old new : Walk) (turn : Turn) (
   pub next : IsNext p limit new (visited + tried) step
   pub lighter : IsLighter (4 * tried + load old turn) new step
 
+-- a step from a turn on, whatever was tried before
 abbrev pub Goes : Problem → Limit → Walk → Walk → Turn → ℕ → ℕ → Step → Type 0
 Goes p limit old new turn before now step = (visited : ℕ) → IsAt p limit old visited turn → GoesOn p limit old new turn visited before now step
 
@@ -178,12 +188,42 @@ pub record Moves (p : Problem) (limit : Limit) (new : Walk) (visited most : ℕ)
   pub next : IsNext p limit new visited step
   pub lighter : IsLighter most new step
 
+-- the least open variable is looked for
+abbrev pub Looks : Problem → Limit → Walk → Walk → Step → Type 0
+Looks p limit old new step = (visited : ℕ) → AtLook p limit old visited → Moves p limit new visited (load old Look) step
+
+-- a value that the last node gave is tried
+abbrev pub Tries : Problem → Limit → ℕ → Walk → Walk → Step → Type 0
+Tries p limit value old new step = (visited : ℕ) → AtValue p limit old visited value → Moves p limit new (visited + 1) (4 + load old Try) step
+
+-- the last node, which has failed with this set, is left
+abbrev pub Cuts : List Var → Walk → Walk → Step → Type 0
+Cuts set old new step = (p : Problem) (limit : Limit) (visited : ℕ) → AtCut p limit old visited set → Moves p limit new visited (load old Try) step
+
+-- all values of the last node have failed
+abbrev pub Exhausts : Limit → Walk → Walk → Step → Type 0
+Exhausts limit old new step = (p : Problem) (visited : ℕ) → AtExhausted p limit old visited → Moves p limit new visited (load old Try) step
+
+-- the value that the last node gave has failed with this set
+abbrev pub Falls : List Var → Walk → Walk → Step → Type 0
+Falls set old new step = (p : Problem) (limit : Limit) (visited : ℕ) → AtBack p limit old visited set → Moves p limit new visited (load old Try + 1) step
+
+-- a set is added to the last one
+abbrev pub AddsToLast : List Var → List (List Var) → List (List Var) → Type 0
+AddsToLast set old new = (outer : List (List Var)) (before : List Var) → old ≡ outer ++ before ∷ [] → new ≡ outer ++ union before set ∷ []
+
+-- the set of the innermost point, of which all values have failed: those of its values, its variable and its reason
+abbrev pub IsPointSet : Walk → List Var → Type 0
+IsPointSet w set = (p : Problem) (visited : ℕ) (point : Point) (outer : List Point) → IsHeld p w visited (point ∷ outer) → w.state.trail ≡ point.prefix
+    → set ≡ union point.failed (set_of (point.node.var ∷ reason p point.prefix point.node.var))
+
 -- a step that found no memory made no more tries than the search makes
 pub record StopsAt (p : Problem) (limit : Limit) (visited before now : ℕ) : Type 0 where
   pub tried : ℕ
   pub steps : now ≡ before + tried
   pub most : visited + tried ≤ (answer_of p limit).counts.visited
 
+-- a step from a turn on that found no memory
 abbrev pub Stops : Problem → Limit → Walk → Turn → ℕ → ℕ → Type 0
 Stops p limit old turn before now = (visited : ℕ) → IsAt p limit old visited turn → StopsAt p limit visited before now
 
@@ -191,6 +231,7 @@ Stops p limit old turn before now = (visited : ℕ) → IsAt p limit old visited
 abbrev pub SomeAt : Problem → Limit → Walk → Turn → Type 0
 SomeAt p limit w turn = (visited : ℕ) × IsAt p limit w visited turn
 
+-- the last node has given this value, which isn't tried yet, after some number of tries
 abbrev pub SomeValue : Problem → Limit → Walk → ℕ → Type 0
 SomeValue p limit w n = (visited : ℕ) × AtValue p limit w visited n
 

@@ -1,3 +1,4 @@
+// The search, from a problem to its outcome.
 ghost use Rattle.std.specs.Prelude.{◌≡◌, ◌+◌, ◌≤◌, IfOk, OnOk, OnErr};
 ghost use Rattle.choice_problem.specs.Answer.{answer_of, outcome_of};
 

@@ -1,3 +1,4 @@
+// The steps of a search: a point is opened, its values are tried, and it is left.
 ghost use Rattle.std.specs.Prelude.{◌≡◌, ◌≢◌, ◌+◌, ◌*◌, ◌<◌, ◌≤◌, ℕ, List, [], ◌∷◌, ◌++◌, length, IfOk, OnErr, OnOk, nat_lt, ◌&&◌};
 ghost use Rattle.qualified_goals.specs.declared.variable.Var.{Var};
 ghost use Rattle.choice_problem.specs.Problem.{Problem};
@@ -5,7 +6,7 @@ ghost use Rattle.choice_problem.specs.Active.{reason};
 ghost use Rattle.choice_problem.specs.Answer.{answer_of, outcome_of, is_reached};
 ghost use Rattle.choice_problem.specs.ConflictSet.{union, set_of};
 ghost use Rattle.backjump.specs.declared.walk.Turn.TheVariants.{Look, Try, Back};
-ghost use Rattle.backjump.specs.Walk.{Point, IsHeld, AtLook, AtValue, AtExhausted, AtCut, AtBack, IsAt, IsEnd, IsNext, IsLighter, Goes, Moves, Stops, SomeAt, SomeValue, SomePoint, load};
+ghost use Rattle.backjump.specs.Walk.{Point, IsHeld, AtLook, AtValue, AtExhausted, AtCut, AtBack, IsAt, IsEnd, IsNext, IsLighter, Goes, Looks, Tries, Cuts, Exhausts, Falls, AddsToLast, IsPointSet, Stops, SomeAt, SomeValue, SomePoint, load};
 
 use choice_problem::{Choice, Choices, ConflictSet, Counts, Limit, Outcome, Steps, Var};
 use choice_tree::Tree;
@@ -79,7 +80,7 @@ fn add_failed(
     set: &ConflictSet,
 ) -> Result<(), NoMemory>
     requires { failed.old ≢ [] }
-    ensures { OnOk result ((outer : List (List Var)) (before : List Var) → failed.old ≡ outer ++ before ∷ [] → failed.new ≡ outer ++ union before set.now ∷ []) }
+    ensures { OnOk result (AddsToLast set.now failed.old failed.new) }
 {
     let both = last_of(failed.as_slice()).union(alloc, set)?;
     let last = failed.len() - 1;
@@ -147,7 +148,7 @@ impl Walk {
         limit: Limit,
     ) -> Result<Step, NoMemory>
         requires { SomeAt (C.problem choices.now) limit self.old Look }
-        ensures { IfOk result (λ step. (visited : ℕ) → AtLook (C.problem choices.now) limit self.old visited → Moves (C.problem choices.now) limit self.new visited (load self.old Look) step) }
+        ensures { IfOk result (Looks (C.problem choices.now) limit self.old self.new) }
     {
         match self.state.least() {
             None => Ok(Step::Done(End::Whole)),
@@ -171,7 +172,7 @@ impl Walk {
     ) -> Result<Step, NoMemory>
         requires { SomeValue (C.problem choices.now) limit self.old value }
         ensures ticks { steps.new ≡ steps.old + 1 }
-        ensures step { IfOk result (λ step. (visited : ℕ) → AtValue (C.problem choices.now) limit self.old visited value → Moves (C.problem choices.now) limit self.new (visited + 1) (4 + load self.old Try) step) }
+        ensures step { IfOk result (Tries (C.problem choices.now) limit value self.old self.new) }
     {
         let choice = Choice {
             var: self.tree.top(),
@@ -187,7 +188,7 @@ impl Walk {
     // Leaves the last node, and hands its set to the one below.
     fn cut(&mut self, set: ConflictSet) -> Step
         requires { SomePoint self.old }
-        ensures { (p : Problem) (limit : Limit) (visited : ℕ) → AtCut p limit self.old visited set → Moves p limit self.new visited (load self.old Try) result }
+        ensures { Cuts set self.old self.new result }
     {
         self.tree.back();
         self.failed.pop();
@@ -201,8 +202,7 @@ impl Walk {
     // The set of the last node, of which all values have failed.
     fn exhausted_set(&self, alloc: Global) -> Result<ConflictSet, NoMemory>
         requires { SomePoint self.now }
-        ensures { IfOk result (λ set. (p : Problem) (visited : ℕ) (point : Point) (outer : List Point) → IsHeld p self.now visited (point ∷ outer) → self.now.state.trail ≡ point.prefix
-            → set ≡ union point.failed (set_of (point.node.var ∷ reason p point.prefix point.node.var))) }
+        ensures { IfOk result (IsPointSet self.now) }
     {
         let var = self.tree.top();
         let reason = self.state.reason(alloc, var)?;
@@ -213,7 +213,7 @@ impl Walk {
     // Ends the last node, of which all values have failed.
     fn exhaust(&mut self, alloc: Global, limit: Limit) -> Result<Step, NoMemory>
         requires { SomePoint self.old }
-        ensures { IfOk result (λ step. (p : Problem) (visited : ℕ) → AtExhausted p limit self.old visited → Moves p limit self.new visited (load self.old Try) step) }
+        ensures { IfOk result (Exhausts limit self.old self.new) }
     {
         if gives_up(limit, self.tree.depth(), self.counts.exhausted) {
             return Ok(Step::Done(End::Stopped));
@@ -244,7 +244,7 @@ impl Walk {
     // The value that the last node gave has failed: a set that names its variable is kept there.
     fn fall(&mut self, alloc: Global, set: ConflictSet) -> Result<Step, NoMemory>
         requires { SomePoint self.old }
-        ensures { IfOk result (λ step. (p : Problem) (limit : Limit) (visited : ℕ) → AtBack p limit self.old visited set → Moves p limit self.new visited (load self.old Try + 1) step) }
+        ensures { IfOk result (Falls set self.old self.new) }
     {
         if set.has(self.tree.top()) {
             add_failed(alloc, &mut self.failed, &set)?;

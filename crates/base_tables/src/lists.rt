@@ -4,11 +4,14 @@ use std::test::Fail;
 
 // Numbers, and of their list: the items, how many there are and whether there are none; whether it equals the list that is made of all
 // at once and the empty one; its last item, and the list without it. Or a number in a box: what it holds, and what comes out of it.
+// Or a list behind which others are moved: both lists afterwards.
 pub(crate) const CASES: &str = "\
 none => [] 0 true; true true; None []
 7 => [7] 1 false; true false; Some(7) []
 7 8 9 => [7, 8, 9] 3 false; true false; Some(9) [7, 8]
 boxed 7 => 7 7
+move 8 9 behind 7 => [7, 8, 9] []
+move none behind 7 => [7] []
 ";
 
 fn shown(alloc: Global, list: &List<u32>, whole: &List<u32>) -> Result<String, Fail> {
@@ -30,9 +33,30 @@ fn boxed(alloc: Global, number: u32) -> Result<String, Fail> {
     Ok(format!(in alloc; "{held} {out}")?)
 }
 
+fn numbers(alloc: Global, written: &str) -> Result<List<u32>, Fail> {
+    let mut list = List::new(alloc);
+    for word in written.split(' ') {
+        if let Ok(number) = word.parse::<u32>() {
+            list.push(number)?;
+        }
+    }
+    Ok(list)
+}
+
+fn moved(alloc: Global, written: &str) -> Result<String, Fail> {
+    let (more, first) = written.split_once(" behind ").ok_or("no list")?;
+    let (mut list, mut other) = (numbers(alloc, first)?, numbers(alloc, more)?);
+    list.append(&mut other)?;
+    let (items, left) = (list.as_slice(), other.as_slice());
+    Ok(format!(in alloc; "{items:?} {left:?}")?)
+}
+
 pub(crate) fn answer(alloc: Global, case: &str) -> Result<String, Fail> {
     if let Some(number) = case.strip_prefix("boxed ") {
         return boxed(alloc, number.parse::<u32>()?);
+    }
+    if let Some(written) = case.strip_prefix("move ") {
+        return moved(alloc, written);
     }
     let mut list = List::new(alloc);
     let mut numbers = Vec::new(alloc);

@@ -1,7 +1,7 @@
 // The state of a search, move by move: what it answers to a value, what it opens, and what undoing gives back.
 ghost use Rattle.std.specs.Prelude.{◌≡◌, ◌<◌, IsTrue};
 ghost use Rattle.choice_problem.specs.Problem.{Problem};
-ghost use Rattle.validation.specs.Standing.{Stands};
+ghost use Rattle.validation.specs.View.{Represents};
 
 use crate::problems::{problem, push_name, push_names};
 use choice_problem::{Choice, Choices, Steps, Var};
@@ -46,8 +46,8 @@ fn tried<C: Choices, L: Ledger>(
     val: u64,
     steps: &mut Steps<L>,
 ) -> Result<Option<Verdict>, NoMemory>
-    requires { Stands (C.problem choices.now) state.old }
-    ensures { Stands (C.problem choices.now) state.new }
+    requires { Represents (C.problem choices.now) state.old }
+    ensures { Represents (C.problem choices.now) state.new }
 {
     let Some(var) = state.least() else {
         return Ok(None);
@@ -61,7 +61,7 @@ fn tried<C: Choices, L: Ledger>(
 
 // Takes the last choice back, where there is one.
 fn undone(state: &mut State) -> &'static str
-    ensures { (p : Problem) → Stands p state.old → Stands p state.new }
+    ensures { (p : Problem) → Represents p state.old → Represents p state.new }
 {
     if state.trail().is_empty() {
         return "none";
@@ -102,8 +102,8 @@ fn made<C: Choices, L: Ledger>(
     text: &mut String,
     byte: u8,
 ) -> Result<(), NoMemory>
-    requires { Stands (C.problem choices.now) state.old }
-    ensures { Stands (C.problem choices.now) state.new }
+    requires { Represents (C.problem choices.now) state.old }
+    ensures { Represents (C.problem choices.now) state.new }
 {
     text.push_str("; ")?;
     match byte {

@@ -1,5 +1,5 @@
 use crate::graphs::graph;
-use lacking_units::leading;
+use broken_units::leading;
 use plan_types::{List, NoMemory};
 use std::alloc::Global;
 use std::test::Fail;

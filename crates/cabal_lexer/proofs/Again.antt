@@ -8,7 +8,7 @@ use Rattle.std.proofs.lemmas.List.Elements.{All-append, All-drop, All-take, All-
 use Rattle.std.proofs.lemmas.List.{reverse-append}
 use Rattle.std.proofs.lemmas.List.Folds.{list_all-append, flat_map-map}
 use Rattle.std.proofs.lemmas.Str.{IsUtf8-append, IsUtf8-nil, IsUtf8-from_ascii, IsUtf8-take, IsUtf8-drop}
-use Rattle.cabal_lexer.proofs.Texts.{boundary_front, is_name_byte-ascii, is_blank-ascii, begins_with-boundary, ends_with_brace-boundary, trim_end-take}
+use Rattle.cabal_lexer.proofs.Texts.{is_name_byte-ascii, begins_with-boundary, ends_with_brace-boundary, trim_end-take}
 use Rattle.std.proofs.lemmas.Bool.Decides.{nat_tests}
 use Rattle.std.proofs.lemmas.Grind.{flat_map-append}
 use Rattle.plan_types.specs.declared.element.Element.{Element, fold-Element}
@@ -21,9 +21,11 @@ use Rattle.cabal_lexer.specs.Layout.{ends, Ends, Inside, Begins, texts, first_va
 use Rattle.cabal_lexer.specs.Canonical.{value_lines, field_text, section_line, items_text, element_text}
 use Rattle.cabal_lexer.specs.Folds.{text-field, text-section, zero-field, zero-section, return-field, return-section}
 use Rattle.cabal_lexer.specs.RoundTrip.{zero_layer, unnumbered, ends_with_return, return_layer, without_returns}
-use Rattle.cabal_lexer.proofs.Pieces.{OneLine, Piece, Piece-join, and-left, and-right, Piece-trim, Piece-trim_end, front-take, front-drop, start-same}
-use Rattle.cabal_lexer.proofs.Beginnings.{IsName, IsName-lower, Named, opening-parts, within-ok, within-from, opening-bare_field, opening-field, opening-bare_section, opening-section, and-both}
+use Rattle.cabal_lexer.proofs.Pieces.{OneLine, Piece, Piece-join, Piece-trim, Piece-trim_end, front-take, front-drop, start-same}
+use Rattle.cabal_lexer.proofs.Beginnings.{IsName, IsName-lower, Named, opening-parts, within-ok, within-from, opening-bare_field, opening-field, opening-bare_section, opening-section}
 use Rattle.cabal_lexer.proofs.Printing.{joined, Clean, AllClean, clean-append, BeginsAscii, ascii-append, return-append, return-cons, kept_from-append, line_of, kept_line-printed}
+use Rattle.std.proofs.lemmas.Bool.{not-true, and_parts, and_from}
+use Rattle.text_grammar.proofs.Boundaries.{boundary_front, is_blank-ascii}
 
 -- ---- what is known of the lines that were read
 
@@ -189,31 +191,31 @@ all-reverse : (p : ℕ → Bool) (x : List ℕ) → list_all p x ≡ true → li
 all-reverse p [] h = refl
 all-reverse p (b ∷ x) h =
     ap (list_all p) (reverse-append (b ∷ []) x) ∙ list_all-append p (reverse x) (b ∷ [])
-    ∙ and-both _ _ (all-reverse p x (and-right (p b) (list_all p x) h)) (and-both _ _ (and-left (p b) (list_all p x) h) refl)
+    ∙ and_from _ _ (all-reverse p x ((and_parts (p b) (list_all p x) h).1)) (and_from _ _ ((and_parts (p b) (list_all p x) h).0) refl)
 
 bytes-front : (x : List ℕ) → list_all is_name_byte x ≡ true → indent x ≡ 0
 unfolding indent
 bytes-front [] h = refl
-bytes-front (b ∷ x) h = ap (λ c. cond c (1 + prefix_len is_blank x) 0) (not-blank b (and-left (is_name_byte b) (list_all is_name_byte x) h))
+bytes-front (b ∷ x) h = ap (λ c. cond c (1 + prefix_len is_blank x) 0) (not-blank b ((and_parts (is_name_byte b) (list_all is_name_byte x) h).0))
 
 bytes-return : (x : List ℕ) → list_all is_name_byte x ≡ true → ends_with_return x ≡ false
 unfolding ends_with_return
 bytes-return [] h = refl
-bytes-return (b ∷ []) h = not-return b (and-left (is_name_byte b) true h)
-bytes-return (b ∷ c ∷ x) h = return-cons b c x ∙ bytes-return (c ∷ x) (and-right (is_name_byte b) (list_all is_name_byte (c ∷ x)) h)
+bytes-return (b ∷ []) h = not-return b ((and_parts (is_name_byte b) true h).0)
+bytes-return (b ∷ c ∷ x) h = return-cons b c x ∙ bytes-return (c ∷ x) ((and_parts (is_name_byte b) (list_all is_name_byte (c ∷ x)) h).1)
 
 bytes-line : (x : List ℕ) → list_all is_name_byte x ≡ true → OneLine x
 bytes-line [] h = All-nil (λ b. (b == 10) ≡ false)
-bytes-line (b ∷ x) h = All-cons (λ b. (b == 10) ≡ false) b x (not-newline b (and-left (is_name_byte b) (list_all is_name_byte x) h)) (bytes-line x (and-right (is_name_byte b) (list_all is_name_byte x) h))
+bytes-line (b ∷ x) h = All-cons (λ b. (b == 10) ≡ false) b x (not-newline b ((and_parts (is_name_byte b) (list_all is_name_byte x) h).0)) (bytes-line x ((and_parts (is_name_byte b) (list_all is_name_byte x) h).1))
 
 bytes-ascii : (x : List ℕ) → list_all is_name_byte x ≡ true → IsAscii x
 bytes-ascii [] h k = omega arith
-bytes-ascii (b ∷ x) h zero = low-byte b (and-left (is_name_byte b) (list_all is_name_byte x) h)
-bytes-ascii (b ∷ x) h (suc k) = bytes-ascii x (and-right (is_name_byte b) (list_all is_name_byte x) h) k
+bytes-ascii (b ∷ x) h zero = low-byte b ((and_parts (is_name_byte b) (list_all is_name_byte x) h).0)
+bytes-ascii (b ∷ x) h (suc k) = bytes-ascii x ((and_parts (is_name_byte b) (list_all is_name_byte x) h).1) k
 
 bytes-low : (x : List ℕ) → list_all is_name_byte x ≡ true → BeginsAscii x
 bytes-low [] h = tt
-bytes-low (b ∷ x) h = low-byte b (and-left (is_name_byte b) (list_all is_name_byte x) h)
+bytes-low (b ∷ x) h = low-byte b ((and_parts (is_name_byte b) (list_all is_name_byte x) h).0)
 
 name-code : (name rest : List ℕ) → list_any is_letter name ≡ true → is_comment name ≡ false → is_comment (name ++ rest) ≡ false
 unfolding is_comment
@@ -255,10 +257,6 @@ line-text s n r t = simp append_assoc refl
 abbrev value_raws : List ℕ → List (List ℕ) → List (List ℕ)
 value_raws s values = map (λ value. (s ++ 32 ∷ 32 ∷ 32 ∷ 32 ∷ []) ++ value) values
 
-not-true : (b : Bool) → not b ≡ true → b ≡ false
-not-true true h = cc
-not-true false h = refl
-
 module _ (s : List ℕ) (i : IsIndent s) where
   value-kept : (k : ℕ) (value : List ℕ) → IsKeptText value →
       kept_line k ((s ++ 32 ∷ 32 ∷ 32 ∷ 32 ∷ []) ++ value) ≡ line_of k (length (s ++ 32 ∷ 32 ∷ 32 ∷ 32 ∷ [])) value ∷ []
@@ -282,8 +280,8 @@ module _ (s : List ℕ) (i : IsIndent s) where
   values-clean : (values : List (List ℕ)) → Further values → list_all (λ value. not (ends_with_return value)) values ≡ true → AllClean (value_raws s values)
   values-clean [] h r = tt
   values-clean (value ∷ values) h r = (
-    clean-line (s ++ 32 ∷ 32 ∷ 32 ∷ 32 ∷ []) value (indent-more s (32 ∷ 32 ∷ 32 ∷ 32 ∷ []) i four) h.0.piece h.0.some (not-true _ (and-left _ _ r)),
-    values-clean values h.1 (and-right (not (ends_with_return value)) _ r),
+    clean-line (s ++ 32 ∷ 32 ∷ 32 ∷ 32 ∷ []) value (indent-more s (32 ∷ 32 ∷ 32 ∷ 32 ∷ []) i four) h.0.piece h.0.some (not-true _ ((and_parts _ _ r).0)),
+    values-clean values h.1 ((and_parts (not (ends_with_return value)) _ r).1),
   )
 
   values-whole : (values : List (List ℕ)) → value_lines s values ≡ joined (value_raws s values)
@@ -366,7 +364,7 @@ module _ (s : List ℕ) (i : IsIndent s) (depth k number : ℕ) (low : nat_le de
       (ap (λ b. if b then s ++ name ++ (58 ∷ 10 ∷ []) ++ value_lines s (first ∷ values) else s ++ name ++ (58 ∷ 32 ∷ []) ++ first ++ (10 ∷ []) ++ value_lines s values) e
       ∙ append_assoc (s ++ name) (58 ∷ 10 ∷ []) (value_lines s (first ∷ values)))
   field-by first values false e p l f r =
-      first-field first values _ p l e (not-true _ (and-left (not (ends_with_return first)) _ r)) f (and-right (not (ends_with_return first)) _ r)
+      first-field first values _ p l e (not-true _ ((and_parts (not (ends_with_return first)) _ r).0)) f ((and_parts (not (ends_with_return first)) _ r).1)
       (ap (λ b. if b then s ++ name ++ (58 ∷ 10 ∷ []) ++ value_lines s (first ∷ values) else s ++ name ++ (58 ∷ 32 ∷ []) ++ first ++ (10 ∷ []) ++ value_lines s values) e
       ∙ simp append_assoc refl)
 
@@ -499,9 +497,9 @@ mutual
       without_returns items ≡ true → (s : List ℕ) → IsIndent s → (k : ℕ) → PrintedItems s depth k (items_text items s) items
   again-items {depth = depth} nothing h r s i k = no-items s depth k
   again-items {depth = depth} (element {items = items} {item = item} line block rest e b t) h r s i k =
-      let p = again-item b h.0 (kept-front block rest h.1) (and-left _ _ r) s i k in
+      let p = again-item b h.0 (kept-front block rest h.1) ((and_parts _ _ r).0) s i k in
       more-items s depth k (element_text item s) (items_text items s) item items p
-      (again-items t (kept-back block rest h.1) (and-right (fold-Element Bool return_layer item) _ r) s i (k + 1 + length p.others))
+      (again-items t (kept-back block rest h.1) ((and_parts (fold-Element Bool return_layer item) _ r).1) s i (k + 1 + length p.others))
 
   pub again-item : {depth : ℕ} {braced : Bool} {line : Line} {block rest : List Line} {item : Element} → Block depth braced line block rest item → IsKeptText line.text → KeptTexts block →
       fold-Element Bool return_layer item ≡ true → (s : List ℕ) → IsIndent s → (k : ℕ) → PrintedItem s depth k (element_text item s) item
@@ -521,13 +519,13 @@ mutual
       let plain = sym (return-section line.number name args items) ∙ r in
       subst (λ v. PrintedItem s depth k v (Section line.number name args items)) (sym (text-section line.number name args items s))
       (section-printed s j depth k line.number q.low name q.name_is items
-      (again-items t g (and-right (not (ends_with_return args)) (without_returns items) plain) (s ++ 32 ∷ 32 ∷ []) (indent-more s (32 ∷ 32 ∷ []) j two) (k + 1))
-      args a.0 a.1 a.2 (not-true _ (and-left _ (without_returns items) plain)))
+      (again-items t g ((and_parts (not (ends_with_return args)) (without_returns items) plain).1) (s ++ 32 ∷ 32 ∷ []) (indent-more s (32 ∷ 32 ∷ []) j two) (k + 1))
+      args a.0 a.1 a.2 (not-true _ ((and_parts _ (without_returns items) plain).0)))
   again-item {depth} {braced} {line} (enclosed {name = name} {args = args} {items = items} block close b t c) h g r s j k =
       let q = name-parts depth line h (braced_section name args) name b (named-parts depth line h (braced_section name args) b).0 in
       let a = braced_args-part depth line h name args b in
       let plain = sym (return-section line.number name args items) ∙ r in
       subst (λ v. PrintedItem s depth k v (Section line.number name args items)) (sym (text-section line.number name args items s))
       (section-printed s j depth k line.number q.low name q.name_is items
-      (again-items t (kept-front block (close ∷ []) g) (and-right (not (ends_with_return args)) (without_returns items) plain) (s ++ 32 ∷ 32 ∷ []) (indent-more s (32 ∷ 32 ∷ []) j two) (k + 1))
-      args a.0 a.1 a.2 (not-true _ (and-left _ (without_returns items) plain)))
+      (again-items t (kept-front block (close ∷ []) g) ((and_parts (not (ends_with_return args)) (without_returns items) plain).1) (s ++ 32 ∷ 32 ∷ []) (indent-more s (32 ∷ 32 ∷ []) j two) (k + 1))
+      args a.0 a.1 a.2 (not-true _ ((and_parts _ (without_returns items) plain).0)))

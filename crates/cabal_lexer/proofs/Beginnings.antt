@@ -14,7 +14,9 @@ use Rattle.cabal_lexer.specs.Lines.{indent, trim_start, trim_end, trim, is_comme
 use Rattle.cabal_lexer.specs.Opening.{Opening, field, braced_field, section, braced_section, is_name_byte, name_len, lower_case, is_lone, ends_with_brace, field_opening, before_brace, section_opening, named_opening, opening, within}
 use Rattle.plan_types.specs.Bytes.{begins_with}
 use Rattle.cabal_lexer.proofs.Runs.{front_passes}
-use Rattle.cabal_lexer.proofs.Pieces.{Piece, prefix-past, and-left, and-right, trim-behind, trim_start-behind, trim-same}
+use Rattle.cabal_lexer.proofs.Pieces.{Piece, prefix-past, trim-behind, trim_start-behind, trim-same}
+use Rattle.std.proofs.lemmas.Bool.{and_from, and_parts}
+use Rattle.std.proofs.Math.Bool.{and-false}
 
 pub record IsName (name : List ℕ) : Type 0 where
   pub bytes : list_all is_name_byte name ≡ true
@@ -36,15 +38,11 @@ lower-twice b = grind (arith, nat_tests)
 lower-hyphen : (b : ℕ) → (to_ascii_lowercase b == 45) ≡ (b == 45)
 lower-hyphen b = grind (arith, nat_tests)
 
-pub and-both : (a b : Bool) → a ≡ true → b ≡ true → (a && b) ≡ true
-and-both true b h k = k
-and-both false b h k = cc
-
 lower-bytes : (x : List ℕ) → list_all is_name_byte x ≡ true → list_all is_name_byte (lower_case x) ≡ true
 unfolding lower_case
 lower-bytes [] h = refl
 lower-bytes (b ∷ x) h =
-    and-both _ _ (lower-byte b (and-left (is_name_byte b) (list_all is_name_byte x) h)) (lower-bytes x (and-right (is_name_byte b) (list_all is_name_byte x) h))
+    and_from _ _ (lower-byte b ((and_parts (is_name_byte b) (list_all is_name_byte x) h).0)) (lower-bytes x ((and_parts (is_name_byte b) (list_all is_name_byte x) h).1))
 
 lower-letters : (x : List ℕ) → list_any is_letter (lower_case x) ≡ list_any is_letter x
 unfolding lower_case
@@ -56,18 +54,14 @@ unfolding lower_case
 lower-same [] = refl
 lower-same (b ∷ x) = ap (λ v. v ∷ map to_ascii_lowercase (map to_ascii_lowercase x)) (lower-twice b) ∙ ap (λ v. to_ascii_lowercase b ∷ v) (lower-same x)
 
-and-no : (a : Bool) → (a && false) ≡ false
-and-no true = refl
-and-no false = refl
-
 lower-code : (n : ℕ) (x : List ℕ) → is_comment x ≡ false → is_comment (lower_case (take n x)) ≡ false
 unfolding lower_case is_comment
 lower-code zero [] h = refl
 lower-code zero (a ∷ x) h = refl
 lower-code (suc n) [] h = refl
-lower-code (suc zero) (a ∷ []) h = and-no (to_ascii_lowercase a == 45)
-lower-code (suc (suc n)) (a ∷ []) h = and-no (to_ascii_lowercase a == 45)
-lower-code (suc zero) (a ∷ b ∷ x) h = and-no (to_ascii_lowercase a == 45)
+lower-code (suc zero) (a ∷ []) h = and-false (to_ascii_lowercase a == 45)
+lower-code (suc (suc n)) (a ∷ []) h = and-false (to_ascii_lowercase a == 45)
+lower-code (suc zero) (a ∷ b ∷ x) h = and-false (to_ascii_lowercase a == 45)
 lower-code (suc (suc n)) (a ∷ b ∷ x) h = ap (λ v. v && (to_ascii_lowercase b == 45)) (lower-hyphen a) ∙ ap (λ v. (a == 45) && v) (lower-hyphen b) ∙ h
 
 pub IsName-lower : (text : List ℕ) → is_comment text ≡ false → list_any is_letter (take (name_len text) text) ≡ true → IsName (lower_case (take (name_len text) text))
@@ -142,7 +136,7 @@ within-from depth r o e h = ap (within depth) e ∙ ap (λ b. if b then Ok o els
 
 no-brace : (name rest : List ℕ) → list_all is_name_byte name ≡ true → list_any is_letter name ≡ true → begins_with 125 (name ++ rest) ≡ false
 no-brace [] rest h k = cc
-no-brace (b ∷ name) rest h k = let byte = and-left (is_name_byte b) (list_all is_name_byte name) h in grind (arith, nat_tests)
+no-brace (b ∷ name) rest h k = let byte = (and_parts (is_name_byte b) (list_all is_name_byte name) h).0 in grind (arith, nat_tests)
 
 opening-printed : (name rest : List ℕ) → IsName name → prefix_len is_name_byte rest ≡ 0 → opening (name ++ rest) ≡ named_opening name (trim_start rest)
 unfolding opening name_len

@@ -12,3 +12,4 @@ pub mod Beginnings
 pub mod Printing
 pub mod Again
 pub mod RoundTrip
+pub mod Trees

@@ -1,6 +1,6 @@
 -- Pieces of a text: without blanks at both ends, and of one line.
 use Rattle.std.proofs.Common.{◌≡◌, ℕ, zero, suc, ◌+◌, ◌-◌, ◌<◌, Bool, true, false, cond, List, [], ◌∷◌, ◌++◌, length, take, drop, refl, ◌∙◌, ap, subst, arith, append_assoc, one-add}
-use Rattle.std.specs.Prelude.{reverse, ◌&&◌, ◌==◌}
+use Rattle.std.specs.Prelude.{reverse, ◌==◌}
 use Rattle.std.specs.List.{prefix_len, list_all, All}
 use Rattle.std.specs.Str.{IsUtf8}
 use Rattle.std.proofs.Math.Seq.{drop-append_seam}
@@ -9,7 +9,9 @@ use Rattle.std.proofs.lemmas.List.Elements.{All-take, All-drop, All-append}
 use Rattle.std.proofs.lemmas.Str.{IsUtf8-take, IsUtf8-drop, IsUtf8-append}
 use Rattle.cabal_lexer.specs.Lines.{indent, trim_start, trim_end, trim}
 use Rattle.plan_types.specs.Bytes.{is_blank}
-use Rattle.cabal_lexer.proofs.Texts.{boundary_front, boundary_end, is_blank-ascii, trim_end-take}
+use Rattle.cabal_lexer.proofs.Texts.{boundary_end, trim_end-take}
+use Rattle.std.proofs.lemmas.Bool.{and_parts}
+use Rattle.text_grammar.proofs.Boundaries.{boundary_front, is_blank-ascii}
 
 abbrev pub OneLine : List ℕ → Type 0
 OneLine text = All (λ b. (b == 10) ≡ false) text
@@ -22,19 +24,11 @@ pub record Piece (text : List ℕ) : Type 0 where
 
 -- ---- fronts that pass
 
-pub and-left : (a b : Bool) → (a && b) ≡ true → a ≡ true
-and-left true b h = refl
-and-left false b h = cc
-
-pub and-right : (a b : Bool) → (a && b) ≡ true → b ≡ true
-and-right true b h = h
-and-right false b h = cc
-
 pub prefix-past : (p : ℕ → Bool) (xs ys : List ℕ) → list_all p xs ≡ true → prefix_len p ys ≡ 0 → prefix_len p (xs ++ ys) ≡ length xs
 prefix-past p [] ys h e = e
 prefix-past p (x ∷ xs) ys h e =
-    ap (λ b. cond b (1 + prefix_len p (xs ++ ys)) 0) (and-left (p x) (list_all p xs) h)
-    ∙ ap (λ n. 1 + n) (prefix-past p xs ys (and-right (p x) (list_all p xs) h) e) ∙ one-add _
+    ap (λ b. cond b (1 + prefix_len p (xs ++ ys)) 0) ((and_parts (p x) (list_all p xs) h).0)
+    ∙ ap (λ n. 1 + n) (prefix-past p xs ys ((and_parts (p x) (list_all p xs) h).1) e) ∙ one-add _
 
 cond-zero : (c : Bool) (m n : ℕ) → cond c (1 + m) 0 ≡ 0 → cond c (1 + n) 0 ≡ 0
 cond-zero true m n h = absurd (omega arith)

@@ -9,7 +9,7 @@ use Rattle.std.proofs.lemmas.List.Elements.{All-take, All-cons, All-nil}
 use Rattle.std.proofs.lemmas.List.Sums.{prefix_len_stops}
 use Rattle.std.proofs.lemmas.List.Splits.{slice_split_none, slice_split_first}
 use Rattle.std.proofs.lemmas.Str.{IsUtf8-take, IsUtf8-drop, IsUtf8-past_char, IsCharBoundary-before_ascii, IsCharBoundary-after_ascii}
-use Rattle.std.proofs.lemmas.Bool.{cases_lt}
+use Rattle.std.proofs.lemmas.Bool.{cases_lt, not-true, and_parts}
 use Rattle.std.proofs.lemmas.Bool.Decides.{nat_tests}
 use Rattle.plan_types.specs.declared.element.Element.{Element}
 use Rattle.cabal_lexer.specs.Lines.{Line, is_comment, is_kept, indent, trim, kept_line, kept_from, kept_lines, mark, without_mark}
@@ -17,7 +17,7 @@ use Rattle.cabal_lexer.specs.Fault.{StandsFor, IsTree}
 use Rattle.cabal_lexer.specs.Canonical.{canonical}
 use Rattle.cabal_lexer.specs.RoundTrip.{unnumbered, without_returns}
 use Rattle.cabal_lexer.proofs.Runs.{front_passes}
-use Rattle.cabal_lexer.proofs.Pieces.{OneLine, Piece-trim, and-left, and-right}
+use Rattle.cabal_lexer.proofs.Pieces.{OneLine, Piece-trim}
 use Rattle.cabal_lexer.proofs.Printing.{lines-joined, utf8-joined, without_mark-ascii}
 use Rattle.cabal_lexer.proofs.Again.{KeptTexts, none, again-items}
 
@@ -30,13 +30,9 @@ RawLines (raw ∷ raws) = (OneLine raw × IsUtf8 raw) × RawLines raws
 abbrev newline : ℕ → Bool
 newline b = b == 10
 
-not-true : (b : Bool) → not b ≡ true → b ≡ false
-not-true true h = cc
-not-true false h = refl
-
 line-from : (x : List ℕ) → list_all (λ b. not (newline b)) x ≡ true → OneLine x
 line-from [] h = All-nil (λ b. (b == 10) ≡ false)
-line-from (b ∷ x) h = All-cons (λ b. (b == 10) ≡ false) b x (not-true _ (and-left _ _ h)) (line-from x (and-right (not (newline b)) _ h))
+line-from (b ∷ x) h = All-cons (λ b. (b == 10) ≡ false) b x (not-true _ ((and_parts _ _ h).0)) (line-from x ((and_parts (not (newline b)) _ h).1))
 
 before-line : (x : List ℕ) → OneLine (before_first newline x)
 before-line x = line-from (before_first newline x) (front_passes (λ b. not (newline b)) x)
@@ -108,7 +104,7 @@ without_mark-utf8 x u = mark-at x (starts_with nat_eq x mark) refl u
 is_kept-parts : (x : List ℕ) → is_kept x ≡ true → (0 < length x) × (is_comment x ≡ false)
 unfolding is_kept
 is_kept-parts [] h = cc
-is_kept-parts (b ∷ x) h = (omega arith, not-true _ (and-right (not (length (b ∷ x) == 0)) _ h))
+is_kept-parts (b ∷ x) h = (omega arith, not-true _ ((and_parts (not (length (b ∷ x) == 0)) _ h).1))
 
 kept-at : (k : ℕ) (raw : List ℕ) (more : List Line) (c : Bool) → is_kept (trim raw) ≡ c → OneLine raw → IsUtf8 raw → KeptTexts more →
     KeptTexts ((if c then record { number = k; indent = indent raw; text = trim raw } ∷ [] else []) ++ more)

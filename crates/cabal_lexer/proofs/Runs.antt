@@ -5,6 +5,7 @@ use Rattle.std.specs.List.{prefix_len, list_all}
 use Rattle.std.proofs.lemmas.Bool.Decides.{nat_tests}
 use Rattle.cabal_lexer.specs.Lines.{Line}
 use Rattle.cabal_lexer.specs.Layout.{closes, ends, Ends, Inside}
+use Rattle.std.proofs.lemmas.Bool.{or_parts, or_left, or_right}
 
 -- how many lines stand inside
 abbrev pub run_len : ℕ → Bool → List Line → ℕ
@@ -45,26 +46,14 @@ pub run_drop : (bound : ℕ) (braced : Bool) (lines : List Line) → Ends bound 
 run_drop bound braced [] = tt
 run_drop bound braced (line ∷ lines) = drop-at bound braced line lines (run_drop bound braced lines) (ends bound braced line) refl
 
-or-false : (a b : Bool) → (a || b) ≡ false → (a ≡ false) × (b ≡ false)
-or-false true b h = cc
-or-false false b h = (refl, h)
-
-or-left : (a b : Bool) → a ≡ true → (a || b) ≡ true
-or-left true b h = refl
-or-left false b h = cc
-
-or-right : (a b : Bool) → b ≡ true → (a || b) ≡ true
-or-right true b h = refl
-or-right false b h = h
-
 below-more : (bound indent at : ℕ) → nat_lt indent bound ≡ false → nat_lt at bound ≡ true → nat_lt at (indent + 1) ≡ true
 below-more bound indent at h k = grind (arith, nat_tests)
 
 ends-deeper-at : (bound : ℕ) (braced : Bool) (line at : Line) → ends bound braced line ≡ false → (b : Bool) → nat_lt at.indent bound ≡ b →
     (b || (braced && closes at)) ≡ true → ends (line.indent + 1) braced at ≡ true
 ends-deeper-at bound braced line at h true e k =
-    or-left _ _ (below-more bound line.indent at.indent (or-false (nat_lt line.indent bound) _ h).0 e)
-ends-deeper-at bound braced line at h false e k = or-right (nat_lt at.indent (line.indent + 1)) _ k
+    or_left _ _ (below-more bound line.indent at.indent (or_parts (nat_lt line.indent bound) _ h).0 e)
+ends-deeper-at bound braced line at h false e k = or_right (nat_lt at.indent (line.indent + 1)) _ k
 
 -- what is below a bound is below a block behind a line that isn't below it
 pub Ends-deeper : (bound : ℕ) (braced : Bool) (line : Line) (rest : List Line) → ends bound braced line ≡ false → Ends bound braced rest → Ends (line.indent + 1) braced rest
@@ -80,7 +69,7 @@ Ends-front bound braced [] tail h = tt
 Ends-front bound braced (line ∷ front) tail h = h
 
 pub Ends-close : (close : Line) (rest : List Line) → closes close ≡ true → Ends 0 true (close ∷ rest)
-Ends-close close rest h = or-right (nat_lt close.indent 0) _ h
+Ends-close close rest h = or_right (nat_lt close.indent 0) _ h
 
 closes-at : (close : Line) (b : Bool) → nat_lt close.indent 0 ≡ b → (b || closes close) ≡ true → closes close ≡ true
 closes-at close true e h = absurd (grind (arith, nat_tests))

@@ -9,26 +9,12 @@ use Rattle.std.proofs.Math.Seq.{drop-append_seam}
 use Rattle.std.proofs.lemmas.List.{take-append-drop, reverse-append, reverse-reverse, length-reverse, get_or-reverse, map-append, length-map}
 use Rattle.std.proofs.lemmas.List.Sums.{prefix_len-le-length, prefix_len_passes, count_by-le-length}
 use Rattle.std.proofs.lemmas.List.Splits.{length-slice_split}
-use Rattle.std.proofs.lemmas.Str.{IsCharBoundary-start, IsCharBoundary-end, IsCharBoundary-before_ascii, IsCharBoundary-after_ascii}
+use Rattle.std.proofs.lemmas.Str.{IsCharBoundary-end, IsCharBoundary-before_ascii, IsCharBoundary-after_ascii}
 use Rattle.std.proofs.lemmas.Bool.Decides.{nat_tests}
 use Rattle.cabal_lexer.specs.Opening.{is_name_byte, ends_with_brace}
 use Rattle.plan_types.specs.Bytes.{begins_with, is_blank}
 use Rattle.cabal_lexer.specs.Lines.{indent, trim_start, trim_end, kept_line, kept_from, mark, without_mark}
-
--- where a test passes ASCII alone
-abbrev pub PassesAscii : (ℕ → Bool) → Type 0
-PassesAscii p = (b : ℕ) → p b ≡ true → b < 128
-
-boundary-at : (p : ℕ → Bool) (text : List ℕ) (n : ℕ) → PassesAscii p → IsUtf8 text → n ≡ prefix_len p text → IsCharBoundary text n
-boundary-at p text zero ascii u e = IsCharBoundary-start text u
-boundary-at p text (suc n) ascii u e =
-    let le = prefix_len-le-length p text in
-    let low : get_or text n 0 < 128 = ascii (get_or text n 0) (prefix_len_passes p text n 0 (omega arith)) in
-    subst (λ k. IsCharBoundary text k) (omega arith) (IsCharBoundary-after_ascii text n u (omega arith) low)
-
--- a text may be cut behind its first bytes that pass
-pub boundary_front : (p : ℕ → Bool) (text : List ℕ) → PassesAscii p → IsUtf8 text → IsCharBoundary text (prefix_len p text)
-boundary_front p text ascii u = boundary-at p text (prefix_len p text) ascii u refl
+use Rattle.text_grammar.proofs.Boundaries.{PassesAscii}
 
 boundary_end-at : (p : ℕ → Bool) (text : List ℕ) (n : ℕ) → PassesAscii p → n ≡ prefix_len p (reverse text) → IsCharBoundary text (length text - n)
 boundary_end-at p text zero ascii e = subst (λ k. IsCharBoundary text k) (omega arith) (IsCharBoundary-end text)
@@ -43,9 +29,6 @@ boundary_end-at p text (suc n) ascii e =
 -- a text may be cut before its last bytes that pass
 pub boundary_end : (p : ℕ → Bool) (text : List ℕ) → PassesAscii p → IsCharBoundary text (length text - prefix_len p (reverse text))
 boundary_end p text ascii = boundary_end-at p text (prefix_len p (reverse text)) ascii refl
-
-pub is_blank-ascii : PassesAscii is_blank
-is_blank-ascii b h = grind (arith, nat_tests)
 
 reverse-drop-reverse : (text : List ℕ) (n : ℕ) → n ≤ length text → reverse (drop n (reverse text)) ≡ take (length text - n) text
 reverse-drop-reverse text n h =

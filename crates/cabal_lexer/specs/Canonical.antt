@@ -26,9 +26,11 @@ layer (Field line name values) indent = field_text indent name values
 layer (Section line name args items) indent =
     section_line indent name args ++ flat_map (λ item. item (indent ++ 32 ∷ 32 ∷ [])) items
 
+-- the text of an element, indented so
 abbrev pub element_text : Element → List ℕ → List ℕ
 element_text element = fold-Element (List ℕ → List ℕ) layer element
 
+-- the text of elements, indented so
 abbrev pub items_text : List Element → List ℕ → List ℕ
 items_text items indent = flat_map (λ item. element_text item indent) items
 

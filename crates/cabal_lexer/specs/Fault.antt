@@ -38,6 +38,7 @@ IsTree bytes items = IsUtf8 bytes × StandsFor (kept_lines bytes) items
 abbrev pub bad_line : List ℕ → ℕ
 bad_line bytes = count_by (λ b. b == 10) (take (utf8_valid_len bytes) bytes) + 1
 
+-- the first fault of a file: its bytes, or its layout
 abbrev pub IsFault : List ℕ → ℕ → Cause → Type 0
 IsFault bytes line cause =
     ((IsUtf8 bytes → ⊥) × (line ≡ bad_line bytes) × (cause ≡ NotUtf8)) ⊎ (IsUtf8 bytes × FirstFault (kept_lines bytes) line cause)

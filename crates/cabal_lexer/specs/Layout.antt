@@ -20,6 +20,7 @@ closes line = is_lone 125 line.text
 abbrev pub ends : ℕ → Bool → Line → Bool
 ends bound braced line = nat_lt line.indent bound || (braced && closes line)
 
+-- the first of these lines ends a block
 abbrev pub Ends : ℕ → Bool → List Line → Type 0
 Ends bound braced [] = Unit {0}
 Ends bound braced (line ∷ lines) = ends bound braced line ≡ true
@@ -32,6 +33,7 @@ Inside bound braced lines = list_all (λ line. not (ends bound braced line)) lin
 abbrev pub Begins : ℕ → Line → Opening → Type 0
 Begins depth line begun = within depth (opening line.text) ≡ Ok begun
 
+-- the texts of lines
 abbrev pub texts : List Line → List (List ℕ)
 texts lines = map (λ line. line.text) lines
 

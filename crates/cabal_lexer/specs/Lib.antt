@@ -5,4 +5,5 @@ pub mod Fault
 pub mod Canonical
 pub mod RoundTrip
 pub mod Folds
+pub mod Tree
 pub mod Examples

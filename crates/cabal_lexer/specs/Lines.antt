@@ -1,5 +1,5 @@
 -- The kept lines of a text: those that aren't blank and aren't comments.
-use Rattle.std.specs.Prelude.{ℕ, ◌+◌, Bool, ◌&&◌, ◌||◌, not, List, [], ◌∷◌, ◌++◌, ◌==◌, if◌then◌else◌, length, drop, reverse, slice_index, nat_eq}
+use Rattle.std.specs.Prelude.{ℕ, ◌+◌, Bool, ◌&&◌, not, List, [], ◌∷◌, ◌++◌, ◌==◌, if◌then◌else◌, length, drop, reverse, slice_index, nat_eq}
 use Rattle.std.specs.List.{prefix_len, starts_with}
 use Rattle.std.specs.Str.Lines.{lines}
 use Rattle.plan_types.specs.Bytes.{is_blank}
@@ -11,15 +11,19 @@ pub record Line : Type 0 where
   pub indent : ℕ
   pub text : List ℕ
 
+-- how many blanks are at the front
 unfoldable pub indent : List ℕ → ℕ
 indent text = prefix_len is_blank text
 
+-- without the blanks at the front
 unfoldable pub trim_start : List ℕ → List ℕ
 trim_start text = drop (indent text) text
 
+-- without the blanks at the end
 unfoldable pub trim_end : List ℕ → List ℕ
 trim_end text = reverse (trim_start (reverse text))
 
+-- without both
 unfoldable pub trim : List ℕ → List ℕ
 trim text = trim_end (trim_start text)
 
@@ -27,6 +31,7 @@ trim text = trim_end (trim_start text)
 unfoldable pub is_comment : List ℕ → Bool
 is_comment text = slice_index text 0 == 45 && slice_index text 1 == 45
 
+-- whether a line is neither empty nor a comment
 unfoldable pub is_kept : List ℕ → Bool
 is_kept text = not (length text == 0) && not (is_comment text)
 
@@ -35,6 +40,7 @@ unfoldable pub kept_line : ℕ → List ℕ → List Line
 kept_line number raw =
     if is_kept (trim raw) then record { number = number; indent = indent raw; text = trim raw } ∷ [] else []
 
+-- the lines that are kept, numbered from here
 abbrev pub kept_from : ℕ → List (List ℕ) → List Line
 kept_from number [] = []
 kept_from number (raw ∷ raws) = kept_line number raw ++ kept_from (number + 1) raws
@@ -43,6 +49,7 @@ kept_from number (raw ∷ raws) = kept_line number raw ++ kept_from (number + 1)
 abbrev pub mark : List ℕ
 mark = 239 ∷ 187 ∷ 191 ∷ []
 
+-- without a mark of the byte order at the front
 unfoldable pub without_mark : List ℕ → List ℕ
 without_mark bytes = if starts_with nat_eq bytes mark then drop 3 bytes else bytes
 

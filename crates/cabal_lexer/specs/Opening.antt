@@ -1,5 +1,5 @@
 -- How the text of a line begins an element.
-use Rattle.std.specs.Prelude.{ℕ, ◌-◌, Bool, false, ◌&&◌, ◌||◌, List, [], ◌∷◌, ◌==◌, if◌then◌else◌, length, map, take, drop, slice_index, nat_le}
+use Rattle.std.specs.Prelude.{ℕ, ◌-◌, Bool, ◌&&◌, ◌||◌, List, ◌==◌, if◌then◌else◌, length, map, take, drop, slice_index, nat_le}
 use Rattle.std.specs.declared.result.Result.{Result}
 use Rattle.std.specs.declared.result.Result.TheVariants.{Ok, Err}
 use Rattle.std.specs.List.{prefix_len, list_any}
@@ -12,6 +12,7 @@ use Rattle.cabal_lexer.specs.declared.opening.Opening.{Opening as Begun}
 use Rattle.cabal_lexer.specs.declared.opening.Opening.TheVariants as begun
 use Rattle.cabal_lexer.specs.Lines.{trim, trim_start, trim_end}
 
+-- what a line opens
 pub data Opening : Type 0 where
   -- `name: first`, where the first value may be empty
   field : List ℕ → List ℕ → Opening
@@ -50,6 +51,7 @@ field_opening name value = if is_lone 123 value then braced_field name else fiel
 unfoldable pub before_brace : List ℕ → List ℕ
 before_brace args = trim_end (take (length args - 1) args)
 
+-- what a line opens that has no colon
 unfoldable pub section_opening : List ℕ → List ℕ → Result Opening Cause
 section_opening name args =
     if ends_with_brace args then (if ends_with_brace (before_brace args) then Err StrayBrace else Ok (braced_section name (before_brace args)))
@@ -84,6 +86,7 @@ shown (begun.BracedField name) = braced_field (lower_case name.now)
 shown (begun.Section name args) = section (lower_case name.now) args.now
 shown (begun.BracedSection name args) = braced_section (lower_case name.now) args.now
 
+-- what a line begins, as what it opens, or its fault
 abbrev pub seen : Result Begun Cause → Result Opening Cause
 seen (Ok begun) = Ok (shown begun)
 seen (Err cause) = Err cause

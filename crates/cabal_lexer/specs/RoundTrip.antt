@@ -10,6 +10,7 @@ abbrev pub zero_layer : Element-F Element → Element
 zero_layer (Field line name values) = element.Field 0 name values
 zero_layer (Section line name args items) = element.Section 0 name args items
 
+-- elements without their lines
 abbrev pub unnumbered : List Element → List Element
 unnumbered items = map (fold-Element Element zero_layer) items
 
@@ -22,5 +23,6 @@ abbrev pub return_layer : Element-F Bool → Bool
 return_layer (Field line name values) = list_all (λ value. not (ends_with_return value)) values
 return_layer (Section line name args items) = not (ends_with_return args) && list_all (λ item. item) items
 
+-- no text ends in a carriage return
 abbrev pub without_returns : List Element → Bool
 without_returns items = list_all (fold-Element Bool return_layer) items

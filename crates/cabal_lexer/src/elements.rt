@@ -1,3 +1,4 @@
+// The elements of a block of lines.
 ghost use Rattle.std.specs.Prelude.{◌≡◌, ◌+◌, ◌<◌, ◌≤◌, ◌∷◌, ℕ, Bool, false, IfOk, IfErr, MatchResult, MatchOption, drop, length};
 ghost use Rattle.cabal_lexer.specs.Opening.{section, braced_section, lower_case};
 ghost use Rattle.cabal_lexer.specs.Layout.{ends, Ends, Begins, Fails, Cut, IsElement, At};
@@ -18,7 +19,8 @@ pub fn read_items(
     braced: bool,
 ) -> Result<(List<Element>, usize), Fault>
     requires { depth ≤ 65 }
-    ensures cut { MatchResult result (λ r. Cut bound depth braced lines.now r.0 (drop r.1 lines.now)) (At (Fails bound depth braced lines.now)) }
+    ensures cut { MatchResult result (λ r. Cut bound depth braced lines.now r.0 (drop r.1 lines.now))
+        (At (Fails bound depth braced lines.now)) }
     ensures taken { IfOk result (λ r. r.1 ≤ length lines.now) }
 {
     let mut items = List::new(alloc);
@@ -40,7 +42,8 @@ fn line_inside<'l, 'a>(
     braced: bool,
 ) -> Option<&'l Line<'a>>
     ensures { MatchOption result (at ≤ length lines.now → Ends bound braced (drop at lines.now))
-        (λ line. (at < length lines.now) × (drop at lines.now ≡ line.now ∷ drop (at + 1) lines.now) × (ends bound braced line.now ≡ false)) }
+        (λ line. (at < length lines.now) × (drop at lines.now ≡ line.now ∷ drop (at + 1) lines.now)
+        × (ends bound braced line.now ≡ false)) }
 {
     if at < lines.len() {
         let line = &lines[at];
@@ -63,7 +66,8 @@ fn read_element(
     requires { depth ≤ 65 }
     ensures ok { IfOk result (λ r. IsElement depth braced line.now more.now r.0 (drop r.1 more.now)) }
     ensures taken { IfOk result (λ r. r.1 ≤ length more.now) }
-    ensures err { (bound : ℕ) → ends bound braced line.now ≡ false → IfErr result (At (Fails bound depth braced (line.now ∷ more.now))) }
+    ensures err { (bound : ℕ) → ends bound braced line.now ≡ false
+        → IfErr result (At (Fails bound depth braced (line.now ∷ more.now))) }
 {
     match opening_at(line.text(), depth) {
         Err(cause) => Err(Fault::At {
@@ -95,9 +99,11 @@ fn read_section(
     braced: bool,
 ) -> Result<(Element, usize), Fault>
     requires { depth ≤ 64 }
-    ensures ok { IfOk result (λ r. Begins depth line.now (section (lower_case name.now) args.now) → IsElement depth braced line.now more.now r.0 (drop r.1 more.now)) }
+    ensures ok { IfOk result (λ r. Begins depth line.now (section (lower_case name.now) args.now)
+        → IsElement depth braced line.now more.now r.0 (drop r.1 more.now)) }
     ensures taken { IfOk result (λ r. r.1 ≤ length more.now) }
-    ensures err { (bound : ℕ) → ends bound braced line.now ≡ false → Begins depth line.now (section (lower_case name.now) args.now) →
+    ensures err { (bound : ℕ) → ends bound braced line.now ≡ false
+        → Begins depth line.now (section (lower_case name.now) args.now) →
         IfErr result (At (Fails bound depth braced (line.now ∷ more.now))) }
 {
     let (items, count) = read_items(alloc, more, line.indent() + 1, depth + 1, braced)?;
@@ -121,9 +127,12 @@ fn read_braced_section(
     depth: u32,
 ) -> Result<(Element, usize), Fault>
     requires { depth ≤ 64 }
-    ensures ok { IfOk result (λ r. (braced : Bool) → Begins depth line.now (braced_section (lower_case name.now) args.now) → IsElement depth braced line.now more.now r.0 (drop r.1 more.now)) }
+    ensures ok { IfOk result (λ r. (braced : Bool)
+        → Begins depth line.now (braced_section (lower_case name.now) args.now)
+        → IsElement depth braced line.now more.now r.0 (drop r.1 more.now)) }
     ensures taken { IfOk result (λ r. r.1 ≤ length more.now) }
-    ensures err { (bound : ℕ) (braced : Bool) → ends bound braced line.now ≡ false → Begins depth line.now (braced_section (lower_case name.now) args.now) →
+    ensures err { (bound : ℕ) (braced : Bool) → ends bound braced line.now ≡ false
+        → Begins depth line.now (braced_section (lower_case name.now) args.now) →
         IfErr result (At (Fails bound depth braced (line.now ∷ more.now))) }
 {
     let (items, count) = read_items(alloc, more, 0, depth + 1, true)?;

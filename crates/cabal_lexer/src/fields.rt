@@ -1,3 +1,4 @@
+// Fields, and the lines of their values.
 ghost use Rattle.std.specs.Prelude.{◌≡◌, ◌≤◌, ◌++◌, ◌∷◌, ℕ, Bool, false, not, drop, IfOk, IfErr, length};
 ghost use Rattle.std.specs.List.{prefix_len};
 ghost use Rattle.cabal_lexer.specs.Opening.{field, braced_field, lower_case};
@@ -16,7 +17,8 @@ pub fn read_field(
     more: &[Line],
     braced: bool,
 ) -> Result<(Element, usize), NoMemory>
-    ensures ok { IfOk result (λ r. (depth : ℕ) → Begins depth line.now (field (lower_case name.now) first.now) → IsElement depth braced line.now more.now r.0 (drop r.1 more.now)) }
+    ensures ok { IfOk result (λ r. (depth : ℕ) → Begins depth line.now (field (lower_case name.now) first.now)
+        → IsElement depth braced line.now more.now r.0 (drop r.1 more.now)) }
     ensures taken { IfOk result (λ r. r.1 ≤ length more.now) }
 {
     let count = run_len(more, line.indent() + 1, braced);
@@ -36,9 +38,12 @@ pub fn read_braced_field(
     name: &str,
     more: &[Line],
 ) -> Result<(Element, usize), Fault>
-    ensures ok { IfOk result (λ r. (depth : ℕ) (braced : Bool) → Begins depth line.now (braced_field (lower_case name.now)) → IsElement depth braced line.now more.now r.0 (drop r.1 more.now)) }
+    ensures ok { IfOk result (λ r. (depth : ℕ) (braced : Bool)
+        → Begins depth line.now (braced_field (lower_case name.now))
+        → IsElement depth braced line.now more.now r.0 (drop r.1 more.now)) }
     ensures taken { IfOk result (λ r. r.1 ≤ length more.now) }
-    ensures err { (bound depth : ℕ) (braced : Bool) → ends bound braced line.now ≡ false → Begins depth line.now (braced_field (lower_case name.now)) →
+    ensures err { (bound depth : ℕ) (braced : Bool) → ends bound braced line.now ≡ false
+        → Begins depth line.now (braced_field (lower_case name.now)) →
         IfErr result (At (Fails bound depth braced (line.now ∷ more.now))) }
 {
     let count = run_len(more, 0, true);

@@ -1,3 +1,4 @@
+// What holds of texts and their trees.
 ghost use Rattle.std.specs.Prelude.{◌≡◌, ℕ, List, true};
 ghost use Rattle.plan_types.specs.declared.element.Element.{Element};
 ghost use Rattle.plan_types.specs.declared.refusal.Cause.{Cause};
@@ -12,12 +13,14 @@ pub fn one_tree()
 
 /// A text has one first fault at most.
 pub fn one_fault()
-    ensures { (bytes : List ℕ) (n m : ℕ) (c d : Cause) → IsFault bytes n c → IsFault bytes m d → (n ≡ m) × (c ≡ d) }
+    ensures { (bytes : List ℕ) (n m : ℕ) (c d : Cause) → IsFault bytes n c → IsFault bytes m d
+        → (n ≡ m) × (c ≡ d) }
 {}
 
 /// A text never has both a tree and a fault.
 pub fn tree_or_fault()
-    ensures { (bytes : List ℕ) (items : List Element) (line : ℕ) (cause : Cause) → IsTree bytes items → IsFault bytes line cause → ⊥ }
+    ensures { (bytes : List ℕ) (items : List Element) (line : ℕ) (cause : Cause) → IsTree bytes items
+        → IsFault bytes line cause → ⊥ }
 {}
 
 /// The canonical text of a tree that a text has is a text of the same tree, but for the numbers of

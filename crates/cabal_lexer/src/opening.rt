@@ -1,3 +1,4 @@
+// What a line opens.
 ghost use Rattle.std.specs.Prelude.{◌≡◌, ◌≤◌, true, IfOk};
 ghost use Rattle.std.specs.List.{list_any};
 ghost use Rattle.plan_types.specs.Name.{is_letter};

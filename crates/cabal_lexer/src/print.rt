@@ -1,3 +1,4 @@
+// Trees as texts.
 ghost use Rattle.std.specs.Prelude.{◌≡◌, ◌++◌, [], ◌∷◌, IfOk, OnOk};
 ghost use Rattle.cabal_lexer.specs.Canonical.{value_lines, field_text, section_line, element_text, items_text, canonical};
 
@@ -118,7 +119,8 @@ fn print_values(text: &mut Text, indent: &str, values: &[Text]) -> Result<(), No
 }
 
 fn print_value(text: &mut Text, indent: &str, value: &str) -> Result<(), NoMemory>
-    ensures { OnOk result (text.new ≡ text.old ++ indent.now ++ (32 ∷ 32 ∷ 32 ∷ 32 ∷ []) ++ value.now ++ 10 ∷ []) }
+    ensures { OnOk result (text.new ≡ text.old ++ indent.now ++ (32 ∷ 32 ∷ 32 ∷ 32 ∷ [])
+        ++ value.now ++ 10 ∷ []) }
 {
     text.push_str(indent)?;
     text.push_str("    ")?;

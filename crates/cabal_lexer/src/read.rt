@@ -1,3 +1,4 @@
+// A file, read into its tree.
 ghost use Rattle.std.specs.Prelude.{◌≡◌, ◌+◌, ◌≤◌, ◌<◌, ◌==◌, ℕ, List, take, length, count_by, IfOk, IfErr, MatchResult};
 ghost use Rattle.std.specs.Str.{IsUtf8};
 ghost use Rattle.plan_types.specs.declared.element.Element.{Element};
@@ -42,7 +43,8 @@ fn read_tree(alloc: Global, bytes: &[u8]) -> Result<List<Element>, Fault>
 
 fn decoded(bytes: &[u8]) -> Result<&str, Fault>
     requires { length bytes.now ≤ 1048576 }
-    ensures { MatchResult result (λ text. (text.now ≡ bytes.now) × IsUtf8 bytes.now) (RefusesAt (IsFault bytes.now)) }
+    ensures { MatchResult result (λ text. (text.now ≡ bytes.now) × IsUtf8 bytes.now)
+        (RefusesAt (IsFault bytes.now)) }
 {
     match str::from_utf8(bytes) {
         Ok(text) => Ok(text),

@@ -9,7 +9,7 @@ ghost use Rattle.cabal_plan.specs.Failure.{failure_of};
 ghost use Rattle.cabal_plan.specs.Words.{words_of};
 ghost use Rattle.plan_command.specs.Output.{IsUsage};
 ghost use Rattle.plan_command.specs.Status.{number_of_status};
-ghost use Rattle.plan_words.specs.Reading.{reading};
+ghost use Rattle.command_line.specs.Reading.{reading};
 
 use outside_folder::{RealFolder, RealSink};
 use plan_command::{Status, code_of, print_usage, run};

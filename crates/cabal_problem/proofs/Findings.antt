@@ -3,7 +3,7 @@ use Rattle.std.proofs.Common.{◌≡◌, ℕ, suc, ◌+◌, ◌<◌, Bool, true,
 use Rattle.std.specs.Prelude.{unwrap_or, Contains}
 use Rattle.std.specs.List.{AllByRecursion, list_all, list_any, position_or_len}
 use Rattle.std.specs.Cmp.Lexicographic.{pointwise}
-use Rattle.std.proofs.lemmas.Bool.{false≢true, eqb-true, eq-eqb, lt-ltb}
+use Rattle.std.proofs.lemmas.Bool.{false≢true, eqb-true, eq-eqb, lt-ltb, and_parts, and_from}
 use Rattle.std.proofs.lemmas.List.{length-map}
 use Rattle.plan_types.specs.declared.condition.Env.{Env}
 use Rattle.plan_types.specs.declared.dependency.Dep.{Dep}
@@ -27,16 +27,18 @@ use Rattle.flatten.specs.Sound.{IsSound, IsPackage, IsEntry, IsSource, has_packa
 use Rattle.version_range.specs.Version.{has_versions, is_version}
 use Rattle.qualified_goals.specs.declared.variable.Qual.TheVariants.{Top}
 use Rattle.qualified_goals.specs.declared.variable.Part.TheVariants.{Flag}
-use Rattle.qualified_goals.specs.Names.{Name, NameTable, AreNumbers, is_listed, is_text, flags_in, flag_names, declared_by, no_package, number_of, package_names}
+use Rattle.qualified_goals.specs.Names.{Name, NameTable, AreNumbers, is_listed, flags_in, flag_names, number_of, package_names}
 use Rattle.constraint_set.specs.Bars.{is_number}
-use Rattle.choice_problem.specs.Lists.{contains-none, contains-cases, contains-left, contains-right, contains-map, map-contains, contains-filter, contains-flat_map, flat_map-contains, and-left, and-right, and-both, all-at, all-from}
-use Rattle.instance_tables.specs.Places.{rising, package_at, entries_of, number, flag_number}
+use Rattle.common_laws.specs.Lists.{contains-none, contains-cases, contains-left, contains-right, contains-map, map-contains, contains-filter, contains-flat_map, flat_map-contains, all-at, all-from, any-at, any-from}
+use Rattle.solver_index.specs.Places.{rising, number, flag_number}
 use Rattle.cabal_problem.specs.Variables.{is_tool, is_tool_of, component_asks, asks_for_tool, declares, is_part}
 use Rattle.cabal_problem.specs.Values.{is_flag}
-use Rattle.instance_tables.specs.Versions.{flats_have_versions, deps_have_versions, body_has_versions, entry_has_versions, entries_have_versions, packages_have_versions}
+use Rattle.solver_index.specs.Versions.{flats_have_versions, deps_have_versions, body_has_versions, entry_has_versions, entries_have_versions, packages_have_versions}
 use Rattle.cabal_problem.specs.Lawful.{is_found, has_qual_for, flat_finds, body_finds, package_finds, packages_find}
-use Rattle.cabal_problem.specs.Laws.{any-at, any-from, rising-below}
+use Rattle.cabal_problem.specs.Laws.{rising-below}
 use Rattle.std.proofs.lemmas.List.Elements.{Contains-get_or}
+use Rattle.plan_types.specs.Bytes.{same_text}
+use Rattle.plan_types.specs.Packages.{declared_by, entries_of, package_at, no_package}
 
 pub each-at : {X : Type 0} (P : X → Type 0) (xs : List X) (x : X) → AllByRecursion P xs → Contains xs x → P x
 each-at P [] x h k = absurd (contains-none x k)
@@ -49,14 +51,14 @@ same-is [] [] h = refl
 same-is [] (y ∷ b) h = absurd (false≢true h)
 same-is (x ∷ a) [] h = absurd (false≢true h)
 same-is (x ∷ a) (y ∷ b) h =
-    ap (λ n. n ∷ a) (eqb-true x y (and-left (nat_eq x y) (pointwise nat_eq a b) h)) ∙ ap (λ l. y ∷ l) (same-is a b (and-right (nat_eq x y) (pointwise nat_eq a b) h))
+    ap (λ n. n ∷ a) (eqb-true x y ((and_parts (nat_eq x y) (pointwise nat_eq a b) h).0)) ∙ ap (λ l. y ∷ l) (same-is a b ((and_parts (nat_eq x y) (pointwise nat_eq a b) h).1))
 
 same-self : (a : Name) → pointwise nat_eq a a ≡ true
 same-self [] = refl
-same-self (x ∷ a) = and-both (nat_eq x x) (pointwise nat_eq a a) (eq-eqb x x refl) (same-self a)
+same-self (x ∷ a) = and_from (nat_eq x x) (pointwise nat_eq a a) (eq-eqb x x refl) (same-self a)
 
 listed-from : (names : List Name) (name : Name) → Contains names name → is_listed names name ≡ true
-listed-from names name h = any-from (is_text name) names name h (same-self name)
+listed-from names name h = any-from (same_text name) names name h (same-self name)
 
 -- a name that is listed has a place
 record HasPlace (names : List Name) (name : Name) : Type 0 where
@@ -74,8 +76,8 @@ place-below test (n ∷ names) h =
 
 listed-place : (names : List Name) (name : Name) → is_listed names name ≡ true → HasPlace names name
 listed-place names name h =
-    let place = position_or_len (is_text name) names in
-    let below = place-below (is_text name) names h in
+    let place = position_or_len (same_text name) names in
+    let below = place-below (same_text name) names h in
     record { place = place; below = below; is = ap (λ b. cond b (Some place) None) (lt-ltb place (length names) below) }
 
 -- a dependency that is flattened, and where it stands
@@ -153,7 +155,7 @@ module _ (index : Index) (names : NameTable) (numbers : AreNumbers index.package
   tool-asked d guarded component t h k out tool is =
       any-from (component_asks names t) d.components component h
       (any-from (is_tool_of names t) component.deps guarded k
-      (and-both (not guarded.dep.internal && is_tool guarded.dep.kind) (is_number (number_of names.packages guarded.dep.«package») t) (and-both (not guarded.dep.internal) (is_tool guarded.dep.kind) out tool) is))
+      (and_from (not guarded.dep.internal && is_tool guarded.dep.kind) (is_number (number_of names.packages guarded.dep.«package») t) (and_from (not guarded.dep.internal) (is_tool guarded.dep.kind) out tool) is))
 
   -- a qualifier under which the dependency's package has variables
   pub kind-found : (p : ℕ) (e : Entry) (d : Description) (flats : List FlatDep) (offer : Exposed) (guarded : GuardedDep) (component : Component) (k : DepKind) → guarded.dep.kind ≡ k
@@ -175,7 +177,7 @@ module _ (index : Index) (names : NameTable) (numbers : AreNumbers index.package
       let comp = all-at (λ (dep : Dep). is_of_components dep.kind) (component_deps d) is.guarded.dep source.description.component_kinds (in-component-deps d is.component is.guarded is.in_components is.in_deps) in
       let has = kind-found p e d flats offer is.guarded is.component is.guarded.dep.kind refl there body is.in_components is.in_deps is.external_is comp
       (subst (λ (dep : Dep). has_package index dep.«package» ≡ true) (sym is.dep_is) found) in
-      and-both (is_found packages names flat.dep.«package») (has_qual_for packages names p flat.dep.kind flat.dep.«package») (package-found flat.dep.«package» found)
+      and_from (is_found packages names flat.dep.«package») (has_qual_for packages names p flat.dep.kind flat.dep.«package») (package-found flat.dep.«package» found)
       (subst (λ (dep : Dep). has_qual_for packages names p dep.kind dep.«package» ≡ true) is.dep_is has)
 
   pub setup-found : (env : Env) (d : Description) (flats : List FlatDep) (offer : Exposed) → IsSource env index d flats offer → (dep : Dep) → Contains d.setup dep → is_found packages names dep.«package» ≡ true
@@ -196,16 +198,16 @@ module _ (index : Index) (names : NameTable) (numbers : AreNumbers index.package
   unit-package id name h =
       let found = any-at (λ (p : Package). pointwise nat_eq p.name name && (p.local || list_any (is_unit id) p.entries)) packages h in
       any-from (λ (p : Package). pointwise nat_eq p.name name) packages found.0 found.1
-      (and-left (pointwise nat_eq found.0.name name) (found.0.local || list_any (is_unit id) found.0.entries) found.2)
+      ((and_parts (pointwise nat_eq found.0.name name) (found.0.local || list_any (is_unit id) found.0.entries) found.2).0)
 
   units-found : (ids needs : List Name) → has_units index ids needs ≡ true → list_all (is_found packages names) needs ≡ true
   units-found [] [] h = refl
   units-found [] (name ∷ needs) h = absurd (false≢true h)
   units-found (id ∷ ids) [] h = refl
   units-found (id ∷ ids) (name ∷ needs) h =
-      and-both (is_found packages names name) (list_all (is_found packages names) needs)
-      (package-found name (unit-package id name (and-left (has_unit index id name) (has_units index ids needs) h)))
-      (units-found ids needs (and-right (has_unit index id name) (has_units index ids needs) h))
+      and_from (is_found packages names name) (list_all (is_found packages names) needs)
+      (package-found name (unit-package id name ((and_parts (has_unit index id name) (has_units index ids needs) h).0)))
+      (units-found ids needs ((and_parts (has_unit index id name) (has_units index ids needs) h).1))
 
   -- ---- the packages
 
@@ -215,13 +217,13 @@ module _ (index : Index) (names : NameTable) (numbers : AreNumbers index.package
       let flags = list_all (λ (decl : FlagDecl). is_part names Top found (Flag (flag_number names decl.name))) d.flags in
       let deps = list_all (flat_finds packages names p) flats in
       let setup = list_all (λ (dep : Dep). is_found packages names dep.«package») d.setup in
-      and-both flags (deps && setup)
+      and_from flags (deps && setup)
       (all-from (λ (decl : FlagDecl). is_part names Top found (Flag (flag_number names decl.name))) d.flags (λ decl k.
       let declared : Contains (declared_by e.body) decl = subst (λ b. Contains (declared_by b) decl) (sym is) k in
       let listed = declared-listed found e decl (Contains-get_or packages p no_package below) there declared in
       any-from (λ (f : Entry). declares names (flag_number names decl.name) f.body) (entries_of packages p) e there
       (any-from (is_flag names (flag_number names decl.name)) (declared_by e.body) decl declared (flag-number decl.name listed))))
-      (and-both deps setup (all-from (flat_finds packages names p) flats (flat-found env p e d flats offer there is source))
+      (and_from deps setup (all-from (flat_finds packages names p) flats (flat-found env p e d flats offer there is source))
       (all-from (λ (dep : Dep). is_found packages names dep.«package») d.setup (setup-found env d flats offer source)))
   body-found env p e (Installed unit needs) below there is units = units-found unit.depends needs units
 
@@ -247,7 +249,7 @@ module _ (index : Index) (names : NameTable) (numbers : AreNumbers index.package
 source-versions : (env : Env) (index : Index) (d : Description) (flats : List FlatDep) (offer : Exposed) → IsSource env index d flats offer → flats_have_versions flats && deps_have_versions d.setup ≡ true
 source-versions env index d flats offer source =
     let deps = component_deps d in
-    and-both (flats_have_versions flats) (deps_have_versions d.setup)
+    and_from (flats_have_versions flats) (deps_have_versions d.setup)
     (all-from (λ (flat : FlatDep). has_versions flat.dep.range) flats (λ flat k.
     let is = flat-outward env d flat (subst (λ l. Contains l flat) source.demands k) in
     subst (λ (dep : Dep). has_versions dep.range ≡ true) is.dep_is
@@ -265,4 +267,4 @@ all-versions env index sound =
     all-from (λ (p : Package). entries_have_versions p.entries) index.packages (λ p k.
     all-from entry_has_versions p.entries (λ e there.
     let is = each-at (IsEntry env index p) p.entries e (each-at (IsPackage env index) index.packages p sound.packages k).entries there in
-    and-both (is_version e.instance.version.parts) (body_has_versions e.body) is.version (body-versions env index e.body is.body)))
+    and_from (is_version e.instance.version.parts) (body_has_versions e.body) is.version (body-versions env index e.body is.body)))

@@ -7,7 +7,7 @@ use Rattle.std.specs.declared.cmp.Ordering.TheVariants.{Less, Equal, Greater}
 use Rattle.std.specs.Ordering.{is_lt, nat_cmp, ordering_reverse, ordering_then}
 use Rattle.std.specs.Cmp.{IsTotalOrder}
 use Rattle.std.specs.Cmp.Lexicographic.{on_texts, slice_cmp}
-use Rattle.std.proofs.lemmas.Bool.{false≢true}
+use Rattle.std.proofs.lemmas.Bool.{false≢true, not-true}
 use Rattle.plan_types.specs.Members.{order}
 use Rattle.plan_types.specs.declared.condition.Env.{Env}
 use Rattle.plan_types.specs.declared.index.Entry.{Entry}
@@ -16,11 +16,11 @@ use Rattle.plan_types.specs.declared.index.Package.{Package}
 use Rattle.plan_types.specs.declared.version.Version.{Version}
 use Rattle.version_range.proofs.Ends.{not_below_back}
 use Rattle.flatten.specs.Sound.{IsInOrder, IsPackage, IsSound, releases, unit_order, units}
-use Rattle.flatten.specs.Sound as sound
-use Rattle.choice_problem.specs.Lists.{contains-filter, contains-head, contains-tail}
-use Rattle.instance_tables.specs.Allowed.{is_installed}
-use Rattle.instance_tables.specs.Blocks.{AllAreInBlocks, AreInBlocks, MayFollow}
+use Rattle.common_laws.specs.Lists.{contains-filter, contains-head, contains-tail}
+use Rattle.solver_index.specs.Blocks.{AllAreInBlocks, AreInBlocks, MayFollow}
 use Rattle.cabal_problem.proofs.Findings.{each-at}
+use Rattle.common_laws.specs.Each.{each-append}
+use Rattle.plan_types.specs.Packages.{is_installed}
 
 abbrev AreOf : Bool → List Entry → Type 0
 AreOf kind entries = (e : Entry) → Contains entries e → is_installed e.body ≡ kind
@@ -70,10 +70,6 @@ units-in-blocks (e ∷ entries) are h = (units-behind e entries (tail-of true e 
 
 -- ---- both
 
-all-of : {X : Type 0} (P : X → Type 0) (xs ys : List X) → AllByRecursion P xs → AllByRecursion P ys → AllByRecursion P (xs ++ ys)
-all-of P [] ys h k = k
-all-of P (x ∷ xs) ys h k = (h.0, all-of P xs ys h.1 k)
-
 units-follow : (a : Entry) (entries : List Entry) → is_installed a.body ≡ false → AreOf true entries → AllByRecursion (MayFollow a) entries
 units-follow a [] source are = tt
 units-follow a (e ∷ entries) source are = (
@@ -84,18 +80,14 @@ units-follow a (e ∷ entries) source are = (
 joined-in-blocks : (front rest : List Entry) → AreOf false front → AreOf true rest → AreInBlocks front → AreInBlocks rest → AreInBlocks (front ++ rest)
 joined-in-blocks [] rest sources are h k = k
 joined-in-blocks (e ∷ front) rest sources are h k = (
-  all-of (MayFollow e) front rest h.0 (units-follow e rest (sources e (contains-head e front)) are),
+  each-append (MayFollow e) front rest h.0 (units-follow e rest (sources e (contains-head e front)) are),
   joined-in-blocks front rest (tail-of false e front sources) are h.1 k,
 )
 
-not-true : (b : Bool) → not b ≡ true → b ≡ false
-not-true true h = absurd (false≢true h)
-not-true false h = refl
-
 package-in-blocks : (p : Package) → IsInOrder p → AreInBlocks p.entries
 package-in-blocks p is =
-    let sources : AreOf false (releases p) = λ e h. not-true (sound.is_installed e.body) (contains-filter (λ (f : Entry). not (sound.is_installed f.body)) p.entries e h).1 in
-    let installed : AreOf true (units p) = λ e h. (contains-filter (λ (f : Entry). sound.is_installed f.body) p.entries e h).1 in
+    let sources : AreOf false (releases p) = λ e h. not-true (is_installed e.body) (contains-filter (λ (f : Entry). not (is_installed f.body)) p.entries e h).1 in
+    let installed : AreOf true (units p) = λ e h. (contains-filter (λ (f : Entry). is_installed f.body) p.entries e h).1 in
     subst AreInBlocks (sym is.releases_first)
     (joined-in-blocks (releases p) (units p) sources installed (releases-in-blocks (releases p) sources is.versions_rise) (units-in-blocks (units p) installed is.units_rise))
 

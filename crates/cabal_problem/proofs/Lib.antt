@@ -5,3 +5,6 @@ mod InBlocks
 mod NewProblem
 mod Whole
 mod WholeLaws
+mod OneTable
+mod OneOrders
+mod OneProblem

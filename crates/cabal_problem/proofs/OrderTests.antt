@@ -2,13 +2,12 @@
 use Rattle.std.proofs.Common.{◌≡◌, ℕ, zero, suc, ◌+◌, ◌<◌, ◌≤◌, true, false, not, ◌&&◌, nat_eq, nat_lt, List, [], ◌∷◌, length, refl, sym, ◌∙◌, subst, inl, inr, arith}
 use Rattle.std.specs.List.{Contains, AllByRecursion, IsDistinct, list_all, range_with_len}
 use Rattle.std.specs.List.Sorted.{IsPermutation}
-use Rattle.std.proofs.lemmas.Bool.{false≢true, eqb-true, eq-eqb, lt-ltb}
+use Rattle.std.proofs.lemmas.Bool.{false≢true, eqb-true, eq-eqb, lt-ltb, and_from}
 use Rattle.std.proofs.lemmas.List.FromFn.{length-range_with_len, get_or-range_with_len}
 use Rattle.std.proofs.lemmas.List.Sorted.{Contains-permutation, IsPermutation-sym, length_permutation}
 use Rattle.std.proofs.lemmas.Map.Keys.{IsDistinct-IsPermutation}
-use Rattle.choice_problem.specs.Lists.{contains-none, contains-cases, and-both, all-from}
+use Rattle.common_laws.specs.Lists.{contains-none, contains-cases, all-from, any-at, any-from}
 use Rattle.choice_problem.specs.Written.{is_among, has_each_below, is_once, is_order}
-use Rattle.cabal_problem.specs.Laws.{any-at, any-from}
 
 eq-flips : (x y : ℕ) → nat_eq x y ≡ nat_eq y x
 eq-flips x y =
@@ -28,7 +27,7 @@ once-from : (values : List ℕ) → IsDistinct nat_eq values → is_once values 
 unfolding IsDistinct
 once-from [] h = refl
 once-from (n ∷ values) h =
-    and-both (not (is_among values n)) (is_once values)
+    and_from (not (is_among values n)) (is_once values)
     (elim (is_among values n) as (λ b. is_among values n ≡ b → not b ≡ true) [
       | true ↦ λ e.
           let found = any-at (λ m. nat_eq m n) values e in
@@ -40,7 +39,7 @@ once-from (n ∷ values) h =
 each-from : (n : ℕ) (values : List ℕ) → ((x : ℕ) → x < n → Contains values x) → has_each_below n values ≡ true
 each-from zero values h = refl
 each-from (suc n) values h =
-    and-both (is_among values n) (has_each_below n values) (any-from (λ m. nat_eq m n) values n (h n (omega arith)) (eq-eqb n n refl)) (each-from n values (λ x less. h x (omega (arith, less))))
+    and_from (is_among values n) (has_each_below n values) (any-from (λ m. nat_eq m n) values n (h n (omega arith)) (eq-eqb n n refl)) (each-from n values (λ x less. h x (omega (arith, less))))
 
 range-all : (P : ℕ → Type 0) (a n : ℕ) → ((x : ℕ) → a ≤ x → P x) → AllByRecursion P (range_with_len a n)
 range-all P a zero h = tt
@@ -71,10 +70,10 @@ permuted_is_order n values h =
     let long : length values ≡ n = length_permutation (range_with_len 0 n) values h ∙ length-range_with_len 0 n in
     let back = IsPermutation-sym (range_with_len 0 n) values h in (
       long,
-      and-both (list_all (λ m. nat_lt m (length values)) values) (has_each_below (length values) values && is_once values)
+      and_from (list_all (λ m. nat_lt m (length values)) values) (has_each_below (length values) values && is_once values)
           (all-from (λ m. nat_lt m (length values)) values (λ x k.
           lt-ltb x (length values) (subst (λ m. x < m) (sym long) (range-below n x (Contains-permutation values (range_with_len 0 n) x back k)))))
-          (and-both (has_each_below (length values) values) (is_once values)
+          (and_from (has_each_below (length values) values) (is_once values)
           (each-from (length values) values (λ x less. Contains-permutation (range_with_len 0 n) values x h (range-has n x (subst (λ m. x < m) long less))))
           (once-from values (IsDistinct-IsPermutation nat_eq eq-flips (range_with_len 0 n) values h (range-once 0 n)))),
     )

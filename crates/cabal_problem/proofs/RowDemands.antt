@@ -15,17 +15,18 @@ use Rattle.plan_types.specs.declared.index.Package.{Package}
 use Rattle.plan_types.specs.declared.project.Project.{Project}
 use Rattle.plan_types.specs.declared.version.Version.{Version}
 use Rattle.qualified_goals.specs.declared.variable.Part.TheVariants.{Tests, Benches}
-use Rattle.qualified_goals.specs.Names.{Name, NameTable, declared_by}
+use Rattle.qualified_goals.specs.Names.{Name, NameTable}
 use Rattle.choice_problem.specs.declared.problem.Choice.{Choice}
 use Rattle.choice_problem.specs.declared.problem.Demand.{Demand}
-use Rattle.instance_tables.specs.Asked.{asked_of_body, asking_of, dep_target, need_at, setting_of}
-use Rattle.instance_tables.specs.Places.{entries_of, flag_number, number, rising}
-use Rattle.instance_tables.proofs.Allowing.{allowed-inside}
-use Rattle.instance_tables.proofs.ListLaws.{map-map}
+use Rattle.solver_index.specs.Dependencies.{body_dependencies, conditional_dep, dep_target, need_at, setting_of}
+use Rattle.solver_index.specs.Places.{flag_number, number, rising}
+use Rattle.solver_index.proofs.Allowing.{allowed-inside}
 use Rattle.cabal_problem.specs.Variables.{has_kind, is_benchmark, is_suite}
 use Rattle.cabal_problem.specs.Values.{default_in, default_of, has_number, package_var}
 use Rattle.cabal_problem.specs.ListedDemands.{can_count, dep_demand, flag_demand, flat_demand, flat_demands, has_stanzas, qual_for, setup_demand, setup_demands, setup_if, source_demands, stanza_if, unit_demands, when_of}
 use Rattle.cabal_problem.specs.Rows.{choice_at, default_by, dep_row, flag_row, in_pairs, need_demand, setup_row, source_rows, target_demand}
+use Rattle.common_laws.specs.Lists.{map-map}
+use Rattle.plan_types.specs.Packages.{declared_by, entries_of}
 
 -- ---- pairs
 
@@ -60,32 +61,32 @@ pairs-kept make row one test (x ∷ xs) h =
 
 -- ---- demands
 
-module _ (packages : List Package) (project : Project) (names : NameTable) (owner : Choice) (lets : Dep → Version → Bool) where
+module _ (packages : List Package) (project : Project) (names : NameTable) (owner : Choice) (allows : Dep → Version → Bool) where
   abbrev demand_to : List Choice → DepKind → Dep → List ℕ → Demand
   demand_to when kind dep allowed = record { when = when; target = package_var (qual_for kind owner.var (number packages names dep.«package»)) (number packages names dep.«package»); allowed = allowed }
 
-  target-is : (when : List Choice) (kind : DepKind) (dep : Dep) → target_demand packages owner when kind dep (dep_target packages names lets kind dep) ≡ dep_demand packages names owner when kind (lets dep) dep
-  target-is when kind dep = ap (demand_to when kind dep) (allowed-inside kind (lets dep) dep (entries_of packages (number packages names dep.«package»)))
+  target-is : (when : List Choice) (kind : DepKind) (dep : Dep) → target_demand packages owner when kind dep (dep_target packages names allows kind dep) ≡ dep_demand packages names owner when kind (allows dep) dep
+  target-is when kind dep = ap (demand_to when kind dep) (allowed-inside kind (allows dep) dep (entries_of packages (number packages names dep.«package»)))
 
   when-is : (flat : FlatDep) → owner ∷ map (choice_at owner) (map (setting_of names) flat.when) ≡ when_of names owner flat.when
   when-is flat = ap (λ l. owner ∷ l) (map-map (setting_of names) (choice_at owner) flat.when)
 
-  deps-are : (flats : List FlatDep) → in_pairs (dep_row packages owner) flats (map (asking_of packages names lets) flats) ≡ flat_demands packages names owner lets flats
+  deps-are : (flats : List FlatDep) → in_pairs (dep_row packages owner) flats (map (conditional_dep packages names allows) flats) ≡ flat_demands packages names owner allows flats
   deps-are flats =
-      pairs-kept (dep_row packages owner) (asking_of packages names lets) (flat_demand packages names owner lets) (can_count (has_stanzas packages owner.var)) flats (λ flat.
+      pairs-kept (dep_row packages owner) (conditional_dep packages names allows) (flat_demand packages names owner allows) (can_count (has_stanzas packages owner.var)) flats (λ flat.
       ap (λ (d : Demand). cond (can_count (has_stanzas packages owner.var) flat) (d ∷ []) [])
       (target-is (owner ∷ map (choice_at owner) (map (setting_of names) flat.when)) flat.dep.kind flat.dep
-      ∙ ap (λ when. dep_demand packages names owner when flat.dep.kind (lets flat.dep) flat.dep) (when-is flat)))
+      ∙ ap (λ when. dep_demand packages names owner when flat.dep.kind (allows flat.dep) flat.dep) (when-is flat)))
 
-  setup-are : (deps : List Dep) → in_pairs (setup_row packages owner) deps (map (dep_target packages names lets kind.Setup) deps) ≡ setup_demands packages names owner lets deps
+  setup-are : (deps : List Dep) → in_pairs (setup_row packages owner) deps (map (dep_target packages names allows kind.Setup) deps) ≡ setup_demands packages names owner allows deps
   setup-are deps =
-      pairs-one (setup_row packages owner) (dep_target packages names lets kind.Setup) (setup_demand packages names owner lets) deps (λ dep.
+      pairs-one (setup_row packages owner) (dep_target packages names allows kind.Setup) (setup_demand packages names owner allows) deps (λ dep.
       ap (λ (d : Demand). d ∷ []) (target-is (owner ∷ []) kind.Setup dep))
 
   flags-are : (flags : List FlagDecl) → in_pairs (flag_row project names owner) flags (map (λ (decl : FlagDecl). flag_number names decl.name) flags) ≡ map (flag_demand project names owner) flags
   flags-are flags = pairs-one (flag_row project names owner) (λ (decl : FlagDecl). flag_number names decl.name) (flag_demand project names owner) flags (λ decl. refl)
 
-  pub source-is : (d : Description) (flats : List FlatDep) (exposed : Exposed) → source_rows packages project names owner (asked_of_body packages names lets (Source d flats exposed)) d flats ≡ source_demands packages project names owner lets d flats
+  pub source-is : (d : Description) (flats : List FlatDep) (exposed : Exposed) → source_rows packages project names owner (body_dependencies packages names allows (Source d flats exposed)) d flats ≡ source_demands packages project names owner allows d flats
   source-is d flats exposed =
       let tests = stanza_if (has_stanzas packages owner.var && has_kind is_suite d) owner Tests in
       let benches = stanza_if (has_stanzas packages owner.var && has_kind is_benchmark d) owner Benches in
@@ -104,12 +105,6 @@ default-is names f (decl ∷ flags) =
       | false ↦ default-is names f flags
     ]
 
-pub default-of-body : (packages : List Package) (names : NameTable) (lets : Dep → Version → Bool) (f : ℕ) (body : Body) → default_by f (declared_by body) (asked_of_body packages names lets body).flags ≡ default_of names f body
-default-of-body packages names lets f (Source d flats exposed) = default-is names f d.flags
-default-of-body packages names lets f (Installed unit needs) = refl
-
--- within a list what is read doesn't depend on what stands behind its end
-pub read-any : {X : Type 0} (xs : List X) (i : ℕ) (c d : X) → i < length xs → get_or xs i c ≡ get_or xs i d
-read-any [] i c d h = absurd (omega (arith, h))
-read-any (x ∷ xs) zero c d h = refl
-read-any (x ∷ xs) (suc i) c d h = read-any xs i c d (omega (arith, h))
+pub default-of-body : (packages : List Package) (names : NameTable) (allows : Dep → Version → Bool) (f : ℕ) (body : Body) → default_by f (declared_by body) (body_dependencies packages names allows body).flags ≡ default_of names f body
+default-of-body packages names allows f (Source d flats exposed) = default-is names f d.flags
+default-of-body packages names allows f (Installed unit needs) = refl

@@ -2,7 +2,7 @@
 use Rattle.std.proofs.Common.{◌≡◌, ℕ, zero, suc, ◌<◌, Bool, true, false, cond, ◌&&◌, ◌||◌, nat_eq, List, [], ◌∷◌, ◌++◌, length, map, Some, None, refl, sym, ap, ◌∙◌, subst, inl, inr, arith}
 use Rattle.std.specs.Prelude.{Option, Contains}
 use Rattle.std.specs.List.{filter, list_all, list_any}
-use Rattle.std.proofs.lemmas.Bool.{false≢true, eqb-true}
+use Rattle.std.proofs.lemmas.Bool.{false≢true, eqb-true, and_parts, and_from}
 use Rattle.std.proofs.lemmas.List.Elements.{Contains-get_or}
 use Rattle.plan_types.specs.declared.condition.Env.{Env}
 use Rattle.plan_types.specs.declared.dependency.Dep.{Dep}
@@ -20,7 +20,7 @@ use Rattle.plan_types.specs.declared.project.Project.{Project}
 use Rattle.plan_types.specs.declared.version.Version.{Version}
 use Rattle.conditionals.specs.Paths.{Path, clean_paths, is_wanted, says}
 use Rattle.conditionals.specs.Value.{value}
-use Rattle.description.specs.WholeCondition.{whole_condition}
+use Rattle.flatten.specs.WholeCondition.{whole_condition}
 use Rattle.flatten.specs.Counting.{Parts, flags_of, are_met}
 use Rattle.flatten.specs.Demands.{Outward, outward, paths_at, flat_of, literal_of, stanza_of, demands_at}
 use Rattle.flatten.specs.Sound.{IsSound, IsSource, IsBody}
@@ -33,38 +33,21 @@ use Rattle.choice_problem.specs.Assignment.{Assignment, is_one_of, is_made, is_y
 use Rattle.choice_problem.specs.Problem.{IsChoice, IsDemand}
 use Rattle.choice_problem.specs.General.{Request, General, owner_of, request_of, general}
 use Rattle.choice_problem.specs.Joined.{HasYes, AreYesTogether}
-use Rattle.choice_problem.specs.Lists.{contains-head, contains-tail, contains-none, contains-cases, contains-append, contains-left, contains-right, contains-map, map-contains, contains-filter, contains-flat_map, flat_map-contains, and-left, and-right, and-both, all-append}
-use Rattle.instance_tables.specs.Places.{entries_of, entry_at, no_entry, number}
-use Rattle.instance_tables.specs.Asked.{bit, part_of}
-use Rattle.instance_tables.specs.Lets.{lets_of}
+use Rattle.common_laws.specs.Lists.{contains-head, contains-tail, contains-none, contains-cases, contains-append, contains-left, contains-right, contains-map, map-contains, contains-filter, contains-flat_map, flat_map-contains, all-append, any-at, any-from, filter-contains}
+use Rattle.solver_index.specs.Places.{entry_at, no_entry, number}
+use Rattle.solver_index.specs.Dependencies.{bit, part_of}
+use Rattle.solver_index.specs.AllowedVersions.{allowed_versions}
 use Rattle.cabal_problem.specs.Variables.{domain_of}
-use Rattle.instance_tables.specs.Allowed.{allowed_by}
+use Rattle.solver_index.specs.Allowed.{allowed_by}
 use Rattle.cabal_problem.specs.ListedDemands.{part_beside, choice_beside, target_for, has_part, has_stanzas, can_count, flat_demand, flat_demands, setup_demand, setup_demands, setup_if, body_demands, part_demands, unit_demands}
-use Rattle.cabal_problem.specs.Laws.{any-at, any-from, known-below}
+use Rattle.cabal_problem.specs.Laws.{known-below}
 use Rattle.cabal_problem.specs.Problem.{problem_of}
 use Rattle.cabal_problem.specs.WholeDemands.{is_set, parts_under, whole_request, can_ask, requests_of, front_demands, setup_request, setup_requests, body_requests, part_requests, whole_problem}
 use Rattle.cabal_problem.proofs.Findings.{entry-sound}
+use Rattle.common_laws.specs.Small.{both-ways}
+use Rattle.plan_types.specs.Packages.{entries_of}
 
 -- ---- tests
-
-both-ways : (a b : Bool) → (a ≡ true → b ≡ true) → (b ≡ true → a ≡ true) → a ≡ b
-both-ways true b h k = sym (h refl)
-both-ways false true h k = k refl
-both-ways false false h k = refl
-
-filter-contains : {X : Type 0} (test : X → Bool) (xs : List X) (x : X) → Contains xs x → test x ≡ true → Contains (filter test xs) x
-filter-contains test [] x h k = absurd (contains-none x h)
-filter-contains test (y ∷ xs) x h k =
-    elim (test y) as (λ b. test y ≡ b → Contains (cond b (y ∷ filter test xs) (filter test xs)) x) [
-      | true ↦ λ e. elim (contains-cases y xs x h) [
-        | inl same ↦ subst (λ z. Contains (y ∷ filter test xs) z) same (contains-head y (filter test xs))
-        | inr r ↦ contains-tail y (filter test xs) x (filter-contains test xs x r k)
-      ]
-      | false ↦ λ e. elim (contains-cases y xs x h) [
-        | inl same ↦ absurd (false≢true (sym e ∙ ap test same ∙ k))
-        | inr r ↦ filter-contains test xs x r k
-      ]
-    ] refl
 
 -- ---- what an assignment makes
 
@@ -166,15 +149,15 @@ module _ (env : Env) (index : Index) (project : Project) (names : NameTable) (or
       let path = contains-map (flat_of at.component.kind at.guarded.dep) (clean_paths (paths_at env at)) flat h in
       record { path = path.0; is_flat = path.2 }
 
-  module _ (owner : Choice) (d : Description) (flats : List FlatDep) (offer : Exposed) (lets : Dep → Version → Bool) (source : IsSource env index d flats offer) (A : Assignment) where
+  module _ (owner : Choice) (d : Description) (flats : List FlatDep) (offer : Exposed) (allows : Dep → Version → Bool) (source : IsSource env index d flats offer) (A : Assignment) where
     abbrev stanzas : Bool
     stanzas = has_stanzas packages owner.var
 
     abbrev request : Outward → Request
-    request at = whole_request env packages names owner lets at
+    request at = whole_request env packages names owner allows at
 
     abbrev demand : FlatDep → Demand
-    demand flat = flat_demand packages names owner lets flat
+    demand flat = flat_demand packages names owner allows flat
 
     abbrev parts : Parts
     parts = parts_under names owner A
@@ -186,7 +169,7 @@ module _ (env : Env) (index : Index) (project : Project) (names : NameTable) (or
     target-is at flat is = ap (λ (dep : Dep). target_for packages names owner.var dep.kind dep.«package») (dep-is at flat is)
 
     allowed-is : (at : Outward) (flat : FlatDep) → IsEntryOf at flat → (demand flat).allowed ≡ (request at).allowed
-    allowed-is at flat is = ap (λ (e : Dep). allowed_by e.kind (lets e) e (entries_of packages (number packages names e.«package»))) (dep-is at flat is)
+    allowed-is at flat is = ap (λ (e : Dep). allowed_by e.kind (allows e) e (entries_of packages (number packages names e.«package»))) (dep-is at flat is)
 
     count-is : (at : Outward) (flat : FlatDep) → IsEntryOf at flat → can_count stanzas flat ≡ can_ask stanzas at
     count-is at flat is = sym (ap (can_count stanzas) is.is_flat) ∙ count-as-asked stanzas at.component.kind at.guarded.dep is.path
@@ -194,28 +177,28 @@ module _ (env : Env) (index : Index) (project : Project) (names : NameTable) (or
     yes-is : (flat : FlatDep) → is_yes A (demand flat) ≡ is_made A owner && are_met parts flat.when
     yes-is flat = ap (λ b. is_made A owner && b) (literals-met names owner A flat.when)
 
-    deps-listed : (r : Request) → Contains (map request (filter (can_ask stanzas) (outward d))) r → r.is_yes A ≡ true → IsListed A r (flat_demands packages names owner lets flats)
+    deps-listed : (r : Request) → Contains (map request (filter (can_ask stanzas) (outward d))) r → r.is_yes A ≡ true → IsListed A r (flat_demands packages names owner allows flats)
     deps-listed r h holds =
         let found = contains-map request (filter (can_ask stanzas) (outward d)) r h in
         let at = found.0 in
         let kept = contains-filter (can_ask stanzas) (outward d) at found.1 in
         let whole = are_met parts (stanza_of at.component.kind) && is_wanted true (value env (flags_of parts) (whole_condition at.component at.guarded)) in
         let yes_at = ap (λ (s : Request). s.is_yes A) found.2 ∙ holds in
-        let met = any-at (λ (f : FlatDep). are_met parts f.when) (demands_at env at) (counts at parts ∙ and-right (is_made A owner) whole yes_at) in
+        let met = any-at (λ (f : FlatDep). are_met parts f.when) (demands_at env at) (counts at parts ∙ (and_parts (is_made A owner) whole yes_at).1) in
         let flat = met.0 in
         let is = entry-of at flat met.1 in
         let there : Contains flats flat = subst (λ l. Contains l flat) (sym source.demands) (flat_map-contains (demands_at env) (outward d) at flat kept.0 met.1) in
-        subst (λ s. IsListed A s (flat_demands packages names owner lets flats)) found.2
+        subst (λ s. IsListed A s (flat_demands packages names owner allows flats)) found.2
         (record {
           demand = demand flat;
           there = map-contains demand (filter (can_count stanzas) flats) flat (filter-contains (can_count stanzas) flats flat there (count-is at flat is ∙ kept.1));
           owner = refl;
           target = target-is at flat is;
           allowed = allowed-is at flat is;
-          yes = yes-is flat ∙ and-both (is_made A owner) (are_met parts flat.when) (and-left (is_made A owner) whole yes_at) met.2;
+          yes = yes-is flat ∙ and_from (is_made A owner) (are_met parts flat.when) ((and_parts (is_made A owner) whole yes_at).0) met.2;
         })
 
-    deps-requested : (one : Demand) → Contains (flat_demands packages names owner lets flats) one → is_yes A one ≡ true → IsRequested A one (map request (filter (can_ask stanzas) (outward d)))
+    deps-requested : (one : Demand) → Contains (flat_demands packages names owner allows flats) one → is_yes A one ≡ true → IsRequested A one (map request (filter (can_ask stanzas) (outward d)))
     deps-requested one h holds =
         let found = contains-map demand (filter (can_count stanzas) flats) one h in
         let flat = found.0 in
@@ -224,8 +207,8 @@ module _ (env : Env) (index : Index) (project : Project) (names : NameTable) (or
         let at = place.0 in
         let is = entry-of at flat place.2 in
         let met = sym (yes-is flat) ∙ ap (is_yes A) found.2 ∙ holds in
-        let owner_made = and-left (is_made A owner) (are_met parts flat.when) met in
-        let flat_met = and-right (is_made A owner) (are_met parts flat.when) met in
+        let owner_made = (and_parts (is_made A owner) (are_met parts flat.when) met).0 in
+        let flat_met = (and_parts (is_made A owner) (are_met parts flat.when) met).1 in
         let whole = are_met parts (stanza_of at.component.kind) && is_wanted true (value env (flags_of parts) (whole_condition at.component at.guarded)) in
         subst (λ e. IsRequested A e (map request (filter (can_ask stanzas) (outward d)))) found.2
         (record {
@@ -234,32 +217,32 @@ module _ (env : Env) (index : Index) (project : Project) (names : NameTable) (or
           owner = refl;
           target = sym (target-is at flat is);
           allowed = sym (allowed-is at flat is);
-          yes = and-both (is_made A owner) whole owner_made (sym (counts at parts) ∙ any-from (λ (f : FlatDep). are_met parts f.when) (demands_at env at) flat place.2 flat_met);
+          yes = and_from (is_made A owner) whole owner_made (sym (counts at parts) ∙ any-from (λ (f : FlatDep). are_met parts f.when) (demands_at env at) flat place.2 flat_met);
         })
 
     -- ---- the setup script
 
     abbrev set_up : Dep → Request
-    set_up dep = setup_request packages names owner lets dep
+    set_up dep = setup_request packages names owner allows dep
 
     abbrev script : Dep → Demand
-    script dep = setup_demand packages names owner lets dep
+    script dep = setup_demand packages names owner allows dep
 
-    script-listed : (custom : Bool) (r : Request) → Contains (setup_requests custom (map set_up d.setup)) r → r.is_yes A ≡ true → IsListed A r (setup_if custom (setup_demands packages names owner lets d.setup))
+    script-listed : (custom : Bool) (r : Request) → Contains (setup_requests custom (map set_up d.setup)) r → r.is_yes A ≡ true → IsListed A r (setup_if custom (setup_demands packages names owner allows d.setup))
     script-listed false r h holds = absurd (contains-none r h)
     script-listed true r h holds =
         let found = contains-map set_up d.setup r h in
-        subst (λ s. IsListed A s (setup_demands packages names owner lets d.setup)) found.2
+        subst (λ s. IsListed A s (setup_demands packages names owner allows d.setup)) found.2
         (record {
           demand = script found.0;
           there = map-contains script d.setup found.0 found.1;
           owner = refl;
           target = refl;
           allowed = refl;
-          yes = and-both (is_made A owner) true (ap (λ (s : Request). s.is_yes A) found.2 ∙ holds) refl;
+          yes = and_from (is_made A owner) true (ap (λ (s : Request). s.is_yes A) found.2 ∙ holds) refl;
         })
 
-    script-requested : (custom : Bool) (one : Demand) → Contains (setup_if custom (setup_demands packages names owner lets d.setup)) one → is_yes A one ≡ true
+    script-requested : (custom : Bool) (one : Demand) → Contains (setup_if custom (setup_demands packages names owner allows d.setup)) one → is_yes A one ≡ true
         → IsRequested A one (setup_requests custom (map set_up d.setup))
     script-requested false one h holds = absurd (contains-none one h)
     script-requested true one h holds =
@@ -271,44 +254,44 @@ module _ (env : Env) (index : Index) (project : Project) (names : NameTable) (or
           owner = refl;
           target = refl;
           allowed = refl;
-          yes = and-left (is_made A owner) true (ap (is_yes A) found.2 ∙ holds);
+          yes = (and_parts (is_made A owner) true (ap (is_yes A) found.2 ∙ holds)).0;
         })
 
   -- ---- an instance
 
-  body-listed : (owner : Choice) (lets : Dep → Version → Bool) (body : Body) → IsBody env index body → (A : Assignment) (r : Request)
-      → Contains (body_requests env packages project names owner lets body) r → r.is_yes A ≡ true → IsListed A r (body_demands packages project names owner lets body)
-  body-listed owner lets (Source d flats offer) source A r h holds =
+  body-listed : (owner : Choice) (allows : Dep → Version → Bool) (body : Body) → IsBody env index body → (A : Assignment) (r : Request)
+      → Contains (body_requests env packages project names owner allows body) r → r.is_yes A ≡ true → IsListed A r (body_demands packages project names owner allows body)
+  body-listed owner allows (Source d flats offer) source A r h holds =
       let front = front_demands packages project names owner d in
-      let deps = flat_demands packages names owner lets flats in
-      let setups = setup_if d.custom (setup_demands packages names owner lets d.setup) in
-      let requests = map (whole_request env packages names owner lets) (filter (can_ask (has_stanzas packages owner.var)) (outward d)) in
-      let scripts = setup_requests d.custom (map (setup_request packages names owner lets) d.setup) in
+      let deps = flat_demands packages names owner allows flats in
+      let setups = setup_if d.custom (setup_demands packages names owner allows d.setup) in
+      let requests = map (whole_request env packages names owner allows) (filter (can_ask (has_stanzas packages owner.var)) (outward d)) in
+      let scripts = setup_requests d.custom (map (setup_request packages names owner allows) d.setup) in
       elim (contains-append (requests_of front ++ requests) scripts r h) [
         | inl own ↦ listed-left A r (front ++ deps) setups (elim (contains-append (requests_of front) requests r own) [
           | inl f ↦ listed-left A r front deps (listed-same A r front f holds)
-          | inr q ↦ listed-right A r front deps (deps-listed owner d flats offer lets source A r q holds)
+          | inr q ↦ listed-right A r front deps (deps-listed owner d flats offer allows source A r q holds)
         ])
-        | inr s ↦ listed-right A r (front ++ deps) setups (script-listed owner d flats offer lets source A d.custom r s holds)
+        | inr s ↦ listed-right A r (front ++ deps) setups (script-listed owner d flats offer allows source A d.custom r s holds)
       ]
-  body-listed owner lets (Installed unit needs) units A r h holds = listed-same A r (unit_demands packages names owner unit.depends needs) h holds
+  body-listed owner allows (Installed unit needs) units A r h holds = listed-same A r (unit_demands packages names owner unit.depends needs) h holds
 
-  body-requested : (owner : Choice) (lets : Dep → Version → Bool) (body : Body) → IsBody env index body → (A : Assignment) (one : Demand)
-      → Contains (body_demands packages project names owner lets body) one → is_yes A one ≡ true → IsRequested A one (body_requests env packages project names owner lets body)
-  body-requested owner lets (Source d flats offer) source A one h holds =
+  body-requested : (owner : Choice) (allows : Dep → Version → Bool) (body : Body) → IsBody env index body → (A : Assignment) (one : Demand)
+      → Contains (body_demands packages project names owner allows body) one → is_yes A one ≡ true → IsRequested A one (body_requests env packages project names owner allows body)
+  body-requested owner allows (Source d flats offer) source A one h holds =
       let front = front_demands packages project names owner d in
-      let deps = flat_demands packages names owner lets flats in
-      let setups = setup_if d.custom (setup_demands packages names owner lets d.setup) in
-      let requests = map (whole_request env packages names owner lets) (filter (can_ask (has_stanzas packages owner.var)) (outward d)) in
-      let scripts = setup_requests d.custom (map (setup_request packages names owner lets) d.setup) in
+      let deps = flat_demands packages names owner allows flats in
+      let setups = setup_if d.custom (setup_demands packages names owner allows d.setup) in
+      let requests = map (whole_request env packages names owner allows) (filter (can_ask (has_stanzas packages owner.var)) (outward d)) in
+      let scripts = setup_requests d.custom (map (setup_request packages names owner allows) d.setup) in
       elim (contains-append (front ++ deps) setups one h) [
         | inl own ↦ requested-left A one (requests_of front ++ requests) scripts (elim (contains-append front deps one own) [
           | inl f ↦ requested-left A one (requests_of front) requests (requested-same A one front f holds)
-          | inr q ↦ requested-right A one (requests_of front) requests (deps-requested owner d flats offer lets source A one q holds)
+          | inr q ↦ requested-right A one (requests_of front) requests (deps-requested owner d flats offer allows source A one q holds)
         ])
-        | inr s ↦ requested-right A one (requests_of front ++ requests) scripts (script-requested owner d flats offer lets source A d.custom one s holds)
+        | inr s ↦ requested-right A one (requests_of front ++ requests) scripts (script-requested owner d flats offer allows source A d.custom one s holds)
       ]
-  body-requested owner lets (Installed unit needs) units A one h holds = requested-same A one (unit_demands packages names owner unit.depends needs) h holds
+  body-requested owner allows (Installed unit needs) units A one h holds = requested-same A one (unit_demands packages names owner unit.depends needs) h holds
 
   part-listed : (A : Assignment) (r : Request) (requests : List Request) (demands : List Demand) (part : Part) → (part ≡ ThePackage → Contains requests r → IsListed A r demands)
       → Contains (part_requests requests part) r → IsListed A r (part_demands demands part)
@@ -348,11 +331,11 @@ module _ (env : Env) (index : Index) (project : Project) (names : NameTable) (or
   yes-there A r (inr owned) holds =
       let owner = owned.0 in
       let e = entry owner in
-      let lets = lets_of project e.instance in
+      let allows = allowed_versions project e.instance in
       let is : IsChoice searched owner = record { variable = owned.1.variable; value = owned.1.value } in
-      let demands = body_demands packages project names owner lets e.body in
-      let found = part-listed A r (body_requests env packages project names owner lets e.body) demands owner.var.part
-      (λ part k. body-listed owner lets e.body (chosen-at owner is part) A r k holds) owned.2 in
+      let demands = body_demands packages project names owner allows e.body in
+      let found = part-listed A r (body_requests env packages project names owner allows e.body) demands owner.var.part
+      (λ part k. body-listed owner allows e.body (chosen-at owner is part) A r k holds) owned.2 in
       record {
         other = request_of found.demand;
         demand = inr (owner, is, map-contains request_of (part_demands demands owner.var.part) found.demand found.there);
@@ -367,12 +350,12 @@ module _ (env : Env) (index : Index) (project : Project) (names : NameTable) (or
   yes-back A r (inr owned) holds =
       let owner = owned.0 in
       let e = entry owner in
-      let lets = lets_of project e.instance in
-      let demands = body_demands packages project names owner lets e.body in
+      let allows = allowed_versions project e.instance in
+      let demands = body_demands packages project names owner allows e.body in
       let one = contains-map request_of (part_demands demands owner.var.part) r owned.2 in
       let holds_one = ap (λ (s : Request). s.is_yes A) one.2 ∙ holds in
-      let found = part-requested A one.0 (body_requests env packages project names owner lets e.body) demands owner.var.part
-      (λ part k. body-requested owner lets e.body (chosen-at owner owned.1 part) A one.0 k holds_one) one.1 in
+      let found = part-requested A one.0 (body_requests env packages project names owner allows e.body) demands owner.var.part
+      (λ part k. body-requested owner allows e.body (chosen-at owner owned.1 part) A one.0 k holds_one) one.1 in
       subst (λ s. HasYes whole A s) one.2
       (record {
         other = found.request;

@@ -2,7 +2,7 @@
 use Rattle.std.proofs.Common.{◌≡◌, ℕ, ◌<◌, Bool, true, false, not, ◌&&◌, ◌||◌, nat_eq, List, [], ◌∷◌, ◌++◌, length, map, Some, None, refl, sym, ap, ◌∙◌, subst, inl, inr}
 use Rattle.std.specs.Prelude.{Contains}
 use Rattle.std.specs.List.{filter, list_all}
-use Rattle.std.proofs.lemmas.Bool.{false≢true, eqb-true}
+use Rattle.std.proofs.lemmas.Bool.{false≢true, eqb-true, and_parts}
 use Rattle.std.proofs.lemmas.List.Elements.{All-contains, Contains-get_or}
 use Rattle.plan_types.specs.declared.condition.Env.{Env}
 use Rattle.plan_types.specs.declared.dependency.Dep.{Dep}
@@ -20,7 +20,7 @@ use Rattle.plan_types.specs.declared.project.Project.{Project}
 use Rattle.plan_types.specs.declared.version.Version.{Version}
 use Rattle.conditionals.specs.Paths.{is_wanted}
 use Rattle.conditionals.specs.Value.{value}
-use Rattle.description.specs.WholeCondition.{whole_condition}
+use Rattle.flatten.specs.WholeCondition.{whole_condition}
 use Rattle.flatten.specs.Counting.{are_met, flags_of}
 use Rattle.flatten.specs.Demands.{Outward, outward, outward_in, outward_of, external, stanza_of}
 use Rattle.flatten.specs.Sound.{IsSound, IsSource, IsBody, component_deps, is_of_components}
@@ -33,26 +33,18 @@ use Rattle.choice_problem.specs.declared.problem.Demand.{Demand}
 use Rattle.choice_problem.specs.Assignment.{Assignment, is_made, is_one_of}
 use Rattle.choice_problem.specs.Problem.{IsChoice, IsOwned, IsRoot, Lawful}
 use Rattle.choice_problem.specs.General.{Request, General, LawfulGeneral, IsOwnedRequest, IsRootRequest, owner_of, request_of}
-use Rattle.choice_problem.specs.Lists.{contains-none, contains-append, contains-left, contains-map, contains-filter, contains-flat_map, and-left, all-at}
-use Rattle.instance_tables.specs.Lets.{lets_of}
-use Rattle.instance_tables.specs.Places.{entries_of, entry_at, no_entry}
+use Rattle.common_laws.specs.Lists.{contains-none, contains-append, contains-left, contains-map, contains-filter, contains-flat_map, all-at, any-from, all-where}
+use Rattle.solver_index.specs.AllowedVersions.{allowed_versions}
+use Rattle.solver_index.specs.Places.{entry_at, no_entry}
 use Rattle.cabal_problem.specs.Variables.{domain_of, is_custom, is_qual}
 use Rattle.cabal_problem.specs.ListedDemands.{body_demands, demands_of, flat_demands, has_stanzas, part_demands, setup_demands, setup_if, unit_demands}
-use Rattle.cabal_problem.specs.Laws.{all-where, any-from, known-below, known-qual, target-known}
+use Rattle.cabal_problem.specs.Laws.{known-below, known-qual, target-known}
 use Rattle.cabal_problem.specs.Lawful.{is_lawful}
 use Rattle.cabal_problem.specs.Problem.{problem_of}
 use Rattle.cabal_problem.specs.WholeDemands.{body_requests, can_ask, front_demands, part_requests, parts_under, requests_of, setup_request, setup_requests, whole_problem, whole_request}
 use Rattle.cabal_problem.proofs.Findings.{IsOutward, entry-sound, in-component-deps, kind-found, outward-package, package-found, setup-found}
-
-owner-chosen : (A : Assignment) (owner : Choice) → is_made A owner ≡ true → A owner.var ≡ Some owner.val
-owner-chosen A owner h =
-    elim (A owner.var) as (λ o. is_one_of o (owner.val ∷ []) ≡ true → o ≡ Some owner.val) [
-      | None ↦ λ k. absurd (false≢true k)
-      | Some n ↦ λ k. elim (nat_eq n owner.val) as (λ b. nat_eq n owner.val ≡ b → b || false ≡ true → Some n ≡ Some owner.val) [
-        | true ↦ λ e j. ap Some (eqb-true n owner.val e)
-        | false ↦ λ e j. absurd (false≢true j)
-      ] refl k
-    ] h
+use Rattle.choice_problem.proofs.Trails.{is_made-is}
+use Rattle.plan_types.specs.Packages.{entries_of}
 
 outward-at : (d : Description) (at : Outward) → Contains (outward d) at → IsOutward d at.guarded.dep
 outward-at d at h =
@@ -83,13 +75,13 @@ module _ (env : Env) (index : Index) (project : Project) (names : NameTable) (or
       record {
         owner_is = ap owner_of is.condition;
         target = is.target;
-        chosen = λ A yes. owner-chosen A owner (and-left (is_made A owner) (list_all (is_made A) is.others) (sym (ap (λ when. list_all (is_made A) when) is.condition) ∙ yes));
+        chosen = λ A yes. is_made-is A owner ((and_parts (is_made A owner) (list_all (is_made A) is.others) (sym (ap (λ when. list_all (is_made A) when) is.condition) ∙ yes)).0);
       }
 
-  whole-owned : (owner : Choice) (e : Entry) (lets : Dep → Version → Bool) (d : Description) (flats : List FlatDep) (offer : Exposed) → is_qual packages names owner.var.qual ≡ true
+  whole-owned : (owner : Choice) (e : Entry) (allows : Dep → Version → Bool) (d : Description) (flats : List FlatDep) (offer : Exposed) → is_qual packages names owner.var.qual ≡ true
       → Contains (entries_of packages owner.var.«package») e → e.body ≡ Source d flats offer → IsSource env index d flats offer
-      → (at : Outward) → Contains (outward d) at → IsOwnedRequest whole owner (whole_request env packages names owner lets at)
-  whole-owned owner e lets d flats offer q there body source at h =
+      → (at : Outward) → Contains (outward d) at → IsOwnedRequest whole owner (whole_request env packages names owner allows at)
+  whole-owned owner e allows d flats offer q there body source at h =
       let dep = at.guarded.dep in
       let is = outward-at d at h in
       let found = outward-package index names numbers env d flats offer source dep is in
@@ -100,22 +92,22 @@ module _ (env : Env) (index : Index) (project : Project) (names : NameTable) (or
         owner_is = refl;
         target = target-known packages names owner.var dep.kind dep.«package» q (package-found index names numbers dep.«package» found)
             (subst (λ (other : Dep). Rattle.cabal_problem.specs.Lawful.has_qual_for packages names owner.var.«package» other.kind other.«package» ≡ true) is.dep_is has);
-        chosen = λ A yes. owner-chosen A owner (and-left (is_made A owner) (are_met (parts_under names owner A) (stanza_of at.component.kind)
-            && is_wanted true (value env (flags_of (parts_under names owner A)) (whole_condition at.component at.guarded))) yes);
+        chosen = λ A yes. is_made-is A owner (and_parts (is_made A owner) (are_met (parts_under names owner A) (stanza_of at.component.kind)
+            && is_wanted true (value env (flags_of (parts_under names owner A)) (whole_condition at.component at.guarded))) yes).0;
       }
 
-  script-owned : (owner : Choice) (e : Entry) (lets : Dep → Version → Bool) (d : Description) (flats : List FlatDep) (offer : Exposed) → is_qual packages names owner.var.qual ≡ true
+  script-owned : (owner : Choice) (e : Entry) (allows : Dep → Version → Bool) (d : Description) (flats : List FlatDep) (offer : Exposed) → is_qual packages names owner.var.qual ≡ true
       → (d.custom ≡ true → is_qual packages names (Setup owner.var.«package») ≡ true) → IsSource env index d flats offer
-      → (custom : Bool) → d.custom ≡ custom → (r : Request) → Contains (setup_requests custom (map (setup_request packages names owner lets) d.setup)) r → IsOwnedRequest whole owner r
-  script-owned owner e lets d flats offer q has source false same r h = absurd (contains-none r h)
-  script-owned owner e lets d flats offer q has source true same r h =
-      let found = contains-map (setup_request packages names owner lets) d.setup r h in
+      → (custom : Bool) → d.custom ≡ custom → (r : Request) → Contains (setup_requests custom (map (setup_request packages names owner allows) d.setup)) r → IsOwnedRequest whole owner r
+  script-owned owner e allows d flats offer q has source false same r h = absurd (contains-none r h)
+  script-owned owner e allows d flats offer q has source true same r h =
+      let found = contains-map (setup_request packages names owner allows) d.setup r h in
       let dep = found.0 in
       subst (λ s. IsOwnedRequest whole owner s) found.2
       (record {
         owner_is = refl;
         target = target-known packages names owner.var kind.Setup dep.«package» q (setup-found index names numbers env d flats offer source dep found.1) (has same);
-        chosen = λ A yes. owner-chosen A owner yes;
+        chosen = λ A yes. is_made-is A owner yes;
       })
 
   -- the listed demands of a choice are owned
@@ -123,17 +115,17 @@ module _ (env : Env) (index : Index) (project : Project) (names : NameTable) (or
   AreOwned owner = (one : Demand) → Contains (demands_of packages project names owner) one → IsOwned (problem_of packages project names orders) owner one
 
   abbrev AreBodyOwned : Choice → (Dep → Version → Bool) → Body → Type 0
-  AreBodyOwned owner lets body = (one : Demand) → Contains (body_demands packages project names owner lets body) one → IsOwned (problem_of packages project names orders) owner one
+  AreBodyOwned owner allows body = (one : Demand) → Contains (body_demands packages project names owner allows body) one → IsOwned (problem_of packages project names orders) owner one
 
-  body-requests-owned : (owner : Choice) (e : Entry) (lets : Dep → Version → Bool) (body : Body) → is_qual packages names owner.var.qual ≡ true → Contains (entries_of packages owner.var.«package») e → e.body ≡ body
-      → IsBody env index body → AreBodyOwned owner lets body → (r : Request) → Contains (body_requests env packages project names owner lets body) r → IsOwnedRequest whole owner r
-  body-requests-owned owner e lets (Source d flats offer) q there same source owned r h =
+  body-requests-owned : (owner : Choice) (e : Entry) (allows : Dep → Version → Bool) (body : Body) → is_qual packages names owner.var.qual ≡ true → Contains (entries_of packages owner.var.«package») e → e.body ≡ body
+      → IsBody env index body → AreBodyOwned owner allows body → (r : Request) → Contains (body_requests env packages project names owner allows body) r → IsOwnedRequest whole owner r
+  body-requests-owned owner e allows (Source d flats offer) q there same source owned r h =
       let front = front_demands packages project names owner d in
-      let deps = flat_demands packages names owner lets flats in
-      let setups = setup_if d.custom (setup_demands packages names owner lets d.setup) in
-      let request = whole_request env packages names owner lets in
+      let deps = flat_demands packages names owner allows flats in
+      let setups = setup_if d.custom (setup_demands packages names owner allows d.setup) in
+      let request = whole_request env packages names owner allows in
       let requests = map request (filter (can_ask (has_stanzas packages owner.var)) (outward d)) in
-      let scripts = setup_requests d.custom (map (setup_request packages names owner lets) d.setup) in
+      let scripts = setup_requests d.custom (map (setup_request packages names owner allows) d.setup) in
       elim (contains-append (requests_of front ++ requests) scripts r h) [
         | inl own ↦ elim (contains-append (requests_of front) requests r own) [
           | inl f ↦
@@ -143,13 +135,13 @@ module _ (env : Env) (index : Index) (project : Project) (names : NameTable) (or
           | inr k ↦
               let at = contains-map request (filter (can_ask (has_stanzas packages owner.var)) (outward d)) r k in
               subst (λ s. IsOwnedRequest whole owner s) at.2
-              (whole-owned owner e lets d flats offer q there same source at.0 (contains-filter (can_ask (has_stanzas packages owner.var)) (outward d) at.0 at.1).0)
+              (whole-owned owner e allows d flats offer q there same source at.0 (contains-filter (can_ask (has_stanzas packages owner.var)) (outward d) at.0 at.1).0)
         ]
         | inr s ↦
             let has = λ (custom : d.custom ≡ true). any-from (λ (f : Entry). is_custom f.body) (entries_of packages owner.var.«package») e there (ap is_custom same ∙ custom) in
-            script-owned owner e lets d flats offer q has source d.custom refl r s
+            script-owned owner e allows d flats offer q has source d.custom refl r s
       ]
-  body-requests-owned owner e lets (Installed unit needs) q there same units owned r h =
+  body-requests-owned owner e allows (Installed unit needs) q there same units owned r h =
       let one = contains-map request_of (unit_demands packages names owner unit.depends needs) r h in
       subst (λ s. IsOwnedRequest whole owner s) one.2 (owned-request owner one.0 (owned one.0 one.1))
 
@@ -169,12 +161,12 @@ module _ (env : Env) (index : Index) (project : Project) (names : NameTable) (or
       let p = owner.var.«package» in
       let e = entry_at (entries_of packages p) owner.val in
       let below = known-below packages names owner.var is.variable in
-      let lets = lets_of project e.instance in
-      part-requests-owned owner (body_requests env packages project names owner lets e.body) owner.var.part (λ part.
+      let allows = allowed_versions project e.instance in
+      part-requests-owned owner (body_requests env packages project names owner allows e.body) owner.var.part (λ part.
       let value : owner.val < length (entries_of packages p) = subst (λ k. owner.val < domain_of packages p k) part is.value in
       let there = Contains-get_or (entries_of packages p) owner.val no_entry value in
-      let demands = body_demands packages project names owner lets e.body in
-      body-requests-owned owner e lets e.body (known-qual packages names owner.var is.variable) there refl (entry-sound index names numbers env sound p below e there).body
+      let demands = body_demands packages project names owner allows e.body in
+      body-requests-owned owner e allows e.body (known-qual packages names owner.var is.variable) there refl (entry-sound index names numbers env sound p below e there).body
       (λ one k. owned-listed owner (record { variable = is.variable; value = is.value }) one (subst (λ q. Contains (part_demands demands q) one) (sym part) k)))
 
   pub whole-lawful : LawfulGeneral whole

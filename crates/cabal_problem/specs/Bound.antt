@@ -7,14 +7,17 @@ use Rattle.qualified_goals.specs.declared.variable.Part.{Part}
 use Rattle.qualified_goals.specs.declared.variable.Part.TheVariants.{Package as ThePackage, Flag, Tests, Benches}
 use Rattle.qualified_goals.specs.declared.variable.Var.{Var}
 use Rattle.qualified_goals.specs.Names.{NameTable}
-use Rattle.instance_tables.specs.Places.{rising}
+use Rattle.solver_index.specs.Places.{rising}
 
+-- top level, the setup of each owner, and each of these tools for each owner
 abbrev pub all_quals : List ℕ → List ℕ → List Qual
 all_quals owners tools = Top ∷ map Setup owners ++ flat_map (λ p. map (Exe p) tools) owners
 
+-- all parts that a package may have, where flags have these numbers
 abbrev pub all_parts : List ℕ → List Part
 all_parts flags = ThePackage ∷ Tests ∷ Benches ∷ map Flag flags
 
+-- each of these parts of each of these packages, under one qualifier
 abbrev pub vars_of : List ℕ → List Part → Qual → List Var
 vars_of packages parts q = flat_map (λ p. map (λ part. record { qual = q; «package» = p; part = part }) parts) packages
 
@@ -23,5 +26,6 @@ abbrev pub all_vars : List Package → NameTable → List Var
 all_vars packages names =
     flat_map (vars_of (rising (length packages)) (all_parts (rising (length names.flags)))) (all_quals (rising (length packages)) (rising (length names.packages)))
 
+-- how many variables there are at most
 abbrev pub bound_of : List Package → NameTable → ℕ
 bound_of packages names = length (all_vars packages names)

@@ -18,7 +18,7 @@ use Rattle.qualified_goals.specs.declared.variable.Part.TheVariants.{Package as 
 use Rattle.qualified_goals.specs.Names.{NameTable}
 use Rattle.cabal_problem.specs.Variables.{is_qual, is_known, domain_of}
 use Rattle.cabal_problem.specs.Values.{order_of, package_var}
-use Rattle.instance_tables.specs.Allowed.{allowed_unit, has_lib}
+use Rattle.solver_index.specs.Allowed.{allowed_unit, has_lib}
 use Rattle.cabal_problem.specs.ListedDemands.{flag_values, qual_for}
 use Rattle.cabal_problem.specs.WholeDemands.{on_or_off}
 

@@ -13,8 +13,9 @@ use Rattle.qualified_goals.specs.declared.variable.Qual.TheVariants.{Top, Setup,
 use Rattle.qualified_goals.specs.declared.variable.Part.TheVariants.{Flag}
 use Rattle.qualified_goals.specs.Names.{Name, NameTable}
 use Rattle.choice_problem.specs.Written.{is_order}
-use Rattle.instance_tables.specs.Places.{rising, package_at, entries_of, number, flag_number}
+use Rattle.solver_index.specs.Places.{rising, number, flag_number}
 use Rattle.cabal_problem.specs.Variables.{is_part, is_qual}
+use Rattle.plan_types.specs.Packages.{entries_of, package_at}
 
 -- a package has this name
 abbrev pub is_found : List Package → NameTable → Name → Bool
@@ -26,6 +27,7 @@ has_qual_for packages names p kind.Library name = true
 has_qual_for packages names p kind.Tool name = is_qual packages names (Exe p (number packages names name))
 has_qual_for packages names p kind.Setup name = is_qual packages names (Setup p)
 
+-- the package of a dependency is there, and there are variables under its qualifier
 abbrev pub flat_finds : List Package → NameTable → ℕ → FlatDep → Bool
 flat_finds packages names p flat = is_found packages names flat.dep.«package» && has_qual_for packages names p flat.dep.kind flat.dep.«package»
 
@@ -35,16 +37,20 @@ source_finds packages names p d flats =
     list_all (λ decl. is_part names Top (package_at packages p) (Flag (flag_number names decl.name))) d.flags
     && (list_all (flat_finds packages names p) flats && list_all (λ dep. is_found packages names dep.«package») d.setup)
 
+-- all that an instance asks for is known
 abbrev pub body_finds : List Package → NameTable → ℕ → Body → Bool
 body_finds packages names p (Source d flats exposed) = source_finds packages names p d flats
 body_finds packages names p (Installed record_of needs) = list_all (is_found packages names) needs
 
+-- all that the instances of a package ask for is known
 abbrev pub package_finds : List Package → NameTable → ℕ → Bool
 package_finds packages names p = list_all (λ e. body_finds packages names p e.body) (entries_of packages p)
 
+-- all that the instances of all packages ask for is known
 abbrev pub packages_find : List Package → NameTable → Bool
 packages_find packages names = list_all (package_finds packages names) (rising (length packages))
 
+-- each package is there that the project asks for besides
 abbrev pub extras_are_found : List Package → Project → NameTable → Bool
 extras_are_found packages project names = list_all (λ named. is_found packages names named.name) project.extra
 
@@ -52,8 +58,10 @@ extras_are_found packages project names = list_all (λ named. is_found packages 
 abbrev pub is_order_at : List Package → List (List ℕ) → ℕ → Bool
 is_order_at packages orders p = nat_eq (length (slice_index_or orders p [])) (length (entries_of packages p)) && is_order (slice_index_or orders p [])
 
+-- the same for all packages
 abbrev pub are_orders : List Package → List (List ℕ) → Bool
 are_orders packages orders = list_all (is_order_at packages orders) (rising (length packages))
 
+-- whether the problem of an index and a project keeps the laws
 abbrev pub is_lawful : List Package → Project → NameTable → List (List ℕ) → Bool
 is_lawful packages project names orders = (packages_find packages names && extras_are_found packages project names) && are_orders packages orders

@@ -2,7 +2,7 @@
 use Rattle.std.specs.Prelude.{◌≡◌, ℕ, zero, suc, ◌<◌, Bool, true, false, cond, not, ◌&&◌, ◌||◌, nat_eq, nat_lt, IsTrue, List, [], ◌∷◌, ◌++◌, length, map, filter, flat_map, get_or, slice_index_or, Some, None, position, All, Contains, refl}
 use Rattle.std.specs.List.{list_all, list_any, position_or_len}
 use Rattle.std.proofs.Common.{sym, ap, ◌∙◌, subst, inl, inr, arith}
-use Rattle.std.proofs.lemmas.Bool.{false≢true, eqb-true, cases_lt, ltb-true, lt-ltb}
+use Rattle.std.proofs.lemmas.Bool.{false≢true, eqb-true, cases_lt, ltb-true, lt-ltb, and_parts, and_from}
 use Rattle.std.proofs.lemmas.List.Elements.{Contains-get_or, All-contains}
 use Rattle.plan_types.specs.declared.dependency.Dep.{Dep}
 use Rattle.plan_types.specs.declared.dependency.DepKind.{DepKind}
@@ -21,47 +21,27 @@ use Rattle.qualified_goals.specs.declared.variable.Qual.TheVariants.{Top, Setup,
 use Rattle.qualified_goals.specs.declared.variable.Part.{Part}
 use Rattle.qualified_goals.specs.declared.variable.Part.TheVariants.{Package as ThePackage, Flag, Tests, Benches}
 use Rattle.qualified_goals.specs.declared.variable.Var.{Var}
-use Rattle.qualified_goals.specs.Names.{Name, NameTable, is_text, number_of}
+use Rattle.qualified_goals.specs.Names.{Name, NameTable, number_of}
 use Rattle.choice_problem.specs.declared.problem.Choice.{Choice}
 use Rattle.choice_problem.specs.declared.problem.Demand.{Demand}
 use Rattle.choice_problem.specs.Problem.{Problem, IsChoice, IsBeside, IsOrderBelow, IsRoot, IsOwned, Lawful}
 use Rattle.choice_problem.specs.declared.written.WrittenVar.{WrittenVar}
 use Rattle.choice_problem.specs.Written.{is_order}
 use Rattle.choice_problem.specs.WrittenLaws.{tests-lawful}
-use Rattle.choice_problem.specs.Lists.{contains-head, contains-tail, contains-none, contains-cases, contains-append, contains-left, contains-right, contains-map, map-contains, contains-filter, flat_map-contains, and-left, and-right, and-both, all-at}
+use Rattle.common_laws.specs.Lists.{contains-head, contains-tail, contains-none, contains-cases, contains-append, contains-left, contains-right, contains-map, map-contains, contains-filter, flat_map-contains, all-at, any-at, any-from, all-where}
 use Rattle.constraint_set.specs.Bars.{is_number}
-use Rattle.instance_tables.specs.Places.{rising, package_at, entries_of, entry_at, no_entry, number, flag_number}
-use Rattle.instance_tables.specs.Lets.{lets_of}
+use Rattle.solver_index.specs.Places.{rising, entry_at, no_entry, number, flag_number}
+use Rattle.solver_index.specs.AllowedVersions.{allowed_versions}
 use Rattle.cabal_problem.specs.Variables.{is_qual, is_part, is_known, domain_of, is_tool, is_tool_of, component_asks, asks_for_tool, is_custom, declares, has_kind, is_suite, is_benchmark, body_has_kind, is_top}
 use Rattle.cabal_problem.specs.Values.{is_flag, on_first, package_var, chosen_default, chosen, order_of}
 use Rattle.cabal_problem.specs.ListedDemands.{part_beside, target_for, flag_demand, stanza_demand, stanza_if, has_stanzas, choice_beside, when_of, can_count, flat_demand, flat_demands, setup_demand, setup_demands, setup_if, unit_demand, unit_demands, body_demands, part_demands, demands_of, local_root, local_roots, extra_root, roots_of}
 use Rattle.cabal_problem.specs.Bound.{all_quals, all_parts, vars_of, all_vars}
 use Rattle.cabal_problem.specs.Lawful.{is_found, has_qual_for, flat_finds, body_finds, package_finds, packages_find, extras_are_found, is_order_at, are_orders, is_lawful}
 use Rattle.cabal_problem.specs.Problem.{problem_of}
+use Rattle.plan_types.specs.Bytes.{same_text}
+use Rattle.plan_types.specs.Packages.{entries_of, package_at}
 
 -- ---- lists
-
-pub all-where : {X : Type 0} (P : X → Type 0) (xs : List X) → ((x : X) → Contains xs x → P x) → All P xs
-all-where P xs h k d below = h (get_or xs k d) (Contains-get_or xs k d below)
-
-pub any-at : {X : Type 0} (test : X → Bool) (xs : List X) → list_any test xs ≡ true → (x : X) × Contains xs x × (test x ≡ true)
-any-at test [] h = absurd (false≢true h)
-any-at test (y ∷ xs) h =
-    elim (test y) as (λ b. test y ≡ b → b || list_any test xs ≡ true → (x : _) × Contains (y ∷ xs) x × (test x ≡ true)) [
-      | true ↦ λ e k. (y, contains-head y xs, e)
-      | false ↦ λ e k. let found = any-at test xs k in (found.0, contains-tail y xs found.0 found.1, found.2)
-    ] refl h
-
-pub any-from : {X : Type 0} (test : X → Bool) (xs : List X) (x : X) → Contains xs x → test x ≡ true → list_any test xs ≡ true
-any-from test [] x h k = absurd (contains-none x h)
-any-from test (y ∷ xs) x h k =
-    elim (test y) as (λ b. test y ≡ b → b || list_any test xs ≡ true) [
-      | true ↦ λ e. refl
-      | false ↦ λ e. elim (contains-cases y xs x h) [
-        | inl same ↦ absurd (false≢true (sym e ∙ ap test same ∙ k))
-        | inr r ↦ any-from test xs x r k
-      ]
-    ] refl
 
 pub rising-has : (n x : ℕ) → x < n → Contains (rising n) x
 rising-has zero x h = absurd (omega (arith, h))
@@ -99,7 +79,7 @@ one-written values = record { var = package_var Top 0; order = values; barred = 
 order-at : (values : List ℕ) → is_order values ≡ true → IsOrderBelow (length values) values
 order-at values h =
     let w = one-written values in
-    let laws = tests-lawful (w ∷ []) [] [] (and-both (is_order values && true) true (and-both (is_order values) true h refl) refl) in
+    let laws = tests-lawful (w ∷ []) [] [] (and_from (is_order values && true) true (and_from (is_order values) true h refl) refl) in
     All-contains (λ (u : WrittenVar). IsOrderBelow (length u.order) u.order) (w ∷ []) w laws.orders (contains-head w [])
 
 on-first-order : (on : Bool) → IsOrderBelow 2 (on_first on)
@@ -123,11 +103,11 @@ module _ (packages : List Package) (names : NameTable) where
       let component = any-at (component_asks names t) d.components h in
       let guarded = any-at (is_tool_of names t) component.0.deps component.2 in
       let test = is_number (number_of names.packages guarded.0.dep.«package») t in
-      position-below (is_text guarded.0.dep.«package») names.packages t (and-right (not guarded.0.dep.internal && is_tool guarded.0.dep.kind) test guarded.2)
+      position-below (same_text guarded.0.dep.«package») names.packages t ((and_parts (not guarded.0.dep.internal && is_tool guarded.0.dep.kind) test guarded.2).1)
   tool-below t (Installed unit needs) h = absurd (false≢true h)
 
   flag-below : (f : ℕ) (body : Body) → declares names f body ≡ true → f < length names.flags
-  flag-below f (Source d flats exposed) h = let decl = any-at (is_flag names f) d.flags h in position-below (is_text decl.0.name) names.flags f decl.2
+  flag-below f (Source d flats exposed) h = let decl = any-at (is_flag names f) d.flags h in position-below (same_text decl.0.name) names.flags f decl.2
   flag-below f (Installed unit needs) h = absurd (false≢true h)
 
   qual-in : (q : Qual) → is_qual packages names q ≡ true → Contains (all_quals (rising (length packages)) (rising (length names.packages))) q
@@ -173,17 +153,17 @@ module _ (packages : List Package) (names : NameTable) where
   rest_test v = nat_lt v.«package» (length packages) && part_test v
 
   pub known-qual : (v : Var) → is_known packages names v ≡ true → is_qual packages names v.qual ≡ true
-  known-qual v h = and-left (is_qual packages names v.qual) (rest_test v) h
+  known-qual v h = (and_parts (is_qual packages names v.qual) (rest_test v) h).0
 
   pub known-below : (v : Var) → is_known packages names v ≡ true → v.«package» < length packages
-  known-below v h = ltb-true v.«package» (length packages) (and-left (nat_lt v.«package» (length packages)) (part_test v) (and-right (is_qual packages names v.qual) (rest_test v) h))
+  known-below v h = ltb-true v.«package» (length packages) ((and_parts (nat_lt v.«package» (length packages)) (part_test v) ((and_parts (is_qual packages names v.qual) (rest_test v) h).1)).0)
 
   known-part : (v : Var) → is_known packages names v ≡ true → part_test v ≡ true
-  known-part v h = and-right (nat_lt v.«package» (length packages)) (part_test v) (and-right (is_qual packages names v.qual) (rest_test v) h)
+  known-part v h = (and_parts (nat_lt v.«package» (length packages)) (part_test v) ((and_parts (is_qual packages names v.qual) (rest_test v) h).1)).1
 
   known-from : (v : Var) → is_qual packages names v.qual ≡ true → v.«package» < length packages → part_test v ≡ true → is_known packages names v ≡ true
   known-from v q p part =
-      and-both (is_qual packages names v.qual) (rest_test v) q (and-both (nat_lt v.«package» (length packages)) (part_test v) (lt-ltb v.«package» (length packages) p) part)
+      and_from (is_qual packages names v.qual) (rest_test v) q (and_from (nat_lt v.«package» (length packages)) (part_test v) (lt-ltb v.«package» (length packages) p) part)
 
   pub var-in : (v : Var) → is_known packages names v ≡ true → Contains (all_vars packages names) v
   var-in v h =
@@ -202,8 +182,8 @@ module _ (packages : List Package) (names : NameTable) where
   part-ordered orders h q p ThePackage trail below =
       let values = slice_index_or orders p [] in
       let is = all-at (is_order_at packages orders) (rising (length packages)) p h (rising-has (length packages) p below) in
-      let same = eqb-true (length values) (length (entries_of packages p)) (and-left (nat_eq (length values) (length (entries_of packages p))) (is_order values) is) in
-      subst (λ n. IsOrderBelow n values) same (order-at values (and-right (nat_eq (length values) (length (entries_of packages p))) (is_order values) is))
+      let same = eqb-true (length values) (length (entries_of packages p)) ((and_parts (nat_eq (length values) (length (entries_of packages p))) (is_order values) is).0) in
+      subst (λ n. IsOrderBelow n values) same (order-at values ((and_parts (nat_eq (length values) (length (entries_of packages p))) (is_order values) is).1))
   part-ordered orders h q p (Flag f) trail below = on-first-order (chosen_default names f (entries_of packages p) (chosen trail q p))
   part-ordered orders h q p Tests trail below = on-first-order true
   part-ordered orders h q p Benches trail below = on-first-order true
@@ -285,31 +265,31 @@ module _ (packages : List Package) (project : Project) (names : NameTable) (orde
       ]
   stanza-owned false owner stanza h d k = absurd (contains-none d k)
 
-  flat-owned : (owner : Choice) (lets : Dep → Version → Bool) (flats : List FlatDep) → is_qual packages names owner.var.qual ≡ true
-      → list_all (flat_finds packages names owner.var.«package») flats ≡ true → (d : Demand) → Contains (flat_demands packages names owner lets flats) d → Owned owner d
-  flat-owned owner lets flats q all d h =
+  flat-owned : (owner : Choice) (allows : Dep → Version → Bool) (flats : List FlatDep) → is_qual packages names owner.var.qual ≡ true
+      → list_all (flat_finds packages names owner.var.«package») flats ≡ true → (d : Demand) → Contains (flat_demands packages names owner allows flats) d → Owned owner d
+  flat-owned owner allows flats q all d h =
       let counts = can_count (has_stanzas packages owner.var) in
-      let found = contains-map (flat_demand packages names owner lets) (filter counts flats) d h in
+      let found = contains-map (flat_demand packages names owner allows) (filter counts flats) d h in
       let kept = contains-filter counts flats found.0 found.1 in
       let flat = found.0 in
       let finds = all-at (flat_finds packages names owner.var.«package») flats flat all kept.0 in
       let first = is_found packages names flat.dep.«package» in
       let second = has_qual_for packages names owner.var.«package» flat.dep.kind flat.dep.«package» in
       subst (λ e. Owned owner e) found.2
-      (when-owned owner flat.when (target_for packages names owner.var flat.dep.kind flat.dep.«package») (flat_demand packages names owner lets flat).allowed
-      (target-known packages names owner.var flat.dep.kind flat.dep.«package» q (and-left first second finds) (and-right first second finds)))
+      (when-owned owner flat.when (target_for packages names owner.var flat.dep.kind flat.dep.«package») (flat_demand packages names owner allows flat).allowed
+      (target-known packages names owner.var flat.dep.kind flat.dep.«package» q ((and_parts first second finds).0) ((and_parts first second finds).1)))
 
-  setup-owned : (owner : Choice) (custom : Bool) (lets : Dep → Version → Bool) (deps : List Dep) → (custom ≡ true → is_qual packages names (Setup owner.var.«package») ≡ true)
+  setup-owned : (owner : Choice) (custom : Bool) (allows : Dep → Version → Bool) (deps : List Dep) → (custom ≡ true → is_qual packages names (Setup owner.var.«package») ≡ true)
       → is_qual packages names owner.var.qual ≡ true
       → list_all (λ dep. is_found packages names dep.«package») deps ≡ true
-      → (d : Demand) → Contains (setup_if custom (setup_demands packages names owner lets deps)) d → Owned owner d
-  setup-owned owner false lets deps has q all d h = absurd (contains-none d h)
-  setup-owned owner true lets deps has q all d h =
-      let found = contains-map (setup_demand packages names owner lets) deps d h in
+      → (d : Demand) → Contains (setup_if custom (setup_demands packages names owner allows deps)) d → Owned owner d
+  setup-owned owner false allows deps has q all d h = absurd (contains-none d h)
+  setup-owned owner true allows deps has q all d h =
+      let found = contains-map (setup_demand packages names owner allows) deps d h in
       let dep = found.0 in
       let is = all-at (λ (e : Dep). is_found packages names e.«package») deps dep all found.1 in
       subst (λ e. Owned owner e) found.2
-      (alone-owned owner (target_for packages names owner.var kind.Setup dep.«package») (setup_demand packages names owner lets dep).allowed
+      (alone-owned owner (target_for packages names owner.var kind.Setup dep.«package») (setup_demand packages names owner allows dep).allowed
       (target-known packages names owner.var kind.Setup dep.«package» q is (has refl)))
 
   flags-owned : (owner : Choice) (flags : List FlagDecl) → is_qual packages names owner.var.qual ≡ true → owner.var.«package» < length packages
@@ -340,38 +320,38 @@ module _ (packages : List Package) (project : Project) (names : NameTable) (orde
       let top = is_top owner.var.qual in
       let local_is = (package_at packages owner.var.«package»).local in
       let some = list_any (λ (e : Entry). body_has_kind test e.body) (entries_of packages owner.var.«package») in
-      let stanzas = and-left (top && local_is) (body_has_kind test body) h in
-      let has = is.kinds test (and-right (top && local_is) (body_has_kind test body) h) in
+      let stanzas = (and_parts (top && local_is) (body_has_kind test body) h).0 in
+      let has = is.kinds test ((and_parts (top && local_is) (body_has_kind test body) h).1) in
       known-from packages names (part_beside owner stanza) is.qual is.below
-      (same ∙ and-both (top && local_is) some stanzas has)
+      (same ∙ and_from (top && local_is) some stanzas has)
 
-  body-owned : (owner : Choice) (lets : Dep → Version → Bool) (body : Body) → IsOwner owner body → (d : Demand) → Contains (body_demands packages project names owner lets body) d → Owned owner d
-  body-owned owner lets (Source description flats exposed) is d h =
+  body-owned : (owner : Choice) (allows : Dep → Version → Bool) (body : Body) → IsOwner owner body → (d : Demand) → Contains (body_demands packages project names owner allows body) d → Owned owner d
+  body-owned owner allows (Source description flats exposed) is d h =
       let flags = map (flag_demand project names owner) description.flags in
       let tests = stanza_if (has_stanzas packages owner.var && has_kind is_suite description) owner Tests in
       let benches = stanza_if (has_stanzas packages owner.var && has_kind is_benchmark description) owner Benches in
-      let deps = flat_demands packages names owner lets flats in
-      let setups = setup_if description.custom (setup_demands packages names owner lets description.setup) in
+      let deps = flat_demands packages names owner allows flats in
+      let setups = setup_if description.custom (setup_demands packages names owner allows description.setup) in
       let flags_test = list_all (λ (decl : FlagDecl). is_part names Top (package_at packages owner.var.«package») (Flag (flag_number names decl.name))) description.flags in
       let flats_test = list_all (flat_finds packages names owner.var.«package») flats in
       let setup_test = list_all (λ (dep : Dep). is_found packages names dep.«package») description.setup in
-      let rest = and-right flags_test (flats_test && setup_test) is.finds in
+      let rest = (and_parts flags_test (flats_test && setup_test) is.finds).1 in
       elim (contains-append (flags ++ tests ++ benches ++ deps) setups d h) [
         | inl own ↦ elim (contains-append (flags ++ tests ++ benches) deps d own) [
           | inl parts ↦ elim (contains-append (flags ++ tests) benches d parts) [
             | inl front ↦ elim (contains-append flags tests d front) [
-              | inl f ↦ flags-owned owner description.flags is.qual is.below (and-left flags_test (flats_test && setup_test) is.finds) d f
+              | inl f ↦ flags-owned owner description.flags is.qual is.below ((and_parts flags_test (flats_test && setup_test) is.finds).0) d f
               | inr t ↦ stanza-owned (has_stanzas packages owner.var && has_kind is_suite description) owner Tests
                   (stanza-known owner (Source description flats exposed) is_suite Tests is refl) d t
             ]
             | inr b ↦ stanza-owned (has_stanzas packages owner.var && has_kind is_benchmark description) owner Benches
                 (stanza-known owner (Source description flats exposed) is_benchmark Benches is refl) d b
           ]
-          | inr f ↦ flat-owned owner lets flats is.qual (and-left flats_test setup_test rest) d f
+          | inr f ↦ flat-owned owner allows flats is.qual ((and_parts flats_test setup_test rest).0) d f
         ]
-        | inr s ↦ setup-owned owner description.custom lets description.setup is.custom is.qual (and-right flats_test setup_test rest) d s
+        | inr s ↦ setup-owned owner description.custom allows description.setup is.custom is.qual ((and_parts flats_test setup_test rest).1) d s
       ]
-  body-owned owner lets (Installed unit needs) is d h = units-owned owner unit.depends needs is.qual is.finds d h
+  body-owned owner allows (Installed unit needs) is d h = units-owned owner unit.depends needs is.qual is.finds d h
 
   part-owned : (owner : Choice) (demands : List Demand) (part : Part) → (part ≡ ThePackage → (d : Demand) → Contains demands d → Owned owner d)
       → (d : Demand) → Contains (part_demands demands part) d → Owned owner d
@@ -390,7 +370,7 @@ module _ (packages : List Package) (project : Project) (names : NameTable) (orde
       let value : owner.val < length entries = subst (λ k. owner.val < domain_of packages p k) part is.value in
       let there = Contains-get_or entries owner.val no_entry value in
       let finds = all-at (package_finds packages names) (rising (length packages)) p all (rising-has (length packages) p below) in
-      body-owned owner (lets_of project e.instance) e.body (record {
+      body-owned owner (allowed_versions project e.instance) e.body (record {
         qual = known-qual packages names owner.var is.variable;
         below = below;
         finds = all-at (λ (f : Entry). body_finds packages names p f.body) entries e finds there;
@@ -402,10 +382,10 @@ module _ (packages : List Package) (project : Project) (names : NameTable) (orde
   cabal_lawful h =
       let finds = packages_find packages names in
       let extras = extras_are_found packages project names in
-      let front = and-left (finds && extras) (are_orders packages orders) h in
+      let front = (and_parts (finds && extras) (are_orders packages orders) h).0 in
       record {
         bounded = record { variables = all_vars packages names; count = omega arith; each = var-in packages names };
-        order = λ v known trail choices. part-ordered packages names orders (and-right (finds && extras) (are_orders packages orders) h) v.qual v.«package» v.part trail (known-below packages names v known);
-        roots = all-where (IsRoot problem) (roots_of packages project names) (roots-are (and-right finds extras front));
-        demands = λ owner is. all-where (IsOwned problem owner) (demands_of packages project names owner) (demands-are (and-left finds extras front) owner is);
+        order = λ v known trail choices. part-ordered packages names orders ((and_parts (finds && extras) (are_orders packages orders) h).1) v.qual v.«package» v.part trail (known-below packages names v known);
+        roots = all-where (IsRoot problem) (roots_of packages project names) (roots-are ((and_parts finds extras front).1));
+        demands = λ owner is. all-where (IsOwned problem owner) (demands_of packages project names owner) (demands-are ((and_parts finds extras front).0) owner is);
       }

@@ -28,12 +28,13 @@ use Rattle.qualified_goals.specs.Names.{Name, NameTable}
 use Rattle.choice_problem.specs.declared.problem.Choice.{Choice}
 use Rattle.choice_problem.specs.declared.problem.Demand.{Demand}
 use Rattle.constraint_set.specs.Bars.{names_flag}
-use Rattle.instance_tables.specs.Places.{rising, package_at, entries_of, entry_at, number, flag_number}
-use Rattle.instance_tables.specs.Asked.{bit, part_of}
-use Rattle.instance_tables.specs.Lets.{lets_of}
+use Rattle.solver_index.specs.Places.{rising, entry_at, number, flag_number}
+use Rattle.solver_index.specs.Dependencies.{bit, part_of}
+use Rattle.solver_index.specs.AllowedVersions.{allowed_versions}
 use Rattle.cabal_problem.specs.Variables.{is_top, has_kind, is_suite, is_benchmark}
 use Rattle.cabal_problem.specs.Values.{package_var}
-use Rattle.instance_tables.specs.Allowed.{allowed_by, allowed_in, allowed_unit}
+use Rattle.solver_index.specs.Allowed.{allowed_by, allowed_in, allowed_unit}
+use Rattle.plan_types.specs.Packages.{entries_of, package_at}
 
 -- ---- what all demands of a choice share
 
@@ -47,14 +48,16 @@ qual_for kind.Library owner t = owner.qual
 qual_for kind.Tool owner t = Exe owner.«package» t
 qual_for kind.Setup owner t = Setup owner.«package»
 
+-- the variable of the package that a dependency is on
 abbrev pub target_for : List Package → NameTable → Var → DepKind → Name → Var
 target_for packages names owner kind name = package_var (qual_for kind owner (number packages names name)) (number packages names name)
 
+-- the demand of a dependency under these choices
 abbrev pub dep_demand : List Package → NameTable → Choice → List Choice → DepKind → (Version → Bool) → Dep → Demand
-dep_demand packages names owner when kind lets dep = record {
+dep_demand packages names owner when kind allows dep = record {
   when = when;
   target = target_for packages names owner.var kind dep.«package»;
-  allowed = allowed_by kind lets dep (entries_of packages (number packages names dep.«package»));
+  allowed = allowed_by kind allows dep (entries_of packages (number packages names dep.«package»));
 }
 
 -- ---- flags and stanzas
@@ -63,21 +66,26 @@ dep_demand packages names owner when kind lets dep = record {
 abbrev pub flag_allows : Project → NameTable → Var → FlagDecl → Bool → Bool
 flag_allows project names v decl on = (not decl.manual || is_same decl.default on) || names_flag project names v on
 
+-- a value where it is allowed
 abbrev pub one_if : Bool → ℕ → List ℕ
 one_if true n = n ∷ []
 one_if false n = []
 
+-- the values that a flag may have
 abbrev pub flag_values : Project → NameTable → Var → FlagDecl → List ℕ
 flag_values project names v decl = one_if (flag_allows project names v decl false) 0 ++ one_if (flag_allows project names v decl true) 1
 
+-- a flag is chosen where its package's instance is
 abbrev pub flag_demand : Project → NameTable → Choice → FlagDecl → Demand
 flag_demand project names owner decl =
     let v = part_beside owner (Flag (flag_number names decl.name)) in
     record { when = owner ∷ []; target = v; allowed = flag_values project names v decl }
 
+-- a stanza is chosen where its package's instance is
 abbrev pub stanza_demand : Choice → Part → Demand
 stanza_demand owner stanza = record { when = owner ∷ []; target = part_beside owner stanza; allowed = 0 ∷ 1 ∷ [] }
 
+-- the same where the package has the stanza
 abbrev pub stanza_if : Bool → Choice → Part → List Demand
 stanza_if true owner stanza = stanza_demand owner stanza ∷ []
 stanza_if false owner stanza = []
@@ -88,9 +96,11 @@ has_stanzas packages owner = is_top owner.qual && (package_at packages owner.«p
 
 -- ---- dependencies
 
+-- a literal as a choice beside the owner
 abbrev pub choice_beside : NameTable → Choice → Literal → Choice
 choice_beside names owner literal = record { var = part_beside owner (part_of names literal.part); val = bit literal.on }
 
+-- the owner, and the settings that a dependency waits for
 abbrev pub when_of : NameTable → Choice → List Literal → List Choice
 when_of names owner literals = owner ∷ map (choice_beside names owner) literals
 
@@ -100,22 +110,27 @@ has_part stanzas (literal.Flag name) = true
 has_part stanzas literal.Tests = stanzas
 has_part stanzas literal.Benches = stanzas
 
+-- whether all parts that a dependency waits for have variables
 abbrev pub can_count : Bool → FlatDep → Bool
 can_count stanzas flat = list_all (λ literal. has_part stanzas literal.part) flat.when
 
 -- the dependencies that can count, each under its settings
 abbrev pub flat_demand : List Package → NameTable → Choice → (Dep → Version → Bool) → FlatDep → Demand
-flat_demand packages names owner lets flat = dep_demand packages names owner (when_of names owner flat.when) flat.dep.kind (lets flat.dep) flat.dep
+flat_demand packages names owner allows flat = dep_demand packages names owner (when_of names owner flat.when) flat.dep.kind (allows flat.dep) flat.dep
 
+-- those of all dependencies that can count
 abbrev pub flat_demands : List Package → NameTable → Choice → (Dep → Version → Bool) → List FlatDep → List Demand
-flat_demands packages names owner lets flats = map (flat_demand packages names owner lets) (filter (can_count (has_stanzas packages owner.var)) flats)
+flat_demands packages names owner allows flats = map (flat_demand packages names owner allows) (filter (can_count (has_stanzas packages owner.var)) flats)
 
+-- the demand of a setup dependency
 abbrev pub setup_demand : List Package → NameTable → Choice → (Dep → Version → Bool) → Dep → Demand
-setup_demand packages names owner lets dep = dep_demand packages names owner (owner ∷ []) kind.Setup (lets dep) dep
+setup_demand packages names owner allows dep = dep_demand packages names owner (owner ∷ []) kind.Setup (allows dep) dep
 
+-- those of all setup dependencies
 abbrev pub setup_demands : List Package → NameTable → Choice → (Dep → Version → Bool) → List Dep → List Demand
-setup_demands packages names owner lets deps = map (setup_demand packages names owner lets) deps
+setup_demands packages names owner allows deps = map (setup_demand packages names owner allows) deps
 
+-- the same where the instance has a setup script of its own
 abbrev pub setup_if : Bool → List Demand → List Demand
 setup_if true demands = demands
 setup_if false demands = []
@@ -128,29 +143,33 @@ unit_demand_on packages names owner id need = record {
   allowed = allowed_unit id (package_at packages (number packages names need));
 }
 
+-- the demand for the unit at a place of a record
 abbrev pub unit_demand : List Package → NameTable → Choice → List Name → List Name → ℕ → Demand
 unit_demand packages names owner ids needs k = unit_demand_on packages names owner (slice_index_or ids k []) (slice_index_or needs k [])
 
+-- those for all units that a record needs
 abbrev pub unit_demands : List Package → NameTable → Choice → List Name → List Name → List Demand
 unit_demands packages names owner ids needs = map (unit_demand packages names owner ids needs) (rising (length needs))
 
 -- ---- a choice
 
+-- the demands of a source instance that is chosen
 abbrev pub source_demands : List Package → Project → NameTable → Choice → (Dep → Version → Bool) → Description → List FlatDep → List Demand
-source_demands packages project names owner lets d flats =
+source_demands packages project names owner allows d flats =
     map (flag_demand project names owner) d.flags
     ++ stanza_if (has_stanzas packages owner.var && has_kind is_suite d) owner Tests
     ++ stanza_if (has_stanzas packages owner.var && has_kind is_benchmark d) owner Benches
-    ++ flat_demands packages names owner lets flats
-    ++ setup_if d.custom (setup_demands packages names owner lets d.setup)
+    ++ flat_demands packages names owner allows flats
+    ++ setup_if d.custom (setup_demands packages names owner allows d.setup)
 
 -- what an instance asks for that is chosen
 abbrev pub body_demands : List Package → Project → NameTable → Choice → (Dep → Version → Bool) → Body → List Demand
-body_demands packages project names owner lets (Source d flats exposed) = source_demands packages project names owner lets d flats
-body_demands packages project names owner lets (Installed record_of needs) = unit_demands packages names owner record_of.depends needs
+body_demands packages project names owner allows (Source d flats exposed) = source_demands packages project names owner allows d flats
+body_demands packages project names owner allows (Installed record_of needs) = unit_demands packages names owner record_of.depends needs
 
+-- those of the instance of an entry
 abbrev pub entry_demands : List Package → Project → NameTable → Choice → Entry → List Demand
-entry_demands packages project names owner e = body_demands packages project names owner (lets_of project e.instance) e.body
+entry_demands packages project names owner e = body_demands packages project names owner (allowed_versions project e.instance) e.body
 
 -- flags and stanzas ask for nothing
 abbrev pub part_demands : List Demand → Part → List Demand
@@ -159,6 +178,7 @@ part_demands demands (Flag f) = []
 part_demands demands Tests = []
 part_demands demands Benches = []
 
+-- the demands of a choice
 abbrev pub demands_of : List Package → Project → NameTable → Choice → List Demand
 demands_of packages project names owner =
     part_demands (entry_demands packages project names owner (entry_at (entries_of packages owner.var.«package») owner.val)) owner.var.part
@@ -169,9 +189,11 @@ demands_of packages project names owner =
 abbrev pub local_root : List Package → ℕ → Demand
 local_root packages p = record { when = []; target = package_var Top p; allowed = rising (length (entries_of packages p)) }
 
+-- those of all local packages
 abbrev pub local_roots : List Package → List Demand
 local_roots packages = map (local_root packages) (filter (λ p. (package_at packages p).local) (rising (length packages)))
 
+-- a package that is asked for besides may have an instance in its range
 abbrev pub extra_root : List Package → NameTable → Named → Demand
 extra_root packages names extra = record {
   when = [];
@@ -179,5 +201,6 @@ extra_root packages names extra = record {
   allowed = allowed_in extra.range (entries_of packages (number packages names extra.name));
 }
 
+-- the roots: local packages, and those that are asked for besides
 abbrev pub roots_of : List Package → Project → NameTable → List Demand
 roots_of packages project names = local_roots packages ++ map (extra_root packages names) project.extra

@@ -9,13 +9,15 @@ use Rattle.qualified_goals.specs.Names.{NameTable, AreNumbers}
 use Rattle.choice_problem.specs.declared.problem.Choice.{Choice}
 use Rattle.choice_problem.specs.Problem.{Problem}
 use Rattle.constraint_set.specs.Bars.{bars, bars_part}
-use Rattle.instance_tables.specs.Places.{entries_of, entry_at}
+use Rattle.solver_index.specs.Places.{entry_at}
 use Rattle.cabal_problem.specs.Variables.{is_known, domain_of, is_on}
 use Rattle.cabal_problem.specs.Values.{order_of}
 use Rattle.cabal_problem.specs.ListedDemands.{roots_of, demands_of}
-use Rattle.instance_tables.specs.Orders.{AreOrders}
+use Rattle.solver_index.specs.Orders.{AreOrders}
 use Rattle.cabal_problem.specs.Bound.{bound_of}
+use Rattle.plan_types.specs.Packages.{entries_of}
 
+-- whether a choice is barred: an instance of a package, or a value of a flag or a stanza
 abbrev pub barred_part : List Package → Project → NameTable → Choice → Part → Bool
 barred_part packages project names c ThePackage = bars project names c.var (entry_at (entries_of packages c.var.«package») c.val).instance
 barred_part packages project names c (Flag f) = bars_part project names c.var (is_on c.val)

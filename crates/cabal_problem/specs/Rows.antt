@@ -12,16 +12,16 @@ use Rattle.qualified_goals.specs.declared.variable.Part.TheVariants.{Flag, Tests
 use Rattle.qualified_goals.specs.Names.{NameTable}
 use Rattle.choice_problem.specs.declared.problem.Choice.{Choice}
 use Rattle.choice_problem.specs.declared.problem.Demand.{Demand}
-use Rattle.instance_tables.specs.declared.asked.Asked.{Asked}
-use Rattle.instance_tables.specs.declared.asked.Asking.{Asking}
-use Rattle.instance_tables.specs.declared.asked.Need.{Need}
-use Rattle.instance_tables.specs.declared.asked.Setting.{Setting}
-use Rattle.instance_tables.specs.declared.asked.Target.{Target}
-use Rattle.instance_tables.specs.Allowed.{has_at}
-use Rattle.instance_tables.specs.Places.{entries_of}
+use Rattle.solver_index.specs.declared.dependencies.Dependencies.{Dependencies}
+use Rattle.solver_index.specs.declared.dependencies.ConditionalDep.{ConditionalDep}
+use Rattle.solver_index.specs.declared.dependencies.Need.{Need}
+use Rattle.solver_index.specs.declared.dependencies.Setting.{Setting}
+use Rattle.solver_index.specs.declared.dependencies.Target.{Target}
+use Rattle.solver_index.specs.Allowed.{has_at}
 use Rattle.cabal_problem.specs.Variables.{has_kind, is_benchmark, is_suite}
 use Rattle.cabal_problem.specs.Values.{package_var}
 use Rattle.cabal_problem.specs.ListedDemands.{can_count, flag_values, has_stanzas, part_beside, qual_for, setup_if, stanza_if}
+use Rattle.plan_types.specs.Packages.{entries_of}
 
 -- what each item makes with the row of its place
 abbrev pub in_pairs : {X Y Z : Type 0} → (X → Y → List Z) → List X → List Y → List Z
@@ -29,12 +29,15 @@ in_pairs make [] rows = []
 in_pairs make (x ∷ xs) [] = []
 in_pairs make (x ∷ xs) (y ∷ rows) = make x y ++ in_pairs make xs rows
 
+-- the demand for a flag by its number
 abbrev pub flag_row : Project → NameTable → Choice → FlagDecl → ℕ → List Demand
 flag_row project names owner decl f = record { when = owner ∷ []; target = part_beside owner (Flag f); allowed = flag_values project names (part_beside owner (Flag f)) decl } ∷ []
 
+-- a setting as a choice beside the owner
 abbrev pub choice_at : Choice → Setting → Choice
 choice_at owner setting = record { var = part_beside owner setting.part; val = setting.val }
 
+-- the demand for a target under these choices
 abbrev pub target_demand : List Package → Choice → List Choice → DepKind → Dep → Target → Demand
 target_demand packages owner when kind dep target = record {
   when = when;
@@ -42,23 +45,27 @@ target_demand packages owner when kind dep target = record {
   allowed = filter (has_at kind dep (entries_of packages target.«package»)) target.inside;
 }
 
-abbrev pub dep_row : List Package → Choice → FlatDep → Asking → List Demand
-dep_row packages owner flat asking =
-    if can_count (has_stanzas packages owner.var) flat then target_demand packages owner (owner ∷ map (choice_at owner) asking.when) flat.dep.kind flat.dep asking.target ∷ [] else []
+-- the demand of a dependency that can count
+abbrev pub dep_row : List Package → Choice → FlatDep → ConditionalDep → List Demand
+dep_row packages owner flat dep =
+    if can_count (has_stanzas packages owner.var) flat then target_demand packages owner (owner ∷ map (choice_at owner) dep.when) flat.dep.kind flat.dep dep.target ∷ [] else []
 
+-- the demand of a setup dependency
 abbrev pub setup_row : List Package → Choice → Dep → Target → List Demand
 setup_row packages owner dep target = target_demand packages owner (owner ∷ []) kind.Setup dep target ∷ []
 
+-- the demand for a unit
 abbrev pub need_demand : Choice → Need → Demand
 need_demand owner need = record { when = owner ∷ []; target = package_var owner.var.qual need.«package»; allowed = need.allowed }
 
-abbrev pub source_rows : List Package → Project → NameTable → Choice → Asked → Description → List FlatDep → List Demand
-source_rows packages project names owner asked d flats =
-    in_pairs (flag_row project names owner) d.flags asked.flags
+-- the demands of a source instance
+abbrev pub source_rows : List Package → Project → NameTable → Choice → Dependencies → Description → List FlatDep → List Demand
+source_rows packages project names owner dependencies d flats =
+    in_pairs (flag_row project names owner) d.flags dependencies.flags
     ++ stanza_if (has_stanzas packages owner.var && has_kind is_suite d) owner Tests
     ++ stanza_if (has_stanzas packages owner.var && has_kind is_benchmark d) owner Benches
-    ++ in_pairs (dep_row packages owner) flats asked.deps
-    ++ setup_if d.custom (in_pairs (setup_row packages owner) d.setup asked.setup)
+    ++ in_pairs (dep_row packages owner) flats dependencies.deps
+    ++ setup_if d.custom (in_pairs (setup_row packages owner) d.setup dependencies.setup)
 
 -- the default of the flag with a number
 abbrev pub default_by : ℕ → List FlagDecl → List ℕ → Bool

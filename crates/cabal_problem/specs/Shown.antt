@@ -3,6 +3,7 @@ use Rattle.plan_types.specs.declared.index.Index.{Index}
 use Rattle.qualified_goals.specs.Names.{NameTable}
 use Rattle.cabal_problem.specs.declared.cabal_problem.CabalProblem.{CabalProblem}
 
+-- the index of which it was made
 abbrev pub index_in : CabalProblem → Index
 index_in problem = problem.index
 

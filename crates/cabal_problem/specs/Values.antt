@@ -10,15 +10,18 @@ use Rattle.qualified_goals.specs.declared.variable.Part.{Part}
 use Rattle.qualified_goals.specs.declared.variable.Part.TheVariants.{Package as ThePackage, Flag, Tests, Benches}
 use Rattle.qualified_goals.specs.declared.variable.Var.{Var}
 use Rattle.qualified_goals.specs.Variable.{same_var}
-use Rattle.qualified_goals.specs.Names.{NameTable, number_of, declared_by}
+use Rattle.qualified_goals.specs.Names.{NameTable, number_of}
 use Rattle.choice_problem.specs.declared.problem.Choice.{Choice}
 use Rattle.constraint_set.specs.Bars.{is_number}
-use Rattle.instance_tables.specs.Places.{entries_of, entry_at, flag_number}
+use Rattle.solver_index.specs.Places.{entry_at, flag_number}
+use Rattle.plan_types.specs.Packages.{declared_by, entries_of}
 
+-- both values, the better one first
 abbrev pub on_first : Bool → List ℕ
 on_first true = 1 ∷ 0 ∷ []
 on_first false = 0 ∷ 1 ∷ []
 
+-- whether a flag has this number
 abbrev pub is_flag : NameTable → ℕ → FlagDecl → Bool
 is_flag names f decl = is_number (number_of names.flags decl.name) f
 
@@ -27,9 +30,11 @@ abbrev pub default_in : Option FlagDecl → Bool
 default_in None = false
 default_in (Some decl) = decl.default
 
+-- the same, where a name without a number counts as the first
 abbrev pub has_number : NameTable → ℕ → FlagDecl → Bool
 has_number names f decl = nat_eq (flag_number names decl.name) f
 
+-- the default that an instance declares for a flag
 abbrev pub default_of : NameTable → ℕ → Body → Bool
 default_of names f body = default_in (find (has_number names f) (declared_by body))
 
@@ -38,6 +43,7 @@ abbrev pub chosen_default : NameTable → ℕ → List Entry → Option ℕ → 
 chosen_default names f entries None = false
 chosen_default names f entries (Some i) = default_of names f (entry_at entries i).body
 
+-- the variable of a package under a qualifier
 abbrev pub package_var : Qual → ℕ → Var
 package_var q p = record { qual = q; «package» = p; part = ThePackage }
 

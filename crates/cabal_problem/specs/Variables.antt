@@ -16,12 +16,13 @@ use Rattle.qualified_goals.specs.declared.variable.Qual.TheVariants.{Top, Setup,
 use Rattle.qualified_goals.specs.declared.variable.Part.{Part}
 use Rattle.qualified_goals.specs.declared.variable.Part.TheVariants.{Package as ThePackage, Flag, Tests, Benches}
 use Rattle.qualified_goals.specs.declared.variable.Var.{Var}
-use Rattle.qualified_goals.specs.Names.{NameTable, number_of, declared_by}
+use Rattle.qualified_goals.specs.Names.{NameTable, number_of}
 use Rattle.constraint_set.specs.Bars.{is_number}
-use Rattle.instance_tables.specs.Places.{package_at, entries_of}
+use Rattle.plan_types.specs.Packages.{declared_by, entries_of, package_at}
 
 -- ---- qualifiers
 
+-- whether a qualifier is top level
 abbrev pub is_top : Qual → Bool
 is_top Top = true
 is_top (Setup p) = false
@@ -32,6 +33,7 @@ abbrev pub is_custom : Body → Bool
 is_custom (Source description flat exposed) = description.custom
 is_custom (Installed record_of needs) = false
 
+-- whether a dependency is on a tool
 abbrev pub is_tool : DepKind → Bool
 is_tool Library = false
 is_tool Tool = true
@@ -41,6 +43,7 @@ is_tool SetupDep = false
 abbrev pub is_tool_of : NameTable → ℕ → GuardedDep → Bool
 is_tool_of names t guarded = not guarded.dep.internal && is_tool guarded.dep.kind && is_number (number_of names.packages guarded.dep.«package») t
 
+-- whether a component depends on such a tool
 abbrev pub component_asks : NameTable → ℕ → Component → Bool
 component_asks names t component = list_any (is_tool_of names t) component.deps
 
@@ -57,9 +60,11 @@ is_qual packages names (Exe p t) = list_any (λ e. asks_for_tool names t e.body)
 
 -- ---- parts
 
+-- whether an instance declares the flag with a number
 abbrev pub declares : NameTable → ℕ → Body → Bool
 declares names f body = list_any (λ decl. is_number (number_of names.flags decl.name) f) (declared_by body)
 
+-- whether a component is a test suite
 abbrev pub is_suite : CompKind → Bool
 is_suite kind.Library = false
 is_suite kind.Executable = false
@@ -67,6 +72,7 @@ is_suite kind.Test = true
 is_suite kind.Bench = false
 is_suite kind.Foreign = false
 
+-- whether a component is a benchmark
 abbrev pub is_benchmark : CompKind → Bool
 is_benchmark kind.Library = false
 is_benchmark kind.Executable = false
@@ -78,6 +84,7 @@ is_benchmark kind.Foreign = false
 abbrev pub has_kind : (CompKind → Bool) → Description → Bool
 has_kind is_wanted d = list_any (λ component. is_wanted component.kind) d.components
 
+-- whether an instance has a component of such a kind
 abbrev pub body_has_kind : (CompKind → Bool) → Body → Bool
 body_has_kind is_wanted (Source description flat exposed) = has_kind is_wanted description
 body_has_kind is_wanted (Installed record_of needs) = false
@@ -91,6 +98,7 @@ is_part names q p Benches = is_top q && p.local && list_any (λ e. body_has_kind
 
 -- ---- variables
 
+-- whether a variable is one of the index
 abbrev pub is_known : List Package → NameTable → Var → Bool
 is_known packages names v =
     is_qual packages names v.qual && (nat_lt v.«package» (length packages) && is_part names v.qual (package_at packages v.«package») v.part)

@@ -12,7 +12,7 @@ use Rattle.plan_types.specs.declared.project.Project.{Project}
 use Rattle.plan_types.specs.declared.version.Version.{Version}
 use Rattle.conditionals.specs.Paths.{is_wanted}
 use Rattle.conditionals.specs.Value.{value}
-use Rattle.description.specs.WholeCondition.{whole_condition}
+use Rattle.flatten.specs.WholeCondition.{whole_condition}
 use Rattle.flatten.specs.Counting.{Parts, flags_of, are_met}
 use Rattle.flatten.specs.Demands.{Outward, outward, stanza_of}
 use Rattle.qualified_goals.specs.declared.variable.Part.{Part}
@@ -22,15 +22,16 @@ use Rattle.choice_problem.specs.declared.problem.Choice.{Choice}
 use Rattle.choice_problem.specs.declared.problem.Demand.{Demand}
 use Rattle.choice_problem.specs.Assignment.{Assignment, is_made}
 use Rattle.choice_problem.specs.General.{Request, General, request_of}
-use Rattle.instance_tables.specs.Places.{entries_of, entry_at, number}
+use Rattle.solver_index.specs.Places.{entry_at, number}
 use Rattle.cabal_problem.specs.Variables.{has_kind, is_known, is_suite, is_benchmark, domain_of}
 use Rattle.cabal_problem.specs.Values.{order_of}
-use Rattle.instance_tables.specs.Allowed.{allowed_by}
-use Rattle.instance_tables.specs.Asked.{part_of}
-use Rattle.instance_tables.specs.Lets.{lets_of}
+use Rattle.solver_index.specs.Allowed.{allowed_by}
+use Rattle.solver_index.specs.Dependencies.{part_of}
+use Rattle.solver_index.specs.AllowedVersions.{allowed_versions}
 use Rattle.cabal_problem.specs.ListedDemands.{part_beside, target_for, flag_demand, stanza_if, has_stanzas, has_part, unit_demands, roots_of}
 use Rattle.cabal_problem.specs.Problem.{barred_part}
 use Rattle.cabal_problem.specs.Bound.{bound_of}
+use Rattle.plan_types.specs.Packages.{entries_of}
 
 -- what a value says of a flag or a stanza
 abbrev pub on_or_off : ℕ → Option Bool
@@ -38,6 +39,7 @@ on_or_off zero = Some false
 on_or_off (suc zero) = Some true
 on_or_off (suc (suc n)) = None
 
+-- what a choice says of a flag or a stanza
 abbrev pub is_set : Option ℕ → Option Bool
 is_set None = None
 is_set (Some n) = on_or_off n
@@ -52,13 +54,14 @@ is_whole_yes env names owner at A =
     let parts = parts_under names owner A in
     is_made A owner && (are_met parts (stanza_of at.component.kind) && is_wanted true (value env (flags_of parts) (whole_condition at.component at.guarded)))
 
+-- what a dependency asks for, with its whole condition
 abbrev pub whole_request : Env → List Package → NameTable → Choice → (Dep → Version → Bool) → Outward → Request
-whole_request env packages names owner lets at =
+whole_request env packages names owner allows at =
     let dep = at.guarded.dep in
     record {
       owner = Some owner;
       target = target_for packages names owner.var dep.kind dep.«package»;
-      allowed = allowed_by dep.kind (lets dep) dep (entries_of packages (number packages names dep.«package»));
+      allowed = allowed_by dep.kind (allows dep) dep (entries_of packages (number packages names dep.«package»));
       is_yes = is_whole_yes env names owner at;
     }
 
@@ -66,47 +69,55 @@ whole_request env packages names owner lets at =
 abbrev pub can_ask : Bool → Outward → Bool
 can_ask stanzas at = list_all (λ literal. has_part stanzas literal.part) (stanza_of at.component.kind)
 
+-- demands as requests
 abbrev pub requests_of : List Demand → List Request
 requests_of demands = map request_of demands
 
 -- what asks under no condition but that its owner is chosen: flags and stanzas, and setup dependencies
 
+-- what a source instance asks of its flags and stanzas
 abbrev pub front_demands : List Package → Project → NameTable → Choice → Description → List Demand
 front_demands packages project names owner d =
     map (flag_demand project names owner) d.flags
     ++ stanza_if (has_stanzas packages owner.var && has_kind is_suite d) owner Tests
     ++ stanza_if (has_stanzas packages owner.var && has_kind is_benchmark d) owner Benches
 
+-- what a setup dependency asks for
 abbrev pub setup_request : List Package → NameTable → Choice → (Dep → Version → Bool) → Dep → Request
-setup_request packages names owner lets dep = record {
+setup_request packages names owner allows dep = record {
   owner = Some owner;
   target = target_for packages names owner.var kind.Setup dep.«package»;
-  allowed = allowed_by kind.Setup (lets dep) dep (entries_of packages (number packages names dep.«package»));
+  allowed = allowed_by kind.Setup (allows dep) dep (entries_of packages (number packages names dep.«package»));
   is_yes = λ A. is_made A owner;
 }
 
+-- the same where the instance has a setup script of its own
 abbrev pub setup_requests : Bool → List Request → List Request
 setup_requests true requests = requests
 setup_requests false requests = []
 
+-- what an instance asks for
 abbrev pub body_requests : Env → List Package → Project → NameTable → Choice → (Dep → Version → Bool) → Body → List Request
-body_requests env packages project names owner lets (Source d flats exposed) =
+body_requests env packages project names owner allows (Source d flats exposed) =
     requests_of (front_demands packages project names owner d)
-    ++ map (whole_request env packages names owner lets) (filter (can_ask (has_stanzas packages owner.var)) (outward d))
-    ++ setup_requests d.custom (map (setup_request packages names owner lets) d.setup)
-body_requests env packages project names owner lets (Installed record_of needs) = requests_of (unit_demands packages names owner record_of.depends needs)
+    ++ map (whole_request env packages names owner allows) (filter (can_ask (has_stanzas packages owner.var)) (outward d))
+    ++ setup_requests d.custom (map (setup_request packages names owner allows) d.setup)
+body_requests env packages project names owner allows (Installed record_of needs) = requests_of (unit_demands packages names owner record_of.depends needs)
 
+-- flags and stanzas ask for nothing
 abbrev pub part_requests : List Request → Part → List Request
 part_requests requests ThePackage = requests
 part_requests requests (Flag f) = []
 part_requests requests Tests = []
 part_requests requests Benches = []
 
+-- what a choice asks for
 abbrev pub whole_demands : Env → List Package → Project → NameTable → Choice → List Request
 whole_demands env packages project names owner =
     let e = entry_at (entries_of packages owner.var.«package») owner.val in
-    part_requests (body_requests env packages project names owner (lets_of project e.instance) e.body) owner.var.part
+    part_requests (body_requests env packages project names owner (allowed_versions project e.instance) e.body) owner.var.part
 
+-- the problem of an index and a project with whole conditions
 abbrev pub whole_problem : Env → List Package → Project → NameTable → List (List ℕ) → General
 whole_problem env packages project names orders = record {
   bound = bound_of packages names;

@@ -1,26 +1,28 @@
+// The problem of an index and a project, as the search asks it.
 ghost use Rattle.std.specs.Prelude.{◌≡◌, ◌++◌, ◌<◌, IfOk, IsTrue, OnOk, length, map, true};
 ghost use Rattle.std.specs.List.{list_all};
 ghost use Rattle.constraint_set.specs.Bars.{bars, bars_part, names_flag};
 ghost use Rattle.constraint_set.specs.Stands.{StandsFor};
 ghost use Rattle.flatten.specs.Sound.{IsSound, has_package};
-ghost use Rattle.instance_tables.specs.Asked.{asked_of, asked_of_entry};
-ghost use Rattle.instance_tables.specs.Places.{entries_of, entry_at};
+ghost use Rattle.solver_index.specs.Dependencies.{all_dependencies, entry_dependencies};
+ghost use Rattle.solver_index.specs.Places.{entry_at};
 ghost use Rattle.cabal_problem.specs.ListedDemands.{entry_demands, flag_allows, flag_values, one_if};
 ghost use Rattle.cabal_problem.specs.Lawful.{is_lawful};
 ghost use Rattle.cabal_problem.specs.Rows.{flag_row, in_pairs, source_rows};
 ghost use Rattle.cabal_problem.specs.Values.{chosen_default, default_of};
+ghost use Rattle.plan_types.specs.Packages.{entries_of};
 
 use crate::demands::{alone, part_beside, push_custom, push_deps, push_stanzas, unit_demands};
 use crate::roots::roots_of;
 use crate::values::{chosen, copied, default_by, on_first, order_at};
-use crate::variables::{declared_by, domain_of, is_known};
+use crate::variables::{domain_of, is_known};
 use choice_problem::{Choice, Choices, Demand, Part, Var};
 use constraint_set::Constraints;
-use instance_tables::{Asked, Tables, entries_of};
 use plan_types::{
-    Body, Description, Entry, FlagDecl, FlatDep, Index, Instance, List, NoMemory, Settings,
+    Body, Description, Entry, FlagDecl, FlatDep, Index, Instance, List, NoMemory, Package, Settings,
 };
 use qualified_goals::Names;
+use solver_index::{Dependencies, Tables};
 use std::alloc::Global;
 
 /// The problem of an index and settings.
@@ -33,7 +35,7 @@ pub struct CabalProblem<'a> {
     tables: Tables,
     ghost lawful: { IsTrue (is_lawful index.packages settings.now.project names tables.orders) },
     ghost stands: { ∥ StandsFor settings.now.project names constraints ∥₁ },
-    ghost asked: { tables.asked ≡ asked_of index.packages settings.now.project names },
+    ghost dependencies: { tables.dependencies ≡ all_dependencies index.packages settings.now.project names },
 }
 
 impl<'a> CabalProblem<'a> {
@@ -49,7 +51,8 @@ impl<'a> CabalProblem<'a> {
         requires sound { IsSound settings.now.env index }
         requires extra { list_all (λ named. has_package index named.name) settings.now.project.extra ≡ true }
         ensures index { IfOk result (λ made. index_in made ≡ index) }
-        ensures problem { IfOk result (λ made. IsProblemOf index settings.now.project (names_in made) (⟦<CabalProblem<'a> as Choices>⟧.problem made)) }
+        ensures problem { IfOk result (λ made. IsProblemOf index settings.now.project (names_in made)
+            (⟦<CabalProblem<'a> as Choices>⟧.problem made)) }
     {
         let names = Names::of(alloc, &index)?;
         let constraints = Constraints::of(alloc, &settings.project, &names)?;
@@ -98,9 +101,10 @@ impl<'a> CabalProblem<'a> {
 
     fn bars_instance(&self, c: Choice) -> bool
         requires { c.val < length (entries_of self.now.index.packages c.var.«package») }
-        ensures { result ≡ bars self.now.settings.now.project self.now.names c.var (entry_at (entries_of self.now.index.packages c.var.«package») c.val).instance }
+        ensures { result ≡ bars self.now.settings.now.project self.now.names c.var
+            (entry_at (entries_of self.now.index.packages c.var.«package») c.val).instance }
     {
-        let entries = entries_of(self.index.packages.as_slice(), c.var.package);
+        let entries = Package::entries_at(self.index.packages.as_slice(), c.var.package);
         self.bars(c.var, &entries[c.val as usize].instance)
     }
 
@@ -130,7 +134,8 @@ impl<'a> CabalProblem<'a> {
         numbers: &[u64],
     ) -> Result<(), NoMemory>
         requires { length numbers.now ≡ length flags.now }
-        ensures { OnOk result (found.new ≡ found.old ++ in_pairs (flag_row self.now.settings.now.project self.now.names owner) flags.now numbers.now) }
+        ensures { OnOk result (found.new ≡ found.old ++ in_pairs
+            (flag_row self.now.settings.now.project self.now.names owner) flags.now numbers.now) }
     {
         for (place, decl) in flags.iter().enumerate() {
             self.push_flag(alloc, found, owner, decl, numbers[place])?;
@@ -164,12 +169,13 @@ impl<'a> CabalProblem<'a> {
         owner: Choice,
         d: &Description,
         flats: &[FlatDep],
-        asked: &Asked,
+        dependencies: &Dependencies,
     ) -> Result<List<Demand>, NoMemory>
-        requires flags { length asked.now.flags ≡ length d.now.flags }
-        requires deps { length asked.now.deps ≡ length flats.now }
-        requires setup { length asked.now.setup ≡ length d.now.setup }
-        ensures { IfOk result (λ found. found ≡ source_rows self.now.index.packages self.now.settings.now.project self.now.names owner asked.now d.now flats.now) }
+        requires flags { length dependencies.now.flags ≡ length d.now.flags }
+        requires deps { length dependencies.now.deps ≡ length flats.now }
+        requires setup { length dependencies.now.setup ≡ length d.now.setup }
+        ensures { IfOk result (λ found. found ≡ source_rows self.now.index.packages self.now.settings.now.project
+            self.now.names owner dependencies.now d.now flats.now) }
     {
         let packages = self.index.packages.as_slice();
         let mut found = List::new(alloc);
@@ -178,7 +184,7 @@ impl<'a> CabalProblem<'a> {
             &mut found,
             owner,
             d.flags.as_slice(),
-            asked.flags.as_slice(),
+            dependencies.flags.as_slice(),
         )?;
         push_stanzas(alloc, &mut found, packages, owner, d)?;
         push_deps(
@@ -187,7 +193,7 @@ impl<'a> CabalProblem<'a> {
             packages,
             owner,
             flats,
-            asked.deps.as_slice(),
+            dependencies.deps.as_slice(),
         )?;
         push_custom(
             alloc,
@@ -195,7 +201,7 @@ impl<'a> CabalProblem<'a> {
             packages,
             owner,
             d,
-            asked.setup.as_slice(),
+            dependencies.setup.as_slice(),
         )?;
         Ok(found)
     }
@@ -205,18 +211,19 @@ impl<'a> CabalProblem<'a> {
         alloc: Global,
         owner: Choice,
         entry: &Entry,
-        asked: &Asked,
+        dependencies: &Dependencies,
     ) -> Result<List<Demand>, NoMemory>
-        requires { asked.now ≡ asked_of_entry self.now.index.packages self.now.settings.now.project self.now.names entry.now }
-        ensures { IfOk result (λ found. found ≡ entry_demands self.now.index.packages self.now.settings.now.project self.now.names owner entry.now) }
+        requires { dependencies.now ≡ entry_dependencies self.now.index.packages self.now.settings.now.project self.now.names entry.now }
+        ensures { IfOk result (λ found. found ≡ entry_demands self.now.index.packages self.now.settings.now.project
+            self.now.names owner entry.now) }
     {
         match &entry.body {
             Body::Source {
                 description,
                 flat,
                 ..
-            } => self.source_demands(alloc, owner, description, flat.as_slice(), asked),
-            Body::Installed { .. } => unit_demands(alloc, owner, asked.needs.as_slice()),
+            } => self.source_demands(alloc, owner, description, flat.as_slice(), dependencies),
+            Body::Installed { .. } => unit_demands(alloc, owner, dependencies.needs.as_slice()),
         }
     }
 
@@ -226,17 +233,18 @@ impl<'a> CabalProblem<'a> {
             ≡ entry_demands self.now.index.packages self.now.settings.now.project self.now.names owner
             (entry_at (entries_of self.now.index.packages owner.var.«package») owner.val)) }
     {
-        let entries = entries_of(self.index.packages.as_slice(), owner.var.package);
+        let entries = Package::entries_at(self.index.packages.as_slice(), owner.var.package);
         let row = self.asked_by(owner.var.package);
         let place = owner.val as usize;
         self.entry_demands(alloc, owner, &entries[place], &row[place])
     }
 
     // What each instance of a package asks for.
-    fn asked_by(&self, p: u64) -> &[Asked]
-        ensures { result.now ≡ map (asked_of_entry self.now.index.packages self.now.settings.now.project self.now.names) (entries_of self.now.index.packages p) }
+    fn asked_by(&self, p: u64) -> &[Dependencies]
+        ensures { result.now ≡ map (entry_dependencies self.now.index.packages self.now.settings.now.project
+            self.now.names) (entries_of self.now.index.packages p) }
     {
-        match self.tables.asked.as_slice().get(p as usize) {
+        match self.tables.dependencies.as_slice().get(p as usize) {
             Some(row) => row.as_slice(),
             None => &[],
         }
@@ -255,7 +263,7 @@ impl<'a> CabalProblem<'a> {
     fn default_at(&self, f: u64, p: u64, i: u64) -> bool
         ensures { result ≡ default_of self.now.names f (entry_at (entries_of self.now.index.packages p) i).body }
     {
-        let entries = entries_of(self.index.packages.as_slice(), p);
+        let entries = Package::entries_at(self.index.packages.as_slice(), p);
         let row = self.asked_by(p);
         let place = i as usize;
         if place < entries.len() {
@@ -264,11 +272,15 @@ impl<'a> CabalProblem<'a> {
         false
     }
 
-    fn default_in(&self, f: u64, entry: &Entry, asked: &Asked) -> bool
-        requires { asked.now ≡ asked_of_entry self.now.index.packages self.now.settings.now.project self.now.names entry.now }
+    fn default_in(&self, f: u64, entry: &Entry, dependencies: &Dependencies) -> bool
+        requires { dependencies.now ≡ entry_dependencies self.now.index.packages self.now.settings.now.project self.now.names entry.now }
         ensures { result ≡ default_of self.now.names f entry.now.body }
     {
-        default_by(f, declared_by(&entry.body), asked.flags.as_slice())
+        default_by(
+            f,
+            entry.body.declared_flags(),
+            dependencies.flags.as_slice(),
+        )
     }
 }
 

@@ -1,3 +1,4 @@
+// The demands of a choice, from its rows.
 ghost use Rattle.std.specs.Prelude.{◌≡◌, ◌++◌, ◌∷◌, ◌&&◌, [], IfOk, OnOk, length, map, slice_index_or};
 ghost use Rattle.qualified_goals.specs.declared.variable.Part.TheVariants.{Tests, Benches};
 ghost use Rattle.cabal_problem.specs.Variables.{has_kind, is_benchmark, is_suite};
@@ -7,9 +8,9 @@ ghost use Rattle.cabal_problem.specs.Rows.{choice_at, dep_row, in_pairs, need_de
 use crate::values::package_var;
 use crate::variables::{has_benchmark, has_suite, is_top};
 use choice_problem::{Choice, Demand};
-use instance_tables::{Asking, Need, Setting, Target, allowed_by, entries_of, is_local};
 use plan_types::{Dep, DepKind, Description, FlatDep, List, NoMemory, Package, PartName};
 use qualified_goals::{Part, Qual, Var};
+use solver_index::{ConditionalDep, Need, Setting, Target, allowed_by, is_local};
 use std::alloc::Global;
 
 /// A part of the owner's package, under its qualifier.
@@ -102,7 +103,7 @@ pub(crate) fn push_deps(
     packages: &[Package],
     owner: Choice,
     flats: &[FlatDep],
-    deps: &[Asking],
+    deps: &[ConditionalDep],
 ) -> Result<(), NoMemory>
     requires { length deps.now ≡ length flats.now }
     ensures { OnOk result (found.new ≡ found.old ++ in_pairs (dep_row packages.now owner) flats.now deps.now) }
@@ -121,23 +122,15 @@ fn push_dep(
     owner: Choice,
     stanzas: bool,
     flat: &FlatDep,
-    asking: &Asking,
+    dep: &ConditionalDep,
 ) -> Result<(), NoMemory>
     requires { stanzas ≡ has_stanzas packages.now owner.var }
-    ensures { OnOk result (found.new ≡ found.old ++ dep_row packages.now owner flat.now asking.now) }
+    ensures { OnOk result (found.new ≡ found.old ++ dep_row packages.now owner flat.now dep.now) }
 {
     if can_count(stanzas, flat) {
-        let when = when_of(alloc, owner, asking.when.as_slice())?;
+        let when = when_of(alloc, owner, dep.when.as_slice())?;
         let kind = flat.dep.kind;
-        found.push(target_demand(
-            alloc,
-            packages,
-            owner,
-            when,
-            kind,
-            &flat.dep,
-            &asking.target,
-        )?)?;
+        found.push(target_demand(alloc, packages, owner, when, kind, &flat.dep, &dep.target)?)?;
     }
     Ok(())
 }
@@ -202,7 +195,7 @@ fn target_demand(
     ensures { IfOk result (λ demand. demand ≡ target_demand packages.now owner when kind dep.now target.now) }
 {
     let package = target.package;
-    let entries = entries_of(packages, package);
+    let entries = Package::entries_at(packages, package);
     let allowed = allowed_by(alloc, kind, dep, &target.inside, entries)?;
     Ok(Demand {
         when,
@@ -221,7 +214,8 @@ pub(crate) fn push_custom(
     targets: &[Target],
 ) -> Result<(), NoMemory>
     requires { length targets.now ≡ length d.now.setup }
-    ensures { OnOk result (found.new ≡ found.old ++ setup_if d.now.custom (in_pairs (setup_row packages.now owner) d.now.setup targets.now)) }
+    ensures { OnOk result (found.new ≡ found.old ++ setup_if d.now.custom
+        (in_pairs (setup_row packages.now owner) d.now.setup targets.now)) }
 {
     if d.custom {
         push_setup(alloc, found, packages, owner, d.setup.as_slice(), targets)?;

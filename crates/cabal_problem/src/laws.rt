@@ -1,3 +1,4 @@
+// A project's problem with whole conditions, and that there is one.
 ghost use Rattle.std.specs.Prelude.{◌≡◌, ℕ, List, true};
 ghost use Rattle.std.specs.List.{list_all};
 ghost use Rattle.plan_types.specs.declared.index.Index.{Index};
@@ -6,13 +7,15 @@ ghost use Rattle.plan_types.specs.declared.project.Project.{Project};
 ghost use Rattle.qualified_goals.specs.Names.{AreNumbers, NameTable};
 ghost use Rattle.choice_problem.specs.General.{general};
 ghost use Rattle.choice_problem.specs.Joined.{AreOne, AreYesTogether};
+ghost use Rattle.choice_problem.specs.Problem.{Problem};
 ghost use Rattle.flatten.specs.Sound.{IsSound, has_package};
-ghost use Rattle.instance_tables.specs.Orders.{AreOrders};
-ghost use Rattle.cabal_problem.specs.Problem.{problem_of};
+ghost use Rattle.solver_index.specs.Orders.{AreOrders};
+ghost use Rattle.cabal_problem.specs.Problem.{IsProblemOf, problem_of};
 ghost use Rattle.cabal_problem.specs.WholeDemands.{whole_problem};
 
 use choice_problem::{general_is_lawful, valid_alike};
 use flatten::counts_as_its_condition;
+use preferences::one_order;
 
 /// A demand with a whole condition is Yes exactly where one of those that are listed for it is.
 pub fn listed_as_whole()
@@ -34,4 +37,12 @@ pub fn valid_as_whole()
     listed_as_whole();
     general_is_lawful();
     valid_alike();
+}
+
+/// An index and a project have one problem, by one table of names.
+pub fn one_problem()
+    ensures { (index : Index) (project : Project) (names others : NameTable) (p q : Problem)
+        → IsProblemOf index project names p → IsProblemOf index project others q → (names ≡ others) × (p ≡ q) }
+{
+    one_order();
 }

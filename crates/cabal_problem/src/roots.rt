@@ -1,11 +1,12 @@
+// The demands with which a plan begins.
 ghost use Rattle.std.specs.Prelude.{◌≡◌, ◌++◌, IfOk, OnOk, map};
 ghost use Rattle.cabal_problem.specs.ListedDemands.{extra_root, local_root, local_roots};
 
 use crate::values::package_var;
 use choice_problem::Demand;
-use instance_tables::{allowed_in, entries_of, number, rising};
 use plan_types::{List, Named, NoMemory, Package};
 use qualified_goals::{Names, Qual};
+use solver_index::{allowed_in, number, rising};
 use std::alloc::Global;
 
 /// The local packages, and then those that are asked for besides.
@@ -39,7 +40,7 @@ fn local_roots(alloc: Global, packages: &[Package]) -> Result<List<Demand>, NoMe
 fn local_root(alloc: Global, packages: &[Package], p: u64) -> Result<Demand, NoMemory>
     ensures { IfOk result (λ root. root ≡ local_root packages.now p) }
 {
-    let allowed = rising(alloc, entries_of(packages, p).len())?;
+    let allowed = rising(alloc, Package::entries_at(packages, p).len())?;
     Ok(Demand {
         when: List::new(alloc),
         target: package_var(Qual::Top, p),
@@ -56,7 +57,7 @@ fn extra_root(
     ensures { IfOk result (λ root. root ≡ extra_root packages.now names.now named.now) }
 {
     let package = number(packages, names, &named.name);
-    let allowed = allowed_in(alloc, &named.range, entries_of(packages, package))?;
+    let allowed = allowed_in(alloc, &named.range, Package::entries_at(packages, package))?;
     Ok(Demand {
         when: List::new(alloc),
         target: package_var(Qual::Top, package),

@@ -1,3 +1,4 @@
+// The values of flags and stanzas in the order in which they are tried.
 ghost use Rattle.std.specs.Prelude.{◌≡◌, IfOk, length, slice_index_or, []};
 ghost use Rattle.cabal_problem.specs.Rows.{default_by};
 ghost use Rattle.cabal_problem.specs.Values.{chosen, on_first, package_var};

@@ -1,12 +1,12 @@
+// Which variables an index has.
 ghost use Rattle.std.specs.Prelude.{◌≡◌, ◌&&◌, nat_lt, length};
 ghost use Rattle.std.specs.List.{list_any};
 ghost use Rattle.constraint_set.specs.Bars.{is_number};
-ghost use Rattle.qualified_goals.specs.Names.{declared_by, number_of};
-ghost use Rattle.instance_tables.specs.Places.{package_at};
+ghost use Rattle.qualified_goals.specs.Names.{number_of};
 ghost use Rattle.cabal_problem.specs.Values.{is_flag};
 ghost use Rattle.cabal_problem.specs.Variables.{asks_for_tool, body_has_kind, component_asks, declares, domain_of, has_kind, is_benchmark, is_custom, is_known, is_part, is_qual, is_suite, is_tool, is_tool_of, is_top};
+ghost use Rattle.plan_types.specs.Packages.{declared_by, package_at};
 
-use instance_tables::entries_of;
 use plan_types::{
     Body, CompKind, Component, DepKind, Description, Entry, FlagDecl, GuardedDep, Package, Text,
 };
@@ -22,7 +22,7 @@ pub(crate) fn domain_of(packages: &[Package], v: Var) -> u64
     ensures { result ≡ domain_of packages.now v.«package» v.part }
 {
     match v.part {
-        Part::Package => entries_of(packages, v.package).len() as u64,
+        Part::Package => Package::entries_at(packages, v.package).len() as u64,
         Part::Flag(_) => 2,
         Part::Tests => 2,
         Part::Benches => 2,
@@ -44,8 +44,8 @@ fn is_qual(packages: &[Package], names: &Names, qual: Qual) -> bool
 {
     match qual {
         Qual::Top => true,
-        Qual::Setup(p) => some_custom(entries_of(packages, p)),
-        Qual::Exe(p, t) => some_asks(names, t, entries_of(packages, p)),
+        Qual::Setup(p) => some_custom(Package::entries_at(packages, p)),
+        Qual::Exe(p, t) => some_asks(names, t, Package::entries_at(packages, p)),
     }
 }
 
@@ -152,17 +152,9 @@ fn some_declares(names: &Names, f: u64, entries: &[Entry]) -> bool
 fn declares(names: &Names, f: u64, body: &Body) -> bool
     ensures { result ≡ declares names.now f body.now }
 {
-    declared_by(body).iter().any(|decl| is_flag(names, f, decl))
-}
-
-/// The flags that an instance declares.
-pub(crate) fn declared_by(body: &Body) -> &[FlagDecl]
-    ensures { result.now ≡ declared_by body.now }
-{
-    match body {
-        Body::Source { description, .. } => description.flags.as_slice(),
-        Body::Installed { .. } => &[],
-    }
+    body.declared_flags()
+        .iter()
+        .any(|decl| is_flag(names, f, decl))
 }
 
 pub(crate) fn is_flag(names: &Names, f: u64, decl: &FlagDecl) -> bool

@@ -2,7 +2,7 @@
 use Rattle.std.proofs.Common.{◌≡◌, ℕ, Bool, true, false, cond, not, List, [], ◌∷◌, ◌++◌, map, Some, None, refl, sym, ap, ◌∙◌, subst, inl, inr, ◌⊎◌, append_assoc}
 use Rattle.std.specs.Prelude.{is_none, find}
 use Rattle.std.specs.List.{Contains, All, filter, flat_map, list_all}
-use Rattle.std.proofs.lemmas.Bool.{false≢true}
+use Rattle.std.proofs.lemmas.Bool.{false≢true, and_parts, and_from}
 use Rattle.std.proofs.lemmas.List.{append-nil}
 use Rattle.std.proofs.lemmas.List.Elements.{All-contains}
 use Rattle.qualified_goals.specs.declared.variable.Var.{Var}
@@ -15,10 +15,9 @@ use Rattle.choice_problem.specs.General.{Request, request_of, general}
 use Rattle.choice_problem.specs.Trail.{value_in, demands_after, opens, next_var}
 use Rattle.choice_problem.specs.Active.{turns_yes, made_active, active_from, active, is_waited_for, least_open, vars_of, asks_for, vars_of_first, reason}
 use Rattle.qualified_goals.specs.SameVariable.{same_var-is, same_var-refl}
-use Rattle.choice_problem.specs.Lists.{contains-head, contains-tail, contains-none, contains-cases, contains-left, contains-right, contains-append, contains-flat_map, flat_map-contains, contains-map, map-contains, contains-filter, and-left, and-right, and-both, all-at, all-from}
+use Rattle.common_laws.specs.Lists.{contains-head, contains-tail, contains-none, contains-cases, contains-left, contains-right, contains-append, contains-flat_map, flat_map-contains, contains-map, map-contains, contains-filter, all-at, all-from, filter-contains}
 use Rattle.choice_problem.proofs.Order.{least-is, least-same}
 use Rattle.choice_problem.proofs.Trails.{value_in-made, value_in-kept, is_made-is, is_made-from, none-is, demand-after, after-general, after-plain, owner-made}
-use Rattle.choice_problem.proofs.Paths.{filter-contains}
 
 -- the first item that passes
 
@@ -99,14 +98,14 @@ module _ (p : Problem) where
   unfolding made_active
   made-is trail c d h =
       let found = contains-filter (turns_yes trail c) (demands_after p (trail ++ c ∷ [])) d h in
-      (found.0, and-left (is_yes (value_in (trail ++ c ∷ [])) d) (not (is_yes (value_in trail) d)) found.1)
+      (found.0, (and_parts (is_yes (value_in (trail ++ c ∷ [])) d) (not (is_yes (value_in trail) d)) found.1).0)
 
   pub made-from : (trail : List Choice) (c : Choice) (d : Demand) → Contains (demands_after p (trail ++ c ∷ [])) d → is_yes (value_in (trail ++ c ∷ [])) d ≡ true → is_yes (value_in trail) d ≡ false
       → Contains (made_active p trail c) d
   unfolding made_active
   made-from trail c d h now_yes not_before =
       filter-contains (turns_yes trail c) (demands_after p (trail ++ c ∷ [])) d h
-      (and-both (is_yes (value_in (trail ++ c ∷ [])) d) (not (is_yes (value_in trail) d)) now_yes (ap not not_before))
+      (and_from (is_yes (value_in (trail ++ c ∷ [])) d) (not (is_yes (value_in trail) d)) now_yes (ap not not_before))
 
   -- a demand so far that is Yes
   abbrev IsActive : List Choice → Demand → Type 0
@@ -213,7 +212,7 @@ module _ (p : Problem) (lawful : Lawful p) where
       subst (λ w. Contains (map (λ (r : Request). r.target) (filter (opens trail) (demands_after (general p) trail))) w) found.2
       (map-contains (λ (r : Request). r.target) (filter (opens trail) (demands_after (general p) trail)) (request_of d)
       (filter-contains (opens trail) (demands_after (general p) trail) (request_of d) (after-general p trail d is.0)
-      (and-both (is_yes (value_in trail) d) (is_none (value_in trail d.target)) is.1 kept.1))))
+      (and_from (is_yes (value_in trail) d) (is_none (value_in trail d.target)) is.1 kept.1))))
       (λ v h.
       let found = contains-map (λ (r : Request). r.target) (filter (opens trail) (demands_after (general p) trail)) v h in
       let r = found.0 in
@@ -224,8 +223,8 @@ module _ (p : Problem) (lawful : Lawful p) where
       subst (λ w. Contains (map (λ (d : Demand). d.target) (filter (is_waited_for trail) (active p trail))) w) (ap (λ (x : Request). x.target) plain.2 ∙ found.2)
       (map-contains (λ (d : Demand). d.target) (filter (is_waited_for trail) (active p trail)) d
       (filter-contains (is_waited_for trail) (active p trail) d
-      (yes-active trail d (demand-after p trail d choices plain.1) (and-left (is_yes (value_in trail) d) (is_none (value_in trail d.target)) passes))
-      (and-right (is_yes (value_in trail) d) (is_none (value_in trail d.target)) passes))))
+      (yes-active trail d (demand-after p trail d choices plain.1) ((and_parts (is_yes (value_in trail) d) (is_none (value_in trail d.target)) passes).0))
+      ((and_parts (is_yes (value_in trail) d) (is_none (value_in trail d.target)) passes).1))))
 
   -- the reason of an open variable is the condition of an active demand on it
   pub record IsReason (trail : List Choice) (v : Var) : Type 0 where

@@ -12,10 +12,10 @@ use Rattle.choice_problem.specs.Holds.{IsAssignmentIn, IsEdge, IsPath, last, mor
 use Rattle.choice_problem.specs.Trail.{value_in, demands_after, opens, next_var, with_next, with_value, choice_of, trail_from, trail_of}
 use Rattle.choice_problem.specs.Valid.{IsWholeValid, IsEarlier, ComesBefore, IsFirst}
 use Rattle.choice_problem.specs.Joined.{AreYesTogether, AreOne}
-use Rattle.choice_problem.specs.Lists.{contains-map, map-contains, contains-filter, and-left, and-right, and-both}
+use Rattle.common_laws.specs.Lists.{contains-map, map-contains, contains-filter, filter-contains}
 use Rattle.choice_problem.proofs.Order.{least-same}
-use Rattle.choice_problem.proofs.Paths.{filter-contains}
 use Rattle.choice_problem.proofs.Trails.{targets_open, demand-after, yes-after}
+use Rattle.std.proofs.lemmas.Bool.{and_parts, and_from}
 
 -- each edge of a path is one of the other kind
 pub path-map : (E F : Var → Var → Type 0) → ((v w : Var) → E v w → F v w) → {v w : Var} → IsPath E v w → IsPath F v w
@@ -73,12 +73,12 @@ module _ (g h : General) (same : AreYesTogether g h) where
       let found = contains-map (λ (r : Request). r.target) (filter (opens trail) (demands_after g trail)) v k in
       let r = found.0 in
       let kept = contains-filter (opens trail) (demands_after g trail) r found.1 in
-      let other = same.there (value_in trail) r (demand-after g trail r choices kept.0) (and-left (r.is_yes (value_in trail)) (is_none (value_in trail r.target)) kept.1) in
+      let other = same.there (value_in trail) r (demand-after g trail r choices kept.0) ((and_parts (r.is_yes (value_in trail)) (is_none (value_in trail r.target)) kept.1).0) in
       let q = other.other in
-      let unchosen = subst (λ w. is_none (value_in trail w) ≡ true) (sym other.target) (and-right (r.is_yes (value_in trail)) (is_none (value_in trail r.target)) kept.1) in
+      let unchosen = subst (λ w. is_none (value_in trail w) ≡ true) (sym other.target) ((and_parts (r.is_yes (value_in trail)) (is_none (value_in trail r.target)) kept.1).1) in
       subst (λ w. Contains (targets_open trail (demands_after h trail)) w) (other.target ∙ found.2)
       (map-contains (λ (r : Request). r.target) (filter (opens trail) (demands_after h trail)) q
-      (filter-contains (opens trail) (demands_after h trail) q (yes-after h trail q lawful other.demand other.yes) (and-both (q.is_yes (value_in trail)) (is_none (value_in trail q.target)) other.yes unchosen)))
+      (filter-contains (opens trail) (demands_after h trail) q (yes-after h trail q lawful other.demand other.yes) (and_from (q.is_yes (value_in trail)) (is_none (value_in trail q.target)) other.yes unchosen)))
 
 module _ (g h : General) (lawful_g : LawfulGeneral g) (lawful_h : LawfulGeneral h) (same : AreYesTogether g h) where
   next-alike : (trail : List Choice) → All (IsChoice g) trail → next_var g trail ≡ next_var h trail

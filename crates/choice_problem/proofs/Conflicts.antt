@@ -2,7 +2,7 @@
 use Rattle.std.proofs.Common.{◌≡◌, ℕ, Bool, true, false, cond, not, ◌&&◌, List, [], ◌∷◌, ◌++◌, length, get_or, Option, Some, None, refl, sym, ap, ◌∙◌, subst, inl, inr, ◌⊎◌, arith}
 use Rattle.std.specs.Prelude.{is_some, find}
 use Rattle.std.specs.List.{Contains, All, flat_map}
-use Rattle.std.proofs.lemmas.Bool.{false≢true}
+use Rattle.std.proofs.lemmas.Bool.{false≢true, not-true, not-false, and_parts}
 use Rattle.std.proofs.lemmas.List.Elements.{All-contains, Contains-get_or}
 use Rattle.qualified_goals.specs.declared.variable.Var.{Var}
 use Rattle.choice_problem.specs.declared.problem.Choice.{Choice}
@@ -18,10 +18,10 @@ use Rattle.choice_problem.specs.ConflictSet.{has, set_of}
 use Rattle.choice_problem.specs.Conflict.{named_by, set_of_first, barred_set, refuses, refused_set, is_broken, broken_set, Edge, edges_from, edges_by, edges_of, leads, lies_on_cycle, circular, set_of_all, cycle_set, first_set, conflict}
 use Rattle.choice_problem.specs.Sound.{MakesWithin, ConflictsAreSound}
 use Rattle.qualified_goals.specs.SameVariable.{same_var-is, same_var-refl}
-use Rattle.choice_problem.specs.Lists.{contains-head, contains-tail, contains-none, contains-cases, contains-left, contains-flat_map, flat_map-contains, map-contains, contains-filter, filter-none, and-left, and-right}
+use Rattle.common_laws.specs.Lists.{contains-head, contains-tail, contains-none, contains-cases, contains-left, contains-flat_map, flat_map-contains, map-contains, contains-filter, filter-none, filter-contains, any-from, any-at}
 use Rattle.choice_problem.proofs.Sets.{contains-has, has-set_of}
 use Rattle.choice_problem.proofs.Trails.{value_in-new, demand-general}
-use Rattle.choice_problem.proofs.Paths.{any-at, any-found, filter-contains, Way, start, step, way-edge, way-join, leads-way, way-leads}
+use Rattle.choice_problem.proofs.Paths.{Way, start, step, way-edge, way-join, leads-way, way-leads}
 use Rattle.choice_problem.proofs.Active.{find-is, find-none, yes-from, yes-kept, active-yes, active-demand, made-is, made-demand}
 
 -- the first of some sets
@@ -61,10 +61,6 @@ none-named (d ∷ ds) h = absurd (cc h)
 none-first : (o : Option Demand) → set_of_first o ≡ None → o ≡ None
 none-first None h = refl
 none-first (Some d) h = absurd (cc h)
-
-pub not-true : (b : Bool) → not b ≡ true → b ≡ false
-not-true true h = absurd (false≢true h)
-not-true false h = refl
 
 pub all-front : {X : Type 0} (P : X → Type 0) (xs ys : List X) → All P (xs ++ ys) → All P xs
 all-front P xs ys all k d h = All-contains P (xs ++ ys) (get_or xs k d) all (contains-left xs ys (get_or xs k d) (Contains-get_or xs k d h))
@@ -128,7 +124,7 @@ module _ (p : Problem) (lawful : Lawful p) where
       edge-holds e h way =
           let found = contains-flat_map edges_by ds e h in
           let d = found.0 in
-          let lies = any-at (λ (x : Edge). leads (length Edges) Edges x.to x.from) (edges_by d) e found.2 (way-leads Edges e.to e.from way) in
+          let lies = any-from (λ (x : Edge). leads (length Edges) Edges x.to x.from) (edges_by d) e found.2 (way-leads Edges e.to e.from way) in
           let named = inside d in
           let on = circular-from ds d found.1 lies in
           let of = edge-of d.when d.target e found.2 in
@@ -157,7 +153,7 @@ module _ (p : Problem) (lawful : Lawful p) where
       no-circular : (d : Demand) → Contains (circular ds) d → ⊥
       no-circular d h =
           let is = circular-is ds d h in
-          let found = any-found (λ (x : Edge). leads (length Edges) Edges x.to x.from) (edges_by d) is.1 in
+          let found = any-at (λ (x : Edge). leads (length Edges) Edges x.to x.from) (edges_by d) is.1 in
           let e = found.0 in
           let member = flat_map-contains edges_by ds d e is.0 found.1 in
           let way = leads-way (length Edges) Edges e.to e.from found.2 in
@@ -188,8 +184,8 @@ module _ (p : Problem) (lawful : Lawful p) where
         let d = first.0 in
         let inside = λ (v : Var) (k : Contains (named_by d) v). set-has (named_by d) set v first.2 k in
         let found = find-is (refuses c) (active p trail) d first.1 in
-        let same = same_var-is d.target c.var (and-left (same_var d.target c.var) (not (is_one_of (Some c.val) d.allowed)) found.1) in
-        let refused = not-true (is_one_of (Some c.val) d.allowed) (and-right (same_var d.target c.var) (not (is_one_of (Some c.val) d.allowed)) found.1) in
+        let same = same_var-is d.target c.var ((and_parts (same_var d.target c.var) (not (is_one_of (Some c.val) d.allowed)) found.1).0) in
+        let refused = not-true (is_one_of (Some c.val) d.allowed) ((and_parts (same_var d.target c.var) (not (is_one_of (Some c.val) d.allowed)) found.1).1) in
         let met = named-met set (trail ++ c ∷ []) A holds makes d (active-demand p lawful trail d front found.0) inside
         (yes-kept trail (c ∷ []) d (active-yes p lawful trail d found.0)) in
         let chosen = ap A same ∙ made-last (subst (λ v. has set v ≡ true) same (inside d.target (contains-head d.target (vars_of d.when)))) in
@@ -202,14 +198,14 @@ module _ (p : Problem) (lawful : Lawful p) where
         let d = first.0 in
         let inside = λ (v : Var) (k : Contains (named_by d) v). set-has (named_by d) set v first.2 k in
         let found = find-is (is_broken after) (made_active p trail c) d first.1 in
-        let unmet = not-true (is_met (value_in after) d) (and-right (is_some (value_in after d.target)) (not (is_met (value_in after) d)) found.1) in
+        let unmet = not-true (is_met (value_in after) d) ((and_parts (is_some (value_in after d.target)) (not (is_met (value_in after) d)) found.1).1) in
         let met = named-met set after A holds makes d (made-demand p lawful trail c d choices found.0) inside (made-is p trail c d found.0).1 in
         elim (value_in after d.target) as (λ o. value_in after d.target ≡ o → is_some o ≡ true → ⊥) [
           | None ↦ λ e k. false≢true k
           | Some n ↦ λ e k.
               let chosen = makes d.target n (inside d.target (contains-head d.target (vars_of d.when))) e in
               false≢true (sym unmet ∙ ap (λ o. is_one_of o d.allowed) (e ∙ sym chosen) ∙ met)
-        ] refl (and-left (is_some (value_in after d.target)) (not (is_met (value_in after) d)) found.1)
+        ] refl ((and_parts (is_some (value_in after d.target)) (not (is_met (value_in after) d)) found.1).0)
 
     cycle-sound : cycle_set p trail c ≡ Some set → ⊥
     cycle-sound h =
@@ -242,10 +238,6 @@ module _ (p : Problem) (lawful : Lawful p) where
       sound trail c set choices (all-front (IsChoice p) trail (c ∷ []) choices) unchosen A holds makes h
 
 -- a choice without a conflict
-
-not-false : (b : Bool) → not b ≡ false → b ≡ true
-not-false true h = refl
-not-false false h = absurd (false≢true (sym h))
 
 pub and-false : (a b : Bool) → a && b ≡ false → a ≡ true → b ≡ false
 and-false true b h k = h

@@ -21,9 +21,9 @@ use Rattle.choice_problem.specs.ConflictSet.{has, set_of, union}
 use Rattle.choice_problem.specs.Conflict.{Edge, edges_from, edges_by, edges_of, leads, lies_on_cycle, conflict}
 use Rattle.choice_problem.specs.Answer.{Found, Failed, GaveUp, Answer, Manner, gives_up, one_visited, one_exhausted, after_conflict, of_value, after_end, of_values, answer_from, none_counted, answer_of}
 use Rattle.choice_problem.specs.Sound.{AdmitsNoneWith, IsRightEnd}
-use Rattle.choice_problem.specs.Lists.{contains-head, contains-tail, contains-none, contains-cases, contains-append, contains-right, contains-map, map-contains, flat_map-contains, cancel-front, earlier-in-front}
+use Rattle.common_laws.specs.Lists.{contains-head, contains-tail, contains-none, contains-cases, contains-append, contains-right, contains-map, map-contains, flat_map-contains, cancel-front, earlier-in-front, any-from}
 use Rattle.choice_problem.proofs.Trails.{value_in-made, value_in-kept, value_in-new, value_in-some, Passes, passes-value, passes-push, passes-front, next-none, next-unchosen, target-known, yes-after, Room, room-start, room-zero, room-next, trail-step, trail-end, passes-trail, passes-choices, choices-general, choice-general, choices-plain, demand-plain, general-lawful}
-use Rattle.choice_problem.proofs.Paths.{any-at, Way, start, step, way-leads}
+use Rattle.choice_problem.proofs.Paths.{Way, start, step, way-leads}
 use Rattle.choice_problem.proofs.Active.{value_in-last, yes-active, yes-made, IsOpen, least-open, least-next}
 use Rattle.choice_problem.proofs.Conflicts.{and-false, of-edge, IsFree, free}
 use Rattle.choice_problem.proofs.Failures.{within, within-at, restrict, open-known, value-sound, failures-sound}
@@ -336,7 +336,7 @@ module _ (p : Problem) (lawful : Lawful p) where
       let edges = edges_of (active p trail) in
       let d = loop.first.demand in
       false≢true (sym (kept.acyclic d loop.first.member)
-      ∙ any-at (λ (e : Edge). leads (length edges) edges e.to e.from) (edges_by d) (record { from = v; to = loop.middle }) loop.first.edge (way-leads edges loop.middle v loop.rest))
+      ∙ any-from (λ (e : Edge). leads (length edges) edges e.to e.from) (edges_by d) (record { from = v; to = loop.middle }) loop.first.edge (way-leads edges loop.middle v loop.rest))
 
   -- a trail that was reached from the start, and after which nothing is open
 

@@ -1,7 +1,7 @@
 -- The set with which a search fails admits none.
 use Rattle.std.proofs.Common.{◌≡◌, ℕ, zero, suc, ◌<◌, Bool, true, false, cond, not, ◌&&◌, List, [], ◌∷◌, ◌++◌, Some, None, refl, sym, ap, ◌∙◌, subst, inl, inr, ◌⊎◌}
 use Rattle.std.specs.List.{Contains, All}
-use Rattle.std.proofs.lemmas.Bool.{false≢true}
+use Rattle.std.proofs.lemmas.Bool.{false≢true, not-true, or_left, or_right, and_parts}
 use Rattle.std.proofs.lemmas.List.Elements.{All-contains, All-push}
 use Rattle.qualified_goals.specs.declared.variable.Var.{Var}
 use Rattle.choice_problem.specs.declared.problem.Choice.{Choice}
@@ -16,12 +16,11 @@ use Rattle.choice_problem.specs.ConflictSet.{has, set_of, union}
 use Rattle.choice_problem.specs.Conflict.{conflict}
 use Rattle.choice_problem.specs.Answer.{Found, Failed, GaveUp, Answer, Manner, gives_up, exhausts, one_visited, one_exhausted, after_conflict, of_value, after_end, of_values, answer_from}
 use Rattle.choice_problem.specs.Sound.{MakesWithin, AdmitsNoneWith, FailuresAreSound}
-use Rattle.choice_problem.specs.Lists.{contains-head, contains-tail, contains-none, contains-cases, and-right}
+use Rattle.common_laws.specs.Lists.{contains-head, contains-tail, contains-none, contains-cases}
 use Rattle.choice_problem.proofs.Sets.{contains-has, has-set_of, has-union}
 use Rattle.choice_problem.proofs.Trails.{demand-general, demand-plain, target-known, general-lawful}
-use Rattle.choice_problem.proofs.Paths.{or-left, or-right}
 use Rattle.choice_problem.proofs.Active.{value_in-last, yes-from, active-yes, active-demand, IsOpen, least-open, IsReason, reason-of}
-use Rattle.choice_problem.proofs.Conflicts.{not-true, yes-within, conflicts-sound}
+use Rattle.choice_problem.proofs.Conflicts.{yes-within, conflicts-sound}
 
 -- an assignment within a set
 
@@ -138,8 +137,8 @@ module _ (p : Problem) (lawful : Lawful p) where
     exhausted-sound failed counts set each h =
         let why = v ∷ reason p prefix v in
         let all = union failed (set_of why) in
-        let of-failed = λ (u : Var) (k : has failed u ≡ true). has-union failed (set_of why) u ∙ or-left (has failed u) (has (set_of why) u) k in
-        let of-why = λ (u : Var) (k : Contains why u). has-union failed (set_of why) u ∙ or-right (has failed u) (has (set_of why) u) (has-set_of why u ∙ contains-has why u k) in
+        let of-failed = λ (u : Var) (k : has failed u ≡ true). has-union failed (set_of why) u ∙ or_left (has failed u) (has (set_of why) u) k in
+        let of-why = λ (u : Var) (k : Contains why u). has-union failed (set_of why) u ∙ or_right (has failed u) (has (set_of why) u) (has-set_of why u ∙ contains-has why u k) in
         let gave : Answer = record { ended = GaveUp; counts = counts } in
         let fails : Answer = record { ended = Failed all; counts = one_exhausted counts } in
         elim (gives_up manner.limit prefix counts.exhausted) as (λ b. (cond {A = Answer} b gave fails).ended ≡ Failed set → AdmitsNoneWith p set prefix) [
@@ -169,16 +168,16 @@ module _ (p : Problem) (lawful : Lawful p) where
               → AdmitsNoneWith p set prefix) [
                 | true ↦ λ jump l.
                     let same : s ≡ set = cc l in
-                    subst (λ x. AdmitsNoneWith p x prefix) same (admits-less p s prefix v n (not-true (has s v) (and-right manner.jumps (not (has s v)) jump)) refuted)
+                    subst (λ x. AdmitsNoneWith p x prefix) same (admits-less p s prefix v n (not-true (has s v) ((and_parts manner.jumps (not (has s v)) jump).1)) refuted)
                 | false ↦ λ stay l.
                     values-sound values (union failed s) answer.counts set (λ m i. are m (contains-tail n values m i))
                     (λ m is. elim (done m is) [
                       | inl i ↦ elim (contains-cases n values m i) [
                         | inl same ↦ inr (subst (Refutes (union failed s)) same
-                            (admits-more p s (union failed s) (prefix ++ choice_of v n ∷ []) (λ u q. has-union failed s u ∙ or-right (has failed u) (has s u) q) refuted))
+                            (admits-more p s (union failed s) (prefix ++ choice_of v n ∷ []) (λ u q. has-union failed s u ∙ or_right (has failed u) (has s u) q) refuted))
                         | inr later ↦ inl later
                       ]
-                      | inr r ↦ inr (admits-more p failed (union failed s) (prefix ++ choice_of v m ∷ []) (λ u q. has-union failed s u ∙ or-left (has failed u) (has s u) q) r)
+                      | inr r ↦ inr (admits-more p failed (union failed s) (prefix ++ choice_of v m ∷ []) (λ u q. has-union failed s u ∙ or_left (has failed u) (has s u) q) r)
                     ])
                     l
               ] refl k

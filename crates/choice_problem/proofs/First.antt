@@ -2,14 +2,14 @@
 use Rattle.std.proofs.Common.{◌≡◌, ℕ, zero, suc, true, false, List, [], ◌∷◌, ◌++◌, map, Some, None, refl, sym, ap, ◌∙◌, subst, inl, inr, ◌⊎◌, append_assoc}
 use Rattle.std.specs.Prelude.{is_none, is_some, nat_eq}
 use Rattle.std.specs.List.{Contains}
-use Rattle.std.proofs.lemmas.Bool.{false≢true, eqb-true, eq-eqb}
+use Rattle.std.proofs.lemmas.Bool.{false≢true, eqb-true, eq-eqb, and_parts}
 use Rattle.qualified_goals.specs.declared.variable.Var.{Var}
 use Rattle.choice_problem.specs.declared.problem.Choice.{Choice}
 use Rattle.choice_problem.specs.Assignment.{Assignment, is_one_of}
 use Rattle.choice_problem.specs.General.{General, LawfulGeneral}
 use Rattle.choice_problem.specs.Trail.{value_in, next_var, choice_of, trail_from, trail_of}
 use Rattle.choice_problem.specs.Valid.{IsWholeValid, IsEarlier, ComesBefore, IsFirst}
-use Rattle.choice_problem.specs.Lists.{contains-none, contains-cases, contains-map, and-left}
+use Rattle.common_laws.specs.Lists.{contains-none, contains-cases, contains-map}
 use Rattle.choice_problem.proofs.Trails.{Passes, passes-value, passes-push, value_in-some, next-opens, demand-after, target-known, passes-choices, trail-step, trail-end, trail-stop, trail-front}
 
 contains-split : (xs : List ℕ) (x : ℕ) → Contains xs x → (front : List ℕ) × (rest : List ℕ) × (xs ≡ front ++ x ∷ rest)
@@ -67,7 +67,7 @@ module _ (g : General) (lawful : LawfulGeneral g) where
             let same = passes-all A trail passes (λ w some. subst (λ t. Contains (map (λ (c : Choice). c.var) t) w) whole ((valid.reached w).0 some)) in
             let found = next-opens g trail v next in
             let is = demand-after g trail found.0 (passes-choices g lawful g.known A valid.holds trail passes) found.1 in
-            let yes = subst (λ B. found.0.is_yes B ≡ true) (sym same) (and-left (found.0.is_yes (value_in trail)) (is_none (value_in trail found.0.target)) found.2) in
+            let yes = subst (λ B. found.0.is_yes B ≡ true) (sym same) ((and_parts (found.0.is_yes (value_in trail)) (is_none (value_in trail found.0.target)) found.2).0) in
             let met = valid.holds.met found.0 is yes (target-known g found.0 lawful is) in
             absurd (false≢true (subst (λ o. is_one_of o found.0.allowed ≡ true) (ap A found.3 ∙ e) met))
       ] refl

@@ -1,5 +1,6 @@
 pub mod Order
 pub mod Sets
+pub mod InOrder
 pub mod Trails
 pub mod Paths
 pub mod Active

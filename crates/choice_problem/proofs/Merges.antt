@@ -1,15 +1,14 @@
 -- The union of two rising lists begins with the lesser of their fronts.
 use Rattle.std.proofs.Common.{◌≡◌, ◌+◌, ◌<◌, ◌≤◌, suc, arith, length, Bool, true, false, cond, ◌||◌, List, [], ◌∷◌, ◌++◌, Some, None, refl, sym, ap, ◌∙◌, subst, inl, inr}
 use Rattle.std.specs.List.{Contains}
-use Rattle.std.proofs.lemmas.Bool.{false≢true}
+use Rattle.std.proofs.lemmas.Bool.{false≢true, or_cases, or_right, and_from}
 use Rattle.qualified_goals.specs.declared.variable.Var.{Var}
 use Rattle.qualified_goals.specs.Variable.{same_var, is_before}
 use Rattle.qualified_goals.specs.SameVariable.{same_var-is, same_var-refl}
 use Rattle.choice_problem.specs.ConflictSet.{is_rising, has, union, front_of, behind}
-use Rattle.choice_problem.specs.Lists.{contains-head, contains-none, contains-cases, and-both}
+use Rattle.common_laws.specs.Lists.{contains-head, contains-none, contains-cases}
 use Rattle.qualified_goals.proofs.Order.{before-itself, before-back, before-neither, not-before-trans}
 use Rattle.choice_problem.proofs.Sets.{has-contains, has-union, rising-tail, rising-below, rising-set_of, rising-same, contains-has, or-same}
-use Rattle.choice_problem.proofs.Paths.{or-cases, or-right}
 
 pub behind-rising : (v : Var) (vars : List Var) → is_rising vars ≡ true → is_rising (behind v vars) ≡ true
 behind-rising v [] h = refl
@@ -108,7 +107,7 @@ front-in (u ∷ us) right v h =
     elim right as (λ r. front_of (u ∷ us) r ≡ Some v → has (u ∷ us) v || has r v ≡ true) [
       | [] ↦ λ k. ap (λ x. (same_var x v || has us v) || false) (some-is u v k) ∙ ap (λ b. (b || has us v) || false) (same_var-refl v)
       | w ∷ ws ↦ λ k. elim (is_before w u) as (λ b. Some (cond b w u) ≡ Some v → (same_var u v || has us v) || (same_var w v || has ws v) ≡ true) [
-        | true ↦ λ l. ap (λ x. (same_var u v || has us v) || (same_var x v || has ws v)) (some-is w v l) ∙ ap (λ b. (same_var u v || has us v) || (b || has ws v)) (same_var-refl v) ∙ or-right (same_var u v || has us v) true refl
+        | true ↦ λ l. ap (λ x. (same_var u v || has us v) || (same_var x v || has ws v)) (some-is w v l) ∙ ap (λ b. (same_var u v || has us v) || (b || has ws v)) (same_var-refl v) ∙ or_right (same_var u v || has us v) true refl
         | false ↦ λ l. ap (λ x. (same_var x v || has us v) || (same_var w v || has ws v)) (some-is u v l) ∙ ap (λ b. (b || has us v) || (same_var w v || has ws v)) (same_var-refl v)
       ] k
     ] h
@@ -119,11 +118,11 @@ or-absorbs false b h = refl
 
 rising-cons : (v : Var) (vars : List Var) → is_rising vars ≡ true → IsAhead v vars → is_rising (v ∷ vars) ≡ true
 rising-cons v [] rising ahead = refl
-rising-cons v (w ∷ ws) rising ahead = and-both (is_before v w) (is_rising (w ∷ ws)) (ahead w (contains-head w ws)) rising
+rising-cons v (w ∷ ws) rising ahead = and_from (is_before v w) (is_rising (w ∷ ws)) (ahead w (contains-head w ws)) rising
 
 ahead-union : (v : Var) (xs ys : List Var) → IsAhead v xs → IsAhead v ys → IsAhead v (union xs ys)
 ahead-union v xs ys hx hy u h =
-    elim (or-cases (has xs u) (has ys u) (sym (has-union xs ys u) ∙ contains-has (union xs ys) u h)) [
+    elim (or_cases (has xs u) (has ys u) (sym (has-union xs ys u) ∙ contains-has (union xs ys) u h)) [
       | inl l ↦ hx u (has-contains xs u l)
       | inr r ↦ hy u (has-contains ys u r)
     ]

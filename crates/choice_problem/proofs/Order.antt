@@ -6,7 +6,7 @@ use Rattle.qualified_goals.specs.declared.variable.Var.{Var}
 use Rattle.qualified_goals.specs.Variable.{is_before}
 use Rattle.qualified_goals.proofs.Order.{before-itself, before-back, before-neither, not-before-trans}
 use Rattle.choice_problem.specs.Trail.{least_from}
-use Rattle.choice_problem.specs.Lists.{contains-head, contains-tail, contains-none, contains-cases}
+use Rattle.common_laws.specs.Lists.{contains-head, contains-tail, contains-none, contains-cases}
 
 -- the least of some variables
 

@@ -1,55 +1,12 @@
 -- Ways along edges, and the test that bounds their length.
 use Rattle.std.proofs.Common.{◌≡◌, ℕ, zero, suc, ◌<◌, ◌≤◌, Bool, true, false, cond, not, ◌&&◌, ◌||◌, List, [], ◌∷◌, length, refl, sym, ap, ◌∙◌, subst, inl, inr, ◌⊎◌, arith}
 use Rattle.std.specs.List.{Contains, filter, list_any}
-use Rattle.std.proofs.lemmas.Bool.{false≢true}
+use Rattle.std.proofs.lemmas.Bool.{false≢true, or_cases, or_left, or_right, and_parts, and_from}
 use Rattle.qualified_goals.specs.declared.variable.Var.{Var}
 use Rattle.qualified_goals.specs.Variable.{same_var}
 use Rattle.choice_problem.specs.Conflict.{Edge, leads}
 use Rattle.qualified_goals.specs.SameVariable.{same_var-is, same_var-refl}
-use Rattle.choice_problem.specs.Lists.{contains-head, contains-tail, contains-none, contains-cases, contains-filter, and-left, and-right, and-both}
-
-pub or-cases : (a b : Bool) → a || b ≡ true → (a ≡ true) ⊎ (b ≡ true)
-or-cases true b h = inl refl
-or-cases false b h = inr h
-
-pub or-left : (a b : Bool) → a ≡ true → a || b ≡ true
-or-left true b h = refl
-or-left false b h = absurd (false≢true h)
-
-pub or-right : (a b : Bool) → b ≡ true → a || b ≡ true
-or-right true b h = refl
-or-right false b h = h
-
-pub any-at : {X : Type 0} (test : X → Bool) (xs : List X) (x : X) → Contains xs x → test x ≡ true → list_any test xs ≡ true
-any-at test [] x h k = absurd (contains-none x h)
-any-at test (y ∷ xs) x h k =
-    elim (contains-cases y xs x h) [
-      | inl e ↦ or-left (test y) (list_any test xs) (subst (λ z. test z ≡ true) (sym e) k)
-      | inr r ↦ or-right (test y) (list_any test xs) (any-at test xs x r k)
-    ]
-
-pub any-found : {X : Type 0} (test : X → Bool) (xs : List X) → list_any test xs ≡ true → (x : X) × Contains xs x × (test x ≡ true)
-any-found test [] h = absurd (false≢true h)
-any-found test (y ∷ xs) h =
-    elim (or-cases (test y) (list_any test xs) h) [
-      | inl e ↦ (y, contains-head y xs, e)
-      | inr r ↦ let found = any-found test xs r in (found.0, contains-tail y xs found.0 found.1, found.2)
-    ]
-
--- an item that passes is kept
-pub filter-contains : {X : Type 0} (test : X → Bool) (xs : List X) (x : X) → Contains xs x → test x ≡ true → Contains (filter test xs) x
-filter-contains test [] x h k = absurd (contains-none x h)
-filter-contains test (y ∷ xs) x h k =
-    elim (test y) as (λ b. test y ≡ b → Contains (cond b (y ∷ filter test xs) (filter test xs)) x) [
-      | true ↦ λ is. elim (contains-cases y xs x h) [
-        | inl e ↦ subst (λ z. Contains (y ∷ filter test xs) z) e (contains-head y (filter test xs))
-        | inr r ↦ contains-tail y (filter test xs) x (filter-contains test xs x r k)
-      ]
-      | false ↦ λ is. elim (contains-cases y xs x h) [
-        | inl e ↦ absurd (false≢true (sym is ∙ ap test e ∙ k))
-        | inr r ↦ filter-contains test xs x r k
-      ]
-    ] refl
+use Rattle.common_laws.specs.Lists.{contains-head, contains-tail, contains-none, contains-cases, contains-filter, filter-contains, any-from, any-at}
 
 filter-short : {X : Type 0} (test : X → Bool) (xs : List X) → length (filter test xs) ≤ length xs
 filter-short test [] = omega arith
@@ -90,37 +47,37 @@ way-more edges more v w all (step e h k a) = step e (all e h) k (way-more edges 
 pub leads-way : (n : ℕ) (edges : List Edge) (v w : Var) → leads n edges v w ≡ true → Way edges v w
 leads-way zero edges v w h = start (same_var-is v w h)
 leads-way (suc n) edges v w h =
-    elim (or-cases (same_var v w) (list_any (λ e. same_var e.from v && leads n edges e.to w) edges) h) [
+    elim (or_cases (same_var v w) (list_any (λ e. same_var e.from v && leads n edges e.to w) edges) h) [
       | inl same ↦ start (same_var-is v w same)
       | inr any ↦
-          let found = any-found (λ (e : Edge). same_var e.from v && leads n edges e.to w) edges any in
+          let found = any-at (λ (e : Edge). same_var e.from v && leads n edges e.to w) edges any in
           let e = found.0 in
-          step e found.1 (same_var-is e.from v (and-left (same_var e.from v) (leads n edges e.to w) found.2))
-          (leads-way n edges e.to w (and-right (same_var e.from v) (leads n edges e.to w) found.2))
+          step e found.1 (same_var-is e.from v ((and_parts (same_var e.from v) (leads n edges e.to w) found.2).0))
+          (leads-way n edges e.to w ((and_parts (same_var e.from v) (leads n edges e.to w) found.2).1))
     ]
 
 leads-start : (n : ℕ) (edges : List Edge) (v w : Var) → v ≡ w → leads n edges v w ≡ true
 leads-start zero edges v w h = subst (λ x. same_var v x ≡ true) h (same_var-refl v)
 leads-start (suc n) edges v w h =
-    or-left (same_var v w) (list_any (λ e. same_var e.from v && leads n edges e.to w) edges) (subst (λ x. same_var v x ≡ true) h (same_var-refl v))
+    or_left (same_var v w) (list_any (λ e. same_var e.from v && leads n edges e.to w) edges) (subst (λ x. same_var v x ≡ true) h (same_var-refl v))
 
 leads-step : (n : ℕ) (edges : List Edge) (v w : Var) (e : Edge) → Contains edges e → e.from ≡ v → leads n edges e.to w ≡ true → leads (suc n) edges v w ≡ true
 leads-step n edges v w e h k rest =
-    or-right (same_var v w) (list_any (λ e. same_var e.from v && leads n edges e.to w) edges)
-    (any-at (λ (e : Edge). same_var e.from v && leads n edges e.to w) edges e h
-    (and-both (same_var e.from v) (leads n edges e.to w) (subst (λ x. same_var e.from x ≡ true) k (same_var-refl e.from)) rest))
+    or_right (same_var v w) (list_any (λ e. same_var e.from v && leads n edges e.to w) edges)
+    (any-from (λ (e : Edge). same_var e.from v && leads n edges e.to w) edges e h
+    (and_from (same_var e.from v) (leads n edges e.to w) (subst (λ x. same_var e.from x ≡ true) k (same_var-refl e.from)) rest))
 
 -- more edges lead as far
 leads-more : (n : ℕ) (edges more : List Edge) (v w : Var) → ((e : Edge) → Contains edges e → Contains more e) → leads n edges v w ≡ true → leads n more v w ≡ true
 leads-more zero edges more v w all h = h
 leads-more (suc n) edges more v w all h =
-    elim (or-cases (same_var v w) (list_any (λ e. same_var e.from v && leads n edges e.to w) edges) h) [
+    elim (or_cases (same_var v w) (list_any (λ e. same_var e.from v && leads n edges e.to w) edges) h) [
       | inl same ↦ leads-start (suc n) more v w (same_var-is v w same)
       | inr any ↦
-          let found = any-found (λ (e : Edge). same_var e.from v && leads n edges e.to w) edges any in
+          let found = any-at (λ (e : Edge). same_var e.from v && leads n edges e.to w) edges any in
           let e = found.0 in
-          leads-step n more v w e (all e found.1) (same_var-is e.from v (and-left (same_var e.from v) (leads n edges e.to w) found.2))
-          (leads-more n edges more e.to w all (and-right (same_var e.from v) (leads n edges e.to w) found.2))
+          leads-step n more v w e (all e found.1) (same_var-is e.from v ((and_parts (same_var e.from v) (leads n edges e.to w) found.2).0))
+          (leads-more n edges more e.to w all ((and_parts (same_var e.from v) (leads n edges e.to w) found.2).1))
     ]
 
 -- the edges that leave other variables than v

@@ -1,19 +1,18 @@
 -- Sets of variables, as rising lists: what they have, and that they are one where they have the same.
 use Rattle.std.proofs.Common.{◌≡◌, suc, ◌+◌, ◌<◌, ◌≤◌, arith, length, get_or, insert, Bool, true, false, cond, ◌&&◌, ◌||◌, List, [], ◌∷◌, ◌++◌, refl, sym, ap, ◌∙◌, subst, inl, inr, add-one}
 use Rattle.std.specs.List.{Contains}
-use Rattle.std.proofs.lemmas.Bool.{false≢true}
+use Rattle.std.proofs.lemmas.Bool.{false≢true, or_right, and_parts, and_from}
 use Rattle.qualified_goals.specs.declared.variable.Var.{Var}
 use Rattle.qualified_goals.specs.Variable.{same_var, is_before}
 use Rattle.qualified_goals.specs.SameVariable.{same_var-is, same_var-refl}
 use Rattle.choice_problem.specs.ConflictSet.{is_rising, has, with_var, set_of, union, place_of}
-use Rattle.choice_problem.specs.Lists.{contains-head, contains-tail, contains-none, contains-cases, and-left, and-right, and-both}
+use Rattle.common_laws.specs.Lists.{contains-head, contains-tail, contains-none, contains-cases}
 use Rattle.qualified_goals.proofs.Order.{before-itself, before-trans, before-back, before-neither}
-use Rattle.choice_problem.proofs.Paths.{or-right}
 
 pub same-not : (v w : Var) → (v ≡ w → ⊥) → same_var v w ≡ false
 same-not v w h = elim (same_var v w) as (λ b. same_var v w ≡ b → b ≡ false) [ true ↦ λ e. absurd (h (same_var-is v w e)) | false ↦ λ e. refl ] refl
 
-before-not-same : (v w : Var) → is_before v w ≡ true → same_var v w ≡ false
+pub before-not-same : (v w : Var) → is_before v w ≡ true → same_var v w ≡ false
 before-not-same v w h = same-not v w (λ e. false≢true (sym (before-itself w) ∙ subst (λ x. is_before x w ≡ true) e h))
 
 pub same-back : (v w : Var) → same_var v w ≡ same_var w v
@@ -38,7 +37,7 @@ contains-has [] v h = absurd (contains-none v h)
 contains-has (w ∷ vars) v h =
     elim (contains-cases w vars v h) [
       | inl e ↦ ap (λ x. same_var x v || has vars v) e ∙ ap (λ b. b || has vars v) (same_var-refl v)
-      | inr r ↦ or-right (same_var w v) (has vars v) (contains-has vars v r)
+      | inr r ↦ or_right (same_var w v) (has vars v) (contains-has vars v r)
     ]
 
 pub has-append : (xs ys : List Var) (v : Var) → has (xs ++ ys) v ≡ has xs v || has ys v
@@ -77,7 +76,7 @@ has-union xs ys v = has-set_of (xs ++ ys) v ∙ has-append xs ys v
 
 pub rising-tail : (v : Var) (vars : List Var) → is_rising (v ∷ vars) ≡ true → is_rising vars ≡ true
 rising-tail v [] h = refl
-rising-tail v (w ∷ vars) h = and-right (is_before v w) (is_rising (w ∷ vars)) h
+rising-tail v (w ∷ vars) h = (and_parts (is_before v w) (is_rising (w ∷ vars)) h).1
 
 -- a variable that isn't before another one, and isn't it, is after it
 after-other : (v u : Var) → is_before v u ≡ false → same_var v u ≡ false → is_before u v ≡ true
@@ -88,15 +87,15 @@ after-other v u e f =
     ] refl
 
 rising-with_var-below : (v w : Var) (vars : List Var) → is_before w v ≡ true → is_rising (w ∷ vars) ≡ true → is_rising (w ∷ with_var v vars) ≡ true
-rising-with_var-below v w [] below h = and-both (is_before w v) true below refl
+rising-with_var-below v w [] below h = and_from (is_before w v) true below refl
 rising-with_var-below v w (u ∷ vars) below h =
-    let rest = and-right (is_before w u) (is_rising (u ∷ vars)) h in
+    let rest = (and_parts (is_before w u) (is_rising (u ∷ vars)) h).1 in
     elim (is_before v u) as (λ b. is_before v u ≡ b → is_rising (w ∷ cond b (v ∷ u ∷ vars) (cond (same_var v u) (u ∷ vars) (u ∷ with_var v vars))) ≡ true) [
-      | true ↦ λ e. and-both (is_before w v) (is_before v u && is_rising (u ∷ vars)) below (and-both (is_before v u) (is_rising (u ∷ vars)) e rest)
+      | true ↦ λ e. and_from (is_before w v) (is_before v u && is_rising (u ∷ vars)) below (and_from (is_before v u) (is_rising (u ∷ vars)) e rest)
       | false ↦ λ e. elim (same_var v u) as (λ b. same_var v u ≡ b → is_rising (w ∷ cond b (u ∷ vars) (u ∷ with_var v vars)) ≡ true) [
         | true ↦ λ f. h
         | false ↦ λ f.
-            and-both (is_before w u) (is_rising (u ∷ with_var v vars)) (and-left (is_before w u) (is_rising (u ∷ vars)) h)
+            and_from (is_before w u) (is_rising (u ∷ with_var v vars)) ((and_parts (is_before w u) (is_rising (u ∷ vars)) h).0)
             (rising-with_var-below v u vars (after-other v u e f) rest)
       ] refl
     ] refl
@@ -105,7 +104,7 @@ pub rising-with_var : (v : Var) (vars : List Var) → is_rising vars ≡ true �
 rising-with_var v [] h = refl
 rising-with_var v (w ∷ vars) h =
     elim (is_before v w) as (λ b. is_before v w ≡ b → is_rising (cond b (v ∷ w ∷ vars) (cond (same_var v w) (w ∷ vars) (w ∷ with_var v vars))) ≡ true) [
-      | true ↦ λ e. and-both (is_before v w) (is_rising (w ∷ vars)) e h
+      | true ↦ λ e. and_from (is_before v w) (is_rising (w ∷ vars)) e h
       | false ↦ λ e. elim (same_var v w) as (λ b. same_var v w ≡ b → is_rising (cond b (w ∷ vars) (w ∷ with_var v vars)) ≡ true) [
         | true ↦ λ f. h
         | false ↦ λ f. rising-with_var-below v w vars (after-other v w e f) h
@@ -120,10 +119,10 @@ rising-set_of (v ∷ vars) = rising-with_var v (set_of vars) (rising-set_of vars
 pub rising-below : (v : Var) (vars : List Var) (u : Var) → is_rising (v ∷ vars) ≡ true → Contains vars u → is_before v u ≡ true
 rising-below v [] u h k = absurd (contains-none u k)
 rising-below v (w ∷ vars) u h k =
-    let first = and-left (is_before v w) (is_rising (w ∷ vars)) h in
+    let first = (and_parts (is_before v w) (is_rising (w ∷ vars)) h).0 in
     elim (contains-cases w vars u k) [
       | inl e ↦ subst (λ x. is_before v x ≡ true) e first
-      | inr r ↦ before-trans v w u first (rising-below w vars u (and-right (is_before v w) (is_rising (w ∷ vars)) h) r)
+      | inr r ↦ before-trans v w u first (rising-below w vars u ((and_parts (is_before v w) (is_rising (w ∷ vars)) h).1) r)
     ]
 
 rising-not : (v : Var) (vars : List Var) → is_rising (v ∷ vars) ≡ true → has vars v ≡ false

@@ -2,7 +2,7 @@
 use Rattle.std.proofs.Common.{◌≡◌, ℕ, zero, suc, ◌≤◌, Bool, true, false, cond, ◌||◌, List, [], ◌∷◌, ◌++◌, length, map, get_or, append_assoc, arith, Option, Some, None, refl, sym, ap, ◌∙◌, subst, inl, inr, nat_eq}
 use Rattle.std.specs.Prelude.{is_none, is_some, IsTrue}
 use Rattle.std.specs.List.{Contains, All, filter, flat_map, list_all}
-use Rattle.std.proofs.lemmas.Bool.{false≢true, eqb-true, eq-eqb}
+use Rattle.std.proofs.lemmas.Bool.{false≢true, eqb-true, eq-eqb, and_parts}
 use Rattle.std.proofs.lemmas.List.Elements.{All-contains, Contains-get_or}
 use Rattle.std.proofs.lemmas.List.{map-append, append-nil}
 use Rattle.qualified_goals.specs.declared.variable.Var.{Var}
@@ -15,7 +15,7 @@ use Rattle.choice_problem.specs.General.{Request, General, IsRootRequest, IsOwne
 use Rattle.choice_problem.specs.Holds.{HoldsWithin}
 use Rattle.choice_problem.specs.Trail.{value_in, demands_after, opens, next_var, with_next, with_value, choice_of, trail_from}
 use Rattle.qualified_goals.specs.SameVariable.{same_var-is, same_var-refl}
-use Rattle.choice_problem.specs.Lists.{contains-head, contains-tail, contains-none, contains-cases, contains-left, contains-right, contains-append, contains-flat_map, flat_map-contains, contains-map, map-contains, without, contains-filter, filter-none, and-left, and-right, all-at, all-from}
+use Rattle.common_laws.specs.Lists.{contains-head, contains-tail, contains-none, contains-cases, contains-left, contains-right, contains-append, contains-flat_map, flat_map-contains, contains-map, map-contains, without, contains-filter, filter-none, all-at, all-from, map-nil}
 use Rattle.choice_problem.proofs.Order.{least-is, least-none}
 
 -- a trail as a map
@@ -132,10 +132,6 @@ next-opens g trail v h =
     let kept = contains-filter (opens trail) (demands_after g trail) found.0 found.1 in
     (found.0, kept.0, kept.1, found.2)
 
-map-nil : {X Y : Type 0} (f : X → Y) (xs : List X) → map f xs ≡ [] → xs ≡ []
-map-nil f [] h = refl
-map-nil f (x ∷ xs) h = absurd (cc h)
-
 -- where none is open, no demand opens one
 pub next-none : (g : General) (trail : List Choice) → next_var g trail ≡ None → (r : Request) → Contains (demands_after g trail) r → opens trail r ≡ false
 unfolding next_var
@@ -151,7 +147,7 @@ none-is (Some x) h = absurd (false≢true h)
 pub next-unchosen : (g : General) (trail : List Choice) (v : Var) → next_var g trail ≡ Some v → value_in trail v ≡ None
 next-unchosen g trail v h =
     let found = next-opens g trail v h in
-    subst (λ w. value_in trail w ≡ None) found.3 (none-is (value_in trail found.0.target) (and-right (found.0.is_yes (value_in trail)) (is_none (value_in trail found.0.target)) found.2))
+    subst (λ w. value_in trail w ≡ None) found.3 (none-is (value_in trail found.0.target) ((and_parts (found.0.is_yes (value_in trail)) (is_none (value_in trail found.0.target)) found.2).1))
 
 -- the demands so far
 
@@ -302,7 +298,7 @@ module _ (p : Problem) where
   -- an owned demand that is Yes has its owner made
   pub owner-made : (A : Assignment) (owner : Choice) (d : Demand) → IsOwned p owner d → is_yes A d ≡ true → A owner.var ≡ Some owner.val
   owner-made A owner d owned h =
-      is_made-is A owner (and-left (is_made A owner) (list_all (is_made A) owned.others) (subst (λ l. list_all (is_made A) l ≡ true) owned.condition h))
+      is_made-is A owner ((and_parts (is_made A owner) (list_all (is_made A) owned.others) (subst (λ l. list_all (is_made A) l ≡ true) owned.condition h)).0)
 
   owned-request : (owner : Choice) (d : Demand) → IsOwned p owner d → IsOwnedRequest (general p) owner (request_of d)
   owned-request owner d owned = record { owner_is = ap owner_of owned.condition; target = owned.target; chosen = λ A h. owner-made A owner d owned h }

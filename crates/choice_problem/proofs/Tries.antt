@@ -12,7 +12,7 @@ use Rattle.choice_problem.specs.Trail.{value_in, choice_of, with_next}
 use Rattle.choice_problem.specs.Active.{least_open, reason}
 use Rattle.choice_problem.specs.Conflict.{conflict}
 use Rattle.choice_problem.specs.ConflictSet.{has, set_of, union}
-use Rattle.choice_problem.specs.Lists.{contains-head, contains-tail}
+use Rattle.common_laws.specs.Lists.{contains-head, contains-tail}
 use Rattle.choice_problem.specs.Answer.{Found, Failed, GaveUp, Answer, Manner, one_visited, one_exhausted, gives_up, exhausts, after_conflict, of_value, after_end, after_value, of_values, answer_from, none_counted, answer_of, plain_count}
 use Rattle.choice_problem.proofs.Limits.{answer_with, TriesFrom, after_end-tries, of_values-tries, answer-tries, limit-tries}
 use Rattle.choice_problem.proofs.Trails.{Room, room-start, room-next, next-known, choices-general, general-lawful}

@@ -37,6 +37,7 @@ least_open p trail = least_from None (map (λ d. d.target) (filter (is_waited_fo
 abbrev pub vars_of : List Choice → List Var
 vars_of when = map (λ c. c.var) when
 
+-- whether a demand is on a variable
 abbrev pub asks_for : Var → Demand → Bool
 asks_for v d = same_var d.target v
 

@@ -33,6 +33,7 @@ pub record Manner : Type 0 where
 abbrev pub cap : ℕ
 cap = 2 ^ 64 - 1
 
+-- how many values were tried, and how many points exhausted
 abbrev pub counts_of : ℕ → ℕ → Counts
 counts_of visited exhausted = record { visited = visited; exhausted = exhausted }
 
@@ -44,6 +45,7 @@ one_visited counts = counts_of (counts.visited + 1) counts.exhausted
 abbrev pub one_exhausted : Counts → Counts
 one_exhausted counts = counts_of counts.visited (min (counts.exhausted + 1) cap)
 
+-- whether so many exhausted points are as many as a limit allows
 abbrev pub is_reached : Limit → ℕ → Bool
 is_reached Unlimited exhausted = false
 is_reached (At n) exhausted = nat_le n exhausted
@@ -75,6 +77,7 @@ after_end manner v (Found trail) counts rest = record { ended = Found trail; cou
 after_end manner v GaveUp counts rest = record { ended = GaveUp; counts = counts }
 after_end manner v (Failed set) counts rest = cond (manner.jumps && not (has set v)) (record { ended = Failed set; counts = counts }) (rest set counts)
 
+-- the answer of a point whose value has this answer, and whose later values have what rest gives
 abbrev pub after_value : Manner → Var → Answer → (List Var → Counts → Answer) → Answer
 after_value manner v answer rest = after_end manner v answer.ended answer.counts rest
 
@@ -92,6 +95,7 @@ answer_from (suc fuel) manner p prefix counts =
     with_next (least_open p prefix) (record { ended = Found prefix; counts = counts })
     (λ v. of_values (answer_from fuel manner p) manner p prefix v (p.order v prefix) [] counts)
 
+-- nothing was counted yet
 abbrev pub none_counted : Counts
 none_counted = counts_of 0 0
 
@@ -107,6 +111,7 @@ plain_count p = (answer_from p.bound (record { limit = Unlimited; jumps = false 
 abbrev pub printed : Counts → Counts
 printed counts = counts_of (min counts.visited cap) counts.exhausted
 
+-- how a search ended, with its counts
 abbrev pub outcome_by : Ended → Counts → Outcome
 outcome_by (Found trail) counts = outcome.Found trail counts
 outcome_by (Failed set) counts = outcome.NoPlan set counts

@@ -50,9 +50,11 @@ abbrev pub edges_from : List Choice → Var → List Edge
 edges_from [] target = []
 edges_from (owner ∷ others) target = record { from = owner.var; to = target } ∷ []
 
+-- the edge of a demand, unless it is a root
 abbrev pub edges_by : Demand → List Edge
 edges_by d = edges_from d.when d.target
 
+-- the edges of demands
 abbrev pub edges_of : List Demand → List Edge
 edges_of demands = flat_map edges_by demands
 
@@ -84,5 +86,6 @@ first_set [] = None
 first_set (None ∷ sets) = first_set sets
 first_set (Some set ∷ sets) = Some set
 
+-- the set of the first rule by which a choice conflicts, if any does
 unfoldable pub conflict : Problem → List Choice → Choice → Option (List Var)
 conflict p trail c = first_set (barred_set p c ∷ refused_set p trail c ∷ broken_set p trail c ∷ cycle_set p trail c ∷ [])

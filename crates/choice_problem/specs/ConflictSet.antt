@@ -1,6 +1,6 @@
 -- Sets of variables, as lists in goal order with each variable once.
-use Rattle.std.specs.Prelude.{ℕ, ◌+◌, Bool, true, cond, ◌&&◌, List, [], ◌∷◌, ◌++◌, Option, Some, None}
-use Rattle.std.specs.List.{list_any}
+use Rattle.std.specs.Prelude.{ℕ, ◌+◌, Bool, true, not, cond, ◌&&◌, List, [], ◌∷◌, ◌++◌, Option, Some, None}
+use Rattle.std.specs.List.{list_any, filter}
 use Rattle.qualified_goals.specs.declared.variable.Var.{Var}
 use Rattle.qualified_goals.specs.Variable.{same_var, is_before}
 
@@ -19,11 +19,16 @@ abbrev pub with_var : Var → List Var → List Var
 with_var v [] = v ∷ []
 with_var v (w ∷ vars) = cond (is_before v w) (v ∷ w ∷ vars) (cond (same_var v w) (w ∷ vars) (w ∷ with_var v vars))
 
+-- the variables but for one
+abbrev pub without : Var → List Var → List Var
+without v vars = filter (λ w. not (same_var v w)) vars
+
 -- the set of some variables
 abbrev pub set_of : List Var → List Var
 set_of [] = []
 set_of (v ∷ vars) = with_var v (set_of vars)
 
+-- the set of what is in either
 abbrev pub union : List Var → List Var → List Var
 union xs ys = set_of (xs ++ ys)
 

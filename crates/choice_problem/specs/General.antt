@@ -41,6 +41,7 @@ abbrev pub owner_of : List Choice → Option Choice
 owner_of [] = None
 owner_of (owner ∷ others) = Some owner
 
+-- what is valid reads this of a demand
 abbrev pub request_of : Demand → Request
 request_of d = record { owner = owner_of d.when; target = d.target; allowed = d.allowed; is_yes = λ A. is_yes A d }
 

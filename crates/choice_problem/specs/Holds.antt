@@ -27,6 +27,7 @@ pub data IsPath (Edge : Var → Var → Type 0) : Var → Var → Type 0 where
   last : {v w : Var} → Edge v w → IsPath Edge v w
   more : {v w x : Var} → Edge v w → IsPath Edge w x → IsPath Edge v x
 
+-- no path leads back to where it began
 abbrev pub HasNoCycle : (Var → Var → Type 0) → Type 0
 HasNoCycle Edge = (v : Var) → IsPath Edge v v → ⊥
 

@@ -11,6 +11,5 @@ pub mod Conflict
 pub mod Answer
 pub mod Sound
 pub mod Written
-pub mod Lists
 pub mod WrittenLaws
 pub mod Examples

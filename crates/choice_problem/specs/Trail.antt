@@ -35,6 +35,7 @@ least_from best (v ∷ vars) = least_from (lesser best v) vars
 unfoldable pub next_var : General → List Choice → Option Var
 next_var g trail = least_from None (map (λ r. r.target) (filter (opens trail) (demands_after g trail)))
 
+-- a variable with a value
 abbrev pub choice_of : Var → ℕ → Choice
 choice_of v n = record { var = v; val = n }
 

@@ -31,6 +31,7 @@ abbrev pub begins_with : Choice → List Choice → Bool
 begins_with owner [] = false
 begins_with owner (c ∷ others) = same_var c.var owner.var && nat_eq c.val owner.val
 
+-- the problem that is written out by these lists
 abbrev pub problem_of : List WrittenVar → List Demand → List Demand → Problem
 problem_of variables roots demands = record {
   bound = length variables;
@@ -51,32 +52,40 @@ pub record AreLawful (variables : List WrittenVar) (roots demands : List Demand)
 
 -- the same as tests
 
+-- whether each number below n is among the values
 abbrev pub has_each_below : ℕ → List ℕ → Bool
 has_each_below zero values = true
 has_each_below (suc n) values = is_among values n && has_each_below n values
 
+-- whether each value stands once
 abbrev pub is_once : List ℕ → Bool
 is_once [] = true
 is_once (n ∷ values) = not (is_among values n) && is_once values
 
+-- whether the values are the numbers below their count, each once
 abbrev pub is_order : List ℕ → Bool
 is_order values = list_all (λ n. nat_lt n (length values)) values && (has_each_below (length values) values && is_once values)
 
+-- whether no variable is listed twice
 abbrev pub are_listed_once : List WrittenVar → Bool
 are_listed_once [] = true
 are_listed_once (w ∷ variables) = not (is_listed variables w.var) && are_listed_once variables
 
+-- whether a choice is of a part of the owner's package, under its qualifier
 abbrev pub is_beside : Choice → Choice → Bool
 is_beside owner c = is_equal (qual_cmp c.var.qual owner.var.qual) && nat_eq c.var.«package» owner.var.«package»
 
+-- whether there are no choices
 abbrev pub is_empty : List Choice → Bool
 is_empty [] = true
 is_empty (c ∷ others) = false
 
+-- whether choices are an owner, followed by parts of its package
 abbrev pub is_condition : List Choice → Bool
 is_condition [] = false
 is_condition (owner ∷ others) = list_all (is_beside owner) others
 
+-- whether the lists keep the laws of a problem
 abbrev pub are_lawful : List WrittenVar → List Demand → List Demand → Bool
 are_lawful variables roots demands =
     (are_listed_once variables && list_all (λ w. is_order w.order) variables)

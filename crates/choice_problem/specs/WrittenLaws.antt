@@ -2,7 +2,7 @@
 use Rattle.std.specs.Prelude.{◌≡◌, ◌≢◌, ℕ, zero, suc, ◌<◌, Bool, true, false, cond, not, ◌&&◌, ◌||◌, nat_eq, nat_lt, IsTrue, List, [], ◌∷◌, length, get_or, map, filter, All, AllPairs, Contains, refl}
 use Rattle.std.specs.List.{list_all, list_any}
 use Rattle.std.proofs.Common.{sym, ap, ◌∙◌, subst, inl, inr, arith}
-use Rattle.std.proofs.lemmas.Bool.{false≢true, eqb-true, eq-eqb, cases_lt, ltb-true, lt-ltb}
+use Rattle.std.proofs.lemmas.Bool.{false≢true, eqb-true, eq-eqb, cases_lt, ltb-true, lt-ltb, and_parts, and_from}
 use Rattle.std.proofs.lemmas.List.{length-map}
 use Rattle.std.proofs.lemmas.List.Elements.{All-contains, Contains-get_or}
 use Rattle.qualified_goals.specs.declared.variable.Var.{Var}
@@ -12,58 +12,14 @@ use Rattle.choice_problem.specs.declared.written.WrittenVar.{WrittenVar}
 use Rattle.qualified_goals.specs.Variable.{qual_cmp, is_equal, same_var}
 use Rattle.choice_problem.specs.Problem.{Problem, IsOrderBelow, IsBeside, IsRoot, IsOwned, Lawful}
 use Rattle.choice_problem.specs.Written.{is_among, is_listed, order_of, begins_with, problem_of, AreLawful, has_each_below, is_once, is_order, are_listed_once, is_beside, is_empty, is_condition, are_lawful}
-use Rattle.choice_problem.specs.Lists.{contains-head, contains-tail, contains-none, contains-cases, contains-filter, map-contains, and-left, and-right, and-both, all-at, all-from}
+use Rattle.common_laws.specs.Lists.{contains-head, contains-tail, contains-none, contains-cases, contains-filter, map-contains, all-at, all-from, any-at, any-from, all-where, pairs-cons, pairs-head, pairs-tail, pairs-nil}
 use Rattle.qualified_goals.specs.SameVariable.{is_equal-is, qual-is, qual-refl, same_var-is, same_var-refl}
+use Rattle.common_laws.specs.Small.{not-from, not-to}
 
 abbrev choice_with : Var → ℕ → Choice
 choice_with v n = record { var = v; val = n }
 
-any-at : {X : Type 0} (test : X → Bool) (xs : List X) → list_any test xs ≡ true → (x : X) × Contains xs x × (test x ≡ true)
-any-at test [] h = absurd (false≢true h)
-any-at test (y ∷ xs) h =
-    elim (test y) as (λ b. test y ≡ b → b || list_any test xs ≡ true → (x : _) × Contains (y ∷ xs) x × (test x ≡ true)) [
-      | true ↦ λ e k. (y, contains-head y xs, e)
-      | false ↦ λ e k. let found = any-at test xs k in (found.0, contains-tail y xs found.0 found.1, found.2)
-    ] refl h
-
-any-from : {X : Type 0} (test : X → Bool) (xs : List X) (x : X) → Contains xs x → test x ≡ true → list_any test xs ≡ true
-any-from test [] x h k = absurd (contains-none x h)
-any-from test (y ∷ xs) x h k =
-    elim (test y) as (λ b. test y ≡ b → b || list_any test xs ≡ true) [
-      | true ↦ λ e. refl
-      | false ↦ λ e. elim (contains-cases y xs x h) [
-        | inl same ↦ absurd (false≢true (sym e ∙ ap test same ∙ k))
-        | inr r ↦ any-from test xs x r k
-      ]
-    ] refl
-
-not-any : (b : Bool) → not b ≡ true → b ≡ true → ⊥
-not-any true h k = false≢true h
-not-any false h k = false≢true k
-
-not-from : (b : Bool) → (b ≡ true → ⊥) → not b ≡ true
-not-from true h = absurd (h refl)
-not-from false h = refl
-
-all-where : {X : Type 0} (P : X → Type 0) (xs : List X) → ((x : X) → Contains xs x → P x) → All P xs
-all-where P xs h k d below = h (get_or xs k d) (Contains-get_or xs k d below)
-
 -- pairs
-
-pairs-cons : {X : Type 0} (R : X → X → Type 0) (x : X) (xs : List X) → ((y : X) → Contains xs y → R x y) → AllPairs R xs → AllPairs R (x ∷ xs)
-pairs-cons R x xs h rest zero zero d low high = absurd (omega (arith, low))
-pairs-cons R x xs h rest zero (suc j) d low high = h (get_or xs j d) (Contains-get_or xs j d (omega (arith, high)))
-pairs-cons R x xs h rest (suc i) zero d low high = absurd (omega (arith, low))
-pairs-cons R x xs h rest (suc i) (suc j) d low high = rest i j d (omega (arith, low)) (omega (arith, high))
-
-pairs-head : {X : Type 0} (R : X → X → Type 0) (x : X) (xs : List X) (y : X) → AllPairs R (x ∷ xs) → Contains xs y → R x y
-pairs-head R x xs y h k = subst (λ z. R x z) k.2 (h 0 (suc k.0) y (omega arith) (omega (arith, k.1)))
-
-pairs-tail : {X : Type 0} (R : X → X → Type 0) (x : X) (xs : List X) → AllPairs R (x ∷ xs) → AllPairs R xs
-pairs-tail R x xs h i j d low high = h (suc i) (suc j) d (omega (arith, low)) (omega (arith, high))
-
-pairs-nil : {X : Type 0} (R : X → X → Type 0) → AllPairs R []
-pairs-nil R i j d low high = absurd (omega (arith, high))
 
 -- orders
 
@@ -77,25 +33,25 @@ each-at : (n : ℕ) (values : List ℕ) → has_each_below n values ≡ true →
 each-at zero values h x below = absurd (omega (arith, below))
 each-at (suc n) values h x below =
     elim (cases_lt x n) [
-      | inl less ↦ each-at n values (and-right (is_among values n) (has_each_below n values) h) x less
-      | inr last ↦ let same : n ≡ x = omega arith in subst (λ m. Contains values m) same (among-at values n (and-left (is_among values n) (has_each_below n values) h))
+      | inl less ↦ each-at n values ((and_parts (is_among values n) (has_each_below n values) h).1) x less
+      | inr last ↦ let same : n ≡ x = omega arith in subst (λ m. Contains values m) same (among-at values n ((and_parts (is_among values n) (has_each_below n values) h).0))
     ]
 
 each-from : (n : ℕ) (values : List ℕ) → ((x : ℕ) → x < n → Contains values x) → has_each_below n values ≡ true
 each-from zero values h = refl
-each-from (suc n) values h = and-both (is_among values n) (has_each_below n values) (among-from values n (h n (omega arith))) (each-from n values (λ x less. h x (omega (arith, less))))
+each-from (suc n) values h = and_from (is_among values n) (has_each_below n values) (among-from values n (h n (omega arith))) (each-from n values (λ x less. h x (omega (arith, less))))
 
 once-at : (values : List ℕ) → is_once values ≡ true → AllPairs (λ x y. x ≢ y) values
 once-at [] h = pairs-nil (λ (x y : ℕ). x ≢ y)
 once-at (n ∷ values) h =
     pairs-cons (λ (x y : ℕ). x ≢ y) n values
-    (λ y k e. not-any (is_among values n) (and-left (not (is_among values n)) (is_once values) h) (among-from values n (subst (λ m. Contains values m) (sym e) k)))
-    (once-at values (and-right (not (is_among values n)) (is_once values) h))
+    (λ y k e. not-to (is_among values n) ((and_parts (not (is_among values n)) (is_once values) h).0) (among-from values n (subst (λ m. Contains values m) (sym e) k)))
+    (once-at values ((and_parts (not (is_among values n)) (is_once values) h).1))
 
 once-from : (values : List ℕ) → AllPairs (λ x y. x ≢ y) values → is_once values ≡ true
 once-from [] h = refl
 once-from (n ∷ values) h =
-    and-both (not (is_among values n)) (is_once values)
+    and_from (not (is_among values n)) (is_once values)
     (not-from (is_among values n) (λ k. pairs-head (λ (x y : ℕ). x ≢ y) n values n h (among-at values n k) refl))
     (once-from values (pairs-tail (λ (x y : ℕ). x ≢ y) n values h))
 
@@ -105,18 +61,18 @@ IsOrder values = IsOrderBelow (length values) values
 order-at : (values : List ℕ) → is_order values ≡ true → IsOrder values
 order-at values h =
     let below = list_all (λ n. nat_lt n (length values)) values in
-    let rest = and-right below (has_each_below (length values) values && is_once values) h in
+    let rest = (and_parts below (has_each_below (length values) values && is_once values) h).1 in
     record {
-      below = all-where (λ x. x < length values) values (λ x k. ltb-true x (length values) (all-at (λ n. nat_lt n (length values)) values x (and-left below (has_each_below (length values) values && is_once values) h) k));
-      each = each-at (length values) values (and-left (has_each_below (length values) values) (is_once values) rest);
-      once = once-at values (and-right (has_each_below (length values) values) (is_once values) rest);
+      below = all-where (λ x. x < length values) values (λ x k. ltb-true x (length values) (all-at (λ n. nat_lt n (length values)) values x ((and_parts below (has_each_below (length values) values && is_once values) h).0) k));
+      each = each-at (length values) values ((and_parts (has_each_below (length values) values) (is_once values) rest).0);
+      once = once-at values ((and_parts (has_each_below (length values) values) (is_once values) rest).1);
     }
 
 order-from : (values : List ℕ) → IsOrder values → is_order values ≡ true
 order-from values h =
-    and-both (list_all (λ n. nat_lt n (length values)) values) (has_each_below (length values) values && is_once values)
+    and_from (list_all (λ n. nat_lt n (length values)) values) (has_each_below (length values) values && is_once values)
     (all-from (λ n. nat_lt n (length values)) values (λ x k. lt-ltb x (length values) (All-contains (λ y. y < length values) values x h.below k)))
-    (and-both (has_each_below (length values) values) (is_once values) (each-from (length values) values h.each) (once-from values h.once))
+    (and_from (has_each_below (length values) values) (is_once values) (each-from (length values) values h.each) (once-from values h.once))
 
 -- variables
 
@@ -130,14 +86,14 @@ variables-at : (variables : List WrittenVar) → are_listed_once variables ≡ t
 variables-at [] h = pairs-nil Differ
 variables-at (w ∷ variables) h =
     pairs-cons Differ w variables
-    (λ u k e. not-any (is_listed variables w.var) (and-left (not (is_listed variables w.var)) (are_listed_once variables) h)
+    (λ u k e. not-to (is_listed variables w.var) ((and_parts (not (is_listed variables w.var)) (are_listed_once variables) h).0)
     (subst (λ v. is_listed variables v ≡ true) (sym e) (listed-from variables u k)))
-    (variables-at variables (and-right (not (is_listed variables w.var)) (are_listed_once variables) h))
+    (variables-at variables ((and_parts (not (is_listed variables w.var)) (are_listed_once variables) h).1))
 
 variables-from : (variables : List WrittenVar) → AllPairs Differ variables → are_listed_once variables ≡ true
 variables-from [] h = refl
 variables-from (w ∷ variables) h =
-    and-both (not (is_listed variables w.var)) (are_listed_once variables)
+    and_from (not (is_listed variables w.var)) (are_listed_once variables)
     (not-from (is_listed variables w.var) (λ k.
     let found = any-at (λ (u : WrittenVar). same_var u.var w.var) variables k in
     pairs-head Differ w variables found.0 h found.1 (sym (same_var-is found.0.var w.var found.2))))
@@ -159,13 +115,13 @@ beside-at owner c h =
     let quals = is_equal (qual_cmp c.var.qual owner.var.qual) in
     let names = nat_eq c.var.«package» owner.var.«package» in
     record {
-      same_qualifier = qual-is c.var.qual owner.var.qual (is_equal-is (qual_cmp c.var.qual owner.var.qual) (and-left quals names h));
-      same_package = eqb-true c.var.«package» owner.var.«package» (and-right quals names h);
+      same_qualifier = qual-is c.var.qual owner.var.qual (is_equal-is (qual_cmp c.var.qual owner.var.qual) ((and_parts quals names h).0));
+      same_package = eqb-true c.var.«package» owner.var.«package» ((and_parts quals names h).1);
     }
 
 beside-from : (owner c : Choice) → IsBeside owner c → is_beside owner c ≡ true
 beside-from owner c h =
-    and-both (is_equal (qual_cmp c.var.qual owner.var.qual)) (nat_eq c.var.«package» owner.var.«package»)
+    and_from (is_equal (qual_cmp c.var.qual owner.var.qual)) (nat_eq c.var.«package» owner.var.«package»)
     (ap is_equal (ap (λ q. qual_cmp q owner.var.qual) h.same_qualifier ∙ qual-refl owner.var.qual))
     (eq-eqb c.var.«package» owner.var.«package» h.same_package)
 
@@ -201,19 +157,19 @@ module _ (variables : List WrittenVar) (roots demands : List Demand) where
   IsOwnedByOne d = (owner : Choice) × IsOwned written owner d
 
   root-at : (d : Demand) → root_test d ≡ true → IsRoot written d
-  root-at d h = record { condition = empty-at d.when (and-left (is_empty d.when) (is_listed variables d.target) h); target = and-right (is_empty d.when) (is_listed variables d.target) h }
+  root-at d h = record { condition = empty-at d.when ((and_parts (is_empty d.when) (is_listed variables d.target) h).0); target = (and_parts (is_empty d.when) (is_listed variables d.target) h).1 }
 
   root-from : (d : Demand) → IsRoot written d → root_test d ≡ true
-  root-from d h = and-both (is_empty d.when) (is_listed variables d.target) (ap is_empty h.condition) h.target
+  root-from d h = and_from (is_empty d.when) (is_listed variables d.target) (ap is_empty h.condition) h.target
 
   demand-at : (d : Demand) → demand_test d ≡ true → IsOwnedByOne d
   demand-at d h =
-      let has = condition-at d.when (and-left (is_condition d.when) (is_listed variables d.target) h) in
-      (has.owner, record { others = has.others; condition = has.is; beside = has.beside; target = and-right (is_condition d.when) (is_listed variables d.target) h })
+      let has = condition-at d.when ((and_parts (is_condition d.when) (is_listed variables d.target) h).0) in
+      (has.owner, record { others = has.others; condition = has.is; beside = has.beside; target = (and_parts (is_condition d.when) (is_listed variables d.target) h).1 })
 
   demand-from : (d : Demand) → IsOwnedByOne d → demand_test d ≡ true
   demand-from d h =
-      and-both (is_condition d.when) (is_listed variables d.target) (condition-from d.when h.0 h.1.others h.1.condition h.1.beside) h.1.target
+      and_from (is_condition d.when) (is_listed variables d.target) (condition-from d.when h.0 h.1.others h.1.condition h.1.beside) h.1.target
 
   abbrev front_test : Bool
   front_test = are_listed_once variables && list_all (λ w. is_order w.order) variables
@@ -223,30 +179,30 @@ module _ (variables : List WrittenVar) (roots demands : List Demand) where
 
   pub tests-lawful : are_lawful variables roots demands ≡ true → AreLawful variables roots demands
   tests-lawful h =
-      let front = and-left front_test back_test h in
-      let back = and-right front_test back_test h in
+      let front = (and_parts front_test back_test h).0 in
+      let back = (and_parts front_test back_test h).1 in
       record {
-        once = variables-at variables (and-left (are_listed_once variables) (list_all (λ w. is_order w.order) variables) front);
+        once = variables-at variables ((and_parts (are_listed_once variables) (list_all (λ w. is_order w.order) variables) front).0);
         orders = all-where (λ (w : WrittenVar). IsOrder w.order) variables
-            (λ w k. order-at w.order (all-at (λ (u : WrittenVar). is_order u.order) variables w (and-right (are_listed_once variables) (list_all (λ u. is_order u.order) variables) front) k));
-        roots_are = all-where (IsRoot written) roots (λ d k. root-at d (all-at root_test roots d (and-left (list_all root_test roots) (list_all demand_test demands) back) k));
-        demands_are = all-where IsOwnedByOne demands (λ d k. demand-at d (all-at demand_test demands d (and-right (list_all root_test roots) (list_all demand_test demands) back) k));
+            (λ w k. order-at w.order (all-at (λ (u : WrittenVar). is_order u.order) variables w ((and_parts (are_listed_once variables) (list_all (λ u. is_order u.order) variables) front).1) k));
+        roots_are = all-where (IsRoot written) roots (λ d k. root-at d (all-at root_test roots d ((and_parts (list_all root_test roots) (list_all demand_test demands) back).0) k));
+        demands_are = all-where IsOwnedByOne demands (λ d k. demand-at d (all-at demand_test demands d ((and_parts (list_all root_test roots) (list_all demand_test demands) back).1) k));
       }
 
   pub lawful-tests : AreLawful variables roots demands → are_lawful variables roots demands ≡ true
   lawful-tests h =
-      and-both front_test back_test
-      (and-both (are_listed_once variables) (list_all (λ w. is_order w.order) variables) (variables-from variables h.once)
+      and_from front_test back_test
+      (and_from (are_listed_once variables) (list_all (λ w. is_order w.order) variables) (variables-from variables h.once)
       (all-from (λ (w : WrittenVar). is_order w.order) variables (λ w k. order-from w.order (All-contains (λ (u : WrittenVar). IsOrder u.order) variables w h.orders k))))
-      (and-both (list_all root_test roots) (list_all demand_test demands)
+      (and_from (list_all root_test roots) (list_all demand_test demands)
       (all-from root_test roots (λ d k. root-from d (All-contains (IsRoot written) roots d h.roots_are k)))
       (all-from demand_test demands (λ d k. demand-from d (All-contains IsOwnedByOne demands d h.demands_are k))))
 
   begins-same : (owner first : Choice) (others when : List Choice) → when ≡ first ∷ others → begins_with owner when ≡ true → first ≡ owner
   begins-same owner first others when e h =
       let both = sym (ap (begins_with owner) e) ∙ h in
-      let vars = same_var-is first.var owner.var (and-left (same_var first.var owner.var) (nat_eq first.val owner.val) both) in
-      let vals = eqb-true first.val owner.val (and-right (same_var first.var owner.var) (nat_eq first.val owner.val) both) in
+      let vars = same_var-is first.var owner.var ((and_parts (same_var first.var owner.var) (nat_eq first.val owner.val) both).0) in
+      let vals = eqb-true first.val owner.val ((and_parts (same_var first.var owner.var) (nat_eq first.val owner.val) both).1) in
       ap (λ v. choice_with v first.val) vars ∙ ap (choice_with owner.var) vals
 
   owned-at : (owner : Choice) → All IsOwnedByOne demands → All (IsOwned written owner) (filter (λ d. begins_with owner d.when) demands)

@@ -1,7 +1,9 @@
+// Sets of variables, with which a conflict names what is to blame.
 ghost use Rattle.std.specs.Prelude.{◌≡◌, [], IfOk, OnOk, IsTrue, if◌then◌else◌};
 ghost use Rattle.qualified_goals.specs.Variable.{is_before};
-ghost use Rattle.choice_problem.specs.ConflictSet.{is_rising, has, with_var, set_of, union, place_of, front_of, behind};
+ghost use Rattle.choice_problem.specs.ConflictSet.{is_rising, has, with_var, without, set_of, union, front_of, behind};
 
+use crate::rising::{place_of, stands_at};
 use crate::{Var, is_before, is_same};
 use plan_types::{List, NoMemory};
 use std::alloc::Global;
@@ -46,9 +48,10 @@ impl ConflictSet {
         })
     }
 
-    /// The variables, in goal order.
+    /// The variables, in goal order, each once.
     pub fn vars(&self) -> &[Var]
-        ensures { result.now ≡ self.now }
+        ensures set { result.now ≡ self.now }
+        ensures rising { IsTrue (is_rising result.now) }
     {
         self.vars.as_slice()
     }
@@ -57,7 +60,8 @@ impl ConflictSet {
     pub fn has(&self, v: Var) -> bool
         ensures { result ≡ has self.now v }
     {
-        is_among(self.vars.as_slice(), v)
+        let vars = self.vars.as_slice();
+        stands_at(vars, place_of(vars, v), v)
     }
 
     /// The set of what is in either.
@@ -68,35 +72,49 @@ impl ConflictSet {
             vars: List::from_vec(merged(alloc, self.vars.as_slice(), other.vars.as_slice())?),
         })
     }
-}
 
-fn is_among(vars: &[Var], v: Var) -> bool
-    ensures { result ≡ has vars.now v }
-{
-    vars.iter().any(|w| is_same(*w, v))
-}
-
-// The first place of a rising list whose variable isn't before this one.
-fn place_of(vars: &[Var], v: Var) -> usize
-    ensures { result ≡ place_of v vars.now }
-{
-    for (place, w) in vars.iter().enumerate() {
-        if !is_before(*w, v) {
-            return place;
-        }
+    /// The same set.
+    pub fn copy(&self, alloc: Global) -> Result<ConflictSet, NoMemory>
+        ensures { IfOk result (λ copied. copied ≡ self.now) }
+    {
+        Ok(ConflictSet {
+            vars: List::from_vec(self.vars.as_slice().to_vec(alloc)?),
+        })
     }
-    vars.len()
+
+    /// The set but for one variable.
+    pub fn without(&self, alloc: Global, v: Var) -> Result<ConflictSet, NoMemory>
+        ensures { IfOk result (λ others. others ≡ without v self.now) }
+    {
+        let mut vars = self.vars.as_slice().to_vec(alloc)?;
+        take_out(&mut vars, v);
+        Ok(ConflictSet {
+            vars: List::from_vec(vars),
+        })
+    }
 }
 
 fn add(vars: &mut Vec<Var>, v: Var) -> Result<(), NoMemory>
+    requires { IsTrue (is_rising vars.old.items) }
     ensures { OnOk result (vars.new.items ≡ with_var v vars.old.items) }
 {
     let place = place_of(vars.as_slice(), v);
-    if place < vars.len() && is_same(vars[place], v) {
+    if stands_at(vars.as_slice(), place, v) {
         return Ok(());
     }
     vars.insert(place, v)?;
     Ok(())
+}
+
+fn take_out(vars: &mut Vec<Var>, v: Var)
+    requires { IsTrue (is_rising vars.old.items) }
+    ensures set { vars.new.items ≡ without v vars.old.items }
+    ensures rising { IsTrue (is_rising vars.new.items) }
+{
+    let place = place_of(vars.as_slice(), v);
+    if stands_at(vars.as_slice(), place, v) {
+        vars.remove(place);
+    }
 }
 
 // The set of some variables.

@@ -8,6 +8,7 @@ mod conflict_set;
 mod laws;
 mod outcome;
 mod problem;
+mod rising;
 mod steps;
 mod written;
 
@@ -20,5 +21,6 @@ pub use outcome::{Counts, Outcome};
 pub use plan_types::Limit;
 pub use problem::{Choice, Choices, Demand};
 pub use qualified_goals::{Names, Part, Qual, Var, is_before, is_same};
+pub use rising::{place_of, stands_at};
 pub use steps::Steps;
 pub use written::{Written, WrittenVar};

@@ -1,3 +1,4 @@
+// What a search answers.
 use crate::{Choice, ConflictSet};
 use plan_types::List;
 

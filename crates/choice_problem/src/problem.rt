@@ -1,3 +1,4 @@
+// What a problem answers, and what it is made of.
 ghost use Rattle.std.specs.Prelude.{◌≡◌, IfOk, IsTrue, All};
 ghost use Rattle.choice_problem.specs.Problem.{Problem, IsChoice, Lawful};
 
@@ -55,4 +56,34 @@ pub trait Choices {
         ensures { IfOk result (λ found. found ≡ (problem self.now).demands owner) };
 
     ghost lawful: { (choices : Self) → Lawful (problem choices) };
+}
+
+impl<C: Choices> Choices for &C {
+    ghost problem = { λ choices. C.problem choices.now };
+
+    ghost lawful = { λ choices. C.lawful choices.now };
+
+    fn known(&self, v: Var) -> bool {
+        (**self).known(v)
+    }
+
+    fn domain(&self, v: Var) -> u64 {
+        (**self).domain(v)
+    }
+
+    fn roots(&self, alloc: Global) -> Result<List<Demand>, NoMemory> {
+        (**self).roots(alloc)
+    }
+
+    fn order(&self, alloc: Global, v: Var, trail: &List<Choice>) -> Result<List<u64>, NoMemory> {
+        (**self).order(alloc, v, trail)
+    }
+
+    fn barred(&self, c: Choice) -> bool {
+        (**self).barred(c)
+    }
+
+    fn demands(&self, alloc: Global, owner: Choice) -> Result<List<Demand>, NoMemory> {
+        (**self).demands(alloc, owner)
+    }
 }

@@ -1,3 +1,4 @@
+// How many values were tried.
 ghost use Rattle.std.specs.Prelude.{◌≡◌, ◌+◌, ◌<◌};
 
 use std::marker::Model;

@@ -1,3 +1,4 @@
+// A problem that is written out as lists.
 ghost use Rattle.std.specs.Prelude.{◌≡◌, ◌&&◌, IfOk, IsTrue, MatchOption, filter, length, nat_lt};
 ghost use Rattle.std.specs.List.{list_all};
 ghost use Rattle.choice_problem.specs.Written.{is_among, is_listed, order_of, barred_of, begins_with, problem_of, AreLawful, has_each_below, is_once, is_order, are_listed_once, is_beside, is_empty, is_condition, are_lawful};

@@ -1,6 +1,7 @@
+// The path of nodes from the first choice of a search to the last.
 ghost use Rattle.std.specs.Prelude.{◌≡◌, ◌≢◌, ◌+◌, ◌-◌, ◌<◌, ◌≤◌, List, [], ◌∷◌, ◌++◌, length, drop, slice_index_or, MatchOption, OnOk, OnErr};
 ghost use Rattle.choice_tree.specs.declared.tree.Node.{Node};
-ghost use Rattle.choice_tree.specs.Tree.{fresh, stepped, values_left, choice_at, Gives, GivesNext, HasGiven};
+ghost use Rattle.choice_tree.specs.Tree.{fresh, stepped, values_left, choice_at, Gives, GivesNext, HasGiven, IsGrown};
 
 use choice_problem::{Choice, Var};
 use plan_types::{List, NoMemory};
@@ -67,9 +68,10 @@ impl Tree {
         }
     }
 
-    /// How many nodes there are.
+    /// How many nodes there are. Each but the last has given a value.
     pub fn depth(&self) -> u64
-        ensures { result ≡ length self.now }
+        ensures count { result ≡ length self.now }
+        ensures grown { IsGrown self.now }
     {
         self.nodes.len() as u64
     }

@@ -3,7 +3,7 @@ use Rattle.std.proofs.Common.{◌≡◌, ◌≢◌, Bool, true, false, cond, ℕ
 use Rattle.std.specs.List.{Contains, position_or_len}
 use Rattle.std.proofs.lemmas.List.Sums.{fails_before_first}
 use borrow.Author.Tests.{lt-ltb}
-use Rattle.std.proofs.lemmas.Bool.{cases_lt, false≢true}
+use Rattle.std.proofs.lemmas.Bool.{cases_lt, false≢true, true_from_ne_false}
 use Rattle.std.proofs.lemmas.List.{get_or_past, length-replicate, get_or-replicate}
 use Rattle.std.proofs.lemmas.List.Quantifiers.{position-Some}
 use Rattle.component_cycle.specs.declared.search.State.TheVariants.{Unseen, OnPath, Settled}
@@ -51,10 +51,6 @@ position-None p xs e k d l =
       | inr ge ↦ fails_before_first p xs k d (omega (arith, l, ge))
     ]
 
-bool-from : (b : Bool) → (b ≡ false → ⊥) → b ≡ true
-bool-from true h = refl
-bool-from false h = absurd (h refl)
-
 module _ (needs : List (List ℕ)) (s : Search) (h : IsSound needs s None) (idle : s.marks ≡ []) where
   pub no-path : (i : ℕ) → i < length s.path → ⊥
   no-path i l = let one = h.covered i l in none-in one.0 (subst (λ ms. Contains ms one.0) idle one.1)
@@ -96,7 +92,7 @@ module _ (needs : List (List ℕ)) (s : Search) (h : IsSound needs s None) (idle
     says : (u : ℕ) → IsOnCycle needs u → is_on_cycle (state s u) ≡ true
     says u c =
         let found = all-settled u (first-edge u u c) in
-        ap is_on_cycle found.1 ∙ bool-from found.0 (λ k. (h.right u found.0 found.1).none k c)
+        ap is_on_cycle found.1 ∙ true_from_ne_false found.0 (λ k. (h.right u found.0 found.1).none k c)
 
     said : (u : ℕ) → is_on_cycle (state s u) ≡ true → IsOnCycle needs u
     said u k =

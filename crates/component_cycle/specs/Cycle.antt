@@ -14,6 +14,7 @@ pub data IsPath (needs : List (List ℕ)) : ℕ → ℕ → Type 0 where
   one : {u v : ℕ} → IsEdge needs u v → IsPath needs u v
   more : {u w : ℕ} (v : ℕ) → IsEdge needs u v → IsPath needs v w → IsPath needs u w
 
+-- a path leads from a node to itself
 abbrev pub IsOnCycle : List (List ℕ) → ℕ → Type 0
 IsOnCycle needs u = IsPath needs u u
 

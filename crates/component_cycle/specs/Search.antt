@@ -7,6 +7,7 @@ use Rattle.component_cycle.specs.declared.search.Mark.{Mark}
 use Rattle.component_cycle.specs.declared.search.Search.{Search}
 use Rattle.component_cycle.specs.Cycle.{IsEdge, IsPath, IsOnCycle}
 
+-- the state of a node
 abbrev pub state : Search → ℕ → State
 state s v = slice_index_or s.states v Unseen
 
@@ -14,9 +15,11 @@ state s v = slice_index_or s.states v Unseen
 abbrev pub at : Search → ℕ → ℕ
 at s i = slice_index s.path i
 
+-- the last of some marks
 abbrev pub IsLast : List Mark → Mark → Type 0
 IsLast marks m = (front : List Mark) × (marks ≡ front ++ m ∷ [])
 
+-- there is a last mark, of which this holds
 abbrev pub HasLast : List Mark → (Mark → Type 0) → Type 0
 HasLast marks P = (m : Mark) × IsLast marks m × P m
 
@@ -24,6 +27,7 @@ HasLast marks P = (m : Mark) × IsLast marks m × P m
 abbrev pub IsNotBefore : Search → ℕ → ℕ → Type 0
 IsNotBefore s i j = (m : Mark) → Contains s.marks m → m.place ≤ i → m.place ≤ j
 
+-- v is u, or a path leads from u to v
 abbrev pub Reaches : List (List ℕ) → ℕ → ℕ → Type 0
 Reaches needs u v = (u ≡ v) ⊎ IsPath needs u v
 
@@ -47,9 +51,11 @@ pub record IsRight (needs : List (List ℕ)) (u : ℕ) (b : Bool) : Type 0 where
   pub cycle : b ≡ true → IsOnCycle needs u
   pub none : b ≡ false → IsOnCycle needs u → ⊥
 
+-- a mark stands before another
 abbrev pub IsBelow : Mark → Mark → Type 0
 IsBelow m n = (m.place < n.place) × (m.waiting ≤ n.waiting)
 
+-- what a search keeps is right: what is settled, what is on the path and in which group, and what waits
 pub record IsSound (needs : List (List ℕ)) (s : Search) (loose : Option ℕ) : Type 0 where
   pub count : length s.states ≡ length needs
   pub placed : (u i : ℕ) → state s u ≡ OnPath i → (i < length s.path) × (at s i ≡ u)
@@ -78,17 +84,27 @@ entered needs v s =
       marks = s.marks ++ record { place = length s.path; waiting = length s.waiting } ∷ [];
     }
 
--- what there is to do yet for nodes that aren't seen
+-- these nodes are settled
+abbrev pub AreSettled : List ℕ → Bool → List State → Type 0
+AreSettled nodes on_cycle states = (i : ℕ) → i < length nodes → slice_index_or states (slice_index nodes i) Unseen ≡ Settled on_cycle
+
+-- the state of no other node changes
+abbrev pub OthersStay : List ℕ → List State → List State → Type 0
+OthersStay nodes old new = (v : ℕ) → (Contains nodes v → ⊥) → slice_index_or new v Unseen ≡ slice_index_or old v Unseen
+
+-- what there is to do yet for a node that isn't seen
 abbrev pub cost : List ℕ → State → ℕ
 cost ns Unseen = length ns + 2
 cost ns (OnPath i) = 0
 cost ns (Settled b) = 0
 
+-- what there is to do yet for all nodes
 abbrev pub costs : List (List ℕ) → List State → ℕ
 costs [] states = 0
 costs (ns ∷ needs) [] = 0
 costs (ns ∷ needs) (x ∷ states) = cost ns x + costs needs states
 
+-- what there is to do yet
 abbrev pub to_do : List (List ℕ) → Search → ℕ
 to_do needs s = costs needs s.states + length s.waiting + length s.marks
 
@@ -98,12 +114,15 @@ pub record GoesOn (needs : List (List ℕ)) (s t : Search) (bound : ℕ) : Type 
   pub seen : (v : ℕ) → state s v ≢ Unseen → state t v ≢ Unseen
   pub less : to_do needs t < bound
 
+-- a step by which less is left to do
 abbrev pub Steps : List (List ℕ) → Search → Search → Type 0
 Steps needs s t = GoesOn needs s t (to_do needs s)
 
+-- a step by which no more is left to do
 abbrev pub Follows : List (List ℕ) → Search → Search → Type 0
 Follows needs s t = GoesOn needs s t (to_do needs s + 1)
 
+-- whether a node is known to lie on a cycle
 abbrev pub is_on_cycle : State → Bool
 is_on_cycle Unseen = false
 is_on_cycle (OnPath i) = false
@@ -113,3 +132,8 @@ is_on_cycle (Settled b) = b
 pub record IsCyclic (needs : List (List ℕ)) (group : List ℕ) (b : Bool) : Type 0 where
   pub several : 2 ≤ length group → b ≡ true
   pub alone : length group ≡ 1 → (IsTrue b ↔ IsEdge needs (slice_index group 0) (slice_index group 0))
+
+-- where these nodes were seen before, as much is left to do as before
+abbrev pub SeenCostNothing : List ℕ → List State → List State → Type 0
+SeenCostNothing nodes old new = (needs : List (List ℕ)) → length old ≡ length needs
+    → ((i : ℕ) → i < length nodes → slice_index_or old (slice_index nodes i) Unseen ≢ Unseen) → costs needs new ≡ costs needs old

@@ -1,3 +1,4 @@
+// The first node of a graph on a cycle.
 ghost use Rattle.std.specs.Prelude.{IfOk};
 ghost use Rattle.component_cycle.specs.Cycle.{IsGraph, IsFirstOnCycle};
 

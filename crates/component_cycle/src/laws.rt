@@ -1,3 +1,4 @@
+// A graph has one first node on a cycle.
 ghost use Rattle.std.specs.Prelude.{◌≡◌, ℕ, List, Option};
 ghost use Rattle.component_cycle.specs.Cycle.{IsFirstOnCycle};
 

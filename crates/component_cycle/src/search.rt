@@ -6,7 +6,7 @@ ghost use Rattle.std.specs.Prelude.{◌≡◌, ◌≢◌, ◌≤◌, ◌<◌, �
 ghost use Rattle.component_cycle.specs.declared.search.State.{State};
 ghost use Rattle.component_cycle.specs.declared.search.Mark.{Mark};
 ghost use Rattle.component_cycle.specs.Cycle.{IsGraph};
-ghost use Rattle.component_cycle.specs.Search.{IsSound, IsLast, HasLast, Follows, Leads, entered, costs, state, Steps, IsCyclic, is_on_cycle};
+ghost use Rattle.component_cycle.specs.Search.{IsSound, IsLast, HasLast, Follows, Leads, entered, costs, state, Steps, IsCyclic, is_on_cycle, AreSettled, OthersStay, SeenCostNothing};
 
 use plan_types::{List, NoMemory};
 use std::alloc::Global;
@@ -205,9 +205,9 @@ fn is_cyclic(needs: &[List<usize>], group: &[usize]) -> bool
 fn settle_all(states: &mut List<State>, nodes: &[usize], on_cycle: bool)
     requires inside { All (λ v. v < length states.old) nodes.now }
     ensures count { length states.new ≡ length states.old }
-    ensures settled { (i : ℕ) → i < length nodes.now → slice_index_or states.new (slice_index nodes.now i) State.Unseen ≡ State.Settled on_cycle }
-    ensures others { (v : ℕ) → (Contains nodes.now v → ⊥) → slice_index_or states.new v State.Unseen ≡ slice_index_or states.old v State.Unseen }
-    ensures costs { (needs : List (List ℕ)) → length states.old ≡ length needs → ((i : ℕ) → i < length nodes.now → slice_index_or states.old (slice_index nodes.now i) State.Unseen ≢ State.Unseen) → costs needs states.new ≡ costs needs states.old }
+    ensures settled { AreSettled nodes.now on_cycle states.new }
+    ensures others { OthersStay nodes.now states.old states.new }
+    ensures costs { SeenCostNothing nodes.now states.old states.new }
 {
     for node in nodes {
         states.set(*node, State::Settled(on_cycle));

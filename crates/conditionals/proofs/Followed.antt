@@ -1,5 +1,5 @@
 -- Paths that are followed by others.
-use Rattle.std.proofs.Common.{◌≡◌, ℕ, List, ◌∷◌, ◌++◌, map, sym, ap, ◌∙◌, append_assoc, ◌+◌, ◌<◌, length, get_or, drop, drop-cons, add-one}
+use Rattle.std.proofs.Common.{◌≡◌, List, ◌∷◌, ◌++◌, map, sym, ap, ◌∙◌, append_assoc}
 use Rattle.conditionals.specs.Paths.{Path, followed}
 
 -- one path more of the first is followed
@@ -9,6 +9,3 @@ one_more paths new path items rest second nexts whole i n e h =
     ∙ append_assoc paths (map (λ next. path ++ next) second) (followed rest second)
     ∙ ap (λ l. paths ++ followed l second) (sym i)
     ∙ h
-
-pub next_item : {A : Type 0} (items : List A) (i : ℕ) (item : A) → i < length items → item ≡ get_or items i item → drop i items ≡ item ∷ drop (i + 1) items
-next_item items i item lt is = drop-cons items i item lt ∙ (λ j. (sym is) j ∷ drop (sym (add-one i) j) items)

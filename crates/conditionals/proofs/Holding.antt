@@ -11,10 +11,12 @@ use Rattle.plan_types.specs.declared.condition.Env.{Env}
 use Rattle.plan_types.specs.declared.condition.FlagSet.{FlagSet}
 use Rattle.conditionals.specs.declared.value.Tri.{Tri}
 use Rattle.conditionals.specs.declared.value.Tri.TheVariants.{Yes, No, Unknown}
-use Rattle.conditionals.specs.Value.{Flags, same, value, value_step, tri_of, flag_value, negated, and_then, or_else}
+use Rattle.conditionals.specs.Value.{Flags, value, value_step, tri_of, flag_value, negated, and_then, or_else}
 use Rattle.conditionals.specs.Paths.{Path, paths_of, paths_step, followed, fixed, is_same, agree, is_consistent, kept_once, clean_paths, says, holds, is_wanted}
-use Rattle.conditionals.proofs.Cleaning.{same-is, and_false}
 use Rattle.conditionals.proofs.Keeping.{all_kept}
+use Rattle.plan_types.specs.Bytes.{same_text}
+use Rattle.std.proofs.Math.Bool.{and-false}
+use Rattle.common_laws.specs.Small.{same-is}
 
 abbrev one : Bool → ℕ
 one b = cond b 1 0
@@ -195,9 +197,9 @@ module _ (flags : Flags) where
 
   disagree : (s : FlagSet) (path : Path) → list_all (agree s) path ≡ false → (is_set s && holds flags path) ≡ false
   disagree s [] e = absurd (cc e)
-  disagree s (t ∷ path) e = by (same s.name t.name) refl (is_same s.on t.on) refl e (λ f. disagree s path f)
+  disagree s (t ∷ path) e = by (same_text s.name t.name) refl (is_same s.on t.on) refl e (λ f. disagree s path f)
     where
-      by : (b : Bool) → same s.name t.name ≡ b → (o : Bool) → is_same s.on t.on ≡ o → (cond b o true && list_all (agree s) path) ≡ false → (list_all (agree s) path ≡ false → (is_set s && holds flags path) ≡ false) → (is_set s && (is_set t && holds flags path)) ≡ false
+      by : (b : Bool) → same_text s.name t.name ≡ b → (o : Bool) → is_same s.on t.on ≡ o → (cond b o true && list_all (agree s) path) ≡ false → (list_all (agree s) path ≡ false → (is_set s && holds flags path) ≡ false) → (is_set s && (is_set t && holds flags path)) ≡ false
       by true f true g h more = under_false (is_set s) (is_set t) _ (more h)
       by true f false g h more =
           two_false (is_set s) (is_set t) _ (ap (λ name. is_set s && says (flags name) t.on) (sym (same-is s.name t.name f)) ∙ says_one (flags s.name) s.on t.on g)
@@ -208,7 +210,7 @@ module _ (flags : Flags) where
   not_holds (s ∷ path) e = by (list_all (agree s) path) refl e (λ f. not_holds path f)
     where
       by : (b : Bool) → list_all (agree s) path ≡ b → (b && is_consistent path) ≡ false → (is_consistent path ≡ false → holds flags path ≡ false) → (is_set s && holds flags path) ≡ false
-      by true f h more = ap (λ b. is_set s && b) (more h) ∙ and_false (is_set s)
+      by true f h more = ap (λ b. is_set s && b) (more h) ∙ and-false (is_set s)
       by false f h more = disagree s path f
 
   number_clean : (paths : List Path) → number (clean_paths paths) ≡ number paths

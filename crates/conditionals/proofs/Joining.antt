@@ -4,8 +4,9 @@ use Rattle.std.specs.List.{list_all, cons_option}
 use Rattle.std.proofs.lemmas.List.Elements.{filter_map-append}
 use Rattle.std.proofs.lemmas.List.Folds.{list_all-append}
 use Rattle.conditionals.specs.Paths.{Path, followed, agree, is_consistent, kept_once, clean_path, clean_paths}
-use Rattle.conditionals.proofs.Cleaning.{and_false, not_clean}
+use Rattle.conditionals.proofs.Cleaning.{not_clean}
 use Rattle.conditionals.proofs.Keeping.{front_kept, back_kept, all_kept, kept_consistent}
+use Rattle.std.proofs.Math.Bool.{and-false}
 
 -- ---- one path, in two parts
 
@@ -34,8 +35,8 @@ module _ (front back : Path) where
       sym (not_clean (front ++ back) (
       consistent_parts front back
       ∙ ap (λ b. is_consistent front && (across front back && b)) e
-      ∙ ap (λ b. is_consistent front && b) (and_false (across front back))
-      ∙ and_false (is_consistent front)
+      ∙ ap (λ b. is_consistent front && b) (and-false (across front back))
+      ∙ and-false (is_consistent front)
       ))
 
   front_cleaned : is_consistent front ≡ true → clean_path (kept_once front ++ back) ≡ clean_path (front ++ back)

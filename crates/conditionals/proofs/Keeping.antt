@@ -4,9 +4,10 @@ use Rattle.std.specs.Prelude.{filter}
 use Rattle.std.specs.List.{list_all}
 use Rattle.std.proofs.lemmas.List.Elements.{filter-append}
 use Rattle.plan_types.specs.declared.condition.FlagSet.{FlagSet}
-use Rattle.conditionals.specs.Value.{same}
 use Rattle.conditionals.specs.Paths.{Path, is_same, agree, is_consistent, kept_once}
-use Rattle.conditionals.proofs.Cleaning.{same-is, is_both, unlike}
+use Rattle.conditionals.proofs.Cleaning.{is_both, unlike}
+use Rattle.plan_types.specs.Bytes.{same_text}
+use Rattle.common_laws.specs.Small.{same-is}
 
 -- ---- filters
 
@@ -35,18 +36,18 @@ filter_front : {A : Type 0} (p : A → Bool) (xs ys : List A) → filter p (filt
 filter_front p xs ys = filter-append p (filter p xs) ys ∙ ap (λ l. l ++ filter p ys) (filter_twice p xs) ∙ sym (filter-append p xs ys)
 
 abbrev other : FlagSet → FlagSet → Bool
-other s t = not (same s.name t.name)
+other s t = not (same_text s.name t.name)
 
 -- ---- a part whose settings are already kept once
 
 unlike_kept : (s : FlagSet) (path : Path) → unlike s (kept_once path) ≡ kept_once (unlike s path)
 unlike_kept s [] = refl
-unlike_kept s (t ∷ path) = by (same s.name t.name) refl (unlike_kept s path)
+unlike_kept s (t ∷ path) = by (same_text s.name t.name) refl (unlike_kept s path)
   where
-    by : (b : Bool) → same s.name t.name ≡ b → unlike s (kept_once path) ≡ kept_once (unlike s path)
+    by : (b : Bool) → same_text s.name t.name ≡ b → unlike s (kept_once path) ≡ kept_once (unlike s path)
         → cond (not b) (t ∷ unlike s (unlike t (kept_once path))) (unlike s (unlike t (kept_once path))) ≡ kept_once (cond (not b) (t ∷ unlike s path) (unlike s path))
     by true e more =
-        ap (λ name. unlike s (filter (λ u. not (same name u.name)) (kept_once path))) (sym (same-is s.name t.name e))
+        ap (λ name. unlike s (filter (λ u. not (same_text name u.name)) (kept_once path))) (sym (same-is s.name t.name e))
         ∙ filter_twice (other s) (kept_once path)
         ∙ more
     by false e more = ap (λ l. t ∷ l) (filter_swap (other s) (other t) (kept_once path) ∙ ap (unlike t) more)
@@ -94,20 +95,20 @@ under true b c d e = ap (λ x. b && x) e
 under false b c d e = refl
 
 under_same : (a b c d : Bool) → b ≡ a → (a && c) ≡ (a && d) → (a && c) ≡ (a && (b && d))
-under_same true b c d same e = e ∙ ap (λ x. x && d) (sym same)
-under_same false b c d same e = refl
+under_same true b c d same_text e = e ∙ ap (λ x. x && d) (sym same_text)
+under_same false b c d same_text e = refl
 
 module _ (p : FlagSet → Bool) where
-  alike : (s t : FlagSet) → same s.name t.name ≡ true → is_same s.on t.on ≡ true → p t ≡ p s
+  alike : (s t : FlagSet) → same_text s.name t.name ≡ true → is_same s.on t.on ≡ true → p t ≡ p s
   alike s t e o =
       let one : t ≡ s = λ i. record { name = sym (same-is s.name t.name e) i; on = sym (same_answer s.on t.on o) i } in
       ap p one
 
   dropped : (s : FlagSet) (path : Path) → list_all (agree s) path ≡ true → (p s && list_all p (unlike s path)) ≡ (p s && list_all p path)
   dropped s [] all = refl
-  dropped s (t ∷ path) all = by (same s.name t.name) refl (is_both all).0 (dropped s path (is_both all).1)
+  dropped s (t ∷ path) all = by (same_text s.name t.name) refl (is_both all).0 (dropped s path (is_both all).1)
     where
-      by : (b : Bool) → same s.name t.name ≡ b → cond b (is_same s.on t.on) true ≡ true → (p s && list_all p (unlike s path)) ≡ (p s && list_all p path)
+      by : (b : Bool) → same_text s.name t.name ≡ b → cond b (is_same s.on t.on) true ≡ true → (p s && list_all p (unlike s path)) ≡ (p s && list_all p path)
           → (p s && list_all p (cond (not b) (t ∷ unlike s path) (unlike s path))) ≡ (p s && list_all p (t ∷ path))
       by true e o more = under_same (p s) (p t) _ _ (alike s t e o) more
       by false e o more = under (p s) (p t) _ _ more

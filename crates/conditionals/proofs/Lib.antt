@@ -1,11 +1,3 @@
-pub mod Tails
-pub mod CondKind
-pub mod CondTails
-pub mod Names
-pub mod Compilers
-pub mod Atoms
-pub mod Factors
-pub mod Whole
 pub mod Layers
 pub mod Numbers
 pub mod Followed

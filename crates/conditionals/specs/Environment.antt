@@ -1,10 +1,17 @@
 -- What a condition asks of an environment. Names are compared in lower case, however they are written.
-use Rattle.std.specs.Prelude.{ℕ, Bool, ◌&&◌, List}
+use Rattle.std.specs.Prelude.{ℕ, Bool, ◌&&◌, ◌||◌, if◌then◌else◌, List, codes}
 use Rattle.std.specs.Str.{bytes_eq, str_to_ascii_lowercase, str_eq_ignore_ascii_case}
 use Rattle.plan_types.specs.declared.condition.Env.{Env}
 use Rattle.plan_types.specs.declared.range.Range.{Range}
+use Rattle.plan_types.specs.Bytes.{same_text}
 use Rattle.plan_types.specs.Members.{members}
-use Rattle.conditionals.specs.Grammar.{system_of}
+
+-- the operating systems that have other names besides
+abbrev pub system_of : List ℕ → List ℕ
+system_of name =
+    if same_text name (codes "mingw32") || same_text name (codes "win32") then codes "windows"
+    else if same_text name (codes "darwin") then codes "osx"
+    else name
 
 -- the system that a name stands for, in lower case
 abbrev pub system_named : List ℕ → List ℕ

@@ -13,6 +13,7 @@ use Rattle.conditionals.specs.Environment.{is_system, is_processor, is_compiler}
 use Rattle.conditionals.specs.Value.{Flags, tri_of, flag_value, and_then, or_else, value, value_step}
 use Rattle.conditionals.specs.Paths.{Path, fixed, sets, paths_step, paths_of}
 
+-- paths for each wanted value
 abbrev Paths : Type 0
 Paths = Bool → List Path
 

@@ -1,6 +1,3 @@
-pub mod Grammar
-pub mod Reading
-pub mod Forms
 pub mod Environment
 pub mod Value
 pub mod Paths

@@ -9,8 +9,10 @@ use Rattle.plan_types.specs.declared.condition.FlagSet.{FlagSet}
 use Rattle.conditionals.specs.declared.value.Tri.{Tri}
 use Rattle.conditionals.specs.declared.value.Tri.TheVariants.{Yes, No, Unknown}
 use Rattle.conditionals.specs.Environment.{is_system, is_processor, is_compiler}
-use Rattle.conditionals.specs.Value.{Flags, same}
+use Rattle.conditionals.specs.Value.{Flags}
+use Rattle.plan_types.specs.Bytes.{same_text}
 
+-- a path: the flags to set, in order
 abbrev pub Path : Type 0
 Path = List FlagSet
 
@@ -21,6 +23,7 @@ fixed true false = []
 fixed false true = []
 fixed false false = [] ∷ []
 
+-- a flag that is set so
 abbrev pub sets : List ℕ → Bool → FlagSet
 sets name on = record { name = name; on = on }
 
@@ -47,13 +50,14 @@ paths_step env (Or left right) false = followed (left false) (right false)
 abbrev pub paths_of : Env → Cond → Bool → List Path
 paths_of env = fold-Cond (Bool → List Path) (paths_step env)
 
+-- whether two values are the same
 abbrev pub is_same : Bool → Bool → Bool
 is_same true on = on
 is_same false on = not on
 
 -- they aren't of one flag, or say the same of it
 abbrev pub agree : FlagSet → FlagSet → Bool
-agree s t = if same s.name t.name then is_same s.on t.on else true
+agree s t = if same_text s.name t.name then is_same s.on t.on else true
 
 -- no flag is set both ways
 abbrev pub is_consistent : Path → Bool
@@ -63,8 +67,9 @@ is_consistent (s ∷ path) = list_all (agree s) path && is_consistent path
 -- a flag that is set again is kept at its first place
 abbrev pub kept_once : Path → Path
 kept_once [] = []
-kept_once (s ∷ path) = s ∷ filter (λ t. not (same s.name t.name)) (kept_once path)
+kept_once (s ∷ path) = s ∷ filter (λ t. not (same_text s.name t.name)) (kept_once path)
 
+-- a path with each setting once; none where it sets a flag both ways
 abbrev pub clean_path : Path → Option Path
 clean_path path = if is_consistent path then Some (kept_once path) else None
 
@@ -72,6 +77,7 @@ clean_path path = if is_consistent path then Some (kept_once path) else None
 abbrev pub clean_paths : List Path → List Path
 clean_paths = filter_map clean_path
 
+-- whether it is known that a flag is set so
 abbrev pub says : Option Bool → Bool → Bool
 says None on = false
 says (Some is) on = is_same is on

@@ -8,6 +8,7 @@ use Rattle.conditionals.specs.declared.path.Step.{Step}
 use Rattle.conditionals.specs.declared.path.Step.TheVariants.{Not, And, Or}
 use Rattle.conditionals.specs.Paths.{Path, followed, paths_of}
 
+-- the paths, where they are needed
 abbrev pub needed : Bool → List Path → List Path
 needed true paths = paths
 needed false paths = []
@@ -16,6 +17,7 @@ needed false paths = []
 abbrev pub lists_of : Env → Cond → Need → Lists
 lists_of env cond need = record { yes = needed need.yes (paths_of env cond true); no = needed need.no (paths_of env cond false) }
 
+-- the lists of a negated condition
 abbrev pub swap_lists : Lists → Lists
 swap_lists lists = record { yes = lists.no; no = lists.yes }
 
@@ -27,6 +29,7 @@ join_and need left right = record { yes = needed need.yes (followed left.yes rig
 abbrev pub join_or : Need → Lists → Lists → Lists
 join_or need left right = record { yes = needed need.yes (left.yes ++ followed left.no right.yes); no = needed need.no (followed left.no right.no) }
 
+-- the paths of a condition for both values
 abbrev pub all_lists : Env → Cond → Lists
 all_lists env cond = record { yes = paths_of env cond true; no = paths_of env cond false }
 
@@ -41,6 +44,7 @@ abbrev pub finish : Env → List Step → Lists → Lists
 finish env [] lists = lists
 finish env (step ∷ steps) lists = step_up env step (finish env steps lists)
 
+-- what is put aside is smaller than the condition
 abbrev pub IsSmaller : Cond → Step → Type 0
 IsSmaller cond Not = Unit {0}
 IsSmaller cond (And right need) = size-Cond right.now < size-Cond cond
@@ -50,6 +54,7 @@ IsSmaller cond (Or right need) = size-Cond right.now < size-Cond cond
 abbrev pub left_of_and : Need → Bool → Bool → Need
 left_of_and need some-yes some-no = record { yes = (need.yes && some-yes) || (need.no && some-no); no = need.no }
 
+-- what is needed of the left side of `||`
 abbrev pub left_of_or : Need → Bool → Bool → Need
 left_of_or need some-yes some-no = record { yes = need.yes; no = (need.yes && some-yes) || (need.no && some-no) }
 

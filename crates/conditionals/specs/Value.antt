@@ -1,6 +1,5 @@
 -- The value of a condition.
-use Rattle.std.specs.Prelude.{ℕ, Bool, true, false, ◌&&◌, if◌then◌else◌, Option, None, Some, is_none, nat_eq, List, [], ◌∷◌}
-use Rattle.std.specs.Cmp.Lexicographic.{pointwise}
+use Rattle.std.specs.Prelude.{ℕ, Bool, true, false, ◌&&◌, if◌then◌else◌, Option, None, Some, is_none, List, [], ◌∷◌}
 use Rattle.plan_types.specs.declared.condition.Cond.{Cond}
 use Rattle.plan_types.specs.declared.condition.Cond.TheOpen.{Cond-F, Always, Never, Flag, Os, Arch, Impl, Not, And, Or}
 use Rattle.plan_types.specs.declared.condition.Cond.TheFolds.{fold-Cond}
@@ -9,19 +8,18 @@ use Rattle.plan_types.specs.declared.condition.FlagSet.{FlagSet}
 use Rattle.conditionals.specs.declared.value.Tri.{Tri}
 use Rattle.conditionals.specs.declared.value.Tri.TheVariants.{Yes, No, Unknown}
 use Rattle.conditionals.specs.Environment.{is_system, is_processor, is_compiler}
-
--- two names are the same, byte for byte
-abbrev pub same : List ℕ → List ℕ → Bool
-same = pointwise nat_eq
+use Rattle.plan_types.specs.Bytes.{same_text}
 
 -- what is known of some flags, by their names
 abbrev pub Flags : Type 0
 Flags = List ℕ → Option Bool
 
+-- the value of what is known
 abbrev pub tri_of : Bool → Tri
 tri_of true = Yes
 tri_of false = No
 
+-- the value of a flag of which this is known
 abbrev pub flag_value : Option Bool → Tri
 flag_value None = Unknown
 flag_value (Some on) = tri_of on
@@ -32,6 +30,7 @@ answer if_yes if_no Yes = if_yes
 answer if_yes if_no No = if_no
 answer if_yes if_no Unknown = Unknown
 
+-- the value behind `!`
 abbrev pub negated : Tri → Tri
 negated Yes = No
 negated No = Yes
@@ -61,13 +60,14 @@ value_step env flags (Not inner) = negated inner
 value_step env flags (And left right) = and_then left right
 value_step env flags (Or left right) = or_else left right
 
+-- the value of a condition, where this is known of flags
 abbrev pub value : Env → Flags → Cond → Tri
 value env flags = fold-Cond Tri (value_step env flags)
 
 -- what a list of settings says of a flag
 abbrev pub flag_in : List FlagSet → Flags
 flag_in [] name = None
-flag_in (flag ∷ flags) name = if same flag.name name then Some flag.on else flag_in flags name
+flag_in (flag ∷ flags) name = if same_text flag.name name then Some flag.on else flag_in flags name
 
 -- no flag stands twice in the list
 abbrev pub each_once : List FlagSet → Bool

@@ -1,3 +1,4 @@
+// Paths without those that set a flag both ways, and with each setting once.
 ghost use Rattle.std.specs.Prelude.{◌≡◌, IfOk};
 ghost use Rattle.conditionals.specs.Paths.{clean_path, clean_paths};
 

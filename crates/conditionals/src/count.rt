@@ -1,3 +1,4 @@
+// How many paths a condition has.
 ghost use Rattle.std.specs.Prelude.{◌≡◌, ◌+◌, ◌*◌, ◌^◌, ◌-◌, min, length, true, false};
 ghost use Rattle.conditionals.specs.Paths.{paths_of, fixed};
 

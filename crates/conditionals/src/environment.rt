@@ -1,9 +1,10 @@
 // What a condition asks of an environment.
-ghost use Rattle.std.specs.Prelude.{◌≡◌};
+ghost use Rattle.std.specs.Prelude.{◌≡◌, IfOk};
 ghost use Rattle.std.specs.Str.{str_to_ascii_lowercase, str_eq_ignore_ascii_case};
-ghost use Rattle.conditionals.specs.Environment.{system_named, is_system, is_processor, is_compiler};
+ghost use Rattle.conditionals.specs.Environment.{system_of, system_named, is_system, is_processor, is_compiler};
 
-use plan_types::{Env, Range, Text};
+use plan_types::{Env, NoMemory, Range, Text};
+use std::alloc::Global;
 
 /// Whether the environment's system has this name, or another of its names.
 pub fn is_system(env: &Env, name: &Text) -> bool
@@ -26,6 +27,19 @@ pub fn is_compiler(env: &Env, name: &Text, range: &Range) -> bool
     ensures { result ≡ is_compiler env.now name.now range.now }
 {
     are_alike(name.as_str(), env.compiler.as_str()) && range.has(&env.compiler_version)
+}
+
+/// The name by which an operating system is compared.
+pub fn system_of(alloc: Global, name: Text) -> Result<Text, NoMemory>
+    ensures { IfOk result (λ text. text ≡ system_of name) }
+{
+    if name.as_str() == "mingw32" || name.as_str() == "win32" {
+        return Text::from_str(alloc, "windows");
+    }
+    if name.as_str() == "darwin" {
+        return Text::from_str(alloc, "osx");
+    }
+    Ok(name)
 }
 
 // The system that a name stands for, in any case.

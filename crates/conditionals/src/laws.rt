@@ -1,3 +1,4 @@
+// What holds of the paths of a condition.
 ghost use Rattle.std.specs.Prelude.{◌≡◌, ℕ, Bool, true, Some, List, slice_get};
 ghost use Rattle.std.specs.List.{list_any};
 ghost use Rattle.plan_types.specs.declared.condition.Cond.{Cond};
@@ -8,7 +9,8 @@ ghost use Rattle.conditionals.specs.Paths.{Path, paths_of, followed, clean_paths
 /// Whatever is known of some flags, one of the paths holds exactly where the value is as wanted.
 pub fn some_path_holds()
     ensures { (env : Env) (cond : Cond) (want : Bool) (flags : Flags)
-        → list_any (holds flags) (clean_paths (paths_of env cond want)) ≡ is_wanted want (value env flags cond) }
+        → list_any (holds flags) (clean_paths (paths_of env cond want)) ≡ is_wanted want
+        (value env flags cond) }
 {}
 
 /// No two paths, at different places, hold together.
@@ -22,5 +24,6 @@ pub fn no_two_paths_hold()
 /// Where paths are followed by others, cleaning both before they are joined changes nothing.
 pub fn cleaned_before_joined()
     ensures { (first second : List Path)
-        → clean_paths (followed (clean_paths first) (clean_paths second)) ≡ clean_paths (followed first second) }
+        → clean_paths (followed (clean_paths first) (clean_paths second)) ≡ clean_paths
+        (followed first second) }
 {}

@@ -1,3 +1,4 @@
+// The paths of a condition.
 ghost use Rattle.std.specs.Prelude.{◌≡◌, ◌≤◌, ◌++◌, ◌∷◌, [], length, map, nat_lt, true, false, IfOk, OnOk};
 ghost use Rattle.std.specs.List.{All};
 ghost use Rattle.conditionals.specs.Paths.{paths_of, fixed, followed, clean_paths, sets};

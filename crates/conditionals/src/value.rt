@@ -1,3 +1,4 @@
+// The value of a condition while some flags are set.
 ghost use Rattle.std.specs.Prelude.{◌≡◌, true};
 ghost use Rattle.conditionals.specs.Value.{value, tri_of, flag_in, flag_value, answer, each_once};
 

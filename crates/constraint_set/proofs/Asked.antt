@@ -13,56 +13,46 @@ use Rattle.qualified_goals.specs.declared.variable.Qual.TheVariants.{Top, Setup,
 use Rattle.qualified_goals.specs.declared.variable.Var.{Var}
 use Rattle.qualified_goals.specs.Names.{NameTable, number_of}
 use Rattle.constraint_set.specs.Bars.{is_number, is_on, is_value, holds, is_met, excludes, values_of, asks}
-use Rattle.constraint_set.specs.Place.{setup_of, place_of, place_holds}
+use Rattle.constraint_set.specs.NumberedScope.{setup_of, numbered, numbered_holds}
 use Rattle.constraint_set.specs.Rules.{rule_bars, is_set, rules_of, rules_on, settings_as, settings_of, settings_on}
-use Rattle.constraint_set.specs.declared.place.Place.{Place}
+use Rattle.constraint_set.specs.declared.numbered_scope.NumberedScope.{NumberedScope}
 use Rattle.constraint_set.specs.declared.rules.Setting.{Setting}
+use Rattle.std.proofs.Math.Bool.{and-false, or-false}
+use Rattle.common_laws.specs.Small.{and-or}
 
-setup-holds : (o : Option ℕ) (qual : Qual) → (p : ℕ) → place_holds (setup_of o) (Setup p) ≡ is_number o p
+setup-holds : (o : Option ℕ) (qual : Qual) → (p : ℕ) → numbered_holds (setup_of o) (Setup p) ≡ is_number o p
 setup-holds None qual p = refl
 setup-holds (Some n) qual p = refl
 
-setup-not-top : (o : Option ℕ) → place_holds (setup_of o) Top ≡ false
+setup-not-top : (o : Option ℕ) → numbered_holds (setup_of o) Top ≡ false
 setup-not-top None = refl
 setup-not-top (Some n) = refl
 
-setup-not-tool : (o : Option ℕ) (p t : ℕ) → place_holds (setup_of o) (Exe p t) ≡ false
+setup-not-tool : (o : Option ℕ) (p t : ℕ) → numbered_holds (setup_of o) (Exe p t) ≡ false
 setup-not-tool None p t = refl
 setup-not-tool (Some n) p t = refl
 
 -- a scope by its number holds where the scope does
-place-holds : (names : NameTable) (scope : Scope) (qual : Qual) → place_holds (place_of names scope) qual ≡ holds names scope qual
-place-holds names AtTop Top = refl
-place-holds names AtTop (Setup p) = refl
-place-holds names AtTop (Exe p t) = refl
-place-holds names Any Top = refl
-place-holds names Any (Setup p) = refl
-place-holds names Any (Exe p t) = refl
-place-holds names InSetups Top = refl
-place-holds names InSetups (Setup p) = refl
-place-holds names InSetups (Exe p t) = refl
-place-holds names (InSetupOf owner) Top = setup-not-top (number_of names.packages owner)
-place-holds names (InSetupOf owner) (Setup p) = setup-holds (number_of names.packages owner) Top p
-place-holds names (InSetupOf owner) (Exe p t) = setup-not-tool (number_of names.packages owner) p t
-
-and-false : (b : Bool) → (b && false) ≡ false
-and-false true = refl
-and-false false = refl
-
-or-false : (b : Bool) → (b || false) ≡ b
-or-false true = refl
-or-false false = refl
-
-and-or : (h a b : Bool) → ((h && a) || (h && b)) ≡ (h && (a || b))
-and-or true a b = refl
-and-or false a b = refl
+numbered-holds : (names : NameTable) (scope : Scope) (qual : Qual) → numbered_holds (numbered names scope) qual ≡ holds names scope qual
+numbered-holds names AtTop Top = refl
+numbered-holds names AtTop (Setup p) = refl
+numbered-holds names AtTop (Exe p t) = refl
+numbered-holds names Any Top = refl
+numbered-holds names Any (Setup p) = refl
+numbered-holds names Any (Exe p t) = refl
+numbered-holds names InSetups Top = refl
+numbered-holds names InSetups (Setup p) = refl
+numbered-holds names InSetups (Exe p t) = refl
+numbered-holds names (InSetupOf owner) Top = setup-not-top (number_of names.packages owner)
+numbered-holds names (InSetupOf owner) (Setup p) = setup-holds (number_of names.packages owner) Top p
+numbered-holds names (InSetupOf owner) (Exe p t) = setup-not-tool (number_of names.packages owner) p t
 
 -- instances
 
 asked-rules : (names : NameTable) (qual : Qual) (i : Instance) (scope : Scope) (name : List ℕ) (what : What) → list_any (rule_bars qual i) (rules_of names (record { scope = scope; «package» = name; what = what })) ≡ (holds names scope qual && excludes what i)
-asked-rules names qual i scope name (OfRange range) = or-false (place_holds (place_of names scope) qual && excludes (OfRange range) i) ∙ ap (λ b. b && excludes (OfRange range) i) (place-holds names scope qual)
-asked-rules names qual i scope name OfUnit = or-false (place_holds (place_of names scope) qual && excludes OfUnit i) ∙ ap (λ b. b && excludes OfUnit i) (place-holds names scope qual)
-asked-rules names qual i scope name OfSource = or-false (place_holds (place_of names scope) qual && excludes OfSource i) ∙ ap (λ b. b && excludes OfSource i) (place-holds names scope qual)
+asked-rules names qual i scope name (OfRange range) = or-false (numbered_holds (numbered names scope) qual && excludes (OfRange range) i) ∙ ap (λ b. b && excludes (OfRange range) i) (numbered-holds names scope qual)
+asked-rules names qual i scope name OfUnit = or-false (numbered_holds (numbered names scope) qual && excludes OfUnit i) ∙ ap (λ b. b && excludes OfUnit i) (numbered-holds names scope qual)
+asked-rules names qual i scope name OfSource = or-false (numbered_holds (numbered names scope) qual && excludes OfSource i) ∙ ap (λ b. b && excludes OfSource i) (numbered-holds names scope qual)
 asked-rules names qual i scope name (Flags sets) = sym (and-false (holds names scope qual))
 asked-rules names qual i scope name Tests = sym (and-false (holds names scope qual))
 asked-rules names qual i scope name Benches = sym (and-false (holds names scope qual))
@@ -83,16 +73,16 @@ rules-bar names v i (c ∷ cs) =
 
 -- parts
 
-set-values : (place : Place) (qual : Qual) (on : Bool) (values : List Bool) → list_any (is_set qual on) (settings_as place values) ≡ (place_holds place qual && list_any (λ value. is_value value on) values)
-set-values place qual on [] = sym (and-false (place_holds place qual))
-set-values place qual on (value ∷ values) =
-    ap (λ b. (place_holds place qual && is_value value on) || b) (set-values place qual on values)
-    ∙ and-or (place_holds place qual) (is_value value on) (list_any (λ v. is_value v on) values)
+set-values : (scope : NumberedScope) (qual : Qual) (on : Bool) (values : List Bool) → list_any (is_set qual on) (settings_as scope values) ≡ (numbered_holds scope qual && list_any (λ value. is_value value on) values)
+set-values scope qual on [] = sym (and-false (numbered_holds scope qual))
+set-values scope qual on (value ∷ values) =
+    ap (λ b. (numbered_holds scope qual && is_value value on) || b) (set-values scope qual on values)
+    ∙ and-or (numbered_holds scope qual) (is_value value on) (list_any (λ v. is_value v on) values)
 
 one-setting : (names : NameTable) (v : Var) (on : Bool) (c : Constraint) → list_any (is_set v.qual on) (settings_on names v.«package» v.part c) ≡ (is_met names c v && asks names c.what v.part on)
 one-setting names v on c =
     elim (is_on names c v.«package») as (λ b. list_any (is_set v.qual on) (if b then settings_of names v.part c else []) ≡ ((b && holds names c.scope v.qual) && asks names c.what v.part on)) [
-      | true ↦ set-values (place_of names c.scope) v.qual on (values_of names c.what v.part) ∙ ap (λ b. b && asks names c.what v.part on) (place-holds names c.scope v.qual)
+      | true ↦ set-values (numbered names c.scope) v.qual on (values_of names c.what v.part) ∙ ap (λ b. b && asks names c.what v.part on) (numbered-holds names c.scope v.qual)
       | false ↦ refl
     ]
 
@@ -105,14 +95,14 @@ settings-ask names v on (c ∷ cs) =
 
 -- in whatever scope
 
-named-values : (place : Place) (on : Bool) (values : List Bool) → list_any (λ (s : Setting). is_value s.on on) (settings_as place values) ≡ list_any (λ value. is_value value on) values
-named-values place on [] = refl
-named-values place on (value ∷ values) = ap (λ b. is_value value on || b) (named-values place on values)
+named-values : (scope : NumberedScope) (on : Bool) (values : List Bool) → list_any (λ (s : Setting). is_value s.on on) (settings_as scope values) ≡ list_any (λ value. is_value value on) values
+named-values scope on [] = refl
+named-values scope on (value ∷ values) = ap (λ b. is_value value on || b) (named-values scope on values)
 
 one-named : (names : NameTable) (v : Var) (on : Bool) (c : Constraint) → list_any (λ (s : Setting). is_value s.on on) (settings_on names v.«package» v.part c) ≡ (is_on names c v.«package» && asks names c.what v.part on)
 one-named names v on c =
     elim (is_on names c v.«package») as (λ b. list_any (λ (s : Setting). is_value s.on on) (if b then settings_of names v.part c else []) ≡ (b && asks names c.what v.part on)) [
-      | true ↦ named-values (place_of names c.scope) on (values_of names c.what v.part)
+      | true ↦ named-values (numbered names c.scope) on (values_of names c.what v.part)
       | false ↦ refl
     ]
 

@@ -1,10 +1,11 @@
 -- Cuts that are relaxed at one end and then at the other are a range relaxed so.
-use Rattle.std.proofs.Common.{◌≡◌, Bool, true, false, ◌||◌, List, inl, inr, refl, sym, ◌∙◌, subst}
+use Rattle.std.proofs.Common.{◌≡◌, Bool, false, List, inl, inr, sym, ◌∙◌, subst}
 use Rattle.std.specs.Prelude.{IsTrue}
 use Rattle.std.proofs.lemmas.Bool.{false≢true}
 use Rattle.plan_types.specs.declared.version.Version.{Version}
 use Rattle.version_range.specs.Cuts.{HasNumbers, IsRelaxed, Relaxes, inside}
 use Rattle.version_range.proofs.Relaxing.{relaxed_twice}
+use Rattle.std.proofs.Math.Bool.{or-false}
 
 module _ (has : Version → Bool) (cuts : List Version) (same : (v : Version) → HasNumbers v → inside cuts v ≡ has v) where
   unrelaxed : Relaxes false false has (inside cuts)
@@ -14,10 +15,6 @@ module _ (has : Version → Bool) (cuts : List Version) (same : (v : Version) �
       out (inl t) = same v n ∙ t
       out (inr (inl r)) = absurd (false≢true r.0)
       out (inr (inr r)) = absurd (false≢true r.0)
-
-or-false : (b : Bool) → (b || false) ≡ b
-or-false true = refl
-or-false false = refl
 
 pub both-ends : (newer older : Bool) (has : Version → Bool) (cuts once twice : List Version) → ((v : Version) → HasNumbers v → inside cuts v ≡ has v)
     → Relaxes newer false (inside cuts) (inside once) → Relaxes false older (inside once) (inside twice) → Relaxes newer older has (inside twice)

@@ -19,6 +19,7 @@ use Rattle.qualified_goals.specs.declared.variable.Part.TheVariants.{Package, Fl
 use Rattle.qualified_goals.specs.declared.variable.Var.{Var}
 use Rattle.qualified_goals.specs.Names.{Name, NameTable, number_of, is_listed}
 
+-- whether a number is there and is this one
 abbrev pub is_number : Option ℕ → ℕ → Bool
 is_number None n = false
 is_number (Some m) n = nat_eq m n
@@ -47,6 +48,7 @@ holds names (InSetupOf owner) (Exe p t) = false
 abbrev pub is_met : NameTable → Constraint → Var → Bool
 is_met names c v = is_on names c v.«package» && holds names c.scope v.qual
 
+-- whether an instance is an installed unit
 abbrev pub is_unit : Origin → Bool
 is_unit Local = false
 is_unit OfSource = false
@@ -61,29 +63,32 @@ excludes (Flags sets) i = false
 excludes Tests i = false
 excludes Benches i = false
 
--- the values that are asked of a part
-
+-- the values that are asked of a flag
 abbrev pub flag_values : NameTable → List FlagSet → ℕ → List Bool
 flag_values names sets f = flat_map (λ s. if is_number (number_of names.flags s.name) f then s.on ∷ [] else []) sets
 
+-- the values that settings of flags ask of a part
 abbrev pub set_values : NameTable → List FlagSet → Part → List Bool
 set_values names sets Package = []
 set_values names sets (Flag f) = flag_values names sets f
 set_values names sets TestPart = []
 set_values names sets BenchPart = []
 
+-- the value that `test` asks of a part
 abbrev pub test_values : Part → List Bool
 test_values Package = []
 test_values (Flag f) = []
 test_values TestPart = true ∷ []
 test_values BenchPart = []
 
+-- the value that `bench` asks of a part
 abbrev pub bench_values : Part → List Bool
 bench_values Package = []
 bench_values (Flag f) = []
 bench_values TestPart = []
 bench_values BenchPart = true ∷ []
 
+-- the values that a constraint asks of a part
 abbrev pub values_of : NameTable → What → Part → List Bool
 values_of names (Range range) part = []
 values_of names Installed part = []
@@ -92,6 +97,7 @@ values_of names (Flags sets) part = set_values names sets part
 values_of names Tests part = test_values part
 values_of names Benches part = bench_values part
 
+-- whether two values are one
 abbrev pub is_value : Bool → Bool → Bool
 is_value true on = on
 is_value false on = not on
@@ -107,6 +113,7 @@ wants tests benchmarks (Flag f) = false
 wants tests benchmarks TestPart = tests
 wants tests benchmarks BenchPart = benchmarks
 
+-- the libraries that come with the compiler
 abbrev pub boot_libraries : List Name
 boot_libraries = codes "base" ∷ codes "ghc-bignum" ∷ codes "ghc-prim" ∷ codes "integer-gmp" ∷ codes "integer-simple" ∷ codes "template-haskell" ∷ []
 

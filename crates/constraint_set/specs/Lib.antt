@@ -1,7 +1,7 @@
 pub mod Bars
 pub mod Relaxed
 pub mod Lists
-pub mod Place
+pub mod NumberedScope
 pub mod Rules
 pub mod Stands
 pub mod Examples

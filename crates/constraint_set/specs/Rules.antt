@@ -1,5 +1,5 @@
 -- What is kept of constraints: by packages and parts what is asked of them, in the order of the constraints, and where.
-use Rattle.std.specs.Prelude.{◌≡◌, ℕ, Bool, true, false, not, ◌&&◌, List, [], ◌∷◌, map, flat_map, nat_eq, if◌then◌else◌}
+use Rattle.std.specs.Prelude.{◌≡◌, ℕ, Bool, true, false, not, ◌&&◌, List, [], ◌∷◌, ◌++◌, map, flat_map, nat_eq, if◌then◌else◌}
 use Rattle.indexmap.specs.IndexMap.{IndexMap}
 use Rattle.plan_types.specs.Members.{members}
 use Rattle.plan_types.specs.declared.constraint.Constraint.{Constraint}
@@ -12,8 +12,8 @@ use Rattle.qualified_goals.specs.declared.variable.Part.TheVariants.{Package, Fl
 use Rattle.qualified_goals.specs.Names.{NameTable}
 use Rattle.constraint_set.specs.Bars.{is_on, is_unit, is_value, values_of}
 use Rattle.constraint_set.specs.Lists.{items_at}
-use Rattle.constraint_set.specs.Place.{place_of, place_holds}
-use Rattle.constraint_set.specs.declared.place.Place.{Place}
+use Rattle.constraint_set.specs.NumberedScope.{numbered, numbered_holds}
+use Rattle.constraint_set.specs.declared.numbered_scope.NumberedScope.{NumberedScope}
 use Rattle.constraint_set.specs.declared.rules.Wanted.{Wanted}
 use Rattle.constraint_set.specs.declared.rules.Wanted.TheVariants.{Range, Installed, Source}
 use Rattle.constraint_set.specs.declared.rules.Rule.{Rule}
@@ -21,17 +21,21 @@ use Rattle.constraint_set.specs.declared.rules.Setting.{Setting}
 use Rattle.constraint_set.specs.declared.rules.PartOf.{PartOf}
 use Rattle.constraint_set.specs.declared.rules.Rules.{Rules}
 
+-- whether what is asked of a package excludes an instance
 abbrev pub excluded : Wanted → Instance → Bool
 excluded (Range range) i = not (members range i.version)
 excluded Installed i = not (is_unit i.origin)
 excluded Source i = is_unit i.origin
 
+-- whether a rule bars an instance under a qualifier
 abbrev pub rule_bars : Qual → Instance → Rule → Bool
-rule_bars qual i rule = place_holds rule.place qual && excluded rule.wanted i
+rule_bars qual i rule = numbered_holds rule.scope qual && excluded rule.wanted i
 
+-- whether a setting asks for a value under a qualifier
 abbrev pub is_set : Qual → Bool → Setting → Bool
-is_set qual on setting = place_holds setting.place qual && is_value setting.on on
+is_set qual on setting = numbered_holds setting.scope qual && is_value setting.on on
 
+-- whether two parts are one
 abbrev pub is_part : Part → Part → Bool
 is_part Package Package = true
 is_part Package (Flag g) = false
@@ -50,6 +54,7 @@ is_part BenchPart (Flag g) = false
 is_part BenchPart TestPart = false
 is_part BenchPart BenchPart = true
 
+-- whether two parts of packages are one
 abbrev pub is_part_of : PartOf → PartOf → Bool
 is_part_of a b = nat_eq a.«package» b.«package» && is_part a.part b.part
 
@@ -66,25 +71,47 @@ wanted_of (Flags sets) = []
 wanted_of Tests = []
 wanted_of Benches = []
 
-abbrev pub rules_as : Place → List Wanted → List Rule
-rules_as place wanted = map (λ w. record { place = place; wanted = w }) wanted
+-- rules in a scope
+abbrev pub rules_as : NumberedScope → List Wanted → List Rule
+rules_as scope wanted = map (λ w. record { scope = scope; wanted = w }) wanted
 
-abbrev pub settings_as : Place → List Bool → List Setting
-settings_as place values = map (λ on. record { place = place; on = on }) values
+-- settings in a scope
+abbrev pub settings_as : NumberedScope → List Bool → List Setting
+settings_as scope values = map (λ on. record { scope = scope; on = on }) values
 
+-- the rules that a constraint makes for its package
 abbrev pub rules_of : NameTable → Constraint → List Rule
-rules_of names c = rules_as (place_of names c.scope) (wanted_of c.what)
+rules_of names c = rules_as (numbered names c.scope) (wanted_of c.what)
 
+-- the settings that it makes for a part of its package
 abbrev pub settings_of : NameTable → Part → Constraint → List Setting
-settings_of names part c = settings_as (place_of names c.scope) (values_of names c.what part)
+settings_of names part c = settings_as (numbered names c.scope) (values_of names c.what part)
 
 -- those where the constraint is on the package
 abbrev pub rules_on : NameTable → ℕ → Constraint → List Rule
 rules_on names p c = if is_on names c p then rules_of names c else []
 
+-- the same for settings
 abbrev pub settings_on : NameTable → ℕ → Part → Constraint → List Setting
 settings_on names p part c = if is_on names c p then settings_of names part c else []
 
+-- these items at the number of one package, and none at others
+abbrev pub at_package : {X : Type 0} → ℕ → List X → ℕ → List X
+at_package «package» items p = if nat_eq «package» p then items else []
+
+-- a setting at one part of one package, and none at others
+abbrev pub at_part : ℕ → Part → Setting → ℕ → Part → List Setting
+at_part «package» part setting p other = if nat_eq «package» p && is_part part other then setting ∷ [] else []
+
+-- more rules came behind those of each package
+abbrev pub AddsRules : Rules → Rules → (ℕ → List Rule) → Type 0
+AddsRules old new more = (p : ℕ) → items_at nat_eq new.packages p ≡ items_at nat_eq old.packages p ++ more p
+
+-- more settings came behind those of each part
+abbrev pub AddsSettings : Rules → Rules → (ℕ → Part → List Setting) → Type 0
+AddsSettings old new more = (p : ℕ) (part : Part) → settings_at new.parts p part ≡ settings_at old.parts p part ++ more p part
+
+-- what is kept is what these constraints ask
 pub record RulesAre (names : NameTable) (constraints : List Constraint) (rules : Rules) : Type 0 where
   pub packages_are : (p : ℕ) → items_at nat_eq rules.packages p ≡ flat_map (rules_on names p) constraints
   pub parts_are : (p : ℕ) (part : Part) → settings_at rules.parts p part ≡ flat_map (settings_on names p part) constraints

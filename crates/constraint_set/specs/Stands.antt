@@ -5,6 +5,7 @@ use Rattle.qualified_goals.specs.Names.{NameTable}
 use Rattle.constraint_set.specs.declared.constraints.Constraints.{Constraints}
 use Rattle.constraint_set.specs.Rules.{RulesAre}
 
+-- the rules, what is relaxed and the settings are those of the project, by these numbers
 pub record StandsFor (project : Project) (names : NameTable) (kept : Constraints) : Type 0 where
   pub rules_are : RulesAre names project.constraints kept.rules
   pub newer_are : kept.newer ≡ project.newer

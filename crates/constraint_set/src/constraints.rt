@@ -1,3 +1,4 @@
+// What the constraints of a project bar, as the search asks it.
 ghost use Rattle.std.specs.Prelude.{◌≡◌, ◌&&◌, ◌||◌, not, true, false, nat_eq, IfOk};
 ghost use Rattle.std.specs.List.{list_any};
 ghost use Rattle.plan_types.specs.Members.{members};

@@ -5,7 +5,7 @@
 
 mod constraints;
 mod lists;
-mod place;
+mod numbered_scope;
 mod relaxing;
 mod rules;
 

@@ -1,3 +1,4 @@
+// Lists that are found by keys.
 ghost use Rattle.std.specs.Prelude.{◌≡◌, ◌++◌, [], ◌∷◌, OnOk, if◌then◌else◌};
 ghost use Rattle.constraint_set.specs.Lists.{items_at};
 

@@ -1,3 +1,4 @@
+// Whose ranges a project relaxes.
 ghost use Rattle.std.specs.Prelude.{◌≡◌, IfOk};
 ghost use Rattle.constraint_set.specs.Relaxed.{is_dep, is_owner, is_version, relaxes};
 

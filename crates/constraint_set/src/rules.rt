@@ -1,13 +1,12 @@
-ghost use Rattle.std.specs.Prelude.{◌≡◌, ◌++◌, [], ◌∷◌, ◌&&◌, ℕ, OnOk, IfOk, nat_eq, if◌then◌else◌};
-ghost use Rattle.qualified_goals.specs.declared.variable.Part.{Part};
+// What constraints ask, kept by the numbers of the packages and parts that they are on.
+ghost use Rattle.std.specs.Prelude.{◌≡◌, [], ◌∷◌, OnOk, IfOk};
 ghost use Rattle.qualified_goals.specs.declared.variable.Part.TheVariants.{Flag, Tests, Benches};
 ghost use Rattle.constraint_set.specs.Bars.{is_unit, is_value, set_values};
-ghost use Rattle.constraint_set.specs.Lists.{items_at};
-ghost use Rattle.constraint_set.specs.Place.{place_of};
-ghost use Rattle.constraint_set.specs.Rules.{excluded, is_part, is_set, rule_bars, rules_of, rules_on, settings_as, settings_at, settings_of, settings_on, RulesAre};
+ghost use Rattle.constraint_set.specs.NumberedScope.{numbered};
+ghost use Rattle.constraint_set.specs.Rules.{AddsRules, AddsSettings, RulesAre, at_package, at_part, excluded, is_set, rule_bars, rules_of, rules_on, settings_as, settings_of, settings_on};
 
 use crate::lists::{Lists, push_at};
-use crate::place::Place;
+use crate::numbered_scope::NumberedScope;
 use indexmap::IndexMap;
 use plan_types::{Constraint, FlagSet, Instance, NoMemory, Origin, Range, What};
 use qualified_goals::{Names, Part, Qual};
@@ -24,14 +23,14 @@ pub(crate) enum Wanted {
 /// What a constraint asks of a package, and where.
 #[derive(Debug, Drop)]
 pub(crate) struct Rule {
-    pub place: Place,
+    pub scope: NumberedScope,
     pub wanted: Wanted,
 }
 
 /// The value that a constraint asks of a part, and where.
 #[derive(Clone, Copy, Debug, Drop)]
 pub(crate) struct Setting {
-    pub place: Place,
+    pub scope: NumberedScope,
     pub on: bool,
 }
 
@@ -74,7 +73,7 @@ impl Rule {
     pub(crate) fn bars(&self, qual: Qual, instance: &Instance) -> bool
         ensures { result ≡ rule_bars qual instance.now self.now }
     {
-        self.place.holds(qual) && self.wanted.excludes(instance)
+        self.scope.holds(qual) && self.wanted.excludes(instance)
     }
 }
 
@@ -82,7 +81,7 @@ impl Setting {
     pub(crate) fn asks(&self, qual: Qual, on: bool) -> bool
         ensures { result ≡ is_set qual on self.now }
     {
-        self.place.holds(qual) && self.is(on)
+        self.scope.holds(qual) && self.is(on)
     }
 
     pub(crate) fn is(&self, on: bool) -> bool
@@ -118,8 +117,8 @@ impl Rules {
         names: &Names,
         constraint: &Constraint,
     ) -> Result<(), NoMemory>
-        ensures packages { OnOk result ((p : ℕ) → items_at nat_eq self.new.packages p ≡ items_at nat_eq self.old.packages p ++ rules_on names.now p constraint.now) }
-        ensures parts { OnOk result ((p : ℕ) (part : Part) → settings_at self.new.parts p part ≡ settings_at self.old.parts p part ++ settings_on names.now p part constraint.now) }
+        ensures packages { OnOk result (AddsRules self.old self.new (λ p. rules_on names.now p constraint.now)) }
+        ensures parts { OnOk result (AddsSettings self.old self.new (λ p part. settings_on names.now p part constraint.now)) }
     {
         match names.package(&constraint.package) {
             Some(package) => self.add(alloc, names, package, constraint),
@@ -134,20 +133,21 @@ impl Rules {
         package: u64,
         constraint: &Constraint,
     ) -> Result<(), NoMemory>
-        ensures packages { OnOk result ((p : ℕ) → items_at nat_eq self.new.packages p ≡ items_at nat_eq self.old.packages p ++ (if nat_eq «package» p then rules_of names.now constraint.now else [])) }
-        ensures parts { OnOk result ((p : ℕ) (part : Part) → settings_at self.new.parts p part ≡ settings_at self.old.parts p part ++ (if nat_eq «package» p then settings_of names.now part constraint.now else [])) }
+        ensures packages { OnOk result (AddsRules self.old self.new (at_package «package» (rules_of names.now constraint.now))) }
+        ensures parts { OnOk result (AddsSettings self.old self.new
+            (λ p part. at_package «package» (settings_of names.now part constraint.now) p)) }
     {
-        let place = Place::of(names, &constraint.scope);
+        let scope = NumberedScope::of(names, &constraint.scope);
         match &constraint.what {
             What::Range(range) => {
                 let range = range.copy(alloc)?;
-                self.add_rule(alloc, package, place, Wanted::Range(range))
+                self.add_rule(alloc, package, scope, Wanted::Range(range))
             }
-            What::Installed => self.add_rule(alloc, package, place, Wanted::Installed),
-            What::Source => self.add_rule(alloc, package, place, Wanted::Source),
-            What::Flags(sets) => self.add_flags(alloc, names, package, place, sets.as_slice()),
-            What::Tests => self.add_setting(alloc, package, Part::Tests, place, true),
-            What::Benches => self.add_setting(alloc, package, Part::Benches, place, true),
+            What::Installed => self.add_rule(alloc, package, scope, Wanted::Installed),
+            What::Source => self.add_rule(alloc, package, scope, Wanted::Source),
+            What::Flags(sets) => self.add_flags(alloc, names, package, scope, sets.as_slice()),
+            What::Tests => self.add_setting(alloc, package, Part::Tests, scope, true),
+            What::Benches => self.add_setting(alloc, package, Part::Benches, scope, true),
         }
     }
 
@@ -155,13 +155,14 @@ impl Rules {
         &mut self,
         alloc: Global,
         package: u64,
-        place: Place,
+        scope: NumberedScope,
         wanted: Wanted,
     ) -> Result<(), NoMemory>
-        ensures packages { OnOk result ((p : ℕ) → items_at nat_eq self.new.packages p ≡ items_at nat_eq self.old.packages p ++ (if nat_eq «package» p then record { place = place; wanted = wanted } ∷ [] else [])) }
+        ensures packages { OnOk result (AddsRules self.old self.new
+            (at_package «package» (record { scope = scope; wanted = wanted } ∷ []))) }
         ensures parts { OnOk result (self.new.parts ≡ self.old.parts) }
     {
-        push_at(alloc, &mut self.packages, package, Rule { place, wanted })
+        push_at(alloc, &mut self.packages, package, Rule { scope, wanted })
     }
 
     fn add_setting(
@@ -169,14 +170,14 @@ impl Rules {
         alloc: Global,
         package: u64,
         part: Part,
-        place: Place,
+        scope: NumberedScope,
         on: bool,
     ) -> Result<(), NoMemory>
         ensures packages { OnOk result (self.new.packages ≡ self.old.packages) }
-        ensures parts { OnOk result ((p : ℕ) (other : Part) → settings_at self.new.parts p other ≡ settings_at self.old.parts p other ++ (if nat_eq «package» p && is_part part other then record { place = place; on = on } ∷ [] else [])) }
+        ensures parts { OnOk result (AddsSettings self.old self.new (at_part «package» part (record { scope = scope; on = on }))) }
     {
         let key = PartOf { package, part };
-        let setting = Setting { place, on };
+        let setting = Setting { scope, on };
         push_at(alloc, &mut self.parts, key, setting)?;
         Ok(())
     }
@@ -187,15 +188,16 @@ impl Rules {
         alloc: Global,
         names: &Names,
         package: u64,
-        place: Place,
+        scope: NumberedScope,
         sets: &[FlagSet],
     ) -> Result<(), NoMemory>
         ensures packages { OnOk result (self.new.packages ≡ self.old.packages) }
-        ensures parts { OnOk result ((p : ℕ) (part : Part) → settings_at self.new.parts p part ≡ settings_at self.old.parts p part ++ (if nat_eq «package» p then settings_as place (set_values names.now sets.now part) else [])) }
+        ensures parts { OnOk result (AddsSettings self.old self.new
+            (λ p part. at_package «package» (settings_as scope (set_values names.now sets.now part)) p)) }
     {
         for set in sets {
             if let Some(flag) = names.flag(&set.name) {
-                self.add_setting(alloc, package, Part::Flag(flag), place, set.on)?;
+                self.add_setting(alloc, package, Part::Flag(flag), scope, set.on)?;
             }
         }
         Ok(())

@@ -1,6 +1,5 @@
 -- What the calls answer is what the definitions of the entries say.
-use Rattle.std.proofs.Common.{◌≡◌, ℕ, true, false, List, [], Result, Ok, Err, sym, ◌∙◌, subst}
-use Rattle.std.specs.Prelude.{IfOk, IfErr}
+use Rattle.std.proofs.Common.{◌≡◌, ℕ, true, false, List, [], sym, ◌∙◌, subst}
 use Rattle.plan_types.specs.Name.{is_package_name}
 use Rattle.plan_types.specs.declared.dependency.DepKind.{DepKind}
 use Rattle.plan_types.specs.declared.dependency.DepKind.TheVariants.{Tool}
@@ -9,23 +8,11 @@ use Rattle.plan_types.specs.declared.range.Range.{Range}
 use Rattle.plan_types.specs.declared.range.Spec.{Spec}
 use Rattle.plan_types.specs.declared.refusal.Cause.{Cause}
 use Rattle.plan_types.specs.declared.refusal.Cause.TheVariants.{BadDepend}
-use Rattle.plan_types.specs.declared.refusal.TextFault.{TextFault}
-use Rattle.plan_types.specs.declared.refusal.TextFault.TheVariants.{NoMemory, Bad}
-use Rattle.plan_types.specs.Refusal.{Refuses}
 use Rattle.version_range.specs.Grammar.{Stands, FirstFault}
-use Rattle.depend_text.specs.Entries.{Pieces, Each, First, here, later}
-use Rattle.depend_text.specs.Words.{name_of, behind_name}
+use Rattle.entry_text.specs.Entries.{Pieces, Each, First, here, later}
+use Rattle.entry_text.specs.Words.{name_of, behind_name}
 use Rattle.depend_text.specs.Depends.{Library, Libraries, LibrariesFault, LibraryEntry, LibraryFault, Executable, ToolEntry, ToolFault}
-use Rattle.depend_text.proofs.Only.{one_cut, each_or_first}
-
-pub ok_so : {A : Type 0} (P Q : A → Type 0) (result : Result A TextFault) → ((x : A) → P x → Q x) → IfOk result P → IfOk result Q
-ok_so P Q (Ok x) so h = so x h
-ok_so P Q (Err fault) so h = tt
-
-pub fault_so : {A : Type 0} (P Q : Cause → Type 0) (result : Result A TextFault) → ((cause : Cause) → P cause → Q cause) → IfErr result (Refuses P) → IfErr result (Refuses Q)
-fault_so P Q (Ok x) so h = tt
-fault_so P Q (Err NoMemory) so h = tt
-fault_so P Q (Err (Bad cause)) so h = so cause h
+use Rattle.entry_text.proofs.Only.{one_cut, each_or_first}
 
 pub changed : {A B : Type 0} (P : A → B → Type 0) (a a' : A) (b b' : B) → a ≡ a' → b ≡ b' → P a b → P a' b'
 changed P a a' b b' e f h = subst (λ y. P a' y) f (subst (λ x. P x b) e h)
@@ -86,8 +73,3 @@ module _ (spec : Spec) (text name rest : List ℕ) (e : name ≡ name_of text) (
     versions = versions;
     is = λ i. record { line = line; kind = Tool; «package» = (same ∙ e) i; libs = none i; exe = exe; range = range; internal = false };
   }
-
--- a reader of ranges tells of a fault what the others do
-pub range_so : {P Q : Cause → Type 0} (fault : TextFault) → ((cause : Cause) → P cause → Q cause) → Refuses P fault → Refuses Q fault
-range_so NoMemory so h = tt
-range_so (Bad cause) so h = so cause h

@@ -1,12 +1,2 @@
-pub mod Cuts
-pub mod Found
-pub mod Ascii
-pub mod Only
 pub mod OneLibrary
 pub mod Fits
-pub mod OneNamed
-pub mod Project
-pub mod Filtered
-pub mod OneConstraint
-pub mod Dashes
-pub mod OneRelax

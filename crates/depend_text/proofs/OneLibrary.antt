@@ -12,13 +12,11 @@ use Rattle.plan_types.specs.Format.{is_old}
 use Rattle.plan_types.specs.declared.refusal.Cause.{Cause}
 use Rattle.version_range.specs.Grammar.{Stands, FirstFault}
 use Rattle.version_range.proofs.Exact.{one_range, one_fault, range_or_fault}
-use Rattle.depend_text.specs.Entries.{Pieces, Each}
-use Rattle.depend_text.specs.Words.{run, behind, is_in_braces, name_of, behind_name}
+use Rattle.entry_text.specs.Entries.{Pieces, Each}
+use Rattle.entry_text.specs.Words.{run, behind, is_in_braces, name_of, behind_name}
 use Rattle.depend_text.specs.Depends.{Library, NamedLibraries, one, several, Libraries, main, named, LibrariesFault, old, broken, LibraryEntry, LibraryFault, Executable, ToolEntry, ToolFault, old_cause}
-use Rattle.depend_text.proofs.Only.{Settled, one_cut, one_each}
-
-rest_same : {a b : ℕ} {as' bs : List ℕ} → a ∷ as' ≡ b ∷ bs → as' ≡ bs
-rest_same e = cc
+use Rattle.entry_text.proofs.Only.{Settled, one_cut, one_each}
+use Rattle.common_laws.specs.Small.{tail_same}
 
 old_or_new : (spec : Spec) → is_old spec ≡ true → is_old spec ≡ false → ⊥
 old_or_new spec e f = true≢false (sym e ∙ f)
@@ -37,10 +35,10 @@ one_list «package» part ls ms r s (one h e f) (one i g k) = (e ∙ sym g, f �
 one_list «package» part ls ms r s (one h e f) (several list ps i g p q) = absurd (brace part list h i)
 one_list «package» part ls ms r s (several list ps i g p q) (one h e f) = absurd (brace part list h i)
 one_list «package» part ls ms r s (several list ps e f p each) (several list' qs g h q each') =
-    let same : list ≡ list' = rest_same (sym e ∙ g) in
+    let same : list ≡ list' = tail_same (sym e ∙ g) in
     let pieces : ps ≡ qs = one_cut (run is_in_braces list') ps qs (subst (λ t. Pieces (run is_in_braces t) ps) same p) q in (
       one_each (Library «package») (one_named «package») qs ls ms (subst (λ t. Each (Library «package») t ls) pieces each) each',
-      rest_same (sym f ∙ ap (behind is_in_braces) same ∙ h),
+      tail_same (sym f ∙ ap (behind is_in_braces) same ∙ h),
     )
 
 pub one_libraries : (spec : Spec) («package» text : List ℕ) (ls ms : List LibName) (r s : List ℕ)
@@ -49,10 +47,10 @@ one_libraries spec «package» text ls ms r s (main h e f) (main i g k) = (e ∙
 one_libraries spec «package» text ls ms r s (main h e f) (named part i g n) = absurd (colon text part h g)
 one_libraries spec «package» text ls ms r s (named part i g n) (main h e f) = absurd (colon text part h g)
 one_libraries spec «package» text ls ms r s (named part h e n) (named part' i f m) =
-    one_list «package» part' ls ms r s (subst (λ t. NamedLibraries «package» t ls r) (rest_same (sym e ∙ f)) n) m
+    one_list «package» part' ls ms r s (subst (λ t. NamedLibraries «package» t ls r) (tail_same (sym e ∙ f)) n) m
 
 one_part_fault : (spec : Spec) («package» text : List ℕ) (c d : Cause) → LibrariesFault spec «package» text c → LibrariesFault spec «package» text d → c ≡ d
-one_part_fault spec «package» text c d (old part h e f) (old part' i g k) = f ∙ ap old_cause (rest_same (sym e ∙ g)) ∙ sym k
+one_part_fault spec «package» text c d (old part h e f) (old part' i g k) = f ∙ ap old_cause (tail_same (sym e ∙ g)) ∙ sym k
 one_part_fault spec «package» text c d (old part h e f) (broken part' i g k none') = absurd (old_or_new spec h i)
 one_part_fault spec «package» text c d (broken part' i g k none') (old part h e f) = absurd (old_or_new spec h i)
 one_part_fault spec «package» text c d (broken part h e f none') (broken part' i g k others') = f ∙ sym k
@@ -61,7 +59,7 @@ part_or_fault : (spec : Spec) («package» text : List ℕ) (ls : List LibName) 
 part_or_fault spec «package» text ls r c (main h e f) (old part i g k) = colon text part h g
 part_or_fault spec «package» text ls r c (main h e f) (broken part i g k none') = colon text part h g
 part_or_fault spec «package» text ls r c (named part h e n) (old part' i g k) = old_or_new spec i h
-part_or_fault spec «package» text ls r c (named part h e n) (broken part' i g k none') = none' ls r (subst (λ t. NamedLibraries «package» t ls r) (rest_same (sym e ∙ g)) n)
+part_or_fault spec «package» text ls r c (named part h e n) (broken part' i g k none') = none' ls r (subst (λ t. NamedLibraries «package» t ls r) (tail_same (sym e ∙ g)) n)
 
 name_or_not : (b : Bool) → b ≡ true → b ≡ false → ⊥
 name_or_not b h k = true≢false (sym h ∙ k)
@@ -98,7 +96,7 @@ module _ (spec : Spec) (kind : DepKind) (line : ℕ) where
 
 one_executable : (text exe exe' r s : List ℕ) → Executable text exe r → Executable text exe' s → (exe ≡ exe') × (r ≡ s)
 one_executable text exe exe' r s e f =
-    let same : e.part ≡ f.part = rest_same (sym e.colon ∙ f.colon) in
+    let same : e.part ≡ f.part = tail_same (sym e.colon ∙ f.colon) in
     (e.is ∙ ap (run is_component_byte) same ∙ sym f.is, e.rest ∙ ap (behind is_component_byte) same ∙ sym f.rest)
 
 module _ (spec : Spec) (line : ℕ) where

@@ -1,7 +1,6 @@
 -- What an entry of a description's dependencies stands for, and its fault.
-use Rattle.std.specs.Prelude.{◌≡◌, ℕ, Bool, true, false, ◌||◌, ◌==◌, nat_eq, if◌then◌else◌, List, [], ◌∷◌}
-use Rattle.std.specs.Cmp.Lexicographic.{pointwise}
-use Rattle.plan_types.specs.Bytes.{is_blank, Blanks, begins_with}
+use Rattle.std.specs.Prelude.{◌≡◌, ℕ, Bool, true, false, ◌||◌, ◌==◌, if◌then◌else◌, List, [], ◌∷◌}
+use Rattle.plan_types.specs.Bytes.{is_blank, Blanks, begins_with, same_text}
 use Rattle.plan_types.specs.Format.{is_old}
 use Rattle.plan_types.specs.Name.{is_component_byte, is_component_name, is_package_name}
 use Rattle.plan_types.specs.declared.dependency.Dep.{Dep}
@@ -14,12 +13,12 @@ use Rattle.plan_types.specs.declared.range.Spec.{Spec}
 use Rattle.plan_types.specs.declared.refusal.Cause.{Cause}
 use Rattle.plan_types.specs.declared.refusal.Cause.TheVariants.{BadName, BadDepend, NeedsVersion}
 use Rattle.version_range.specs.Grammar.{Stands, FirstFault}
-use Rattle.depend_text.specs.Entries.{Pieces, Each, Lists, Faulty}
-use Rattle.depend_text.specs.Words.{run, behind, is_in_braces, name_of, behind_name}
+use Rattle.entry_text.specs.Entries.{Pieces, Each, Lists, Faulty}
+use Rattle.entry_text.specs.Words.{run, behind, is_in_braces, name_of, behind_name}
 
 -- a library that is named as its own package is the main one
 abbrev pub library : List ℕ → List ℕ → LibName
-library «package» name = if pointwise nat_eq name «package» then lib_name.Main else lib_name.Named name
+library «package» name = if same_text name «package» then lib_name.Main else lib_name.Named name
 
 -- the name of a library, with blanks around it
 pub record Library («package» piece : List ℕ) (found : LibName) : Type 0 where
@@ -44,9 +43,11 @@ abbrev pub begins_library : List ℕ → Bool
 begins_library [] = false
 begins_library (b ∷ bs) = b == 123 || is_component_byte b
 
+-- what is wrong with libraries where none may be named
 abbrev pub old_cause : List ℕ → Cause
 old_cause part = if begins_library part then NeedsVersion else BadDepend
 
+-- what is wrong with the libraries behind a package
 pub data LibrariesFault (spec : Spec) («package» text : List ℕ) (cause : Cause) : Type 0 where
   old : (part : List ℕ) → is_old spec ≡ true → text ≡ 58 ∷ part → cause ≡ old_cause part → LibrariesFault spec «package» text cause
   broken : (part : List ℕ) → is_old spec ≡ false → text ≡ 58 ∷ part → cause ≡ BadDepend
@@ -87,6 +88,7 @@ pub record ToolEntry (spec : Spec) (line : ℕ) (text : List ℕ) (found : Dep) 
   pub versions : Stands spec 64 range_text range
   pub is : found ≡ record { line = line; kind = Tool; «package» = name_of text; libs = []; exe = exe; range = range; internal = false }
 
+-- what is wrong with an entry of tools
 pub data ToolFault (spec : Spec) (text : List ℕ) (cause : Cause) : Type 0 where
   name : is_package_name (name_of text) ≡ false → cause ≡ BadName → ToolFault spec text cause
   part : is_package_name (name_of text) ≡ true → ((exe range_text : List ℕ) → Executable (behind_name text) exe range_text → ⊥) → cause ≡ BadDepend → ToolFault spec text cause
@@ -97,6 +99,7 @@ pub data ToolFault (spec : Spec) (text : List ℕ) (cause : Cause) : Type 0 wher
 abbrev pub Depends : Spec → DepKind → ℕ → List ℕ → List Dep → Type 0
 Depends spec kind line = Lists (LibraryEntry spec kind line)
 
+-- the fault of such a text
 abbrev pub DependsFault : Spec → DepKind → ℕ → List ℕ → Cause → Type 0
 DependsFault spec kind line = Faulty (LibraryEntry spec kind line) (LibraryFault spec)
 
@@ -104,5 +107,6 @@ DependsFault spec kind line = Faulty (LibraryEntry spec kind line) (LibraryFault
 abbrev pub Tools : Spec → ℕ → List ℕ → List Dep → Type 0
 Tools spec line = Lists (ToolEntry spec line)
 
+-- the fault of such a text
 abbrev pub ToolsFault : Spec → ℕ → List ℕ → Cause → Type 0
 ToolsFault spec line = Faulty (ToolEntry spec line) (ToolFault spec)

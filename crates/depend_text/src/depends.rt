@@ -1,12 +1,12 @@
+// Dependencies on libraries and on executables.
 ghost use Rattle.std.specs.Prelude.{◌≡◌, List, IfOk, IfErr, MatchResult};
 ghost use Rattle.plan_types.specs.declared.dependency.Dep.{Dep};
 ghost use Rattle.plan_types.specs.declared.refusal.Cause.{Cause};
 ghost use Rattle.plan_types.specs.Refusal.{Refuses};
 ghost use Rattle.depend_text.specs.Depends.{Depends, DependsFault, Tools, ToolsFault};
 
-use crate::entries::{Row, read_entries};
-use crate::name::name_at;
-use crate::part::{executable, libraries, package_text};
+use crate::part::{executable, libraries};
+use entry_text::{Row, name_at, package_text, read_entries};
 use plan_types::{Cause, Dep, DepKind, List, Spec, Text, TextFault, is_package_name};
 use std::alloc::Global;
 use version_range::read_range;

@@ -1,18 +1,10 @@
-//! entries say.
+//! Texts of dependencies on libraries and on executables. In go texts; out come dependencies, or the fault
+//! of the first entry with one, exactly as the definitions of the entries say.
 #![tactic(auto)]
 
-mod constraints;
 mod depends;
-mod entries;
 mod laws;
-mod name;
-mod named;
 mod part;
-mod relax;
-mod words;
 
-pub use constraints::read_constraints;
 pub use depends::{read_depends, read_tools};
 pub use laws::{one_fault, one_reading, reading_or_fault};
-pub use named::read_named;
-pub use relax::read_relax;

@@ -1,15 +1,17 @@
 // What may stand between the name of a package and its range.
 ghost use Rattle.std.specs.Prelude.{◌≡◌, ◌∷◌, [], ℕ, List, IfOk, IfErr, true, false};
 ghost use Rattle.plan_types.specs.Refusal.{Refuses};
-ghost use Rattle.plan_types.specs.Name.{is_component_byte, is_component_name, is_package_name};
+ghost use Rattle.plan_types.specs.Name.{is_component_byte, is_component_name};
 ghost use Rattle.plan_types.specs.declared.dependency.LibName.{LibName};
 ghost use Rattle.plan_types.specs.declared.refusal.Cause.TheVariants.{BadDepend};
-ghost use Rattle.depend_text.specs.Entries.{Pieces, Each};
-ghost use Rattle.depend_text.specs.Words.{run, behind, is_in_braces};
+ghost use Rattle.entry_text.specs.Entries.{Pieces, Each};
+ghost use Rattle.entry_text.specs.Words.{run, behind, is_in_braces};
 ghost use Rattle.depend_text.specs.Depends.{Library, library, NamedLibraries, Libraries, LibrariesFault, old_cause, begins_library, Executable};
 
-use crate::entries::{Row, are_blanks, pieces, read_each};
-use crate::name::{braces_run, component_run, is_component_byte, unblank};
+use entry_text::{
+    Row, are_blanks, braces_run, component_run, component_text, is_component_byte, pieces,
+    read_each, unblank,
+};
 use plan_types::{Cause, LibName, List, NoMemory, Spec, Text, TextFault, is_component_name};
 use std::alloc::Global;
 use text_grammar::byte_after;
@@ -96,9 +98,11 @@ fn listed_libraries<'a>(
     list: &'a [u8],
 ) -> Result<(List<LibName>, &'a [u8]), TextFault>
     ensures found { IfOk result (λ p. (behind is_in_braces list.now ≡ 125 ∷ p.1.now)
-        × ((pieces : List (List ℕ)) × Pieces (run is_in_braces list.now) pieces × Each (Library «package».now) pieces p.0)) }
+        × ((pieces : List (List ℕ)) × Pieces (run is_in_braces list.now) pieces
+        × Each (Library «package».now) pieces p.0)) }
     ensures fault { IfErr result (Refuses (λ cause. (cause ≡ BadDepend)
-        × ((pieces : List (List ℕ)) (libs : List LibName) (rest : List ℕ) → behind is_in_braces list.now ≡ 125 ∷ rest
+        × ((pieces : List (List ℕ)) (libs : List LibName) (rest : List ℕ)
+        → behind is_in_braces list.now ≡ 125 ∷ rest
         → Pieces (run is_in_braces list.now) pieces → Each (Library «package».now) pieces libs → ⊥))) }
 {
     let (inside, behind) = braces_run(list);
@@ -113,9 +117,11 @@ fn listed_libraries<'a>(
 
 // What stands between the braces.
 fn libraries_in(alloc: Global, package: &[u8], inside: &[u8]) -> Result<List<LibName>, TextFault>
-    ensures found { IfOk result (λ libs. (pieces : List (List ℕ)) × Pieces inside.now pieces × Each (Library «package».now) pieces libs) }
+    ensures found { IfOk result (λ libs. (pieces : List (List ℕ)) × Pieces inside.now pieces
+        × Each (Library «package».now) pieces libs) }
     ensures fault { IfErr result (Refuses (λ cause. (cause ≡ BadDepend)
-        × ((pieces : List (List ℕ)) (libs : List LibName) → Pieces inside.now pieces → Each (Library «package».now) pieces libs → ⊥))) }
+        × ((pieces : List (List ℕ)) (libs : List LibName) → Pieces inside.now pieces
+        → Each (Library «package».now) pieces libs → ⊥))) }
 {
     let pieces = pieces(alloc, inside)?;
     let row = Listed { package };
@@ -186,18 +192,4 @@ pub fn executable<'a>(alloc: Global, text: &'a [u8]) -> Result<(Text, &'a [u8]),
     }
     let exe = component_text(alloc, name)?;
     Ok((exe, rest))
-}
-
-pub fn component_text(alloc: Global, name: &[u8]) -> Result<Text, NoMemory>
-    requires { is_component_name name.now ≡ true }
-    ensures { IfOk result (λ text. text ≡ name.now) }
-{
-    Text::from_ascii(alloc, name)
-}
-
-pub fn package_text(alloc: Global, name: &[u8]) -> Result<Text, NoMemory>
-    requires { is_package_name name.now ≡ true }
-    ensures { IfOk result (λ text. text ≡ name.now) }
-{
-    Text::from_ascii(alloc, name)
 }

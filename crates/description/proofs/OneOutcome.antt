@@ -8,13 +8,19 @@ use Rattle.plan_types.specs.declared.element.Element.{Element}
 use Rattle.plan_types.specs.declared.range.Spec.{Spec}
 use Rattle.plan_types.specs.declared.version.Version.{Version}
 use Rattle.component_cycle.specs.Cycle.{IsFirstOnCycle}
-use Rattle.description_parts.proofs.One.{one_file}
-use Rattle.description_parts.specs.declared.part.File.{File}
-use Rattle.description.specs.Cycles.{needs}
-use Rattle.description.specs.Description.{Comes, ComesTo, OfVersion, description, unless_circular}
+use Rattle.section_syntax.proofs.One.{one_file}
+use Rattle.section_syntax.specs.declared.part.File.{File}
+use Rattle.package_declarations.specs.Cycles.{needs}
+use Rattle.package_declarations.proofs.FlagOrder.{one-flags}
+use Rattle.description.specs.Description.{Comes, ComesTo, IsDescriptionOf, OfVersion, description, unless_circular}
 use Rattle.description.specs.Faults.{faults}
-use Rattle.description.specs.First.{first}
-use Rattle.description.specs.declared.first.At.{At}
+use Rattle.description.specs.FaultOrder.{first}
+use Rattle.description.specs.declared.fault_order.At.{At}
+
+one-description : (file : File) (digest name : List ℕ) (version : Version) (a b : Description) →
+    IsDescriptionOf file digest name version a → IsDescriptionOf file digest name version b → a ≡ b
+one-description file digest name version a b p q =
+    p.is ∙ ap (λ flags. description file flags digest name version) (one-flags file.sections a.flags b.flags p.flags q.flags) ∙ sym q.is
 
 module _ (one_first : (graph : List (List ℕ)) (a b : Option ℕ) → IsFirstOnCycle graph a → IsFirstOnCycle graph b → a ≡ b) where
   one-comes : (file : File) (digest : List ℕ) (name : Option (List ℕ)) (version : Option Version) (a b : Result Description At) →
@@ -22,8 +28,9 @@ module _ (one_first : (graph : List (List ℕ)) (a b : Option ℕ) → IsFirstOn
   one-comes file digest None version a b p q = p ∙ sym q
   one-comes file digest (Some name) None a b p q = p ∙ sym q
   one-comes file digest (Some name) (Some version) a b p q =
-      let d = description file digest name version in
-      p.2 ∙ ap (λ c. unless_circular c d) (one_first (needs d.components) p.0 q.0 p.1 q.1) ∙ sym q.2
+      let described = one-description file digest name version p.0 q.0 p.1 q.1 in
+      let circular = one_first (needs q.0.components) p.2 q.2 (subst (λ (d : Description). IsFirstOnCycle (needs d.components) p.2) described p.3) q.3 in
+      p.4 ∙ (λ i. unless_circular (circular i) (described i)) ∙ sym q.4
 
   one-comes-to : (file : File) (digest : List ℕ) (at : Option At) (a b : Result Description At) → ComesTo file digest at a → ComesTo file digest at b → a ≡ b
   one-comes-to file digest None a b p q = one-comes file digest _ _ a b p q

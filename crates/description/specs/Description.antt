@@ -2,61 +2,65 @@
 use Rattle.std.specs.Prelude.{◌≡◌, ℕ, slice_get, if◌then◌else◌, List, [], ◌∷◌, flat_map, codes, Option, Some, None}
 use Rattle.std.specs.declared.result.Result.{Result}
 use Rattle.std.specs.declared.result.Result.TheVariants.{Ok, Err}
-use Rattle.plan_types.specs.Bytes.{joined_text}
+use Rattle.plan_types.specs.Bytes.{joined_text, same_text}
 use Rattle.plan_types.specs.declared.description.Component.{Component}
 use Rattle.plan_types.specs.declared.description.Description.{Description}
+use Rattle.plan_types.specs.declared.description.FlagDecl.{FlagDecl}
 use Rattle.plan_types.specs.declared.element.Element.{Element}
 use Rattle.plan_types.specs.declared.range.Spec.{Spec}
 use Rattle.plan_types.specs.declared.range.Spec.TheVariants.{V2_4, V3_0, V3_4}
 use Rattle.plan_types.specs.declared.refusal.Cause.TheVariants.{MissingField, WrongCabalVersion, ComponentCycle}
 use Rattle.plan_types.specs.declared.version.Version.{Version}
 use Rattle.component_cycle.specs.Cycle.{IsFirstOnCycle}
-use Rattle.description_parts.specs.File.{IsFile}
-use Rattle.description_parts.specs.Tree.{Tree, end, field, section, tree_of}
-use Rattle.description_parts.specs.declared.part.File.{File}
-use Rattle.description_parts.specs.declared.part.Head.{Head}
-use Rattle.description_parts.specs.declared.part.Head.TheVariants as head
-use Rattle.description_parts.specs.declared.part.HeadField.{HeadField}
-use Rattle.description_parts.specs.declared.part.Part.{Part}
-use Rattle.description_parts.specs.declared.part.Said.{Said}
-use Rattle.description_parts.specs.declared.part.Said.TheVariants as said
-use Rattle.description_parts.specs.declared.part.Section.{Section}
-use Rattle.description.specs.Components.{components}
-use Rattle.description.specs.Cycles.{needs}
-use Rattle.description.specs.Declarations.{last, own_name}
+use Rattle.section_syntax.specs.File.{IsFile}
+use Rattle.cabal_lexer.specs.Tree.{Tree, end, field, section, tree_of}
+use Rattle.section_syntax.specs.declared.part.File.{File}
+use Rattle.section_syntax.specs.declared.part.Head.{Head}
+use Rattle.section_syntax.specs.declared.part.Head.TheVariants as head
+use Rattle.section_syntax.specs.declared.part.HeadField.{HeadField}
+use Rattle.section_syntax.specs.declared.part.SectionPart.{SectionPart}
+use Rattle.section_syntax.specs.declared.part.Said.{Said}
+use Rattle.section_syntax.specs.declared.part.Said.TheVariants as said
+use Rattle.section_syntax.specs.declared.part.Section.{Section}
+use Rattle.package_declarations.specs.Components.{components}
+use Rattle.package_declarations.specs.Cycles.{needs}
+use Rattle.package_declarations.specs.Declarations.{own_name}
+use Rattle.text_grammar.specs.Last.{last_said}
 use Rattle.description.specs.Faults.{faults}
-use Rattle.description.specs.First.{first}
-use Rattle.description.specs.Flags.{as_list, flags}
-use Rattle.description.specs.Names.{same}
-use Rattle.description.specs.Setup.{is_custom, setup}
-use Rattle.description.specs.declared.first.At.{At}
+use Rattle.description.specs.FaultOrder.{first}
+use Rattle.package_declarations.specs.Flags.{AreFlags}
+use Rattle.package_declarations.specs.Setup.{is_custom, setup}
+use Rattle.description.specs.declared.fault_order.At.{At}
 
 -- a field that has to be there has no line
 abbrev pub missing : At
 missing = record { line = 0; cause = MissingField }
 
+-- the format that a text names
 abbrev pub spec_of : ℕ → List ℕ → Result Spec At
 spec_of line text =
-    if same text (codes "2.4") then Ok V2_4
-    else if same text (codes "3.0") then Ok V3_0
-    else if same text (codes "3.4") then Ok V3_4
+    if same_text text (codes "2.4") then Ok V2_4
+    else if same_text text (codes "3.0") then Ok V3_0
+    else if same_text text (codes "3.4") then Ok V3_4
     else Err (record { line = line; cause = WrongCabalVersion })
 
 -- the first element states the cabal-version
 abbrev pub cabal_version : Tree → Result Spec At
 cabal_version end = Err missing
-cabal_version (field line name values behind) = if same name (codes "cabal-version") then spec_of line (joined_text values) else Err missing
+cabal_version (field line name values behind) = if same_text name (codes "cabal-version") then spec_of line (joined_text values) else Err missing
 cabal_version (section line name args items behind) = Err missing
 
-abbrev pub version_said : Head → List Version
-version_said (head.Name name) = []
-version_said (head.Version version) = as_list version
-version_said (head.BuildType custom) = []
+-- the version that a field states
+abbrev pub version_said : Head → Option Version
+version_said (head.Name name) = None
+version_said (head.Version version) = version
+version_said (head.BuildType custom) = None
 
 -- the last version that is of its form
 abbrev pub version_of : List HeadField → Option Version
-version_of heads = last (flat_map (λ field. version_said field.head) heads)
+version_of heads = last_said (λ field. version_said field.head) heads
 
+-- the line, where this is a `build-tools`
 abbrev pub is_build_tools : Said → List ℕ → List ℕ
 is_build_tools (said.Import names fits) line = []
 is_build_tools (said.Depends deps) line = []
@@ -69,24 +73,31 @@ is_build_tools (said.Branch condition fits) line = []
 is_build_tools said.Misplaced line = []
 
 -- the line of a field that is accepted unread
-abbrev pub warning : Part → List ℕ
+abbrev pub warning : SectionPart → List ℕ
 warning part = is_build_tools part.said (part.line ∷ [])
 
+-- the lines of all such fields
 abbrev pub warnings : List Section → List ℕ
 warnings sections = flat_map (λ section. flat_map warning section.parts) sections
 
-abbrev pub description : File → List ℕ → List ℕ → Version → Description
-description file digest name version = record {
+-- what a file describes, with these flags
+abbrev pub description : File → List FlagDecl → List ℕ → List ℕ → Version → Description
+description file flags digest name version = record {
   spec = file.spec;
   name = name;
   version = version;
   custom = is_custom file;
-  flags = flags file.sections;
+  flags = flags;
   components = components file;
   setup = setup file;
   digest = digest;
   warnings = warnings file.sections;
 }
+
+-- a description of a file has the flags that are declared in it, in their order, and else what stands in the file
+pub record IsDescriptionOf (file : File) (digest name : List ℕ) (version : Version) (d : Description) : Type 0 where
+  pub flags : AreFlags file.sections d.flags
+  pub is : d ≡ description file d.flags digest name version
 
 -- the line of a component
 abbrev pub line_of : List Component → ℕ → ℕ
@@ -102,14 +113,15 @@ abbrev pub Comes : File → List ℕ → Option (List ℕ) → Option Version �
 Comes file digest None version outcome = outcome ≡ Err missing
 Comes file digest (Some name) None outcome = outcome ≡ Err missing
 Comes file digest (Some name) (Some version) outcome =
-    let d = description file digest name version in
-    (circular : Option ℕ) × IsFirstOnCycle (needs d.components) circular × (outcome ≡ unless_circular circular d)
+    (d : Description) × IsDescriptionOf file digest name version d
+    × (circular : Option ℕ) × IsFirstOnCycle (needs d.components) circular × (outcome ≡ unless_circular circular d)
 
 -- The faults of the file come first, then a name or version that is missing, then a cycle of components.
 abbrev pub ComesTo : File → List ℕ → Option At → Result Description At → Type 0
 ComesTo file digest (Some at) outcome = outcome ≡ Err at
 ComesTo file digest None outcome = Comes file digest (own_name file.heads) (version_of file.heads) outcome
 
+-- what elements of this format come to
 abbrev pub OfVersion : Result Spec At → List Element → List ℕ → Result Description At → Type 0
 OfVersion (Err at) items digest outcome = outcome ≡ Err at
 OfVersion (Ok spec) items digest outcome = (file : File) × IsFile spec items file × ComesTo file digest (first (faults file)) outcome

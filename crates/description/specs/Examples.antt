@@ -7,40 +7,38 @@ use Rattle.plan_types.specs.declared.dependency.Dep.{Dep}
 use Rattle.plan_types.specs.declared.dependency.DepKind.TheVariants as dep_kind
 use Rattle.plan_types.specs.declared.dependency.LibName.TheVariants.{Main, Named}
 use Rattle.plan_types.specs.declared.description.CompKind.TheVariants.{Library}
-use Rattle.plan_types.specs.declared.description.FlagDecl.{FlagDecl}
 use Rattle.plan_types.specs.declared.range.Range.TheVariants.{Any}
 use Rattle.plan_types.specs.declared.refusal.Cause.{Cause}
 use Rattle.plan_types.specs.declared.refusal.Cause.TheVariants.{BadField, BadName, DuplicateName, UnknownFlag, UnknownStanza, WrongCabalVersion}
 use Rattle.plan_types.specs.declared.range.Spec.{Spec}
 use Rattle.plan_types.specs.declared.range.Spec.TheVariants.{V3_0, V3_4}
-use Rattle.description_parts.specs.declared.part.File.{File}
-use Rattle.description_parts.specs.declared.part.Head.TheVariants as head
-use Rattle.description_parts.specs.declared.part.HeadField.{HeadField}
-use Rattle.description_parts.specs.declared.part.Part.{Part}
-use Rattle.description_parts.specs.declared.part.Said.{Said}
-use Rattle.description_parts.specs.declared.part.Said.TheVariants as said
-use Rattle.description_parts.specs.declared.part.Section.{Section}
-use Rattle.description_parts.specs.declared.part.SectionKind.{SectionKind}
-use Rattle.description_parts.specs.declared.part.SectionKind.TheVariants as kinds
-use Rattle.description_parts.specs.Tree.{end, field}
-use Rattle.description.specs.Components.{buildable, is_public}
-use Rattle.description.specs.Declarations.{meaning, meant, own_name}
+use Rattle.section_syntax.specs.declared.part.File.{File}
+use Rattle.section_syntax.specs.declared.part.Head.TheVariants as head
+use Rattle.section_syntax.specs.declared.part.HeadField.{HeadField}
+use Rattle.section_syntax.specs.declared.part.SectionPart.{SectionPart}
+use Rattle.section_syntax.specs.declared.part.Said.{Said}
+use Rattle.section_syntax.specs.declared.part.Said.TheVariants as said
+use Rattle.section_syntax.specs.declared.part.Section.{Section}
+use Rattle.section_syntax.specs.declared.part.SectionKind.{SectionKind}
+use Rattle.section_syntax.specs.declared.part.SectionKind.TheVariants as kinds
+use Rattle.cabal_lexer.specs.Tree.{end, field}
+use Rattle.package_declarations.specs.Components.{buildable, is_public}
+use Rattle.package_declarations.specs.Declarations.{meaning, meant, own_name}
 use Rattle.description.specs.Description.{cabal_version, missing}
 use Rattle.description.specs.Faults.{repeated, unknown_stanzas}
-use Rattle.description.specs.First.{first}
-use Rattle.description.specs.Flags.{by_name}
-use Rattle.description.specs.Imports.{with_imports_replaced}
-use Rattle.description.specs.declared.declarations.Meaning.TheVariants.{Other, Own}
+use Rattle.description.specs.FaultOrder.{first}
+use Rattle.stanza_imports.specs.Imports.{with_imports_replaced}
+use Rattle.package_declarations.specs.declared.declarations.Meaning.TheVariants.{Other, Own}
 use Rattle.description.specs.declared.faults.Class.TheVariants.{Component}
-use Rattle.description.specs.declared.first.At.{At}
+use Rattle.description.specs.declared.fault_order.At.{At}
 
 abbrev fault : ℕ → Cause → At
 fault line cause = record { line = line; cause = cause }
 
-abbrev part : ℕ → List Cond → Said → Part
+abbrev part : ℕ → List Cond → Said → SectionPart
 part line branches what = record { line = line; branches = branches; said = what }
 
-abbrev section : ℕ → SectionKind → List ℕ → List Part → Section
+abbrev section : ℕ → SectionKind → List ℕ → List SectionPart → Section
 section line kind name parts = record { line = line; kind = kind; name = name; parts = parts }
 
 abbrev a : Cond
@@ -113,17 +111,11 @@ the_last_name = refl
 no_name_behind_a_bad_one : own_name (named (Some (codes "a") ∷ None ∷ [])) ≡ None
 no_name_behind_a_bad_one = refl
 
-a_second_library : repeated Component [] (section 4 (kinds.Component Library) [] [] ∷ section 5 (kinds.Component Library) [] [] ∷ []) ≡ fault 5 DuplicateName ∷ []
+a_second_library : repeated Component (section 4 (kinds.Component Library) [] [] ∷ section 5 (kinds.Component Library) [] [] ∷ []) ≡ fault 5 DuplicateName ∷ []
 a_second_library = refl
 
-a_stanza_behind : unknown_stanzas [] (section 4 (kinds.Component Library) [] (part 5 [] (said.Import (codes "s" ∷ []) true) ∷ []) ∷ section 6 kinds.Common (codes "s") [] ∷ []) ≡ fault 5 UnknownStanza ∷ []
+a_stanza_behind : unknown_stanzas (section 4 (kinds.Component Library) [] (part 5 [] (said.Import (codes "s" ∷ []) true) ∷ []) ∷ section 6 kinds.Common (codes "s") [] ∷ []) ≡ fault 5 UnknownStanza ∷ []
 a_stanza_behind = refl
-
-abbrev flag : List ℕ → FlagDecl
-flag name = record { line = 4; name = name; default = true; manual = false }
-
-flags_by_name : by_name (flag (codes "b") ∷ flag (codes "a") ∷ []) ≡ flag (codes "a") ∷ flag (codes "b") ∷ []
-flags_by_name = refl
 
 another_version : cabal_version (field 1 (codes "cabal-version") (codes "3.6" ∷ []) end) ≡ Err (fault 1 WrongCabalVersion)
 another_version = refl

@@ -1,20 +1,23 @@
+// The faults that stand in a file by themselves.
+
 ghost use Rattle.std.specs.Prelude.{◌≡◌, ◌&&◌, ℕ, true, not, List, [], flat_map, Option, IfOk, OnOk};
 ghost use Rattle.std.specs.List.{list_all};
-ghost use Rattle.description_parts.specs.declared.part.File.{File};
-ghost use Rattle.description_parts.specs.declared.part.Section.{Section};
-ghost use Rattle.description.specs.Declarations.{is_known, is_library, own_name};
-ghost use Rattle.description.specs.Faults.{again, at, class_of, file_faults, has_good_name, in_head, in_part, in_section, is_class, names_behind, of_condition, of_name, of_said, repeated, unknown_said, unknown_stanzas, unless};
-ghost use Rattle.description.specs.First.{first};
-ghost use Rattle.description.specs.Names.{has};
-ghost use Rattle.description.specs.Tables.{Tells};
+ghost use Rattle.section_syntax.specs.declared.part.File.{File};
+ghost use Rattle.section_syntax.specs.declared.part.Section.{Section};
+ghost use Rattle.package_declarations.specs.Declarations.{is_known, is_library, own_name};
+ghost use Rattle.description.specs.Faults.{at, class_of, file_faults, has_good_name, in_head, in_part, in_section, is_class, of_condition, of_name, of_said, repeated, unknown_stanzas, unless};
+ghost use Rattle.description.specs.NamesBefore.{again, names_behind, unknown_of};
+ghost use Rattle.description.specs.FaultOrder.{first};
+ghost use Rattle.stanza_imports.specs.Names.{has};
+ghost use Rattle.package_declarations.specs.DeclaredNames.{Tells};
 
-use crate::declarations::Declared;
-use crate::first::{At, earlier};
-use crate::names::Names;
-use description_parts::{File, Head, HeadField, Part, Said, Section, SectionKind};
+use crate::fault_order::{At, earlier};
+use package_declarations::Declared;
 use plan_types::{
     Cause, CompKind, Cond, Dep, List, NoMemory, Shared, Text, is_component_name, is_flag_name,
 };
+use section_syntax::{File, Head, HeadField, Said, Section, SectionKind, SectionPart};
+use stanza_imports::NameSet;
 use std::alloc::Global;
 
 /// The first of the faults that stand in a file by themselves, without those that come with imports.
@@ -83,7 +86,8 @@ fn in_section(section: &Section, declared: &Declared) -> Option<At>
 }
 
 fn of_name(section: &Section, declared: &Declared) -> Option<At>
-    ensures { (file : File) → Tells declared.now file → result ≡ first (at section.now.line (of_name (own_name file.heads) section.now)) }
+    ensures { (file : File) → Tells declared.now file
+        → result ≡ first (at section.now.line (of_name (own_name file.heads) section.now)) }
 {
     let good = has_good_name(section.kind, section.name.as_bytes());
     let own = declared.is_own(&section.name);
@@ -122,7 +126,7 @@ fn has_good_name(kind: SectionKind, name: &[u8]) -> bool
     }
 }
 
-fn in_parts(parts: &[Part], declared: &Declared) -> Option<At>
+fn in_parts(parts: &[SectionPart], declared: &Declared) -> Option<At>
     ensures { (file : File) → Tells declared.now file → result ≡ first (flat_map (in_part file) parts.now) }
 {
     let mut found = None;
@@ -132,7 +136,7 @@ fn in_parts(parts: &[Part], declared: &Declared) -> Option<At>
     found
 }
 
-fn in_part(part: &Part, declared: &Declared) -> Option<At>
+fn in_part(part: &SectionPart, declared: &Declared) -> Option<At>
     ensures { (file : File) → Tells declared.now file → result ≡ first (in_part file part.now) }
 {
     let line = part.line;
@@ -226,9 +230,9 @@ fn is_class(class: Class, kind: SectionKind) -> bool
 }
 
 fn first_repeated(alloc: Global, class: Class, sections: &[Section]) -> Result<Option<At>, NoMemory>
-    ensures { IfOk result (λ found. found ≡ first (repeated class [] sections.now)) }
+    ensures { IfOk result (λ found. found ≡ first (repeated class sections.now)) }
 {
-    let mut before = Names::new(alloc);
+    let mut before = NameSet::new(alloc);
     let mut found = None;
     for section in sections {
         found = earlier(found, again(class, &mut before, section)?);
@@ -239,7 +243,7 @@ fn first_repeated(alloc: Global, class: Class, sections: &[Section]) -> Result<O
 /// The fault at a section of a class, where one before it has its name.
 fn again<'a>(
     class: Class,
-    before: &mut Names<'a>,
+    before: &mut NameSet<'a>,
     section: &'a Section,
 ) -> Result<Option<At>, NoMemory>
     ensures found { IfOk result (λ found. found ≡ first (again class before.old section.now)) }
@@ -254,9 +258,9 @@ fn again<'a>(
 }
 
 fn first_unknown_stanza(alloc: Global, sections: &[Section]) -> Result<Option<At>, NoMemory>
-    ensures { IfOk result (λ found. found ≡ first (unknown_stanzas [] sections.now)) }
+    ensures { IfOk result (λ found. found ≡ first (unknown_stanzas sections.now)) }
 {
-    let mut known = Names::new(alloc);
+    let mut known = NameSet::new(alloc);
     let mut found = None;
     for section in sections {
         found = earlier(found, unknown_in(section.parts.as_slice(), &known));
@@ -265,7 +269,7 @@ fn first_unknown_stanza(alloc: Global, sections: &[Section]) -> Result<Option<At
     Ok(found)
 }
 
-fn know<'a>(known: &mut Names<'a>, section: &'a Section) -> Result<(), NoMemory>
+fn know<'a>(known: &mut NameSet<'a>, section: &'a Section) -> Result<(), NoMemory>
     ensures { OnOk result (known.new ≡ names_behind Class.Common known.old section.now) }
 {
     if is_class(Class::Common, section.kind) {
@@ -274,8 +278,8 @@ fn know<'a>(known: &mut Names<'a>, section: &'a Section) -> Result<(), NoMemory>
     Ok(())
 }
 
-fn unknown_in(parts: &[Part], known: &Names) -> Option<At>
-    ensures { result ≡ first (flat_map (λ part. at part.line (unknown_said known.now part.said)) parts.now) }
+fn unknown_in(parts: &[SectionPart], known: &NameSet) -> Option<At>
+    ensures { result ≡ first (flat_map (λ part. at part.line (unknown_of known.now part.said)) parts.now) }
 {
     let mut found = None;
     for part in parts {
@@ -284,8 +288,8 @@ fn unknown_in(parts: &[Part], known: &Names) -> Option<At>
     found
 }
 
-fn unknown(part: &Part, known: &Names) -> Option<At>
-    ensures { result ≡ first (at part.now.line (unknown_said known.now part.now.said)) }
+fn unknown(part: &SectionPart, known: &NameSet) -> Option<At>
+    ensures { result ≡ first (at part.now.line (unknown_of known.now part.now.said)) }
 {
     match &part.said {
         Said::Import { names, fits } => {
@@ -310,7 +314,7 @@ fn unknown(part: &Part, known: &Names) -> Option<At>
     }
 }
 
-fn are_there(names: &[Text], known: &Names) -> bool
+fn are_there(names: &[Text], known: &NameSet) -> bool
     ensures { result ≡ list_all (has known.now) names.now }
 {
     for name in names {

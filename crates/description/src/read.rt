@@ -1,30 +1,32 @@
-ghost use Rattle.std.specs.Prelude.{◌≡◌, ◌++◌, ◌*◌, ℕ, List, Option, flat_map, IfOk, IfErr, OnOk};
+// The description of a package, from the elements of its file.
+
+ghost use Rattle.std.specs.Prelude.{◌≡◌, ◌++◌, ◌*◌, ℕ, List, Option, flat_map, map, IfOk, IfErr, OnOk};
+ghost use Rattle.std.specs.Option.{option_or};
 ghost use Rattle.std.specs.declared.result.Result.TheVariants.{Ok, Err};
 ghost use Rattle.plan_types.specs.Refusal.{RefusesAt};
-ghost use Rattle.description_parts.specs.Tree.{Tree, in_front, tree_of};
-ghost use Rattle.description_parts.specs.declared.part.File.{File};
-ghost use Rattle.description_parts.specs.declared.part.Section.{Section};
-ghost use Rattle.description.specs.Declarations.{last, later, own_name};
-ghost use Rattle.description.specs.Components.{components, components as components_of};
-ghost use Rattle.description.specs.Description.{Comes, ComesTo, Describes, cabal_version, description, line_of, version_of, version_said, spec_of, warning, warnings};
-ghost use Rattle.description.specs.Faults.{faults};
-ghost use Rattle.description.specs.First.{IsOnly, first, is_at};
-ghost use Rattle.description.specs.Standing.{capped};
-ghost use Rattle.description.specs.Tables.{Stand, Tells, shown_version};
+ghost use Rattle.cabal_lexer.specs.Tree.{Tree, in_front, tree_of};
+ghost use Rattle.section_syntax.specs.declared.part.File.{File};
+ghost use Rattle.section_syntax.specs.declared.part.Section.{Section};
+ghost use Rattle.package_declarations.specs.Declarations.{own_name};
+ghost use Rattle.package_declarations.specs.Components.{components, components as components_of};
+ghost use Rattle.description.specs.Description.{Comes, ComesTo, Describes, IsDescriptionOf, cabal_version, line_of, version_of, version_said, spec_of, warning, warnings};
+ghost use Rattle.description.specs.Faults.{bad_visibility_at, faults};
+ghost use Rattle.stanza_imports.specs.Imports.{with_imports_replaced};
+ghost use Rattle.stanza_imports.specs.Parts.{bad_visibilities};
+ghost use Rattle.description.specs.FaultOrder.{IsOnly, first, is_at};
+ghost use Rattle.stanza_imports.specs.Bodies.{capped, Stand};
+ghost use Rattle.package_declarations.specs.DeclaredNames.{Tells};
+ghost use Rattle.description.specs.ShownVersion.{shown_version};
 
-use crate::component::components;
-use crate::cycle::first_circular;
-use crate::declarations::Declared;
+use crate::fault_order::{At, earlier};
 use crate::faults::first_fault;
-use crate::first::{At, earlier};
-use crate::flags::flags;
 use crate::laws::one_outcome;
-use crate::setup::{is_custom, setup_deps};
-use crate::stanzas::{Bodies, bodies_of, first_bad_visibility, total_weight};
-use description_parts::{File, Head, HeadField, Part, Said, Section, read_file};
+use package_declarations::{Declared, components, first_circular, flags, is_custom, setup_deps};
 use plan_types::{
     Cause, Component, Description, Element, Fault, List, NoMemory, Spec, Text, Version, joined_text,
 };
+use section_syntax::{File, Head, HeadField, Said, Section, SectionPart, read_file};
+use stanza_imports::{Bodies, bodies_of, first_bad_visibility, total_weight};
 use std::alloc::Global;
 
 /// The description that the elements of a file give, or their first fault. The digest is kept as it is.
@@ -76,7 +78,8 @@ fn cabal_version(alloc: Global, items: &[Element]) -> Result<Spec, Fault>
 
 fn stated(alloc: Global, first: &Element) -> Result<Spec, Fault>
     ensures spec { IfOk result (λ spec. (behind : Tree) → cabal_version (in_front first.now behind) ≡ Ok spec) }
-    ensures fault { IfErr result (RefusesAt (λ line cause. (behind : Tree) → cabal_version (in_front first.now behind) ≡ Err (is_at line cause))) }
+    ensures fault { IfErr result (RefusesAt (λ line cause. (behind : Tree)
+        → cabal_version (in_front first.now behind) ≡ Err (is_at line cause))) }
 {
     match first {
         Element::Field { line, name, values } => {
@@ -98,7 +101,8 @@ fn stated(alloc: Global, first: &Element) -> Result<Spec, Fault>
 
 fn spec_of(line: u32, text: &str) -> Result<Spec, Fault>
     ensures spec { IfOk result (λ spec. spec_of line text.now ≡ Ok spec) }
-    ensures fault { IfErr result (λ fault. (fault ≡ Fault.At line Cause.WrongCabalVersion) × (spec_of line text.now ≡ Err (is_at line Cause.WrongCabalVersion))) }
+    ensures fault { IfErr result (λ fault. (fault ≡ Fault.At line Cause.WrongCabalVersion)
+        × (spec_of line text.now ≡ Err (is_at line Cause.WrongCabalVersion))) }
 {
     match text {
         "2.4" => Ok(Spec::V2_4),
@@ -147,10 +151,25 @@ fn first_of_file(
     declared: &Declared,
     bodies: &Bodies,
 ) -> Result<Option<At>, NoMemory>
-    ensures { IfOk result (λ found. Tells declared.now file.now → Stand file.now.sections bodies.now → found ≡ first (faults file.now)) }
+    ensures { IfOk result (λ found. Tells declared.now file.now → Stand file.now.sections bodies.now
+        → found ≡ first (faults file.now)) }
 {
     let written = first_fault(alloc, file, declared)?;
-    Ok(earlier(written, first_bad_visibility(bodies)))
+    Ok(earlier(written, bad_visibility(bodies)))
+}
+
+/// The first bad visibility, where there is one.
+fn bad_visibility(bodies: &Bodies) -> Option<At>
+    ensures { (sections : List Section) → Stand sections bodies.now
+        → result ≡ first (map bad_visibility_at (flat_map bad_visibilities (with_imports_replaced sections))) }
+{
+    match first_bad_visibility(bodies) {
+        Some(line) => Some(At {
+            line,
+            cause: Cause::BadField,
+        }),
+        None => None,
+    }
 }
 
 /// What a file without a fault by itself comes to.
@@ -215,7 +234,8 @@ fn whole(
     version: &Version,
     components: List<Component>,
 ) -> Result<Description, NoMemory>
-    ensures { IfOk result (λ d. components ≡ components_of file.now → d ≡ description file.now digest name.now version.now) }
+    ensures { IfOk result (λ d. components ≡ components_of file.now
+        → IsDescriptionOf file.now digest name.now version.now d) }
 {
     let name = name.copy()?;
     let version = version.copy(alloc)?;
@@ -261,7 +281,7 @@ fn version_of(heads: &[HeadField]) -> Option<&Version>
 }
 
 fn version_said(head: &Head) -> Option<&Version>
-    ensures { shown_version result ≡ last (version_said head.now) }
+    ensures { shown_version result ≡ version_said head.now }
 {
     match head {
         Head::Version(Some(version)) => Some(version),
@@ -270,7 +290,7 @@ fn version_said(head: &Head) -> Option<&Version>
 }
 
 fn later<'a>(before: Option<&'a Version>, said: Option<&'a Version>) -> Option<&'a Version>
-    ensures { shown_version result ≡ later (shown_version before.entry) (shown_version said.entry) }
+    ensures { shown_version result ≡ option_or (shown_version said.entry) (shown_version before.entry) }
 {
     match said {
         Some(version) => Some(version),
@@ -289,7 +309,7 @@ fn warnings(alloc: Global, sections: &[Section]) -> Result<List<u32>, NoMemory>
     Ok(lines)
 }
 
-fn push_warnings(parts: &[Part], lines: &mut List<u32>) -> Result<(), NoMemory>
+fn push_warnings(parts: &[SectionPart], lines: &mut List<u32>) -> Result<(), NoMemory>
     ensures { OnOk result (lines.new ≡ lines.old ++ flat_map warning parts.now) }
 {
     for part in parts {
@@ -298,7 +318,7 @@ fn push_warnings(parts: &[Part], lines: &mut List<u32>) -> Result<(), NoMemory>
     Ok(())
 }
 
-fn push_warning(part: &Part, lines: &mut List<u32>) -> Result<(), NoMemory>
+fn push_warning(part: &SectionPart, lines: &mut List<u32>) -> Result<(), NoMemory>
     ensures { OnOk result (lines.new ≡ lines.old ++ warning part.now) }
 {
     match part.said {

@@ -8,6 +8,7 @@ use Rattle.plan_types.specs.declared.index.FlatDep.{FlatDep}
 use Rattle.conditionals.specs.Paths.{Path, says, holds}
 use Rattle.flatten.specs.Counting.{Parts, flags_of, are_met}
 use Rattle.flatten.specs.Demands.{stanza_of, literal_of, flat_of}
+use Rattle.common_laws.specs.Small.{and-or}
 
 path_is_met : (parts : Parts) (path : Path) → are_met parts (map literal_of path) ≡ holds (flags_of parts) path
 path_is_met parts [] = refl
@@ -18,10 +19,6 @@ is_met parts kind dep path =
     list_all-append (λ literal. says (parts literal.part) literal.on) (stanza_of kind) (map literal_of path)
     ∙ ap (λ b. are_met parts (stanza_of kind) && b) (path_is_met parts path)
 
-one_more : (b first rest : Bool) → ((b && first) || (b && rest)) ≡ (b && (first || rest))
-one_more true first rest = refl
-one_more false first rest = refl
-
 none : (b : Bool) → false ≡ (b && false)
 none true = refl
 none false = refl
@@ -31,7 +28,7 @@ any_is_met parts kind dep [] = none (are_met parts (stanza_of kind))
 any_is_met parts kind dep (path ∷ paths) =
     let stanza = are_met parts (stanza_of kind) in
     (λ i. is_met parts kind dep path i || any_is_met parts kind dep paths i)
-    ∙ one_more stanza (holds (flags_of parts) path) (list_any (holds (flags_of parts)) paths)
+    ∙ and-or stanza (holds (flags_of parts) path) (list_any (holds (flags_of parts)) paths)
 
 -- an entry at a place is the path at that place
 pub record IsFrom (kind : CompKind) (dep : Dep) (paths : List Path) (i : ℕ) (flat : FlatDep) : Type 0 where

@@ -1,3 +1,3 @@
-mod First
-mod Joined
+mod FirstBeyond
+mod JoinedPaths
 mod Counting

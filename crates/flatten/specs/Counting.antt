@@ -11,6 +11,7 @@ use Rattle.conditionals.specs.Paths.{says}
 abbrev pub Parts : Type 0
 Parts = PartName → Option Bool
 
+-- the flags among them
 abbrev pub flags_of : Parts → Flags
 flags_of parts name = parts (Flag name)
 

@@ -13,13 +13,14 @@ use Rattle.plan_types.specs.declared.index.FlatDep.{FlatDep}
 use Rattle.plan_types.specs.declared.index.Literal.{Literal}
 use Rattle.plan_types.specs.declared.index.PartName.TheVariants.{Flag, Tests, Benches}
 use Rattle.conditionals.specs.Paths.{Path, paths_of, clean_paths}
-use Rattle.description.specs.WholeCondition.{whole_condition}
+use Rattle.flatten.specs.WholeCondition.{whole_condition}
 
 -- a dependency on another package, and the component in which it stands
 pub record Outward : Type 0 where
   pub component : Component
   pub guarded : GuardedDep
 
+-- a dependency, when it counts and in which stanza it stands
 abbrev pub outward_of : Component → GuardedDep → Outward
 outward_of component guarded = record { component = component; guarded = guarded }
 
@@ -27,6 +28,7 @@ outward_of component guarded = record { component = component; guarded = guarded
 abbrev pub external : List GuardedDep → List GuardedDep
 external = filter (λ guarded. not guarded.dep.internal)
 
+-- the dependencies of a component on other packages
 abbrev pub outward_in : Component → List Outward
 outward_in component = map (outward_of component) (external component.deps)
 
@@ -46,6 +48,7 @@ stanza_of Test = record { part = Tests; on = true } ∷ []
 stanza_of Bench = record { part = Benches; on = true } ∷ []
 stanza_of Foreign = []
 
+-- a flag with its value, as a literal
 abbrev pub literal_of : FlagSet → Literal
 literal_of setting = record { part = Flag setting.name; on = setting.on }
 
@@ -53,9 +56,11 @@ literal_of setting = record { part = Flag setting.name; on = setting.on }
 abbrev pub flat_of : CompKind → Dep → Path → FlatDep
 flat_of kind dep path = record { when = stanza_of kind ++ map literal_of path; dep = dep }
 
+-- the demands that a dependency makes
 abbrev pub demands_at : Env → Outward → List FlatDep
 demands_at env at = map (flat_of at.component.kind at.guarded.dep) (clean_paths (paths_at env at))
 
+-- the demands of a description
 abbrev pub demands_of : Env → Description → List FlatDep
 demands_of env d = flat_map (demands_at env) (outward d)
 
@@ -67,5 +72,6 @@ is_beyond env at = nat_lt 256 (length (paths_at env at))
 abbrev pub first_among : Env → List Outward → Option ℕ
 first_among env all = option_map (λ at. at.guarded.dep.line) (find (is_beyond env) all)
 
+-- the line of the first condition with too many paths
 abbrev pub first_beyond : Env → Description → Option ℕ
 first_beyond env d = first_among env (outward d)

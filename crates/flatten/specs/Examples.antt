@@ -26,9 +26,11 @@ use Rattle.flatten.specs.Sound.{has_package, has_units}
 
 ruleset by_kind = (paths-Flag, paths-And, paths-Or)
 
+-- an environment
 abbrev pub linux : Env
 linux = record { os = codes "linux"; arch = codes "x86_64"; compiler = codes "ghc"; compiler_version = record { parts = 9 ∷ 4 ∷ 7 ∷ [] } }
 
+-- a test of the flag `a`
 abbrev pub a : Cond
 a = Flag (codes "a")
 
@@ -42,9 +44,11 @@ on name = record { line = 1; kind = dep_kind.Library; «package» = name; libs =
 abbrev on_own_exe : List ℕ → Dep
 on_own_exe name = record { line = 1; kind = dep_kind.Tool; «package» = codes "main"; libs = []; exe = name; range = Any; internal = true }
 
+-- a component with these dependencies
 abbrev pub component : CompKind → List ℕ → Cond → List GuardedDep → Component
 component kind name buildable deps = record { line = 1; kind = kind; name = name; public = false; buildable = buildable; deps = deps }
 
+-- a dependency under a condition
 abbrev pub under : Cond → Dep → GuardedDep
 under when dep = record { when = when; dep = dep }
 

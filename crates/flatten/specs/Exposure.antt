@@ -12,6 +12,7 @@ use Rattle.conditionals.specs.declared.value.Tri.{Tri}
 use Rattle.conditionals.specs.declared.value.Tri.TheVariants.{Yes, No, Unknown}
 use Rattle.conditionals.specs.Value.{value}
 
+-- known to be false
 abbrev pub is_no : Tri → Bool
 is_no Yes = false
 is_no No = true
@@ -47,6 +48,7 @@ exes_of Foreign name = []
 abbrev pub buildable : Env → Description → List Component
 buildable env d = filter (λ component. not (is_unbuildable env component)) d.components
 
+-- what others may use of a package
 abbrev pub exposed : Env → Description → Exposed
 exposed env d = record {
   libs = flat_map (λ component. libs_of component.kind component.name component.public) (buildable env d);

@@ -1,3 +1,4 @@
+pub mod WholeCondition
 pub mod Demands
 pub mod Ways
 pub mod Counting

@@ -9,15 +9,10 @@ use Rattle.plan_types.specs.declared.dependency.LibName.TheVariants.{Main, Named
 use Rattle.plan_types.specs.declared.description.CompKind.{CompKind}
 use Rattle.plan_types.specs.declared.description.CompKind.TheVariants.{Library, Executable, Test, Bench, Foreign}
 use Rattle.plan_types.specs.declared.description.Component.{Component}
-use Rattle.conditionals.specs.Value.{same}
+use Rattle.plan_types.specs.Bytes.{same_text}
+use Rattle.plan_types.specs.Packages.{is_library}
 
-abbrev pub is_library : CompKind → Bool
-is_library Library = true
-is_library Executable = false
-is_library Test = false
-is_library Bench = false
-is_library Foreign = false
-
+-- an executable
 abbrev pub is_executable : CompKind → Bool
 is_executable Library = false
 is_executable Executable = true
@@ -30,11 +25,13 @@ abbrev pub name_of : LibName → List ℕ
 name_of Main = []
 name_of (Named name) = name
 
+-- the library of this name
 abbrev pub is_lib : Component → LibName → Bool
-is_lib component lib = is_library component.kind && same component.name (name_of lib)
+is_lib component lib = is_library component.kind && same_text component.name (name_of lib)
 
+-- the executable of this name
 abbrev pub is_exe : Component → List ℕ → Bool
-is_exe component exe = is_executable component.kind && same component.name exe
+is_exe component exe = is_executable component.kind && same_text component.name exe
 
 -- a dependency of a kind asks for this component
 abbrev pub asks_for : DepKind → Dep → Component → Bool

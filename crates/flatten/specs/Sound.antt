@@ -24,12 +24,13 @@ use Rattle.plan_types.specs.declared.index.Package.{Package}
 use Rattle.plan_types.specs.Members.{order}
 use Rattle.plan_types.specs.Name.{is_package_name, is_flag_name}
 use Rattle.version_range.specs.Version.{is_version, has_versions}
-use Rattle.conditionals.specs.Value.{same}
 use Rattle.flatten.specs.Conditions.{asks_well}
 use Rattle.flatten.specs.Demands.{outward, demands_of, first_beyond}
 use Rattle.flatten.specs.Exposure.{exposed}
 use Rattle.qualified_goals.specs.Names.{AreInGoalOrder}
-use Rattle.flatten.specs.OwnComponents.{is_library, finds_all, HasNoCycle}
+use Rattle.flatten.specs.OwnComponents.{finds_all, HasNoCycle}
+use Rattle.plan_types.specs.Bytes.{same_text}
+use Rattle.plan_types.specs.Packages.{is_library, is_installed}
 
 -- ---- a description
 
@@ -37,33 +38,38 @@ use Rattle.flatten.specs.OwnComponents.{is_library, finds_all, HasNoCycle}
 abbrev pub component_deps : Description → List Dep
 component_deps d = flat_map (λ component. map (λ guarded. guarded.dep) component.deps) d.components
 
+-- a dependency of a component
 abbrev pub is_of_components : DepKind → Bool
 is_of_components Library = true
 is_of_components Tool = true
 is_of_components Setup = false
 
+-- a dependency of the setup script
 abbrev pub is_of_setup : DepKind → Bool
 is_of_setup Library = false
 is_of_setup Tool = false
 is_of_setup Setup = true
 
+-- the conditions that stand in a description
 abbrev pub conditions : Description → List Cond
 conditions d = flat_map (λ component. component.buildable ∷ map (λ guarded. guarded.when) component.deps) d.components
 
+-- a flag of this name is declared
 abbrev pub declares_flag : Description → List ℕ → Bool
-declares_flag d name = list_any (λ flag. same flag.name name) d.flags
+declares_flag d name = list_any (λ flag. same_text flag.name name) d.flags
 
 -- an internal dependency is on the package itself, and on components that it has
 abbrev pub is_own : Description → Dep → Bool
-is_own d dep = if dep.internal then same dep.«package» d.name && finds_all dep.kind dep d.components else true
+is_own d dep = if dep.internal then same_text dep.«package» d.name && finds_all dep.kind dep d.components else true
 
+-- a description is sound
 pub record IsDescription (d : Description) : Type 0 where
   -- flags in the order of their names, each once
   pub flags_rise : IsStrictlySortedBy (slice_cmp nat_cmp) (map (λ flag. flag.name) d.flags)
   pub flag_names : list_all (λ flag. is_flag_name flag.name) d.flags ≡ true
   -- no two components have one name, whatever their kinds, and no library that of the package
-  pub components_once : IsDistinct same (map (λ component. component.name) d.components)
-  pub libraries_apart : list_all (λ component. not (is_library component.kind && same component.name d.name)) d.components ≡ true
+  pub components_once : IsDistinct same_text (map (λ component. component.name) d.components)
+  pub libraries_apart : list_all (λ component. not (is_library component.kind && same_text component.name d.name)) d.components ≡ true
   pub component_kinds : list_all (λ dep. is_of_components dep.kind) (component_deps d) ≡ true
   pub setup_kinds : list_all (λ dep. is_of_setup dep.kind && not dep.internal) d.setup ≡ true
   pub conditions_ask_well : list_all (asks_well (declares_flag d)) (conditions d) ≡ true
@@ -73,23 +79,21 @@ pub record IsDescription (d : Description) : Type 0 where
 
 -- ---- what an index knows
 
+-- a package of this name is in the index
 abbrev pub has_package : Index → List ℕ → Bool
-has_package index name = list_any (λ p. same p.name name) index.packages
+has_package index name = list_any (λ p. same_text p.name name) index.packages
 
 -- the packages that a description asks for: those of its components, and those of its setup script
 abbrev pub asked_packages : Description → List (List ℕ)
 asked_packages d = map (λ at. at.guarded.dep.«package») (outward d) ++ map (λ dep. dep.«package») d.setup
 
-abbrev pub is_installed : Body → Bool
-is_installed (Source description flat exposed) = false
-is_installed (Installed record_of needs) = true
-
+-- an entry is the unit of this id
 abbrev pub is_unit : List ℕ → Entry → Bool
-is_unit id entry = is_installed entry.body && same entry.instance.unit id
+is_unit id entry = is_installed entry.body && same_text entry.instance.unit id
 
 -- the index has a package of this name that is local, or has the unit
 abbrev pub has_unit : Index → List ℕ → List ℕ → Bool
-has_unit index id name = list_any (λ p. same p.name name && (p.local || list_any (is_unit id) p.entries)) index.packages
+has_unit index id name = list_any (λ p. same_text p.name name && (p.local || list_any (is_unit id) p.entries)) index.packages
 
 -- each unit of the first list is known, by the name of its package in the second
 abbrev pub has_units : Index → List (List ℕ) → List (List ℕ) → Bool
@@ -108,10 +112,12 @@ pub record IsSource (env : Env) (index : Index) (d : Description) (flat : List F
   pub demands : flat ≡ demands_of env d
   pub offers : offer ≡ exposed env d
 
+-- what an entry holds is sound
 abbrev pub IsBody : Env → Index → Body → Type 0
 IsBody env index (Source d flat offer) = IsSource env index d flat offer
 IsBody env index (Installed unit needs) = has_units index unit.depends needs ≡ true
 
+-- where a source comes from, by whether it is local
 abbrev pub source_origin : Bool → Origin
 source_origin true = origin.Local
 source_origin false = origin.Source
@@ -121,6 +127,7 @@ abbrev pub instance_of : Bool → Body → Instance
 instance_of local (Source d flat offer) = record { name = d.name; version = d.version; origin = source_origin local; unit = [] }
 instance_of local (Installed unit needs) = record { name = unit.name; version = unit.version; origin = origin.Installed; unit = unit.id }
 
+-- an entry of a package is sound
 pub record IsEntry (env : Env) (index : Index) (p : Package) (entry : Entry) : Type 0 where
   pub instance_is : entry.instance ≡ instance_of p.local entry.body
   pub named : entry.instance.name ≡ p.name
@@ -129,9 +136,11 @@ pub record IsEntry (env : Env) (index : Index) (p : Package) (entry : Entry) : T
 
 -- ---- a package
 
+-- the entries with a source
 abbrev pub releases : Package → List Entry
 releases p = filter (λ entry. not (is_installed entry.body)) p.entries
 
+-- the installed entries
 abbrev pub units : Package → List Entry
 units p = filter (λ entry. is_installed entry.body) p.entries
 
@@ -145,13 +154,14 @@ pub record IsInOrder (p : Package) : Type 0 where
   pub releases_first : p.entries ≡ releases p ++ units p
   pub versions_rise : IsStrictlySortedBy order (map (λ entry. entry.instance.version.parts) (releases p))
   pub units_rise : IsStrictlySortedBy unit_order (units p)
-  pub units_once : IsDistinct same (map (λ entry. entry.instance.unit) (units p))
+  pub units_once : IsDistinct same_text (map (λ entry. entry.instance.unit) (units p))
 
 -- one release and nothing else
 pub record IsOneRelease (p : Package) : Type 0 where
   pub one : length p.entries ≡ 1
   pub no_units : units p ≡ []
 
+-- a package is sound
 pub record IsPackage (env : Env) (index : Index) (p : Package) : Type 0 where
   pub name : is_package_name p.name ≡ true
   pub in_order : IsInOrder p
@@ -160,6 +170,7 @@ pub record IsPackage (env : Env) (index : Index) (p : Package) : Type 0 where
 
 -- ---- the index
 
+-- an index is sound
 pub record IsSound (env : Env) (index : Index) : Type 0 where
   pub in_goal_order : AreInGoalOrder index.packages
   pub packages : AllByRecursion (IsPackage env index) index.packages

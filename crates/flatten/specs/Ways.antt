@@ -9,5 +9,6 @@ use Rattle.flatten.specs.declared.ways.Ways.{Ways}
 abbrev pub few_paths : List Path → List Path
 few_paths paths = if nat_lt 256 (length paths) then [] else clean_paths paths
 
+-- the ways in which a condition holds
 abbrev pub ways_of : Env → Cond → Ways
 ways_of env cond = record { number = min (length (paths_of env cond true)) (2 ^ 64 - 1); paths = few_paths (paths_of env cond true) }

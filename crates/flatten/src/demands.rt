@@ -1,3 +1,5 @@
+// The demands of a description on other packages.
+
 ghost use Rattle.std.specs.Prelude.{◌≡◌, ◌++◌, [], ◌∷◌, true, false, not, IfOk, IfErr, OnOk, Some, None, map, flat_map};
 ghost use Rattle.std.specs.List.{list_any};
 ghost use Rattle.plan_types.specs.Refusal.{RefusesAt};

@@ -1,3 +1,5 @@
+// What other packages may use of a package.
+
 ghost use Rattle.std.specs.Prelude.{◌≡◌, ◌++◌, [], not, IfOk, OnOk};
 ghost use Rattle.flatten.specs.Exposure.{exposed, is_unbuildable, lib_named, libs_of, exes_of};
 

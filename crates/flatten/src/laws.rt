@@ -1,10 +1,12 @@
+// Laws of the definitions that crates above rest on.
+
 ghost use Rattle.std.specs.Prelude.{◌≡◌, ℕ, true, ◌&&◌, Some, slice_get};
 ghost use Rattle.std.specs.List.{list_any};
 ghost use Rattle.plan_types.specs.declared.condition.Env.{Env};
 ghost use Rattle.plan_types.specs.declared.index.FlatDep.{FlatDep};
 ghost use Rattle.conditionals.specs.Value.{value};
 ghost use Rattle.conditionals.specs.Paths.{is_wanted};
-ghost use Rattle.description.specs.WholeCondition.{whole_condition};
+ghost use Rattle.flatten.specs.WholeCondition.{whole_condition};
 ghost use Rattle.flatten.specs.Counting.{Parts, flags_of, are_met};
 ghost use Rattle.flatten.specs.Demands.{Outward, demands_at, stanza_of};
 

@@ -1,3 +1,5 @@
+// The ways in which a condition holds.
+
 ghost use Rattle.std.specs.Prelude.{◌≡◌, IfOk};
 ghost use Rattle.flatten.specs.Ways.{ways_of};
 

@@ -6,19 +6,18 @@ use Rattle.std.specs.Ordering.{nat_cmp}
 use Rattle.std.specs.Cmp.Lexicographic.{slice_cmp, bytes_decides, nat_list_cmp_total}
 use Rattle.std.specs.Prelude.{IfSome, unwrap_or}
 use Rattle.std.proofs.lemmas.Cmp.{tied_itself}
-use Rattle.conditionals.specs.Value.{same}
-use Rattle.description_parts.specs.File.{IsVersion}
 use Rattle.outside_folder.specs.Files.{Bytes}
 use Rattle.outside_folder.specs.Folder.{IsInOrder}
 use Rattle.outside_folder.specs.declared.folder.Name.{Name}
 use Rattle.plan_types.specs.declared.condition.Env.{Env}
 use Rattle.plan_types.specs.declared.version.Version.{Version}
-use Rattle.version_range.specs.Version.{version_text}
+use Rattle.version_range.specs.Version.{version_text, IsVersionOf}
 use Rattle.index_files.specs.Releases.{AreReleases, AreVersions, version_dir}
 use Rattle.index_files.specs.Steps.{AreJudged}
 use Rattle.index_files.specs.declared.file.File.{File}
 use Rattle.index_files.specs.declared.release.Release.{Release}
 use Rattle.index_files.specs.declared.versions.VersionDir.{VersionDir}
+use Rattle.plan_types.specs.Bytes.{same_text}
 
 abbrev order : Bytes → Bytes → Ordering
 order = slice_cmp nat_cmp
@@ -33,9 +32,9 @@ not-below-itself : (text : Bytes) → order text text ≡ Less → ⊥
 not-below-itself text less = let equal = tied_itself nat_list_cmp_total text in let both : Less ≡ Equal = sym less ∙ equal in cc both
 
 -- texts of one version are one text
-other-version : (text other : Bytes) (v w : List ℕ) → text ≡ version_text v → other ≡ version_text w → order text other ≡ Less → same v w ≡ false
+other-version : (text other : Bytes) (v w : List ℕ) → text ≡ version_text v → other ≡ version_text w → order text other ≡ Less → same_text v w ≡ false
 other-version text other v w of_text of_other less =
-    elim (same v w) as (λ b. same v w ≡ b → b ≡ false) [
+    elim (same_text v w) as (λ b. same_text v w ≡ b → b ≡ false) [
       | true ↦ λ e.
           let one = (bytes_decides v w).0 e in
           let texts : other ≡ text = of_other ∙ ap version_text (sym one) ∙ sym of_text in
@@ -43,21 +42,21 @@ other-version text other v w of_text of_other less =
       | false ↦ λ e. refl
     ] refl
 
-apart : (text : Bytes) (v : List ℕ) → text ≡ version_text v → (names : List Name) (dirs : List VersionDir) → AreVersions names dirs → IsAbove text names → AllByRecursion (λ w. same v w ≡ false) (numbers dirs)
-apart text v is [] dirs none above = subst (λ ds. AllByRecursion (λ w. same v w ≡ false) (numbers ds)) (sym none) tt
+apart : (text : Bytes) (v : List ℕ) → text ≡ version_text v → (names : List Name) (dirs : List VersionDir) → AreVersions names dirs → IsAbove text names → AllByRecursion (λ w. same_text v w ≡ false) (numbers dirs)
+apart text v is [] dirs none above = subst (λ ds. AllByRecursion (λ w. same_text v w ≡ false) (numbers ds)) (sym none) tt
 apart text v is (name ∷ names) dirs (None, more, reads, rest, dirs-are) above =
-    subst (λ ds. AllByRecursion (λ w. same v w ≡ false) (numbers ds)) (sym dirs-are) (apart text v is names more rest above.1)
+    subst (λ ds. AllByRecursion (λ w. same_text v w ≡ false) (numbers ds)) (sym dirs-are) (apart text v is names more rest above.1)
 apart text v is (name ∷ names) dirs (Some version, more, reads, rest, dirs-are) above =
-    subst (λ ds. AllByRecursion (λ w. same v w ≡ false) (numbers ds)) (sym dirs-are)
+    subst (λ ds. AllByRecursion (λ w. same_text v w ≡ false) (numbers ds)) (sym dirs-are)
     (other-version text name.text v version.parts is reads.1 above.0, apart text v is names more rest above.1)
 
-pub versions-once : (names : List Name) (dirs : List VersionDir) → AreVersions names dirs → IsInOrder names → IsDistinct same (numbers dirs)
+pub versions-once : (names : List Name) (dirs : List VersionDir) → AreVersions names dirs → IsInOrder names → IsDistinct same_text (numbers dirs)
 unfolding IsDistinct IsStrictlySortedBy
-versions-once [] dirs none rise = subst (λ ds. IsDistinct same (numbers ds)) (sym none) tt
+versions-once [] dirs none rise = subst (λ ds. IsDistinct same_text (numbers ds)) (sym none) tt
 versions-once (name ∷ names) dirs (None, more, reads, rest, dirs-are) rise =
-    subst (λ ds. IsDistinct same (numbers ds)) (sym dirs-are) (versions-once names more rest rise.1)
+    subst (λ ds. IsDistinct same_text (numbers ds)) (sym dirs-are) (versions-once names more rest rise.1)
 versions-once (name ∷ names) dirs (Some version, more, reads, rest, dirs-are) rise =
-    subst (λ ds. IsDistinct same (numbers ds)) (sym dirs-are)
+    subst (λ ds. IsDistinct same_text (numbers ds)) (sym dirs-are)
     (apart name.text version.parts reads.1 names more rest rise.0, versions-once names more rest rise.1)
 
 -- a name that isn't read has no releases

@@ -2,31 +2,31 @@
 use Rattle.std.proofs.Common.{◌≡◌, ℕ, ◌+◌, ◌<◌, ◌≤◌, Bool, true, false, ◌||◌, List, [], ◌∷◌, ◌++◌, zero, suc, length, map, get_or, refl, sym, ◌∙◌, ap, subst, arith, length-append}
 use Rattle.std.specs.Prelude.{flat_map}
 use Rattle.std.specs.List.{AllByRecursion, IsDistinct, list_all, list_any}
-use Rattle.std.proofs.lemmas.Bool.{false≢true}
+use Rattle.std.proofs.lemmas.Bool.{false≢true, or_left, or_right, and_from, and_parts}
 use Rattle.std.proofs.lemmas.Bool.Decides.{nat_tests}
 use Rattle.std.proofs.lemmas.List.{append_assoc, append-nil}
 use Rattle.std.proofs.lemmas.List.Sums.{sum_by-append}
 use Rattle.std.proofs.lemmas.Grind.{flat_map-append}
 use Rattle.std.proofs.lemmas.List.Folds.{list_any-append}
-use Rattle.conditionals.specs.Value.{same}
 use Rattle.outside_folder.specs.Files.{Bytes, Files}
 use Rattle.index_files.specs.Closure.{Ground, HasVersions, IsBeyond, IsPart, IsReached, IsVisit, IsWhole, ReadsAs, Visit, by_name, found_of, is_local, mentioned, names_of, root, roots, visited_files}
 use Rattle.index_files.specs.File.{count_all, count_of, size_all, size_of}
-use Rattle.index_files.specs.Names.{is_listed}
+use Rattle.index_files.specs.Names.{is_listed, put_all}
 use Rattle.index_files.specs.Steps.{AreJudged, AreKept, ArePartly, IsOneTooMany, IsVisited, is_given, pair_up}
 use Rattle.index_files.specs.Totals.{is_too_many}
-use Rattle.index_files.specs.declared.closure.Found.{Found}
+use Rattle.index_files.specs.declared.closure.FoundName.{FoundName}
 use Rattle.index_files.specs.declared.release.Release.{Release}
 use Rattle.index_files.specs.declared.totals.Totals.{Totals}
 use Rattle.index_files.proofs.Lists.{all_more, map_append}
 use Rattle.index_files.proofs.Pairs.{pair_front, pair_grows, pair_more, pair_names, pair_none}
-use Rattle.index_files.proofs.Put.{all-last, all-put, all-still, and-left, and-right, both-true, each-all-still, listed-last, listed-left, put_all, put-all-distinct, put-all-each, put-all-grows}
+use Rattle.index_files.proofs.Put.{all-last, all-put, all-still, each-all-still, listed-last, listed-left, put-all-distinct, put-all-each, put-all-grows}
+use Rattle.plan_types.specs.Bytes.{same_text}
 
 -- ---- members
 
 each-listed : (P : Bytes → Type 0) (all xs : List Bytes) → ((x : Bytes) → is_listed all x ≡ true → P x) → list_all (is_listed all) xs ≡ true → AllByRecursion P xs
 each-listed P all [] f h = tt
-each-listed P all (x ∷ xs) f h = (f x (and-left (is_listed all x) _ h), each-listed P all xs f (and-right (is_listed all x) _ h))
+each-listed P all (x ∷ xs) f h = (f x ((and_parts (is_listed all x) _ h).0), each-listed P all xs f ((and_parts (is_listed all x) _ h).1))
 
 -- what stands behind others is listed with them
 all-behind : (front back : List Bytes) → list_all (is_listed (front ++ back)) back ≡ true
@@ -35,50 +35,42 @@ all-behind front (x ∷ back) =
     let joined = append_assoc front (x ∷ []) back in
     let here = ap (λ ys. is_listed ys x) (sym joined) ∙ listed-left (front ++ x ∷ []) back x (listed-last front x) in
     let behind = ap (λ ys. list_all (is_listed ys) back) (sym joined) ∙ all-behind (front ++ x ∷ []) back in
-    both-true _ _ here behind
+    and_from _ _ here behind
 
 at-place : (P : Bytes → Type 0) (xs : List Bytes) (i : ℕ) → i < length xs → AllByRecursion P xs → P (get_or xs i [])
 at-place P [] i l h = absurd (grind (arith, l))
 at-place P (x ∷ xs) zero l h = h.0
 at-place P (x ∷ xs) (suc i) l h = at-place P xs i (omega (arith, l)) h.1
 
-or-left : (a b : Bool) → a ≡ true → (a || b) ≡ true
-or-left true b h = refl
-or-left false b h = absurd (false≢true h)
-
-or-right : (a b : Bool) → b ≡ true → (a || b) ≡ true
-or-right true b h = refl
-or-right false b h = h
-
 module _ (ground : Ground) where
-  abbrev closes : List Bytes → Found → Bool
+  abbrev closes : List Bytes → FoundName → Bool
   closes names f = list_all (is_listed names) (mentioned ground f)
 
   -- ---- where names come from
 
-  abbrev IsGiven : List Found → Bytes → Type 0
+  abbrev IsGiven : List FoundName → Bytes → Type 0
   IsGiven found name = is_given ground found name ≡ true
 
-  abbrev mentions : Bytes → Found → Bool
+  abbrev mentions : Bytes → FoundName → Bool
   mentions name f = is_listed (mentioned ground f) name
 
-  root-given : (found : List Found) (name : Bytes) → is_listed (roots ground) name ≡ true → IsGiven found name
-  root-given found name h = or-left (is_listed (roots ground) name) (list_any (mentions name) found) h
+  root-given : (found : List FoundName) (name : Bytes) → is_listed (roots ground) name ≡ true → IsGiven found name
+  root-given found name h = or_left (is_listed (roots ground) name) (list_any (mentions name) found) h
 
-  mention-given : (found : List Found) (f : Found) (name : Bytes) → is_listed (mentioned ground f) name ≡ true → IsGiven (found ++ f ∷ []) name
-  mention-given found f name h = or-right (is_listed (roots ground) name) (list_any (mentions name) (found ++ f ∷ []))
-      (list_any-append (mentions name) found (f ∷ []) ∙ or-right (list_any (mentions name) found) (mentions name f || false) (or-left (mentions name f) false h))
+  mention-given : (found : List FoundName) (f : FoundName) (name : Bytes) → is_listed (mentioned ground f) name ≡ true → IsGiven (found ++ f ∷ []) name
+  mention-given found f name h = or_right (is_listed (roots ground) name) (list_any (mentions name) (found ++ f ∷ []))
+      (list_any-append (mentions name) found (f ∷ []) ∙ or_right (list_any (mentions name) found) (mentions name f || false) (or_left (mentions name f) false h))
 
-  still-given : (found : List Found) (f : Found) (name : Bytes) → IsGiven found name → IsGiven (found ++ f ∷ []) name
+  still-given : (found : List FoundName) (f : FoundName) (name : Bytes) → IsGiven found name → IsGiven (found ++ f ∷ []) name
   still-given found f name h =
       elim (is_listed (roots ground) name) as (λ b. is_listed (roots ground) name ≡ b → IsGiven (found ++ f ∷ []) name) [
         | true ↦ λ e. root-given (found ++ f ∷ []) name e
-        | false ↦ λ e. or-right (is_listed (roots ground) name) (list_any (mentions name) (found ++ f ∷ []))
+        | false ↦ λ e. or_right (is_listed (roots ground) name) (list_any (mentions name) (found ++ f ∷ []))
             (list_any-append (mentions name) found (f ∷ [])
-            ∙ or-left (list_any (mentions name) found) (list_any (mentions name) (f ∷ [])) (ap (λ b. b || list_any (mentions name) found) (sym e) ∙ h))
+            ∙ or_left (list_any (mentions name) found) (list_any (mentions name) (f ∷ [])) (ap (λ b. b || list_any (mentions name) found) (sym e) ∙ h))
       ] refl
 
-  all-still-given : (found : List Found) (f : Found) (names : List Bytes) → AllByRecursion (IsGiven found) names → AllByRecursion (IsGiven (found ++ f ∷ [])) names
+  all-still-given : (found : List FoundName) (f : FoundName) (names : List Bytes) → AllByRecursion (IsGiven found) names → AllByRecursion (IsGiven (found ++ f ∷ [])) names
   all-still-given found f [] h = tt
   all-still-given found f (name ∷ names) h = (still-given found f name h.0, all-still-given found f names h.1)
 
@@ -87,7 +79,7 @@ module _ (ground : Ground) where
   pub kept-first : (names : List Bytes) → names ≡ put_all [] (roots ground) → AreKept ground names (pair_up names [])
   unfolding IsDistinct
   kept-first names e = subst (AreKept ground names) (sym (pair_none names)) (record {
-    once = subst (IsDistinct same) (sym e) (put-all-distinct [] (roots ground) tt);
+    once = subst (IsDistinct same_text) (sym e) (put-all-distinct [] (roots ground) tt);
     begun = ap (λ ns. list_all (is_listed ns) (roots ground)) e ∙ all-put [] (roots ground);
     closed = refl;
     given = subst (AllByRecursion (IsGiven [])) (sym e) (put-all-each (IsGiven []) [] (roots ground) tt (each-listed (IsGiven []) (roots ground) (roots ground) (λ x h. root-given [] x h) (all-behind [] (roots ground))));
@@ -95,7 +87,7 @@ module _ (ground : Ground) where
   })
 
   module _ (names new : List Bytes) (read : List (List Release)) (r : List Release) (within : length read < length names) where
-    abbrev pub here : Found
+    abbrev pub here : FoundName
     here = record { name = get_or names (length read) []; releases = r }
 
     module _ (put : new ≡ put_all names (mentioned ground here)) where
@@ -114,7 +106,7 @@ module _ (ground : Ground) where
             (all-put names (mentioned ground here));
         given = put-all-each (IsGiven (pair_up names read ++ here ∷ [])) names (mentioned ground here) (all-still-given (pair_up names read) here names k.given)
             (each-listed (IsGiven (pair_up names read ++ here ∷ [])) (mentioned ground here) (mentioned ground here) (λ x h. mention-given (pair_up names read) here x h) (all-behind [] (mentioned ground here)));
-        judged = all_more (λ (f : Found). AreJudged ground.env f.name f.releases) (pair_up names read) here k.judged j;
+        judged = all_more (λ (f : FoundName). AreJudged ground.env f.name f.releases) (pair_up names read) here k.judged j;
       }))
 
       pub within-next : length (read ++ r ∷ []) ≤ length new
@@ -160,13 +152,13 @@ module _ (ground : Ground) where
 
     closed-visits : (names : List Bytes) (visits : List Visit) → list_all (closes names) (map found_of visits) ≡ true → list_all (λ (v : Visit). closes names (found_of v)) visits ≡ true
     closed-visits names [] h = refl
-    closed-visits names (v ∷ visits) h = both-true _ _ (and-left (closes names (found_of v)) _ h) (closed-visits names visits (and-right (closes names (found_of v)) _ h))
+    closed-visits names (v ∷ visits) h = and_from _ _ ((and_parts (closes names (found_of v)) _ h).0) (closed-visits names visits ((and_parts (closes names (found_of v)) _ h).1))
 
     reached-visits : (visits : List Visit) → AllByRecursion (IsReached ground files) (names_of visits) → AllByRecursion (λ (v : Visit). IsReached ground files v.name) visits
     reached-visits [] h = tt
     reached-visits (v ∷ visits) h = (h.0, reached-visits visits h.1)
 
-    names-found : (visits : List Visit) → map (λ (f : Found). f.name) (map found_of visits) ≡ names_of visits
+    names-found : (visits : List Visit) → map (λ (f : FoundName). f.name) (map found_of visits) ≡ names_of visits
     names-found [] = refl
     names-found (v ∷ visits) = ap (λ ns. v.name ∷ ns) (names-found visits)
 
@@ -176,11 +168,11 @@ module _ (ground : Ground) where
     pub whole : (names : List Bytes) (read : List (List Release)) (before after : Totals) → length names ≤ length read → AreKept ground names (pair_up names read) → ArePartly ground files before after names (pair_up names read)
         → after.files ≤ 20000 → after.bytes ≤ 268435456 → IsWhole ground files before.files before.bytes (pair_up names read)
     whole names read before after all k p few_files few_bytes =
-        let same-names : names ≡ names_of p.visits = sym (pair_names names read all) ∙ ap (map (λ (f : Found). f.name)) p.found_is ∙ names-found p.visits in
+        let same-names : names ≡ names_of p.visits = sym (pair_names names read all) ∙ ap (map (λ (f : FoundName). f.name)) p.found_is ∙ names-found p.visits in
         record {
           visits = p.visits;
           closure = record {
-            once = subst (IsDistinct same) same-names k.once;
+            once = subst (IsDistinct same_text) same-names k.once;
             begun = ap (λ ns. list_all (is_listed ns) (roots ground)) (sym same-names) ∙ k.begun;
             closed = ap (λ ns. list_all (λ (v : Visit). closes ns (found_of v)) p.visits) (sym same-names)
                 ∙ closed-visits names p.visits (ap (list_all (closes names)) (sym p.found_is) ∙ k.closed);
@@ -193,12 +185,12 @@ module _ (ground : Ground) where
 
     -- ---- too many
 
-    distinct-front : (xs ys : List Bytes) → IsDistinct same (xs ++ ys) → IsDistinct same xs
+    distinct-front : (xs ys : List Bytes) → IsDistinct same_text (xs ++ ys) → IsDistinct same_text xs
     unfolding IsDistinct
     distinct-front [] ys h = tt
     distinct-front (x ∷ xs) ys h = (front xs h.0, distinct-front xs ys h.1)
       where
-        front : (zs : List Bytes) → AllByRecursion (λ y. same x y ≡ false) (zs ++ ys) → AllByRecursion (λ y. same x y ≡ false) zs
+        front : (zs : List Bytes) → AllByRecursion (λ y. same_text x y ≡ false) (zs ++ ys) → AllByRecursion (λ y. same_text x y ≡ false) zs
         front [] h = tt
         front (z ∷ zs) h = (h.0, front zs h.1)
 
@@ -222,8 +214,8 @@ module _ (ground : Ground) where
           let visit : Visit = record { name = name; dirs = v.read.dirs; releases = [] } in
           let l = length-append read ([] ∷ []) in
           let front = pair_front names (read ++ [] ∷ []) (omega (arith, l, within)) in
-          let found-names : map (λ (f : Found). f.name) (pair_up names (read ++ [] ∷ [])) ≡ names_of (p.visits ++ visit ∷ []) =
-          ap (map (λ (f : Found). f.name)) (pair_more names read [] within ∙ ap (λ fs. fs ++ record { name = name; releases = [] } ∷ []) p.found_is ∙ sym (map_append found_of p.visits (visit ∷ [])))
+          let found-names : map (λ (f : FoundName). f.name) (pair_up names (read ++ [] ∷ [])) ≡ names_of (p.visits ++ visit ∷ []) =
+          ap (map (λ (f : FoundName). f.name)) (pair_more names read [] within ∙ ap (λ fs. fs ++ record { name = name; releases = [] } ∷ []) p.found_is ∙ sym (map_append found_of p.visits (visit ∷ [])))
           ∙ names-found (p.visits ++ visit ∷ []) in
           let is = front.1 ∙ ap (λ ns. ns ++ front.0) found-names in
           let reached-all = each-front (IsReached ground files) (names_of (p.visits ++ visit ∷ [])) front.0 (subst (AllByRecursion (IsReached ground files)) is p.reached) in
@@ -237,7 +229,7 @@ module _ (ground : Ground) where
           let f : mid.bytes + size_all (visited_files ground files visit) ≡ before.bytes + size_all (flat_map (visited_files ground files) (p.visits ++ visit ∷ [])) = omega (arith, s, cb) in
           record {
             parts = p.visits ++ visit ∷ [];
-            once = distinct-front (names_of (p.visits ++ visit ∷ [])) front.0 (subst (IsDistinct same) is k.once);
+            once = distinct-front (names_of (p.visits ++ visit ∷ [])) front.0 (subst (IsDistinct same_text) is k.once);
             inside = all_more (IsPart ground files) p.visits visit (parts-of p.visits reached-old p.read)
                 (record { reached = at-place (IsReached ground files) names (length read) within p.reached; versions = here });
             many = (λ i. is_too_many (sym e i) (sym f i)) ∙ v.read.many;

@@ -12,7 +12,7 @@ use Rattle.index_files.specs.Readings.{AreIndexed, AreReadings}
 use Rattle.index_files.specs.Units.{AreUnits, ReadsUnits, paths_of_records, record_files, unless_beyond}
 use Rattle.index_files.specs.declared.file.File.{File}
 use Rattle.index_files.specs.declared.local.Local.{Local}
-use Rattle.index_files.specs.declared.places.Places.{Places}
+use Rattle.plan_types.specs.declared.index.Places.{Places}
 use Rattle.index_files.specs.declared.readings.Readings.{Readings}
 use Rattle.index_files.specs.declared.totals.Totals.{Totals}
 use Rattle.index_files.specs.declared.unit.Unit.{Unit}

@@ -4,20 +4,20 @@ use Rattle.std.proofs.lemmas.List.{length-map}
 use Rattle.outside_folder.specs.Files.{Bytes, Files}
 use Rattle.index_files.specs.Closure.{Ground, IsBeyond, IsWhole, mentioned}
 use Rattle.index_files.specs.Steps.{AreJudged, AreKept, ArePartly, Finds, IsOneTooMany, IsVisited, pair_up}
-use Rattle.index_files.specs.declared.closure.Found.{Found}
+use Rattle.index_files.specs.declared.closure.FoundName.{FoundName}
 use Rattle.index_files.specs.declared.release.Release.{Release}
 use Rattle.index_files.specs.declared.totals.Totals.{Totals}
 use Rattle.index_files.proofs.Closing.{beyond, kept-next, paired, partly-next, whole, within-next}
 use Rattle.index_files.proofs.Lists.{map_append}
 use Rattle.index_files.proofs.Pairs.{pair_names}
-use Rattle.index_files.proofs.Put.{put_all}
+use Rattle.index_files.specs.Names.{put_all}
 
-abbrev pub releases_in : List Found → List (List Release)
-releases_in found = map (λ (f : Found). f.releases) found
+abbrev pub releases_in : List FoundName → List (List Release)
+releases_in found = map (λ (f : FoundName). f.releases) found
 
-module _ (ground : Ground) (names new : List Bytes) (found : List Found) (within : length found < length names) (pairs : found ≡ pair_up names (releases_in found)) where
+module _ (ground : Ground) (names new : List Bytes) (found : List FoundName) (within : length found < length names) (pairs : found ≡ pair_up names (releases_in found)) where
   many : length (releases_in found) ≡ length found
-  many = length-map found (λ (f : Found). f.releases)
+  many = length-map found (λ (f : FoundName). f.releases)
 
   before : length (releases_in found) < length names
   before = subst (λ n. n < length names) (sym many) within
@@ -25,7 +25,7 @@ module _ (ground : Ground) (names new : List Bytes) (found : List Found) (within
   same-name : get_or names (length found) [] ≡ get_or names (length (releases_in found)) []
   same-name = ap (λ n. get_or names n []) (sym many)
 
-  module _ (one : Found) (f : Finds ground (get_or names (length found) []) names new one) where
+  module _ (one : FoundName) (f : Finds ground (get_or names (length found) []) names new one) where
     name-is : one.name ≡ get_or names (length (releases_in found)) []
     name-is = f.name_is ∙ same-name
 
@@ -39,7 +39,7 @@ module _ (ground : Ground) (names new : List Bytes) (found : List Found) (within
     joined = (λ i. pairs i ++ one-is i ∷ []) ∙ sym (paired ground names new (releases_in found) one.releases before put-is)
 
     pub pairs-on : found ++ one ∷ [] ≡ pair_up new (releases_in (found ++ one ∷ []))
-    pairs-on = joined ∙ ap (pair_up new) (sym (map_append (λ (f : Found). f.releases) found (one ∷ [])))
+    pairs-on = joined ∙ ap (pair_up new) (sym (map_append (λ (f : FoundName). f.releases) found (one ∷ [])))
 
     pub within-on : length (found ++ one ∷ []) ≤ length new
     within-on =
@@ -65,14 +65,14 @@ module _ (ground : Ground) (names new : List Bytes) (found : List Found) (within
       beyond ground files names (releases_in found) start mid before (subst (AreKept ground names) pairs k) (subst (ArePartly ground files start mid names) pairs p)
       (subst (λ n. IsOneTooMany ground files n mid) same-name v)
 
-module _ (ground : Ground) (names : List Bytes) (found : List Found) (all : length names ≤ length found) (pairs : found ≡ pair_up names (releases_in found)) where
+module _ (ground : Ground) (names : List Bytes) (found : List FoundName) (all : length names ≤ length found) (pairs : found ≡ pair_up names (releases_in found)) where
   enough : length names ≤ length (releases_in found)
-  enough = subst (λ n. length names ≤ n) (sym (length-map found (λ (f : Found). f.releases))) all
+  enough = subst (λ n. length names ≤ n) (sym (length-map found (λ (f : FoundName). f.releases))) all
 
-  pub all-names : map (λ (f : Found). f.name) found ≡ names
-  all-names = ap (map (λ (f : Found). f.name)) pairs ∙ pair_names names (releases_in found) enough
+  pub all-names : map (λ (f : FoundName). f.name) found ≡ names
+  all-names = ap (map (λ (f : FoundName). f.name)) pairs ∙ pair_names names (releases_in found) enough
 
-  pub kept-all : AreKept ground names found → AreKept ground (map (λ (f : Found). f.name) found) found
+  pub kept-all : AreKept ground names found → AreKept ground (map (λ (f : FoundName). f.name) found) found
   kept-all k = subst (λ ns. AreKept ground ns found) (sym all-names) k
 
   pub whole-all : (files : Files) (start after : Totals) → AreKept ground names found → ArePartly ground files start after names found → after.files ≤ 20000 → after.bytes ≤ 268435456

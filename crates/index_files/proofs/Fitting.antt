@@ -44,11 +44,7 @@ counts_more a b c read x h e g = record {
   bytes = let k = h.bytes in let s = sum_by-append size_of read (x ∷ []) in omega (arith, g, k, s);
 }
 
-pub beyond_where : (b : Bool) → not b ≡ false → b ≡ true
-beyond_where true h = refl
-beyond_where false h = absurd (let both : true ≡ false = h in cc both)
-
-more_is_too_many : (m n j k : ℕ) → m ≤ j → n ≤ k → is_too_many m n ≡ true → is_too_many j k ≡ true
+pub more_is_too_many : (m n j k : ℕ) → m ≤ j → n ≤ k → is_too_many m n ≡ true → is_too_many j k ≡ true
 more_is_too_many m n j k h g t = grind (arith, nat_tests)
 
 -- all fit, or all together are too many

@@ -2,14 +2,13 @@
 use Rattle.std.proofs.Common.{◌≡◌, ℕ, true, List, [], ◌∷◌, ◌++◌, map, Option, Some, None, Result, Ok, Err, refl, sym, ◌∙◌, ap, subst}
 use Rattle.std.specs.Prelude.{position}
 use Rattle.std.specs.List.{AllByRecursion, IsDistinct, list_all}
-use Rattle.description.proofs.Places.{position-none}
-use Rattle.description.specs.declared.first.At.{At}
-use Rattle.conditionals.specs.Value.{same}
+use Rattle.package_declarations.proofs.Positions.{position-none}
+use Rattle.description.specs.declared.fault_order.At.{At}
 use Rattle.outside_folder.specs.Files.{Bytes}
 use Rattle.plan_types.specs.declared.condition.Env.{Env}
 use Rattle.plan_types.specs.declared.index.UnitRecord.{UnitRecord}
 use Rattle.plan_types.specs.declared.refusal.Refusal.{Refusal}
-use Rattle.source_file.specs.declared.source.Source.{Source}
+use Rattle.cabal_file.specs.declared.source.Source.{Source}
 use Rattle.index_files.specs.InTurn.{GoesOn, InTurn}
 use Rattle.index_files.specs.Locals.{AreLocals, FileComes, local_name, local_names, unless_there, with_file}
 use Rattle.index_files.specs.Readings.{AreFromFiles, IsFromFile}
@@ -19,7 +18,9 @@ use Rattle.index_files.specs.declared.file.File.{File}
 use Rattle.index_files.specs.declared.local.Local.{Local}
 use Rattle.index_files.specs.declared.unit.Unit.{Unit}
 use Rattle.index_files.proofs.Lists.{all_more, map_append}
-use Rattle.index_files.proofs.Put.{and-left, and-right, distinct-last}
+use Rattle.index_files.proofs.Put.{distinct-last}
+use Rattle.plan_types.specs.Bytes.{same_text}
+use Rattle.std.proofs.lemmas.Bool.{and_parts}
 
 ok-or : {A : Type 0} → A → Result A Refusal → A
 ok-or a (Ok x) = x
@@ -32,13 +33,13 @@ same-ok a b r s p q e = ap (ok-or a) (sym p ∙ e ∙ q)
 not-err : {A : Type 0} (a : A) (r : Refusal) (s : Result A Refusal) → s ≡ Ok a → s ≡ Err r → ⊥
 not-err a r s p q = let h = sym p ∙ q in cc h
 
-distinct-keys : {X : Type 0} (key : X → Bytes) (xs : List X) (x : X) → IsDistinct same (map key xs) → position (same (key x)) (map key xs) ≡ None → IsDistinct same (map key (xs ++ x ∷ []))
-distinct-keys key xs x h none = subst (IsDistinct same) (sym (map_append key xs (x ∷ []))) (distinct-last (map key xs) (key x) h (position-none (same (key x)) (map key xs) none))
+distinct-keys : {X : Type 0} (key : X → Bytes) (xs : List X) (x : X) → IsDistinct same_text (map key xs) → position (same_text (key x)) (map key xs) ≡ None → IsDistinct same_text (map key (xs ++ x ∷ []))
+distinct-keys key xs x h none = subst (IsDistinct same_text) (sym (map_append key xs (x ∷ []))) (distinct-last (map key xs) (key x) h (position-none (same_text (key x)) (map key xs) none))
 
 -- ---- local packages
 
 module _ (env : Env) where
-  with-one : (taken : List Local) (local : Local) → AreFromFiles env taken → IsFromFile env local → (place : Option ℕ) → position (same (local_name local)) (local_names taken) ≡ place
+  with-one : (taken : List Local) (local : Local) → AreFromFiles env taken → IsFromFile env local → (place : Option ℕ) → position (same_text (local_name local)) (local_names taken) ≡ place
       → (Rest : List Local → Type 0) (ls : List Local) → ((next : List Local) → AreFromFiles env next → Rest next → AreFromFiles env ls) → GoesOn {T = List Local} (unless_there place taken local) Rest (Ok ls) → AreFromFiles env ls
   with-one taken local a f None e Rest ls go h = go (taken ++ local ∷ [])
       (record { once = distinct-keys local_name taken local a.once e; read = all_more (IsFromFile env) taken local a.read f }) h
@@ -48,7 +49,7 @@ module _ (env : Env) where
       → (Rest : List Local → Type 0) (ls : List Local) → ((next : List Local) → AreFromFiles env next → Rest next → AreFromFiles env ls) → GoesOn {T = List Local} (with_file taken file o) Rest (Ok ls) → AreFromFiles env ls
   with-read taken file (Ok source) a c Rest ls go h =
       let local : Local = record { path = file.path; source = source } in
-      with-one taken local a (file, c) (position (same (local_name local)) (local_names taken)) refl Rest ls go h
+      with-one taken local a (file, c) (position (same_text (local_name local)) (local_names taken)) refl Rest ls go h
   with-read taken file (Err at) a c Rest ls go h = absurd (not-err ls _ _ refl h)
 
   from-files : (files : List File) (taken ls : List Local) → AreFromFiles env taken → InTurn (FileComes env) with_file taken files (Ok ls) → AreFromFiles env ls
@@ -66,7 +67,7 @@ module _ (env : Env) where
 -- ---- units
 
 abbrev AreOnce : List Unit → Type 0
-AreOnce us = IsDistinct same (unit_ids us)
+AreOnce us = IsDistinct same_text (unit_ids us)
 
 one-unit : (taken : List Unit) (u : Unit) → AreOnce taken → (place : Option ℕ) → place_of taken (unit_id u) ≡ place
     → (Rest : List Unit → Type 0) (us : List Unit) → ((next : List Unit) → AreOnce next → Rest next → AreOnce us) → GoesOn {T = List Unit} (units.unless_there place taken u) Rest (Ok us) → AreOnce us
@@ -85,12 +86,12 @@ from-records : (files : List File) (taken us : List Unit) → AreOnce taken → 
 from-records [] taken us a h = subst AreOnce (sym (same-ok us taken _ _ refl refl h)) a
 from-records (file ∷ files) taken us a h = one-record taken file h.0 a (λ next. InTurn RecordComes with_record next files (Ok us)) us (λ next b k. from-records files next us b k) h.2
 
-pub units-once : (files : List File) (us : List Unit) → AreUnits files (Ok us) → IsDistinct same (unit_ids us)
+pub units-once : (files : List File) (us : List Unit) → AreUnits files (Ok us) → IsDistinct same_text (unit_ids us)
 unfolding IsDistinct
 units-once files us h = from-records files [] us tt h
 
 pub all-formed : (us : List Unit) → list_all is_formed us ≡ true → AllByRecursion IsFormed us
 all-formed [] h = tt
 all-formed (u ∷ us) h =
-    let here = and-left (is_formed u) (list_all is_formed us) h in
-    (record { name = and-left _ _ here; version = and-right _ _ here }, all-formed us (and-right (is_formed u) (list_all is_formed us) h))
+    let here = (and_parts (is_formed u) (list_all is_formed us) h).0 in
+    (record { name = (and_parts _ _ here).0; version = (and_parts _ _ here).1 }, all-formed us ((and_parts (is_formed u) (list_all is_formed us) h).1))

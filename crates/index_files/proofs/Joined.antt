@@ -2,8 +2,7 @@
 use Rattle.std.proofs.Common.{◌≡◌, List, [], ◌∷◌, ◌++◌, length, map, None, refl, sym, ◌∙◌, ap, append_assoc, append-nil, if◌then◌else◌, arith}
 use Rattle.std.specs.Prelude.{position}
 use Rattle.indexmap.specs.IndexSet.{insert_key}
-use Rattle.conditionals.specs.Value.{same}
-use Rattle.description.proofs.Places.{position-none}
+use Rattle.package_declarations.proofs.Positions.{position-none}
 use Rattle.plan_types.specs.declared.condition.Env.{Env}
 use Rattle.outside_folder.specs.Files.{Bytes}
 use Rattle.outside_folder.specs.declared.folder.Name.{Name}
@@ -12,13 +11,14 @@ use Rattle.index_files.specs.declared.file.File.{File}
 use Rattle.index_files.specs.declared.release.Release.{Release}
 use Rattle.index_files.specs.declared.versions.VersionDir.{VersionDir}
 use Rattle.index_files.proofs.Lists.{map_append}
+use Rattle.plan_types.specs.Bytes.{same_text}
 
 -- a key that has no place is put last
 pub put-new : {X : Type 0} (key : X → Bytes) (xs : List X) (x : X) (keys new : List Bytes) (n : Bytes) (ys : List X)
-    → keys ≡ map key xs → position (same (key x)) (map key xs) ≡ None → n ≡ key x → new ≡ insert_key same keys n → ys ≡ xs ++ x ∷ [] → new ≡ map key ys
+    → keys ≡ map key xs → position (same_text (key x)) (map key xs) ≡ None → n ≡ key x → new ≡ insert_key same_text keys n → ys ≡ xs ++ x ∷ [] → new ≡ map key ys
 put-new key xs x keys new n ys are none is put all =
-    put ∙ ap (insert_key same keys) is ∙ ap (λ ks. insert_key same ks (key x)) are
-    ∙ ap (λ b. if b then map key xs else map key xs ++ key x ∷ []) (position-none (same (key x)) (map key xs) none)
+    put ∙ ap (insert_key same_text keys) is ∙ ap (λ ks. insert_key same_text ks (key x)) are
+    ∙ ap (λ b. if b then map key xs else map key xs ++ key x ∷ []) (position-none (same_text (key x)) (map key xs) none)
     ∙ sym (map_append key xs (x ∷ [])) ∙ ap (map key) (sym all)
 
 pub versions-more : (names : List Name) (name : Name) (dirs new : List VersionDir) → AreVersions names dirs → AddsVersion name.text dirs new → AreVersions (names ++ name ∷ []) new

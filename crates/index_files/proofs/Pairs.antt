@@ -2,7 +2,7 @@
 use Rattle.std.proofs.Common.{◌≡◌, ◌<◌, ◌≤◌, List, [], ◌∷◌, ◌++◌, length, map, get_or, refl, ap, arith}
 use Rattle.outside_folder.specs.Files.{Bytes}
 use Rattle.index_files.specs.Steps.{pair_up}
-use Rattle.index_files.specs.declared.closure.Found.{Found}
+use Rattle.index_files.specs.declared.closure.FoundName.{FoundName}
 use Rattle.index_files.specs.declared.release.Release.{Release}
 
 -- names that are put behind change nothing of what was read
@@ -21,13 +21,13 @@ pair_more (n ∷ []) [] r h = refl
 pair_more (n ∷ m ∷ names) [] r h = refl
 pair_more (n ∷ names) (s ∷ read) r h = ap (λ fs. record { name = n; releases = s } ∷ fs) (pair_more names read r (omega (arith, h)))
 
-pub pair_names : (names : List Bytes) (read : List (List Release)) → length names ≤ length read → map (λ (f : Found). f.name) (pair_up names read) ≡ names
+pub pair_names : (names : List Bytes) (read : List (List Release)) → length names ≤ length read → map (λ (f : FoundName). f.name) (pair_up names read) ≡ names
 pair_names [] read h = refl
 pair_names (n ∷ names) [] h = absurd (grind (arith, h))
 pair_names (n ∷ names) (r ∷ read) h = ap (λ ns. n ∷ ns) (pair_names names read (omega (arith, h)))
 
 -- they are those in front
-pub pair_front : (names : List Bytes) (read : List (List Release)) → length read ≤ length names → (rest : List Bytes) × (names ≡ map (λ (f : Found). f.name) (pair_up names read) ++ rest)
+pub pair_front : (names : List Bytes) (read : List (List Release)) → length read ≤ length names → (rest : List Bytes) × (names ≡ map (λ (f : FoundName). f.name) (pair_up names read) ++ rest)
 pair_front [] [] h = ([], refl)
 pair_front [] (r ∷ read) h = absurd (grind (arith, h))
 pair_front (n ∷ names) [] h = (n ∷ names, refl)

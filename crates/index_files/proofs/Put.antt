@@ -7,15 +7,10 @@ use Rattle.std.proofs.lemmas.List.{map-append, take_more}
 use Rattle.std.proofs.lemmas.Grind.{fold-append, flat_map-append}
 use Rattle.std.proofs.lemmas.List.Folds.{list_any-append}
 use Rattle.indexmap.specs.IndexSet.{insert_key}
-use Rattle.conditionals.specs.Value.{same}
-use Rattle.index_files.specs.Names.{is_listed}
+use Rattle.index_files.specs.Names.{is_listed, put, put_all}
 use Rattle.outside_folder.specs.Files.{Bytes}
-
-abbrev pub put : List Bytes → Bytes → List Bytes
-put = insert_key same
-
-abbrev pub put_all : List Bytes → List Bytes → List Bytes
-put_all = fold put
+use Rattle.plan_types.specs.Bytes.{same_text}
+use Rattle.std.proofs.lemmas.Bool.{or_left, or_right, or_parts, and_from, and_parts}
 
 -- ---- one more turn of a loop
 
@@ -40,25 +35,11 @@ module _ {X : Type 0} (f : X → Bytes) (start : List Bytes) (xs : List X) (i : 
 
 -- ---- what is listed
 
-or-last : (a b : Bool) → (a || (b || false)) ≡ (b || a)
-or-last true true = refl
-or-last true false = refl
-or-last false true = refl
-or-last false false = refl
-
-left-listed : (a b : Bool) → a ≡ true → (a || b) ≡ true
-left-listed true b h = refl
-left-listed false b h = absurd (let both : false ≡ true = h in cc both)
-
 pub listed-left : (names more : List Bytes) (q : Bytes) → is_listed names q ≡ true → is_listed (names ++ more) q ≡ true
-listed-left names more q h = list_any-append (same q) names more ∙ left-listed (is_listed names q) (is_listed more q) h
-
-right-listed : (a b : Bool) → b ≡ true → (a || b) ≡ true
-right-listed true b h = refl
-right-listed false b h = h
+listed-left names more q h = list_any-append (same_text q) names more ∙ or_left (is_listed names q) (is_listed more q) h
 
 pub listed-last : (names : List Bytes) (q : Bytes) → is_listed (names ++ q ∷ []) q ≡ true
-listed-last names q = list_any-append (same q) names (q ∷ []) ∙ right-listed (is_listed names q) (is_listed (q ∷ []) q) (left-listed (same q q) false (nat_list_eq_equiv.refl q))
+listed-last names q = list_any-append (same_text q) names (q ∷ []) ∙ or_right (is_listed names q) (is_listed (q ∷ []) q) (or_left (same_text q q) false (nat_list_eq_equiv.refl q))
 
 -- what one name leads to
 module _ (names : List Bytes) (n : Bytes) where
@@ -84,26 +65,18 @@ module _ (names : List Bytes) (n : Bytes) where
       at-end [] h = (p, tt)
       at-end (m ∷ ns) h = (h.0, at-end ns h.1)
 
-apart-from : (m : Bytes) (ns : List Bytes) (n : Bytes) → AllByRecursion (λ y. same m y ≡ false) ns → same m n ≡ false → AllByRecursion (λ y. same m y ≡ false) (ns ++ n ∷ [])
+apart-from : (m : Bytes) (ns : List Bytes) (n : Bytes) → AllByRecursion (λ y. same_text m y ≡ false) ns → same_text m n ≡ false → AllByRecursion (λ y. same_text m y ≡ false) (ns ++ n ∷ [])
 apart-from m [] n h e = (e, tt)
 apart-from m (x ∷ ns) n h e = (h.0, apart-from m ns n h.1 e)
 
-or-false-left : (a b : Bool) → (a || b) ≡ false → a ≡ false
-or-false-left true b h = h
-or-false-left false b h = refl
-
-or-false-right : (a b : Bool) → (a || b) ≡ false → b ≡ false
-or-false-right true b h = absurd (let both : true ≡ false = h in cc both)
-or-false-right false b h = h
-
-pub distinct-last : (names : List Bytes) (n : Bytes) → IsDistinct same names → is_listed names n ≡ false → IsDistinct same (names ++ n ∷ [])
+pub distinct-last : (names : List Bytes) (n : Bytes) → IsDistinct same_text names → is_listed names n ≡ false → IsDistinct same_text (names ++ n ∷ [])
 unfolding IsDistinct
 distinct-last [] n h e = (tt, tt)
 distinct-last (m ∷ names) n h e =
-    (apart-from m names n h.0 (nat_list_eq_equiv.symm m n ∙ or-false-left (same n m) (is_listed names n) e), distinct-last names n h.1 (or-false-right (same n m) (is_listed names n) e))
+    (apart-from m names n h.0 (nat_list_eq_equiv.symm m n ∙ (or_parts (same_text n m) (is_listed names n) e).0), distinct-last names n h.1 ((or_parts (same_text n m) (is_listed names n) e).1))
 
-pub put-distinct : (names : List Bytes) (n : Bytes) → IsDistinct same names → IsDistinct same (put names n)
-put-distinct names n h = elim (is_listed names n) as (λ b. is_listed names n ≡ b → IsDistinct same (if b then names else names ++ n ∷ [])) [
+pub put-distinct : (names : List Bytes) (n : Bytes) → IsDistinct same_text names → IsDistinct same_text (put names n)
+put-distinct names n h = elim (is_listed names n) as (λ b. is_listed names n ≡ b → IsDistinct same_text (if b then names else names ++ n ∷ [])) [
   | true ↦ λ e. h
   | false ↦ λ e. distinct-last names n h e
 ] refl
@@ -117,7 +90,7 @@ put-all-grows names (n ∷ more) =
     let others = put-all-grows (put names n) more in
     (first.0 ++ others.0, others.1 ∙ ap (λ ns. ns ++ others.0) first.1 ∙ append_assoc names first.0 others.0)
 
-pub put-all-distinct : (names more : List Bytes) → IsDistinct same names → IsDistinct same (put_all names more)
+pub put-all-distinct : (names more : List Bytes) → IsDistinct same_text names → IsDistinct same_text (put_all names more)
 put-all-distinct names [] h = h
 put-all-distinct names (n ∷ more) h = put-all-distinct (put names n) more (put-distinct names n h)
 
@@ -128,33 +101,21 @@ put-all-each P names (n ∷ more) h k = put-all-each P (put names n) more (put-e
 pub still-listed : (names more : List Bytes) (q : Bytes) → is_listed names q ≡ true → is_listed (put_all names more) q ≡ true
 still-listed names more q h = let g = put-all-grows names more in ap (λ ns. is_listed ns q) g.1 ∙ listed-left names g.0 q h
 
-pub both-true : (a b : Bool) → a ≡ true → b ≡ true → (a && b) ≡ true
-both-true true b h k = k
-both-true false b h k = absurd (let both : false ≡ true = h in cc both)
-
-pub and-left : (a b : Bool) → (a && b) ≡ true → a ≡ true
-and-left true b h = refl
-and-left false b h = h
-
-pub and-right : (a b : Bool) → (a && b) ≡ true → b ≡ true
-and-right true b h = h
-and-right false b h = absurd (let both : false ≡ true = h in cc both)
-
 pub all-put : (names more : List Bytes) → list_all (is_listed (put_all names more)) more ≡ true
 all-put names [] = refl
-all-put names (n ∷ more) = both-true _ _ (still-listed (put names n) more n (put-listed names n)) (all-put (put names n) more)
+all-put names (n ∷ more) = and_from _ _ (still-listed (put names n) more n (put-listed names n)) (all-put (put names n) more)
 
 pub all-still : (names more xs : List Bytes) → list_all (is_listed names) xs ≡ true → list_all (is_listed (put_all names more)) xs ≡ true
 all-still names more [] h = refl
 all-still names more (x ∷ xs) h =
-    both-true _ _ (still-listed names more x (and-left (is_listed names x) (list_all (is_listed names) xs) h)) (all-still names more xs (and-right (is_listed names x) (list_all (is_listed names) xs) h))
+    and_from _ _ (still-listed names more x ((and_parts (is_listed names x) (list_all (is_listed names) xs) h).0)) (all-still names more xs ((and_parts (is_listed names x) (list_all (is_listed names) xs) h).1))
 
 pub each-all-still : {X : Type 0} (f : X → List Bytes) (names more : List Bytes) (xs : List X) → list_all (λ x. list_all (is_listed names) (f x)) xs ≡ true → list_all (λ x. list_all (is_listed (put_all names more)) (f x)) xs ≡ true
 each-all-still f names more [] h = refl
 each-all-still f names more (x ∷ xs) h =
-    both-true _ _ (all-still names more (f x) (and-left (list_all (is_listed names) (f x)) (list_all (λ y. list_all (is_listed names) (f y)) xs) h))
-    (each-all-still f names more xs (and-right (list_all (is_listed names) (f x)) (list_all (λ y. list_all (is_listed names) (f y)) xs) h))
+    and_from _ _ (all-still names more (f x) ((and_parts (list_all (is_listed names) (f x)) (list_all (λ y. list_all (is_listed names) (f y)) xs) h).0))
+    (each-all-still f names more xs ((and_parts (list_all (is_listed names) (f x)) (list_all (λ y. list_all (is_listed names) (f y)) xs) h).1))
 
 pub all-last : {X : Type 0} (p : X → Bool) (xs : List X) (x : X) → list_all p xs ≡ true → p x ≡ true → list_all p (xs ++ x ∷ []) ≡ true
-all-last p [] x h e = both-true (p x) true e refl
-all-last p (y ∷ xs) x h e = both-true (p y) _ (and-left (p y) (list_all p xs) h) (all-last p xs x (and-right (p y) (list_all p xs) h) e)
+all-last p [] x h e = and_from (p x) true e refl
+all-last p (y ∷ xs) x h e = and_from (p y) _ ((and_parts (p y) (list_all p xs) h).0) (all-last p xs x ((and_parts (p y) (list_all p xs) h).1) e)

@@ -8,10 +8,10 @@ use Rattle.plan_types.specs.declared.refusal.Cause.TheVariants.{BadRecord}
 use Rattle.plan_types.specs.declared.refusal.Fault.{Fault}
 use Rattle.plan_types.specs.declared.refusal.Fault.TheVariants as fault
 use Rattle.version_range.specs.Version.{is_version}
-use Rattle.description.specs.First.{is_at}
+use Rattle.description.specs.FaultOrder.{is_at}
 use Rattle.unit_record.specs.Record.{IsRecord}
 use Rattle.index_files.specs.Units.{OfRecord, is_formed}
-use Rattle.index_files.proofs.Put.{both-true}
+use Rattle.std.proofs.lemmas.Bool.{and_from}
 
 pub found-as : (bytes : List ℕ) (result : Result (Option UnitRecord) Fault) → IfOk result (λ found. IsRecord bytes (Ok found)) → IfOk result (λ found. OfRecord (Some bytes) (Ok found))
 found-as bytes (Ok found) h = (Ok found, h, refl)
@@ -24,7 +24,7 @@ fault-as bytes (Err fault.NoMemory) h = tt
 fault-as bytes (Err (fault.At line cause)) h = (Err line, h.1, ap (λ c. Err (is_at line c)) h.0)
 
 formed : (path : List ℕ) (r : UnitRecord) → is_package_name r.name ≡ true → is_version r.version.parts ≡ true → is_formed (record { path = path; record_of = r }) ≡ true
-formed path r h k = both-true _ _ h k
+formed path r h k = and_from _ _ h k
 
 pub formed-as : (result : Result (Option UnitRecord) Fault) → IfOk result (λ found. IfSome found (λ r. is_package_name r.name ≡ true)) → IfOk result (λ found. IfSome found (λ r. is_version r.version.parts ≡ true))
     → IfOk result (λ found. IfSome found (λ r. (path : List ℕ) → is_formed (record { path = path; record_of = r }) ≡ true))

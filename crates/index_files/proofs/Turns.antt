@@ -9,7 +9,9 @@ use Rattle.outside_folder.specs.declared.calls.Trouble.TheVariants.{Failed, NoMe
 use Rattle.plan_types.specs.declared.refusal.Halt.{Halt}
 use Rattle.plan_types.specs.declared.refusal.Halt.TheVariants as halt
 use Rattle.plan_types.specs.declared.refusal.Refusal.{Refusal}
-use Rattle.index_files.specs.InTurn.{Answers, GoesOn, InTurn, Settles, Steps}
+use Rattle.plan_types.specs.Refusal.{Answers, Settles}
+use Rattle.index_files.specs.InTurn.{GoesOn, InTurn, OnPart, Steps}
+use Rattle.common_laws.specs.Lists.{take_at}
 
 module _ {X O S R : Type 0} (Comes : X → O → Type 0) (step : S → X → O → Result S R) where
   -- from the one state these things lead to the other
@@ -48,16 +50,12 @@ module _ {X O S R : Type 0} (Comes : X → O → Type 0) (step : S → X → O �
         one-next xs (λ t c d p q. one-outcome t xs c d p q) (step s x h.0) a b h.2
         (subst (λ o. GoesOn {T = S} (step s x o) (λ taken. InTurn Comes step taken xs b) b) (one x k.0 h.0 k.1 h.1) k.2)
 
--- one more place of a list
-pub taken_more : {X : Type 0} (xs : List X) (i : ℕ) (x : X) → i < length xs → x ≡ get_or xs i x → take (i + 1) xs ≡ take i xs ++ x ∷ []
-taken_more xs i x l e = take_more xs i x l ∙ ap (λ y. take i xs ++ y ∷ []) (sym e)
-
 pub split_at : {X : Type 0} (xs : List X) (i : ℕ) (x : X) → i < length xs → x ≡ get_or xs i x → xs ≡ (take i xs ++ x ∷ []) ++ drop (i + 1) xs
-split_at xs i x l e = sym (take-append-drop (i + 1) xs) ∙ ap (λ ys. ys ++ drop (i + 1) xs) (taken_more xs i x l e)
+split_at xs i x l e = sym (take-append-drop (i + 1) xs) ∙ ap (λ ys. ys ++ drop (i + 1) xs) (take_at xs i x l e)
 
 -- what ends a step ends all
 pub halted : {X O S A : Type 0} (Comes : X → O → Type 0) (step : S → X → O → Result S Refusal) (f : A → S) (from mid : S) (xs : List X) (i : ℕ) (x : X) (h : Halt)
-    → i < length xs → x ≡ get_or xs i x → Through Comes step from (take i xs) mid → Settles f (Steps Comes step mid x) (Err h) → Settles f (InTurn Comes step from xs) (Err h)
+    → i < length xs → x ≡ get_or xs i x → Through Comes step from (take i xs) mid → Settles (OnPart f (Steps Comes step mid x)) (Err h) → Settles (OnPart f (InTurn Comes step from xs)) (Err h)
 halted Comes step f from mid xs i x halt.NoMemory l e t s = tt
 halted Comes step f from mid xs i x halt.Failed l e t s = s
 halted Comes step f from mid xs i x (halt.Refused r) l e t s =
@@ -65,42 +63,43 @@ halted Comes step f from mid xs i x (halt.Refused r) l e t s =
 
 -- ---- where a folder is asked
 
-pub settled : {A B : Type 0} (f : A → B) (Is : Result B Refusal → Type 0) (result : Result A Halt) → Settles f Is result → Answers f Is result
-settled f Is (Ok a) h = h
-settled f Is (Err halt.NoMemory) h = tt
-settled f Is (Err halt.Failed) h = absurd h
-settled f Is (Err (halt.Refused r)) h = h
+pub settled : {A : Type 0} (Is : Result A Refusal → Type 0) (result : Result A Halt) → Settles Is result → Answers Is result
+settled Is (Ok a) h = h
+settled Is (Err halt.NoMemory) h = tt
+settled Is (Err halt.Failed) h = absurd h
+settled Is (Err (halt.Refused r)) h = h
 
-pub never-failed : {A B : Type 0} (f : A → B) (Is : Result B Refusal → Type 0) (result : Result A Halt) → Settles f Is result → IsErrOf result halt.Failed → ⊥
-never-failed f Is (Ok a) h e = cc e
-never-failed f Is (Err halt.NoMemory) h e = cc e
-never-failed f Is (Err halt.Failed) h e = h
-never-failed f Is (Err (halt.Refused r)) h e = cc e
+pub never-failed : {A : Type 0} (Is : Result A Refusal → Type 0) (result : Result A Halt) → Settles Is result → IsErrOf result halt.Failed → ⊥
+never-failed Is (Ok a) h e = cc e
+never-failed Is (Err halt.NoMemory) h e = cc e
+never-failed Is (Err halt.Failed) h e = h
+never-failed Is (Err (halt.Refused r)) h e = cc e
 
 -- the folder's trouble is answered as it is
-pub troubled : {A B : Type 0} (f : A → B) (Is : Result B Refusal → Type 0) (trouble : Trouble) → Answers f Is (Err (halt_of trouble))
-troubled f Is Failed = tt
-troubled f Is NoMemory = tt
+pub troubled : {A : Type 0} (Is : Result A Refusal → Type 0) (trouble : Trouble) → Answers Is (Err (halt_of trouble))
+troubled Is Failed = tt
+troubled Is NoMemory = tt
 
-pub refused-as : {A D B C : Type 0} (f : A → B) (Is : Result B Refusal → Type 0) (Was : Result C Refusal → Type 0) (g : D → C) (h : Halt) → ((r : Refusal) → Is (Err r) → Was (Err r)) → Answers f Is (Err h) → Answers g Was (Err h)
-refused-as f Is Was g halt.NoMemory from a = tt
-refused-as f Is Was g halt.Failed from a = tt
-refused-as f Is Was g (halt.Refused r) from a = from r a
+pub refused-as : {A B : Type 0} (Is : Result A Refusal → Type 0) (Was : Result B Refusal → Type 0) (h : Halt) → ((r : Refusal) → Is (Err r) → Was (Err r))
+    → Answers Is (Err h) → Answers Was (Err h)
+refused-as Is Was halt.NoMemory from a = tt
+refused-as Is Was halt.Failed from a = tt
+refused-as Is Was (halt.Refused r) from a = from r a
 
 -- what doesn't fail asks nothing more of the count
-pub quiet : {failed then : Type 0} (a b : Option Files) (n m : ℕ) → (then → ⊥) → Leaves a n b m failed → Leaves a n b m then
-quiet a b n m never h = record { same_files = h.same_files; later = h.later; rose = λ t. absurd (never t) }
+pub quiet : {F failed then : Type 0} (tells : F → Option Files) (faults : F → ℕ) (old new : F) → (then → ⊥) → Leaves tells faults old new failed → Leaves tells faults old new then
+quiet tells faults old new never h = record { same_files = h.same_files; later = h.later; rose = λ t. absurd (never t) }
 
 halt-in : {A : Type 0} → Result A Halt → Halt
 halt-in (Ok a) = halt.NoMemory
 halt-in (Err h) = h
 
-never-halted : {A B : Type 0} (f : A → B) (Is : Result B Refusal → Type 0) (h : Halt) → Settles f Is (Err h) → h ≡ halt.Failed → ⊥
-never-halted f Is halt.NoMemory s e = cc e
-never-halted f Is halt.Failed s e = s
-never-halted f Is (halt.Refused r) s e = cc e
+never-halted : {A : Type 0} (Is : Result A Refusal → Type 0) (h : Halt) → Settles Is (Err h) → h ≡ halt.Failed → ⊥
+never-halted Is halt.NoMemory s e = cc e
+never-halted Is halt.Failed s e = s
+never-halted Is (halt.Refused r) s e = cc e
 
 -- what another answers with the same halt doesn't fail either
-pub never-passed : {A B D : Type 0} (f : A → B) (Is : Result B Refusal → Type 0) (h : Halt) (r : Result D Halt) → Settles f Is (Err h) → r ≡ Err h → r ≡ Err halt.Failed → ⊥
+pub never-passed : {A B : Type 0} (Is : Result A Refusal → Type 0) (h : Halt) (r : Result B Halt) → Settles Is (Err h) → r ≡ Err h → r ≡ Err halt.Failed → ⊥
 unfolding halt-in
-never-passed f Is h r s e k = never-halted f Is h s (sym (ap halt-in e) ∙ ap halt-in k)
+never-passed Is h r s e k = never-halted Is h s (sym (ap halt-in e) ∙ ap halt-in k)

@@ -11,7 +11,7 @@ use Rattle.index_files.specs.Releases.{AreReleases, AreVersions, files_below, na
 use Rattle.index_files.specs.Steps.{IsVisited, ReadsReleases, ReadsTooMany}
 use Rattle.index_files.specs.Totals.{is_too_many}
 use Rattle.index_files.specs.declared.file.File.{File}
-use Rattle.index_files.specs.declared.places.Places.{Places}
+use Rattle.plan_types.specs.declared.index.Places.{Places}
 use Rattle.index_files.specs.declared.release.Release.{Release}
 use Rattle.index_files.specs.declared.totals.Totals.{Totals}
 use Rattle.index_files.specs.declared.versions.VersionDir.{VersionDir}

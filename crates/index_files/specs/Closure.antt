@@ -3,7 +3,6 @@ use Rattle.std.specs.Prelude.{◌≡◌, ℕ, ◌+◌, Bool, true, false, List, 
 use Rattle.std.specs.List.{AllByRecursion, IsDistinct, list_all}
 use Rattle.plan_types.specs.declared.condition.Env.{Env}
 use Rattle.plan_types.specs.declared.dependency.Named.{Named}
-use Rattle.conditionals.specs.Value.{same}
 use Rattle.flatten.specs.Sound.{asked_packages}
 use Rattle.outside_folder.specs.Files.{Bytes, Files}
 use Rattle.index_files.specs.File.{count_all, size_all}
@@ -12,13 +11,14 @@ use Rattle.index_files.specs.Names.{is_listed}
 use Rattle.index_files.specs.Releases.{AreReleases, AreVersions, asked_in, files_below, names_below}
 use Rattle.index_files.specs.Totals.{is_too_many}
 use Rattle.index_files.specs.Units.{needed_by}
-use Rattle.index_files.specs.declared.closure.Found.{Found}
+use Rattle.index_files.specs.declared.closure.FoundName.{FoundName}
 use Rattle.index_files.specs.declared.file.File.{File}
 use Rattle.index_files.specs.declared.local.Local.{Local}
-use Rattle.index_files.specs.declared.places.Places.{Places}
+use Rattle.plan_types.specs.declared.index.Places.{Places}
 use Rattle.index_files.specs.declared.release.Release.{Release}
 use Rattle.index_files.specs.declared.unit.Unit.{Unit}
 use Rattle.index_files.specs.declared.versions.VersionDir.{VersionDir}
+use Rattle.plan_types.specs.Bytes.{same_text}
 
 -- what stands before the index is read
 pub record Ground : Type 0 where
@@ -28,24 +28,34 @@ pub record Ground : Type 0 where
   pub units : List Unit
   pub extra : List Named
 
+-- whether a name is that of a local package
 abbrev pub is_local : Ground → Bytes → Bool
 is_local ground name = is_listed (local_names ground.locals) name
 
 -- the names with which it begins: those of local packages, and those for which the project asks besides
-abbrev pub roots : Ground → List Bytes
-roots ground = local_names ground.locals ++ map (λ named. named.name) ground.extra
+abbrev pub root_names : List Local → List Named → List Bytes
+root_names locals extra = local_names locals ++ map (λ named. named.name) extra
 
+-- those of what stands before the index is read
+abbrev pub roots : Ground → List Bytes
+roots ground = root_names ground.locals ground.extra
+
+-- the names that a local package asks for, where there is one
 abbrev pub asked_by_local : Option Local → List Bytes
 asked_by_local None = []
 asked_by_local (Some local) = asked_packages local.source.description
 
 -- the names that a local package of this name mentions
 abbrev pub asked_locally : List Local → Bytes → List Bytes
-asked_locally locals name = asked_by_local (option_and_then (slice_get locals) (position (same name) (local_names locals)))
+asked_locally locals name = asked_by_local (option_and_then (slice_get locals) (position (same_text name) (local_names locals)))
 
 -- A name mentions what its local package asks for, what its records need, and what its releases ask for.
-abbrev pub mentioned : Ground → Found → List Bytes
+abbrev pub mentioned : Ground → FoundName → List Bytes
 mentioned ground found = asked_locally ground.locals found.name ++ needed_by ground.units found.name ++ asked_in found.releases
+
+-- what a name mentions, with these releases
+abbrev pub mentioned_by : Ground → Bytes → List Release → List Bytes
+mentioned_by ground name releases = mentioned ground (record { name = name; releases = releases })
 
 -- ---- what is read under a name
 
@@ -55,16 +65,20 @@ pub record Visit : Type 0 where
   pub dirs : List VersionDir
   pub releases : List Release
 
-abbrev pub found_of : Visit → Found
+-- a name and its releases, without the versions
+abbrev pub found_of : Visit → FoundName
 found_of visit = record { name = visit.name; releases = visit.releases }
 
+-- what is found at the paths of the versions of a name
 abbrev pub visited_files : Ground → Files → Visit → List File
 visited_files ground files visit = files_below ground.places files visit.name visit.dirs
 
+-- the versions and the releases of a name are those in the index
 pub record ReadsAll (ground : Ground) (files : Files) (visit : Visit) : Type 0 where
   pub versions : AreVersions (names_below ground.places files visit.name) visit.dirs
   pub releases : AreReleases ground.env visit.name visit.dirs (visited_files ground files visit) visit.releases
 
+-- a name has no versions and no releases
 pub record ReadsNothing (visit : Visit) : Type 0 where
   pub no_versions : visit.dirs ≡ []
   pub no_releases : visit.releases ≡ []
@@ -74,6 +88,7 @@ abbrev pub ReadsAs : Ground → Files → Visit → Bool → Type 0
 ReadsAs ground files visit true = ReadsNothing visit
 ReadsAs ground files visit false = ReadsAll ground files visit
 
+-- a visit has all that is to be read under its name
 abbrev pub IsVisit : Ground → Files → Visit → Type 0
 IsVisit ground files visit = ReadsAs ground files visit (is_local ground visit.name)
 
@@ -91,6 +106,7 @@ are_too_many ground files count size visits =
     let all = flat_map (visited_files ground files) visits in
     is_too_many (count + count_all all) (size + size_all all)
 
+-- the names of these visits
 abbrev pub names_of : List Visit → List Bytes
 names_of visits = map (λ visit. visit.name) visits
 
@@ -100,7 +116,7 @@ AreClosed ground names visits = list_all (λ visit. list_all (is_listed names) (
 
 -- The least names that hold those with which it begins and, with each, those that it mentions.
 pub record IsClosure (ground : Ground) (files : Files) (visits : List Visit) : Type 0 where
-  pub once : IsDistinct same (names_of visits)
+  pub once : IsDistinct same_text (names_of visits)
   pub begun : list_all (is_listed (names_of visits)) (roots ground) ≡ true
   pub closed : AreClosed ground (names_of visits) visits
   pub reached : AllByRecursion (λ visit. IsReached ground files visit.name) visits
@@ -119,17 +135,18 @@ pub record IsPart (ground : Ground) (files : Files) (visit : Visit) : Type 0 whe
 -- Some names of the closure have more files than are read, after so many files and bytes.
 pub record IsBeyond (ground : Ground) (files : Files) (count size : ℕ) : Type 0 where
   pub parts : List Visit
-  pub once : IsDistinct same (names_of parts)
+  pub once : IsDistinct same_text (names_of parts)
   pub inside : AllByRecursion (IsPart ground files) parts
   pub many : are_too_many ground files count size parts ≡ true
 
 -- all of the closure is read
-pub record IsWhole (ground : Ground) (files : Files) (count size : ℕ) (found : List Found) : Type 0 where
+pub record IsWhole (ground : Ground) (files : Files) (count size : ℕ) (found : List FoundName) : Type 0 where
   pub visits : List Visit
   pub closure : IsClosure ground files visits
   pub few : are_too_many ground files count size visits ≡ false
   pub found_is : found ≡ map found_of visits
 
-abbrev pub Reaches : Ground → Files → ℕ → ℕ → Option (List Found) → Type 0
+-- what was found in all of the closure, or that it has more files than are read
+abbrev pub Reaches : Ground → Files → ℕ → ℕ → Option (List FoundName) → Type 0
 Reaches ground files count size None = IsBeyond ground files count size
 Reaches ground files count size (Some found) = IsWhole ground files count size found

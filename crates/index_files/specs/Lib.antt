@@ -1,10 +1,10 @@
 pub mod Closure
 pub mod File
 pub mod InTurn
-pub mod Known
+pub mod Ground
 pub mod Locals
 pub mod Names
-pub mod Needed
+pub mod NeededNames
 pub mod Places
 pub mod Readings
 pub mod Releases

@@ -1,26 +1,29 @@
 -- The local packages of a folder.
-use Rattle.std.specs.Prelude.{ℕ, List, [], ◌∷◌, ◌++◌, true, map, position, slice_get, Option, Some, None}
+use Rattle.std.specs.Prelude.{◌≡◌, ℕ, List, [], ◌∷◌, ◌++◌, true, map, position, slice_get, Option, Some, None}
 use Rattle.std.specs.declared.result.Result.{Result}
 use Rattle.std.specs.declared.result.Result.TheVariants.{Ok, Err}
 use Rattle.plan_types.specs.declared.condition.Env.{Env}
 use Rattle.plan_types.specs.declared.refusal.Cause.TheVariants.{DuplicateLocal}
 use Rattle.plan_types.specs.declared.refusal.Refusal.{Refusal}
-use Rattle.conditionals.specs.Value.{same}
-use Rattle.description.specs.declared.first.At.{At}
+use Rattle.description.specs.declared.fault_order.At.{At}
 use Rattle.outside_folder.specs.Files.{Bytes, Files}
-use Rattle.source_file.specs.declared.source.Source.{Source}
+use Rattle.cabal_file.specs.declared.source.Source.{Source}
 use Rattle.index_files.specs.File.{file_found}
 use Rattle.index_files.specs.InTurn.{InTurn}
 use Rattle.index_files.specs.Sources.{Comes}
 use Rattle.index_files.specs.declared.file.File.{File}
 use Rattle.index_files.specs.declared.local.Local.{Local}
+use Rattle.plan_types.specs.Bytes.{same_text}
 
+-- the name of a local package
 abbrev pub local_name : Local → Bytes
 local_name local = local.source.description.name
 
+-- the names of local packages
 abbrev pub local_names : List Local → List Bytes
 local_names locals = map local_name locals
 
+-- the path of the local package at a place
 abbrev pub path_at : List Local → ℕ → Bytes
 path_at locals place = elim (slice_get locals place) [ None ↦ [] | Some local ↦ local.path ]
 
@@ -29,14 +32,20 @@ abbrev pub unless_there : Option ℕ → List Local → Local → Result (List L
 unless_there None locals local = Ok (locals ++ local ∷ [])
 unless_there (Some place) locals local = Err (record { path = local.path; line = 0; cause = DuplicateLocal; detail = path_at locals place })
 
+-- a local package behind others, or a refusal where one of them has its name
 abbrev pub with_local : List Local → Local → Result (List Local) Refusal
-with_local locals local = unless_there (position (same (local_name local)) (local_names locals)) locals local
+with_local locals local = unless_there (position (same_text (local_name local)) (local_names locals)) locals local
+
+-- what comes of the local package in a file
+abbrev pub TakesLocal : List Local → Bytes → Source → Result (List Local) Refusal → Type 0
+TakesLocal locals path source outcome = with_local locals (record { path = path; source = source }) ≡ outcome
 
 -- a file that can't be read is refused
 abbrev pub with_file : List Local → File → Result Source At → Result (List Local) Refusal
 with_file locals file (Ok source) = with_local locals (record { path = file.path; source = source })
 with_file locals file (Err at) = Err (record { path = file.path; line = at.line; cause = at.cause; detail = [] })
 
+-- what the file of a local package comes to
 abbrev pub FileComes : Env → File → Result Source At → Type 0
 FileComes env file outcome = Comes env file.content outcome
 

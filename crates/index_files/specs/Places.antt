@@ -1,12 +1,13 @@
 -- Where the files of an index lie.
 use Rattle.std.specs.Prelude.{◌++◌, codes}
 use Rattle.outside_folder.specs.Files.{Bytes}
-use Rattle.index_files.specs.declared.places.Places.{Places}
+use Rattle.plan_types.specs.declared.index.Places.{Places}
 
 -- a name in a directory
 abbrev pub under : Bytes → Bytes → Bytes
 under dir name = dir ++ codes "/" ++ name
 
+-- the file of a record under a name of the directory of records
 abbrev pub record_path : Places → Bytes → Bytes
 record_path places name = under places.installed name
 

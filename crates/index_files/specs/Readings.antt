@@ -5,7 +5,6 @@ use Rattle.plan_types.specs.declared.condition.Env.{Env}
 use Rattle.plan_types.specs.declared.dependency.Named.{Named}
 use Rattle.plan_types.specs.declared.refusal.Cause.TheVariants.{TooMany}
 use Rattle.plan_types.specs.declared.refusal.Refusal.{Refusal}
-use Rattle.conditionals.specs.Value.{same}
 use Rattle.outside_folder.specs.Files.{Bytes, Files}
 use Rattle.index_files.specs.Closure.{Ground, IsBeyond, IsWhole}
 use Rattle.index_files.specs.File.{count_all, size_all}
@@ -15,9 +14,10 @@ use Rattle.index_files.specs.Steps.{AreKept}
 use Rattle.index_files.specs.Units.{IsFormed, ReadsUnits, record_files, unit_ids}
 use Rattle.index_files.specs.declared.file.File.{File}
 use Rattle.index_files.specs.declared.local.Local.{Local}
-use Rattle.index_files.specs.declared.places.Places.{Places}
+use Rattle.plan_types.specs.declared.index.Places.{Places}
 use Rattle.index_files.specs.declared.readings.Readings.{Readings}
 use Rattle.index_files.specs.declared.unit.Unit.{Unit}
+use Rattle.plan_types.specs.Bytes.{same_text}
 
 -- the packages that stand before the index is read, and the files of the closure
 pub record AreRead (ground : Ground) (files : Files) (count size : ℕ) (readings : Readings) : Type 0 where
@@ -25,10 +25,12 @@ pub record AreRead (ground : Ground) (files : Files) (count size : ℕ) (reading
   pub units : readings.units ≡ ground.units
   pub found : IsWhole ground files count size readings.found
 
+-- the closure has more files than are read, and this is refused
 pub record AreTooMany (ground : Ground) (files : Files) (count size : ℕ) (refusal : Refusal) : Type 0 where
   pub beyond : IsBeyond ground files count size
   pub refusal_is : refusal ≡ record { path = ground.places.index; line = 0; cause = TooMany; detail = [] }
 
+-- the readings, or the refusal where there are too many files
 abbrev pub AreIndexed : Ground → Files → ℕ → ℕ → Result Readings Refusal → Type 0
 AreIndexed ground files count size (Ok readings) = AreRead ground files count size readings
 AreIndexed ground files count size (Err refusal) = AreTooMany ground files count size refusal
@@ -47,8 +49,9 @@ AreReadings env places extra paths files outcome =
 abbrev pub IsFromFile : Env → Local → Type 0
 IsFromFile env local = (file : File) × FileComes env file (Ok local.source)
 
+-- each local package is what some file says, and no two have one name
 pub record AreFromFiles (env : Env) (locals : List Local) : Type 0 where
-  pub once : IsDistinct same (local_names locals)
+  pub once : IsDistinct same_text (local_names locals)
   pub read : AllByRecursion (IsFromFile env) locals
 
 -- the readings are over what stood before
@@ -61,6 +64,6 @@ pub record AreOf (ground : Ground) (readings : Readings) : Type 0 where
 -- what is so of the readings of any folder
 pub record HaveForm (env : Env) (places : Places) (extra : List Named) (readings : Readings) : Type 0 where
   pub locals : AreFromFiles env readings.locals
-  pub units_once : IsDistinct same (unit_ids readings.units)
+  pub units_once : IsDistinct same_text (unit_ids readings.units)
   pub units_formed : AllByRecursion IsFormed readings.units
   pub kept : AreKept (record { env = env; places = places; locals = readings.locals; units = readings.units; extra = extra }) (map (λ f. f.name) readings.found) readings.found

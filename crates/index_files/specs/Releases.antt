@@ -6,27 +6,29 @@ use Rattle.plan_types.specs.declared.condition.Env.{Env}
 use Rattle.plan_types.specs.declared.description.Description.{Description}
 use Rattle.plan_types.specs.declared.refusal.Cause.TheVariants.{WrongPlace}
 use Rattle.plan_types.specs.declared.version.Version.{Version}
-use Rattle.conditionals.specs.Value.{same}
-use Rattle.description_parts.specs.File.{IsVersion}
-use Rattle.description.specs.declared.first.At.{At}
+use Rattle.description.specs.declared.fault_order.At.{At}
+use Rattle.flatten.specs.Demands.{Outward}
 use Rattle.flatten.specs.Sound.{asked_packages}
 use Rattle.outside_folder.specs.declared.calls.Content.{Content}
 use Rattle.outside_folder.specs.declared.calls.Content.TheVariants.{Missing, TooLarge, Bytes as Holds}
 use Rattle.outside_folder.specs.declared.folder.Name.{Name}
 use Rattle.outside_folder.specs.Files.{Bytes, Files, listing}
-use Rattle.source_file.specs.declared.source.Source.{Source}
+use Rattle.cabal_file.specs.declared.source.Source.{Source}
 use Rattle.index_files.specs.File.{file_found}
 use Rattle.index_files.specs.Places.{name_dir, release_path}
 use Rattle.index_files.specs.Sources.{Comes}
 use Rattle.index_files.specs.declared.file.File.{File}
-use Rattle.index_files.specs.declared.places.Places.{Places}
+use Rattle.plan_types.specs.declared.index.Places.{Places}
 use Rattle.index_files.specs.declared.release.Judged.{Judged}
 use Rattle.index_files.specs.declared.release.Judged.TheVariants.{Readable, Faulty}
 use Rattle.index_files.specs.declared.release.Release.{Release}
 use Rattle.index_files.specs.declared.versions.VersionDir.{VersionDir}
+use Rattle.plan_types.specs.Bytes.{same_text}
+use Rattle.version_range.specs.Version.{IsVersionOf}
 
 -- ---- versions
 
+-- a version with the name of its directory, where that reads as one
 abbrev pub version_dir : Bytes → Option Version → List VersionDir
 version_dir text None = []
 version_dir text (Some version) = record { text = text; version = version } ∷ []
@@ -35,9 +37,10 @@ version_dir text (Some version) = record { text = text; version = version } ∷ 
 abbrev pub AreVersions : List Name → List VersionDir → Type 0
 AreVersions [] dirs = dirs ≡ []
 AreVersions (name ∷ names) dirs =
-    (version : Option Version) × (more : List VersionDir) × IsVersion name.text version × AreVersions names more
+    (version : Option Version) × (more : List VersionDir) × IsVersionOf name.text version × AreVersions names more
     × (dirs ≡ version_dir name.text version ++ more)
 
+-- the paths of the files of these versions
 abbrev pub release_paths : Places → Bytes → List VersionDir → List Bytes
 release_paths places name dirs = map (λ dir. release_path places name dir.text) dirs
 
@@ -51,21 +54,25 @@ files_below places files name dirs = map (file_found false files) (release_paths
 
 -- ---- releases
 
+-- whether a description states this name and this version
 abbrev pub is_in_place : Bytes → Version → Description → Bool
-is_in_place name version d = same d.name name && same d.version.parts version.parts
+is_in_place name version d = same_text d.name name && same_text d.version.parts version.parts
 
 -- a file has to state the name and the version of its path
 abbrev pub judged_as : Bytes → Version → Result Source At → Judged
 judged_as name version (Ok source) = if is_in_place name version source.description then Readable source else Faulty 0 WrongPlace
 judged_as name version (Err at) = Faulty at.line at.cause
 
+-- what a file of the index is judged as
 abbrev pub IsJudged : Env → Bytes → Version → Content → Judged → Type 0
 IsJudged env name version content judged = (outcome : Result Source At) × Comes env content outcome × (judged ≡ judged_as name version outcome)
 
+-- the one release in a file, as it is judged
 abbrev pub IsOneRelease : Env → Bytes → Version → Bytes → Content → List Release → Type 0
 IsOneRelease env name version path content releases =
     (judged : Judged) × IsJudged env name version content judged × (releases ≡ record { path = path; judged = judged } ∷ [])
 
+-- the same, but no release where the file is missing
 abbrev pub IsReleaseIn : Env → Bytes → Version → Bytes → Content → List Release → Type 0
 IsReleaseIn env name version path Missing releases = releases ≡ []
 IsReleaseIn env name version path TooLarge releases = IsOneRelease env name version path TooLarge releases
@@ -83,6 +90,7 @@ AreReleases env name (dir ∷ dirs) (file ∷ files) releases =
     (here : List Release) × (more : List Release) × IsRelease env name dir file here × AreReleases env name dirs files more
     × (releases ≡ here ++ more)
 
+-- the names that a release mentions, where it can be read
 abbrev pub asked_by : Judged → List Bytes
 asked_by (Readable source) = asked_packages source.description
 asked_by (Faulty line cause) = []
@@ -91,13 +99,20 @@ asked_by (Faulty line cause) = []
 abbrev pub asked_in : List Release → List Bytes
 asked_in releases = flat_map (λ release. asked_by release.judged) releases
 
+-- the name of the package that a dependency is on
+abbrev pub outward_name : Outward → Bytes
+outward_name at = at.guarded.dep.«package»
+
 -- ---- steps
 
+-- a version came behind the others, where the name of its directory reads as one
 abbrev pub AddsVersion : Bytes → List VersionDir → List VersionDir → Type 0
-AddsVersion text old new = (version : Option Version) × IsVersion text version × (new ≡ old ++ version_dir text version)
+AddsVersion text old new = (version : Option Version) × IsVersionOf text version × (new ≡ old ++ version_dir text version)
 
+-- the release in a file came behind the others, where there is one
 abbrev pub AddsRelease : Env → Bytes → VersionDir → File → List Release → List Release → Type 0
 AddsRelease env name dir file old new = (here : List Release) × IsRelease env name dir file here × (new ≡ old ++ here)
 
+-- the one release in a file came behind the others
 abbrev pub AddsJudged : Env → Bytes → VersionDir → File → List Release → List Release → Type 0
 AddsJudged env name dir file old new = (here : List Release) × IsOneRelease env name dir.version file.path file.content here × (new ≡ old ++ here)

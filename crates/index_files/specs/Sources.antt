@@ -7,10 +7,10 @@ use Rattle.plan_types.specs.declared.refusal.Cause.TheVariants.{TooLarge as ItIs
 use Rattle.outside_folder.specs.declared.calls.Content.{Content}
 use Rattle.outside_folder.specs.declared.calls.Content.TheVariants.{Missing, TooLarge, Bytes as Holds}
 use Rattle.outside_folder.specs.Files.{Bytes}
-use Rattle.description.specs.First.{is_at}
-use Rattle.description.specs.declared.first.At.{At}
-use Rattle.source_file.specs.Source.{IsSource}
-use Rattle.source_file.specs.declared.source.Source.{Source}
+use Rattle.description.specs.FaultOrder.{is_at}
+use Rattle.description.specs.declared.fault_order.At.{At}
+use Rattle.cabal_file.specs.Source.{IsSource}
+use Rattle.cabal_file.specs.declared.source.Source.{Source}
 
 -- a file that is gone counts as empty
 abbrev pub bytes_in : Content → Option Bytes
@@ -18,6 +18,7 @@ bytes_in Missing = Some []
 bytes_in TooLarge = None
 bytes_in (Holds bytes) = Some bytes
 
+-- what the bytes of a file are read as, or the fault of one that is too large
 abbrev pub OfBytes : Env → Option Bytes → Result Source At → Type 0
 OfBytes env None outcome = outcome ≡ Err (is_at 0 ItIsTooLarge)
 OfBytes env (Some bytes) outcome = IsSource env bytes outcome

@@ -1,32 +1,35 @@
 -- The steps in which the closure is read.
-use Rattle.std.specs.Prelude.{◌≡◌, ◌+◌, Bool, ◌||◌, true, false, List, [], ◌∷◌, flat_map, map, fold, Option, Some, None}
+use Rattle.std.specs.Prelude.{◌≡◌, ℕ, ◌+◌, Bool, get_or, ◌||◌, true, false, List, [], ◌∷◌, flat_map, map, fold, Option, Some, None}
+use Rattle.std.specs.Option.{option_map}
 use Rattle.std.specs.List.{AllByRecursion, IsDistinct, list_all, list_any}
 use Rattle.plan_types.specs.declared.condition.Env.{Env}
-use Rattle.indexmap.specs.IndexSet.{insert_key}
-use Rattle.conditionals.specs.Value.{same}
 use Rattle.outside_folder.specs.Files.{Bytes, Files}
 use Rattle.index_files.specs.Closure.{Ground, IsReached, IsVisit, Visit, found_of, is_local, mentioned, roots, visited_files}
 use Rattle.index_files.specs.File.{Counts, count_all, size_all}
-use Rattle.index_files.specs.Names.{is_listed}
+use Rattle.index_files.specs.Names.{is_listed, put_all}
 use Rattle.index_files.specs.Releases.{AreReleases, AreVersions, files_below, names_below}
 use Rattle.index_files.specs.Totals.{is_too_many}
-use Rattle.index_files.specs.declared.closure.Found.{Found}
+use Rattle.index_files.specs.declared.closure.FoundName.{FoundName}
 use Rattle.index_files.specs.declared.file.File.{File}
-use Rattle.index_files.specs.declared.places.Places.{Places}
+use Rattle.plan_types.specs.declared.index.Places.{Places}
 use Rattle.index_files.specs.declared.release.Release.{Release}
 use Rattle.index_files.specs.declared.totals.Totals.{Totals}
 use Rattle.index_files.specs.declared.versions.VersionDir.{VersionDir}
+use Rattle.plan_types.specs.Bytes.{same_text}
 
 -- ---- one name
 
+-- these files are too many after those that were counted before them
 abbrev pub IsBeyondAll : Totals → List File → Type 0
 IsBeyondAll before read = is_too_many (before.files + count_all read) (before.bytes + size_all read) ≡ true
 
+-- the files of a name are too many after those before them
 pub record ReadsTooMany (places : Places) (files : Files) (name : Bytes) (before : Totals) : Type 0 where
   pub dirs : List VersionDir
   pub versions : AreVersions (names_below places files name) dirs
   pub many : IsBeyondAll before (files_below places files name dirs)
 
+-- the releases of a name, whose files were counted
 pub record ReadsReleases (env : Env) (places : Places) (files : Files) (name : Bytes) (before after : Totals) (releases : List Release) : Type 0 where
   pub dirs : List VersionDir
   pub versions : AreVersions (names_below places files name) dirs
@@ -49,40 +52,45 @@ pub record IsOneTooMany (ground : Ground) (files : Files) (name : Bytes) (before
   pub apart : is_local ground name ≡ false
   pub read : ReadsTooMany ground.places files name before
 
+-- what is read under a name, or that its files are too many
 abbrev pub Visits : Ground → Files → Bytes → Totals → Totals → Option (List Release) → Type 0
 Visits ground files name before after None = IsOneTooMany ground files name before
 Visits ground files name before after (Some releases) = IsVisited ground files name before after releases
+
+-- what was read under the name at a place
+abbrev pub VisitsAt : Ground → Files → List Bytes → ℕ → Totals → Totals → Option FoundName → Type 0
+VisitsAt ground files names place before after read = Visits ground files (get_or names place []) before after (option_map (λ found. found.releases) read)
 
 -- the releases are those of some files, of which no two are of one version
 pub record AreJudged (env : Env) (name : Bytes) (releases : List Release) : Type 0 where
   pub dirs : List VersionDir
   pub files : List File
-  pub once : IsDistinct same (map (λ dir. dir.version.parts) dirs)
+  pub once : IsDistinct same_text (map (λ dir. dir.version.parts) dirs)
   pub are : AreReleases env name dirs files releases
 
 -- ---- all names
 
 -- what was read under names, as far as it was
-abbrev pub pair_up : List Bytes → List (List Release) → List Found
+abbrev pub pair_up : List Bytes → List (List Release) → List FoundName
 pair_up [] read = []
 pair_up (name ∷ names) [] = []
 pair_up (name ∷ names) (releases ∷ read) = record { name = name; releases = releases } ∷ pair_up names read
 
 -- the closure begins with this name, or what was read mentions it
-abbrev pub is_given : Ground → List Found → Bytes → Bool
+abbrev pub is_given : Ground → List FoundName → Bytes → Bool
 is_given ground found name = is_listed (roots ground) name || list_any (λ f. is_listed (mentioned ground f) name) found
 
 -- the names hold those with which the closure begins, each once, and what was read mentions no others; there are no
 -- other names
-pub record AreKept (ground : Ground) (names : List Bytes) (found : List Found) : Type 0 where
-  pub once : IsDistinct same names
+pub record AreKept (ground : Ground) (names : List Bytes) (found : List FoundName) : Type 0 where
+  pub once : IsDistinct same_text names
   pub begun : list_all (is_listed names) (roots ground) ≡ true
   pub closed : list_all (λ f. list_all (is_listed names) (mentioned ground f)) found ≡ true
   pub given : AllByRecursion (λ name. is_given ground found name ≡ true) names
   pub judged : AllByRecursion (λ f. AreJudged ground.env f.name f.releases) found
 
 -- what was read is of the closure, and was counted
-pub record ArePartly (ground : Ground) (files : Files) (before after : Totals) (names : List Bytes) (found : List Found) : Type 0 where
+pub record ArePartly (ground : Ground) (files : Files) (before after : Totals) (names : List Bytes) (found : List FoundName) : Type 0 where
   pub visits : List Visit
   pub found_is : found ≡ map found_of visits
   pub read : AllByRecursion (IsVisit ground files) visits
@@ -90,7 +98,11 @@ pub record ArePartly (ground : Ground) (files : Files) (before after : Totals) (
   pub counts : Counts before after (flat_map (visited_files ground files) visits)
 
 -- a name was read, and what it mentions was put behind the others
-pub record Finds (ground : Ground) (name : Bytes) (old new : List Bytes) (found : Found) : Type 0 where
+pub record Finds (ground : Ground) (name : Bytes) (old new : List Bytes) (found : FoundName) : Type 0 where
   pub name_is : found.name ≡ name
   pub judged : AreJudged ground.env found.name found.releases
-  pub put : new ≡ fold (insert_key same) old (mentioned ground found)
+  pub put : new ≡ put_all old (mentioned ground found)
+
+-- the same of the name at a place
+abbrev pub FindsAt : Ground → ℕ → List Bytes → List Bytes → FoundName → Type 0
+FindsAt ground place old new found = Finds ground (get_or old place []) old new found

@@ -8,9 +8,8 @@ use Rattle.plan_types.specs.declared.refusal.Cause.TheVariants.{BadRecord, Dupli
 use Rattle.plan_types.specs.declared.refusal.Refusal.{Refusal}
 use Rattle.plan_types.specs.Name.{is_package_name}
 use Rattle.version_range.specs.Version.{is_version}
-use Rattle.conditionals.specs.Value.{same}
-use Rattle.description.specs.First.{is_at}
-use Rattle.description.specs.declared.first.At.{At}
+use Rattle.description.specs.FaultOrder.{is_at}
+use Rattle.description.specs.declared.fault_order.At.{At}
 use Rattle.outside_folder.specs.Files.{Bytes, Files, listing}
 use Rattle.outside_folder.specs.declared.folder.Name.{Name}
 use Rattle.unit_record.specs.Record.{IsRecord}
@@ -19,15 +18,18 @@ use Rattle.index_files.specs.InTurn.{InTurn}
 use Rattle.index_files.specs.Places.{record_path}
 use Rattle.index_files.specs.Sources.{bytes_in}
 use Rattle.index_files.specs.declared.file.File.{File}
-use Rattle.index_files.specs.declared.places.Places.{Places}
+use Rattle.plan_types.specs.declared.index.Places.{Places}
 use Rattle.index_files.specs.declared.unit.Unit.{Unit}
+use Rattle.plan_types.specs.Bytes.{same_text}
 
 -- ---- a record
 
+-- what is read of a record, or the fault at the line at which it can't be read
 abbrev pub record_outcome : Result (Option UnitRecord) ℕ → Result (Option UnitRecord) At
 record_outcome (Ok found) = Ok found
 record_outcome (Err line) = Err (is_at line BadRecord)
 
+-- what the bytes of a record are read as, or the fault of one that is too large
 abbrev pub OfRecord : Option Bytes → Result (Option UnitRecord) At → Type 0
 OfRecord None outcome = outcome ≡ Err (is_at 0 TooLarge)
 OfRecord (Some bytes) outcome = (found : Result (Option UnitRecord) ℕ) × IsRecord bytes found × (outcome ≡ record_outcome found)
@@ -38,19 +40,23 @@ RecordComes file outcome = OfRecord (bytes_in file.content) outcome
 
 -- ---- the units
 
+-- the id of a unit
 abbrev pub unit_id : Unit → Bytes
 unit_id u = u.record_of.id
 
+-- the name of the package of a unit
 abbrev pub unit_name : Unit → Bytes
 unit_name u = u.record_of.name
 
+-- the ids of units
 abbrev pub unit_ids : List Unit → List Bytes
 unit_ids units = map unit_id units
 
 -- the place of the unit of an id
 abbrev pub place_of : List Unit → Bytes → Option ℕ
-place_of units id = position (same id) (unit_ids units)
+place_of units id = position (same_text id) (unit_ids units)
 
+-- the path of the record of the unit at a place
 abbrev pub path_at : List Unit → ℕ → Bytes
 path_at units place = elim (slice_get units place) [ None ↦ [] | Some u ↦ u.path ]
 
@@ -59,6 +65,7 @@ abbrev pub unless_there : Option ℕ → List Unit → Unit → Result (List Uni
 unless_there None units u = Ok (units ++ u ∷ [])
 unless_there (Some place) units u = Err (record { path = u.path; line = 0; cause = DuplicateUnit; detail = path_at units place })
 
+-- a unit behind others, or a refusal where one of them has its id
 abbrev pub with_unit : List Unit → Unit → Result (List Unit) Refusal
 with_unit units u = unless_there (place_of units (unit_id u)) units u
 
@@ -66,6 +73,14 @@ with_unit units u = unless_there (place_of units (unit_id u)) units u
 abbrev pub with_found : List Unit → Bytes → Option UnitRecord → Result (List Unit) Refusal
 with_found units path None = Ok units
 with_found units path (Some found) = with_unit units (record { path = path; record_of = found })
+
+-- what comes of the unit of a record
+abbrev pub TakesUnit : List Unit → Bytes → UnitRecord → Result (List Unit) Refusal → Type 0
+TakesUnit units path record_of outcome = with_unit units (record { path = path; record_of = record_of }) ≡ outcome
+
+-- the same where a record may have none
+abbrev pub TakesFound : List Unit → Bytes → Option UnitRecord → Result (List Unit) Refusal → Type 0
+TakesFound units path found outcome = with_found units path found ≡ outcome
 
 -- a record that can't be read is refused
 abbrev pub with_record : List Unit → File → Result (Option UnitRecord) At → Result (List Unit) Refusal
@@ -78,12 +93,15 @@ AreUnits files outcome = InTurn RecordComes with_record [] files outcome
 
 -- ---- the folder
 
+-- whether a name in the folder is that of a record
 abbrev pub is_record : Name → Bool
 is_record name = not name.folder && ends_with nat_eq name.text (codes ".conf")
 
+-- the paths of the records among these names
 abbrev pub record_paths : Places → List Name → List Bytes
 record_paths places names = map (λ name. record_path places name.text) (filter is_record names)
 
+-- the paths of all records in the folder
 abbrev pub paths_of_records : Places → Files → List Bytes
 paths_of_records places files = record_paths places (unwrap_or (listing files places.installed) [])
 
@@ -106,6 +124,7 @@ ReadsUnits places files outcome =
 
 -- ---- what records mention
 
+-- the name of the package of the unit at a place
 abbrev pub name_at : List Unit → ℕ → List Bytes
 name_at units place = elim (slice_get units place) [ None ↦ [] | Some u ↦ unit_name u ∷ [] ]
 
@@ -113,11 +132,13 @@ name_at units place = elim (slice_get units place) [ None ↦ [] | Some u ↦ un
 abbrev pub known_name : List Unit → Bytes → List Bytes
 known_name units id = elim (place_of units id) [ None ↦ [] | Some place ↦ name_at units place ]
 
+-- the names of the packages of the units that a unit needs, as far as these have records
 abbrev pub needed_names : List Unit → Unit → List Bytes
 needed_names units u = flat_map (known_name units) u.record_of.depends
 
+-- the names that some records mention, of which only those of one name count
 abbrev pub needed_among : List Unit → Bytes → List Unit → List Bytes
-needed_among units name some = flat_map (λ u. if same (unit_name u) name then needed_names units u else []) some
+needed_among units name some = flat_map (λ u. if same_text (unit_name u) name then needed_names units u else []) some
 
 -- the names that the records of a name mention
 abbrev pub needed_by : List Unit → Bytes → List Bytes

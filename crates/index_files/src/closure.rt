@@ -1,19 +1,18 @@
 // Names are read one after the other, each once: first those with which the closure begins, then those that are mentioned.
-ghost use Rattle.std.specs.Prelude.{◌≡◌, ◌++◌, ◌<◌, [], length, map, fold, get_or, IfOk, IfSome, OnOk, IsErrOf};
-ghost use Rattle.std.specs.Option.{option_copied, option_map};
-ghost use Rattle.conditionals.specs.Value.{same};
-ghost use Rattle.indexmap.specs.IndexSet.{insert_key};
+ghost use Rattle.std.specs.Prelude.{◌≡◌, ◌<◌, [], length, map, get_or, IfOk, IfSome, OnOk, IsErrOf};
+ghost use Rattle.std.specs.Option.{option_copied};
 ghost use Rattle.outside_folder.specs.Calls.{Leaves};
-ghost use Rattle.index_files.specs.Closure.{Reaches, asked_by_local, asked_locally, mentioned};
-ghost use Rattle.index_files.specs.Known.{ground_of};
+ghost use Rattle.index_files.specs.Closure.{Reaches, asked_by_local, asked_locally, mentioned_by, root_names};
+ghost use Rattle.index_files.specs.Ground.{ground_of};
 ghost use Rattle.index_files.specs.Locals.{local_names};
-ghost use Rattle.index_files.specs.Steps.{AreKept, Finds, Visits};
+ghost use Rattle.index_files.specs.Steps.{AreKept, FindsAt, VisitsAt};
+ghost use Rattle.index_files.specs.Names.{put_all};
 
-use crate::known::Known;
 use crate::local::Local;
 use crate::locals::Locals;
-use crate::mention::{put_asked, put_asked_packages};
+use crate::mentioned_names::{put_asked, put_asked_packages};
 use crate::names::{put, put_all};
+use crate::read_before::ReadBefore;
 use crate::release::Release;
 use crate::totals::Totals;
 use crate::visit::read_name;
@@ -24,7 +23,7 @@ use std::alloc::Global;
 
 /// A name of the closure, and its files in the index.
 #[derive(Debug, Drop)]
-pub struct Found {
+pub struct FoundName {
     pub name: Text,
     pub releases: List<Release>,
 }
@@ -33,18 +32,18 @@ pub struct Found {
 pub(crate) fn read_closure<F: Folder>(
     alloc: Global,
     folder: &mut F,
-    known: &Known,
+    before: &ReadBefore,
     totals: Totals,
-) -> Result<Option<List<Found>>, Trouble>
-    ensures told { IfSome (F.tells folder.old) (λ files. IfOk result (Reaches (ground_of known.now) files totals.files totals.bytes)) }
-    ensures kept { IfOk result (λ found. IfSome found (λ found. AreKept (ground_of known.now) (map (λ f. f.name) found) found)) }
-    ensures folder { Leaves (F.tells folder.old) (F.faults folder.old) (F.tells folder.new) (F.faults folder.new) (IsErrOf result Trouble.Failed) }
+) -> Result<Option<List<FoundName>>, Trouble>
+    ensures told { IfSome (F.tells folder.old) (λ files. IfOk result (Reaches (ground_of before.now) files totals.files totals.bytes)) }
+    ensures kept { IfOk result (λ found. IfSome found (λ found. AreKept (ground_of before.now) (map (λ f. f.name) found) found)) }
+    ensures folder { Leaves F.tells F.faults folder.old folder.new (IsErrOf result Trouble.Failed) }
 {
     let mut totals = totals;
-    let mut names = roots(alloc, known.locals, known.extra.as_slice())?;
+    let mut names = roots(alloc, before.locals, before.extra.as_slice())?;
     let mut found = List::new(alloc);
     while found.len() < names.len() {
-        match visit(alloc, folder, known, &mut names, found.len(), &mut totals)? {
+        match visit(alloc, folder, before, &mut names, found.len(), &mut totals)? {
             None => return Ok(None),
             Some(one) => found.push(one)?,
         }
@@ -54,7 +53,7 @@ pub(crate) fn read_closure<F: Folder>(
 
 // The names with which the closure begins.
 fn roots(alloc: Global, locals: &Locals, extra: &[Named]) -> Result<IndexSet<Text>, NoMemory>
-    ensures { IfOk result (λ names. names.keys ≡ fold (insert_key same) [] (local_names locals.now.list ++ map (λ named. named.name) extra.now)) }
+    ensures { IfOk result (λ names. names.keys ≡ put_all [] (root_names locals.now.list extra.now)) }
 {
     let mut names = IndexSet::new(alloc);
     put_locals(&mut names, locals.list.as_slice())?;
@@ -63,7 +62,7 @@ fn roots(alloc: Global, locals: &Locals, extra: &[Named]) -> Result<IndexSet<Tex
 }
 
 fn put_locals(names: &mut IndexSet<Text>, locals: &[Local]) -> Result<(), NoMemory>
-    ensures { OnOk result (names.new.keys ≡ fold (insert_key same) names.old.keys (local_names locals.now)) }
+    ensures { OnOk result (names.new.keys ≡ put_all names.old.keys (local_names locals.now)) }
 {
     for local in locals {
         put(names, &local.source.description.name)?;
@@ -72,7 +71,7 @@ fn put_locals(names: &mut IndexSet<Text>, locals: &[Local]) -> Result<(), NoMemo
 }
 
 fn put_extra(names: &mut IndexSet<Text>, extra: &[Named]) -> Result<(), NoMemory>
-    ensures { OnOk result (names.new.keys ≡ fold (insert_key same) names.old.keys (map (λ named. named.name) extra.now)) }
+    ensures { OnOk result (names.new.keys ≡ put_all names.old.keys (map (λ named. named.name) extra.now)) }
 {
     for named in extra {
         put(names, &named.name)?;
@@ -84,23 +83,24 @@ fn put_extra(names: &mut IndexSet<Text>, extra: &[Named]) -> Result<(), NoMemory
 fn visit<F: Folder>(
     alloc: Global,
     folder: &mut F,
-    known: &Known,
+    before: &ReadBefore,
     names: &mut IndexSet<Text>,
     place: usize,
     totals: &mut Totals,
-) -> Result<Option<Found>, Trouble>
+) -> Result<Option<FoundName>, Trouble>
     requires { place < length names.old.keys }
-    ensures told { IfSome (F.tells folder.old) (λ files. IfOk result (λ read. Visits (ground_of known.now) files (get_or names.old.keys place []) totals.old totals.new (option_map (λ found. found.releases) read))) }
-    ensures found { IfOk result (λ read. IfSome read (Finds (ground_of known.now) (get_or names.old.keys place []) names.old.keys names.new.keys)) }
-    ensures folder { Leaves (F.tells folder.old) (F.faults folder.old) (F.tells folder.new) (F.faults folder.new) (IsErrOf result Trouble.Failed) }
+    ensures told { IfSome (F.tells folder.old) (λ files. IfOk result
+        (VisitsAt (ground_of before.now) files names.old.keys place totals.old totals.new)) }
+    ensures found { IfOk result (λ read. IfSome read (FindsAt (ground_of before.now) place names.old.keys names.new.keys)) }
+    ensures folder { Leaves F.tells F.faults folder.old folder.new (IsErrOf result Trouble.Failed) }
 {
     let name = name_at(names, place)?;
-    let read = read_name(alloc, folder, known, &name, totals)?;
+    let read = read_name(alloc, folder, before, &name, totals)?;
     match read {
         None => Ok(None),
         Some(releases) => {
-            put_mentioned(names, known, &name, releases.as_slice())?;
-            Ok(Some(Found { name, releases }))
+            put_mentioned(names, before, &name, releases.as_slice())?;
+            Ok(Some(FoundName { name, releases }))
         }
     }
 }
@@ -123,19 +123,19 @@ fn local_of<'a>(locals: &'a Locals, name: &Text) -> Option<&'a Local>
 // Puts the names that a name mentions.
 fn put_mentioned(
     names: &mut IndexSet<Text>,
-    known: &Known,
+    before: &ReadBefore,
     name: &Text,
     releases: &[Release],
 ) -> Result<(), NoMemory>
-    ensures { OnOk result (names.new.keys ≡ fold (insert_key same) names.old.keys (mentioned (ground_of known.now) (record { name = name.now; releases = releases.now }))) }
+    ensures { OnOk result (names.new.keys ≡ put_all names.old.keys (mentioned_by (ground_of before.now) name.now releases.now)) }
 {
-    put_local(names, local_of(known.locals, name))?;
-    put_all(names, known.needed.by(name))?;
+    put_local(names, local_of(before.locals, name))?;
+    put_all(names, before.needed.by(name))?;
     put_asked(names, releases)
 }
 
 fn put_local(names: &mut IndexSet<Text>, local: Option<&Local>) -> Result<(), NoMemory>
-    ensures { OnOk result (names.new.keys ≡ fold (insert_key same) names.old.keys (asked_by_local (option_copied local.entry))) }
+    ensures { OnOk result (names.new.keys ≡ put_all names.old.keys (asked_by_local (option_copied local.entry))) }
 {
     match local {
         None => Ok(()),

@@ -3,7 +3,7 @@ ghost use Rattle.std.specs.Prelude.{◌≡◌, ◌+◌, ◌==◌, true, length, 
 ghost use Rattle.std.specs.List.{AllByRecursion};
 ghost use Rattle.outside_folder.specs.Calls.{Leaves};
 ghost use Rattle.outside_folder.specs.declared.calls.Trouble.TheVariants.{Failed as trouble_failed};
-ghost use Rattle.index_files.specs.File.{Counts, IsReadable, content_found, count_of, file_found, fitting, size_of};
+ghost use Rattle.index_files.specs.File.{Counts, IsReadable, content_found, count_of, file_found, fitting_at, size_of};
 
 use crate::totals::Totals;
 use outside_folder::{Content, Folder, Trouble, read_content};
@@ -54,7 +54,7 @@ pub(crate) fn read_all<F: Folder>(
 ) -> Result<List<File>, Trouble>
     ensures told { IfSome (F.tells folder.old) (λ files. IfOk result (λ read. read ≡ map (file_found true files) paths.now)) }
     ensures readable { IfOk result (AllByRecursion IsReadable) }
-    ensures folder { Leaves (F.tells folder.old) (F.faults folder.old) (F.tells folder.new) (F.faults folder.new) (IsErrOf result Trouble.Failed) }
+    ensures folder { Leaves F.tells F.faults folder.old folder.new (IsErrOf result Trouble.Failed) }
 {
     let mut read = List::new(alloc);
     for path in paths {
@@ -72,11 +72,11 @@ pub(crate) fn read_counted<F: Folder>(
     listed: bool,
     totals: &mut Totals,
 ) -> Result<Fetched, Trouble>
-    ensures told { IfSome (F.tells folder.old) (λ files. IfOk result (λ read. read.files ≡ fitting totals.old.files totals.old.bytes (map (file_found listed files) paths.now))) }
+    ensures told { IfSome (F.tells folder.old) (λ files. IfOk result (λ read. read.files ≡ fitting_at totals.old listed files paths.now)) }
     ensures counts { IfOk result (λ read. Counts totals.old totals.new read.files) }
     ensures readable { IfOk result (λ read. AllByRecursion IsReadable read.files) }
     ensures beyond { IfOk result (λ read. read.beyond ≡ not (length read.files == length paths.now)) }
-    ensures folder { Leaves (F.tells folder.old) (F.faults folder.old) (F.tells folder.new) (F.faults folder.new) (IsErrOf result Trouble.Failed) }
+    ensures folder { Leaves F.tells F.faults folder.old folder.new (IsErrOf result Trouble.Failed) }
 {
     let mut files = List::new(alloc);
     for path in paths {
@@ -103,7 +103,7 @@ fn read_file<F: Folder>(
 ) -> Result<File, Trouble>
     ensures told { IfSome (F.tells folder.old) (λ files. IfOk result (λ file. file ≡ file_found listed files path.now)) }
     ensures readable { IfOk result IsReadable }
-    ensures folder { Leaves (F.tells folder.old) (F.faults folder.old) (F.tells folder.new) (F.faults folder.new) (IsErrOf result Trouble.Failed) }
+    ensures folder { Leaves F.tells F.faults folder.old folder.new (IsErrOf result Trouble.Failed) }
 {
     let content = read_content(alloc, folder, path.as_str())?;
     let content = content_found(alloc, content, listed);

@@ -1,13 +1,14 @@
+// What the file of a package is read as.
 ghost use Rattle.std.specs.Prelude.{IfOk, IfErr};
 ghost use Rattle.std.specs.declared.result.Result.TheVariants.{Ok, Err};
 ghost use Rattle.plan_types.specs.Refusal.{RefusesAt};
 ghost use Rattle.outside_folder.specs.Calls.{IsWithin};
-ghost use Rattle.description.specs.First.{is_at};
+ghost use Rattle.description.specs.FaultOrder.{is_at};
 ghost use Rattle.index_files.specs.Sources.{Comes};
 
+use cabal_file::{Source, read_source};
 use outside_folder::Content;
 use plan_types::{Cause, Env, Fault};
-use source_file::{Source, read_source};
 use std::alloc::Global;
 
 /// What the file of a package says. One that is gone counts as empty.

@@ -6,13 +6,13 @@
 mod closure;
 mod file;
 mod file_source;
-mod known;
 mod local;
 mod locals;
-mod mention;
+mod mentioned_names;
 mod names;
-mod needed;
+mod needed_names;
 mod places;
+mod read_before;
 mod readings;
 mod release;
 mod totals;
@@ -21,9 +21,8 @@ mod units;
 mod versions;
 mod visit;
 
-pub use closure::Found;
+pub use closure::FoundName;
 pub use local::Local;
-pub use places::Places;
 pub use readings::{Readings, read_index_files};
 pub use release::{Judged, Release};
 pub use unit::Unit;

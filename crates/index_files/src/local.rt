@@ -1,5 +1,6 @@
+// What is kept of a local package.
+use cabal_file::Source;
 use plan_types::Text;
-use source_file::Source;
 
 /// A local package: the path of its file, and what that says.
 #[derive(Debug, Drop)]

@@ -1,17 +1,18 @@
 // The local packages: each file is read, and no two packages have one name.
 ghost use Rattle.std.specs.Prelude.{◌≡◌, ◌++◌, ◌∷◌, [], position, None, IfOk};
 ghost use Rattle.std.specs.List.{AllByRecursion};
-ghost use Rattle.conditionals.specs.Value.{same};
 ghost use Rattle.index_files.specs.File.{IsReadable};
-ghost use Rattle.index_files.specs.InTurn.{Settles, Steps};
-ghost use Rattle.index_files.specs.Locals.{AreLocals, FileComes, local_name, local_names, path_at, unless_there, with_file, with_local};
+ghost use Rattle.index_files.specs.InTurn.{OnPart, Steps};
+ghost use Rattle.index_files.specs.Locals.{AreLocals, FileComes, TakesLocal, local_name, local_names, path_at, unless_there, with_file, with_local};
+ghost use Rattle.plan_types.specs.Bytes.{same_text};
+ghost use Rattle.plan_types.specs.Refusal.{Settles};
 
 use crate::file::File;
 use crate::file_source::source_in;
 use crate::local::Local;
+use cabal_file::Source;
 use indexmap::IndexSet;
 use plan_types::{Cause, Env, Fault, Halt, List, NoMemory, Refusal, Text};
-use source_file::Source;
 use std::alloc::Global;
 
 /// Local packages by their names.
@@ -25,7 +26,7 @@ pub(crate) struct Locals {
 /// The local packages of these files, or the first refusal.
 pub(crate) fn locals_of(alloc: Global, files: &[File], env: &Env) -> Result<Locals, Halt>
     requires { AllByRecursion IsReadable files.now }
-    ensures { Settles (λ locals. locals.list) (AreLocals env.now files.now) result }
+    ensures { Settles (OnPart (λ locals. locals.list) (AreLocals env.now files.now)) result }
 {
     let mut locals = Locals::new(alloc);
     for file in files {
@@ -46,22 +47,20 @@ impl Locals {
 
     fn with_file(self, alloc: Global, file: &File, env: &Env) -> Result<Locals, Halt>
         requires { IsReadable file.now }
-        ensures { Settles (λ locals. locals.list) (Steps (FileComes env.now) with_file self.list file.now) result }
+        ensures { Settles (OnPart (λ locals. locals.list) (Steps (FileComes env.now) with_file self.list file.now)) result }
     {
         match source_in(alloc, &file.content, env) {
             Ok(source) => self.with_source(&file.path, source),
             Err(Fault::NoMemory) => Err(Halt::NoMemory),
-            Err(Fault::At { line, cause }) => Err(refused(
-                file.path.copy()?,
-                line,
-                cause,
-                Text::new(alloc),
-            )),
+            Err(Fault::At { line, cause }) => {
+                let path = file.path.copy()?;
+                Err(Halt::Refused(Refusal::at(alloc, path, line, cause)))
+            }
         }
     }
 
     fn with_source(self, path: &Text, source: Source) -> Result<Locals, Halt>
-        ensures { Settles (λ locals. locals.list) (λ outcome. with_local self.list (record { path = path.now; source = source }) ≡ outcome) result }
+        ensures { Settles (OnPart (λ locals. locals.list) (TakesLocal self.list path.now source)) result }
     {
         let path = path.copy()?;
         let local = Local { path, source };
@@ -69,13 +68,18 @@ impl Locals {
             None => Ok(self.with(local)?),
             Some(place) => {
                 let detail = self.list.as_slice()[place].path.copy()?;
-                Err(refused(local.path, 0, Cause::DuplicateLocal, detail))
+                Err(Halt::Refused(Refusal {
+                    path: local.path,
+                    line: 0,
+                    cause: Cause::DuplicateLocal,
+                    detail,
+                }))
             }
         }
     }
 
     fn with(self, local: Local) -> Result<Locals, NoMemory>
-        requires { position (same (local_name local)) (local_names self.list) ≡ None }
+        requires { position (same_text (local_name local)) (local_names self.list) ≡ None }
         ensures { IfOk result (λ locals. locals.list ≡ self.list ++ local ∷ []) }
     {
         let Locals {
@@ -87,16 +91,4 @@ impl Locals {
         list.push(local)?;
         Ok(Locals { list, names })
     }
-}
-
-/// A refusal, as what ends a step.
-pub(crate) fn refused(path: Text, line: u32, cause: Cause, detail: Text) -> Halt
-    ensures { result ≡ Halt.Refused (record { path = path; line = line; cause = cause; detail = detail }) }
-{
-    Halt::Refused(Refusal {
-        path,
-        line,
-        cause,
-        detail,
-    })
 }

@@ -2,42 +2,33 @@
 ghost use Rattle.std.specs.Prelude.{◌≡◌, IfOk};
 ghost use Rattle.index_files.specs.Places.{name_dir, record_path, release_path, under};
 
-use plan_types::{NoMemory, Text};
+use plan_types::{NoMemory, Places, Text};
 
-/// The directories of the index and of the records of installed units.
-#[derive(Debug, PartialEq, Eq, Drop)]
-pub struct Places {
-    pub index: Text,
-    pub installed: Text,
+/// The path of a record.
+pub(crate) fn record_path(places: &Places, name: &str) -> Result<Text, NoMemory>
+    ensures { IfOk result (λ path. path ≡ record_path places.now name.now) }
+{
+    under(&places.installed, name)
 }
 
-impl Places {
-    /// The path of a record.
-    pub(crate) fn record_path(&self, name: &str) -> Result<Text, NoMemory>
-        ensures { IfOk result (λ path. path ≡ record_path self.now name.now) }
-    {
-        under(&self.installed, name)
-    }
+/// The directory of a package's versions.
+pub(crate) fn name_dir(places: &Places, name: &str) -> Result<Text, NoMemory>
+    ensures { IfOk result (λ path. path ≡ name_dir places.now name.now) }
+{
+    under(&places.index, name)
+}
 
-    /// The directory of a package's versions.
-    pub(crate) fn name_dir(&self, name: &str) -> Result<Text, NoMemory>
-        ensures { IfOk result (λ path. path ≡ name_dir self.now name.now) }
-    {
-        under(&self.index, name)
-    }
-
-    /// The path of a package's file.
-    pub(crate) fn release_path(&self, name: &str, dir: &str) -> Result<Text, NoMemory>
-        ensures { IfOk result (λ path. path ≡ release_path self.now name.now dir.now) }
-    {
-        let mut path = self.name_dir(name)?;
-        path.push_str("/")?;
-        path.push_str(dir)?;
-        path.push_str("/")?;
-        path.push_str(name)?;
-        path.push_str(".cabal")?;
-        Ok(path)
-    }
+/// The path of a package's file.
+pub(crate) fn release_path(places: &Places, name: &str, dir: &str) -> Result<Text, NoMemory>
+    ensures { IfOk result (λ path. path ≡ release_path places.now name.now dir.now) }
+{
+    let mut path = name_dir(places, name)?;
+    path.push_str("/")?;
+    path.push_str(dir)?;
+    path.push_str("/")?;
+    path.push_str(name)?;
+    path.push_str(".cabal")?;
+    Ok(path)
 }
 
 fn under(dir: &Text, name: &str) -> Result<Text, NoMemory>

@@ -1,26 +1,28 @@
 // All that is read of a folder, in order: local files, records, the files of the closure.
-ghost use Rattle.std.specs.Prelude.{◌≡◌, [], IfOk, IfSome, IsErrOf};
+ghost use Rattle.std.specs.Prelude.{◌≡◌, IfOk, IfSome, IsErrOf};
 ghost use Rattle.outside_folder.specs.Calls.{Leaves};
 ghost use Rattle.std.specs.List.{IsDistinct};
-ghost use Rattle.conditionals.specs.Value.{same};
 ghost use Rattle.index_files.specs.File.{CountsAll};
-ghost use Rattle.index_files.specs.InTurn.{Answers};
+ghost use Rattle.index_files.specs.Ground.{ground_from};
+ghost use Rattle.index_files.specs.InTurn.{OnPart};
+ghost use Rattle.plan_types.specs.Refusal.{Answers, refusal_at};
 ghost use Rattle.index_files.specs.Locals.{ReadsLocals};
 ghost use Rattle.index_files.specs.Readings.{AreFromFiles, AreIndexed, AreOf, AreReadings, HaveForm};
 ghost use Rattle.index_files.specs.Units.{ReadsUnits, is_record, paths_of_records, record_files, record_paths, unit_ids};
+ghost use Rattle.plan_types.specs.Bytes.{same_text};
 
-use crate::closure::{Found, read_closure};
+use crate::closure::{FoundName, read_closure};
 use crate::file::{read_all, read_counted};
-use crate::known::Known;
 use crate::local::Local;
-use crate::locals::{Locals, locals_of, refused};
-use crate::needed::Needed;
-use crate::places::Places;
+use crate::locals::{Locals, locals_of};
+use crate::needed_names::Needed;
+use crate::places::record_path;
+use crate::read_before::ReadBefore;
 use crate::totals::Totals;
 use crate::unit::Unit;
 use crate::units::{Units, units_of};
 use outside_folder::{Folder, Name, Trouble, list_names};
-use plan_types::{Cause, Env, Halt, List, Named, NoMemory, Text};
+use plan_types::{Cause, Env, Halt, List, Named, NoMemory, Places, Refusal, Text};
 use std::alloc::Global;
 
 /// What was read of a folder.
@@ -31,7 +33,7 @@ pub struct Readings {
     /// In the order of their paths; also those that need a unit without a record.
     pub units: List<Unit>,
     /// The names of the closure, each once.
-    pub found: List<Found>,
+    pub found: List<FoundName>,
 }
 
 /// Reads the local files at these paths, the records, and the files of the closure, which begins with the names of the local
@@ -44,9 +46,9 @@ pub fn read_index_files<F: Folder>(
     places: &Places,
     env: &Env,
 ) -> Result<Readings, Halt>
-    ensures told { IfSome (F.tells folder.old) (λ files. Answers (λ readings. readings) (AreReadings env.now places.now extra.now paths.now files) result) }
+    ensures told { IfSome (F.tells folder.old) (λ files. Answers (AreReadings env.now places.now extra.now paths.now files) result) }
     ensures form { IfOk result (HaveForm env.now places.now extra.now) }
-    ensures folder { Leaves (F.tells folder.old) (F.faults folder.old) (F.tells folder.new) (F.faults folder.new) (IsErrOf result Halt.Failed) }
+    ensures folder { Leaves F.tells F.faults folder.old folder.new (IsErrOf result Halt.Failed) }
 {
     let locals = read_locals(alloc, folder, paths.as_slice(), env)?;
     let read = read_units(alloc, folder, places)?;
@@ -60,9 +62,10 @@ fn read_locals<F: Folder>(
     paths: &[Text],
     env: &Env,
 ) -> Result<Locals, Halt>
-    ensures told { IfSome (F.tells folder.old) (λ files. Answers (λ locals. locals.list) (ReadsLocals env.now files paths.now) result) }
+    ensures told { IfSome (F.tells folder.old) (λ files. Answers
+        (OnPart (λ locals. locals.list) (ReadsLocals env.now files paths.now)) result) }
     ensures form { IfOk result (λ locals. AreFromFiles env.now locals.list) }
-    ensures folder { Leaves (F.tells folder.old) (F.faults folder.old) (F.tells folder.new) (F.faults folder.new) (IsErrOf result Halt.Failed) }
+    ensures folder { Leaves F.tells F.faults folder.old folder.new (IsErrOf result Halt.Failed) }
 {
     let files = read_all(alloc, folder, paths)?;
     let locals = locals_of(alloc, files.as_slice(), env)?;
@@ -77,10 +80,12 @@ struct Counted {
 }
 
 fn read_units<F: Folder>(alloc: Global, folder: &mut F, places: &Places) -> Result<Counted, Halt>
-    ensures told { IfSome (F.tells folder.old) (λ files. Answers (λ counted. counted.units.list) (ReadsUnits places.now files) result) }
-    ensures counts { IfSome (F.tells folder.old) (λ files. IfOk result (λ counted. CountsAll counted.totals (record_files places.now files))) }
-    ensures once { IfOk result (λ counted. IsDistinct same (unit_ids counted.units.list)) }
-    ensures folder { Leaves (F.tells folder.old) (F.faults folder.old) (F.tells folder.new) (F.faults folder.new) (IsErrOf result Halt.Failed) }
+    ensures told { IfSome (F.tells folder.old) (λ files. Answers
+        (OnPart (λ counted. counted.units.list) (ReadsUnits places.now files)) result) }
+    ensures counts { IfSome (F.tells folder.old) (λ files. IfOk result
+        (λ counted. CountsAll counted.totals (record_files places.now files))) }
+    ensures once { IfOk result (λ counted. IsDistinct same_text (unit_ids counted.units.list)) }
+    ensures folder { Leaves F.tells F.faults folder.old folder.new (IsErrOf result Halt.Failed) }
 {
     let paths = record_paths(alloc, folder, places)?;
     let mut totals = Totals::new();
@@ -98,7 +103,7 @@ fn record_paths<F: Folder>(
     places: &Places,
 ) -> Result<List<Text>, Trouble>
     ensures told { IfSome (F.tells folder.old) (λ files. IfOk result (λ paths. paths ≡ paths_of_records places.now files)) }
-    ensures folder { Leaves (F.tells folder.old) (F.faults folder.old) (F.tells folder.new) (F.faults folder.new) (IsErrOf result Trouble.Failed) }
+    ensures folder { Leaves F.tells F.faults folder.old folder.new (IsErrOf result Trouble.Failed) }
 {
     let names = list_names(alloc, folder, places.installed.as_str())?;
     let names = names.unwrap_or(List::new(alloc));
@@ -112,7 +117,7 @@ fn paths_among(alloc: Global, places: &Places, names: &[Name]) -> Result<List<Te
     let mut paths = List::new(alloc);
     for name in names {
         if is_record(name) {
-            paths.push(places.record_path(name.text.as_str())?)?;
+            paths.push(record_path(places, name.text.as_str())?)?;
         }
     }
     Ok(paths)
@@ -133,13 +138,15 @@ fn read_indexed<F: Folder>(
     places: &Places,
     env: &Env,
 ) -> Result<Readings, Halt>
-    ensures told { IfSome (F.tells folder.old) (λ files. Answers (λ readings. readings) (AreIndexed (record { env = env.now; places = places.now; locals = locals.list; units = counted.units.list; extra = extra.now }) files counted.totals.files counted.totals.bytes) result) }
-    ensures kept { IfOk result (AreOf (record { env = env.now; places = places.now; locals = locals.list; units = counted.units.list; extra = extra.now })) }
-    ensures folder { Leaves (F.tells folder.old) (F.faults folder.old) (F.tells folder.new) (F.faults folder.new) (IsErrOf result Halt.Failed) }
+    ensures told { IfSome (F.tells folder.old) (λ files. Answers
+        (AreIndexed (ground_from env.now places.now locals counted.units extra.now) files counted.totals.files
+        counted.totals.bytes) result) }
+    ensures kept { IfOk result (AreOf (ground_from env.now places.now locals counted.units extra.now)) }
+    ensures folder { Leaves F.tells F.faults folder.old folder.new (IsErrOf result Halt.Failed) }
 {
     let Counted { units, totals } = counted;
     let needed = Needed::of(alloc, &units)?;
-    let known = Known {
+    let before = ReadBefore {
         env,
         places,
         locals: &locals,
@@ -147,14 +154,14 @@ fn read_indexed<F: Folder>(
         extra,
         needed: &needed,
     };
-    let found = read_closure(alloc, folder, &known, totals)?;
+    let found = read_closure(alloc, folder, &before, totals)?;
     match found {
         None => Err(too_many(alloc, &places.index)?),
         Some(found) => Ok(readings_of(locals, units, found)),
     }
 }
 
-fn readings_of(locals: Locals, units: Units, found: List<Found>) -> Readings
+fn readings_of(locals: Locals, units: Units, found: List<FoundName>) -> Readings
     ensures { result ≡ record { locals = locals.list; units = units.list; found = found } }
 {
     let Locals {
@@ -173,8 +180,8 @@ fn readings_of(locals: Locals, units: Units, found: List<Found>) -> Readings
 }
 
 fn too_many(alloc: Global, place: &Text) -> Result<Halt, NoMemory>
-    ensures { IfOk result (λ halt. halt ≡ Halt.Refused (record { path = place.now; line = 0; cause = Cause.TooMany; detail = [] })) }
+    ensures { IfOk result (λ halt. halt ≡ Halt.Refused (refusal_at place.now 0 Cause.TooMany)) }
 {
     let path = place.copy()?;
-    Ok(refused(path, 0, Cause::TooMany, Text::new(alloc)))
+    Ok(Halt::Refused(Refusal::at(alloc, path, 0, Cause::TooMany)))
 }

@@ -9,9 +9,9 @@ ghost use Rattle.index_files.specs.Releases.{AddsJudged, AddsRelease, AreRelease
 use crate::file::File;
 use crate::file_source::source_in;
 use crate::versions::VersionDir;
+use cabal_file::Source;
 use outside_folder::Content;
 use plan_types::{Cause, Description, Env, Fault, List, NoMemory, Text, Version};
-use source_file::Source;
 use std::alloc::Global;
 
 /// A file of the index: what it says, or the fault for which it is left out.

@@ -1,3 +1,4 @@
+// What is kept of an installed unit.
 use plan_types::{Text, UnitRecord};
 
 /// An installed unit: the path of its record, and what that says.

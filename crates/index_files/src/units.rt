@@ -2,20 +2,19 @@
 ghost use Rattle.std.specs.Prelude.{◌≡◌, ◌≤◌, ◌++◌, ◌∷◌, [], ℕ, List, true, length, Some, None, IfOk, IfErr, IfSome};
 ghost use Rattle.std.specs.List.{AllByRecursion, list_all};
 ghost use Rattle.std.specs.declared.result.Result.TheVariants.{Ok, Err};
-ghost use Rattle.plan_types.specs.Refusal.{RefusesAt};
-ghost use Rattle.description.specs.First.{is_at};
+ghost use Rattle.plan_types.specs.Refusal.{RefusesAt, Settles};
+ghost use Rattle.description.specs.FaultOrder.{is_at};
 ghost use Rattle.outside_folder.specs.Calls.{IsWithin};
 ghost use Rattle.index_files.specs.File.{IsReadable};
-ghost use Rattle.index_files.specs.InTurn.{Settles, Steps};
+ghost use Rattle.index_files.specs.InTurn.{OnPart, Steps};
 ghost use Rattle.index_files.specs.Sources.{bytes_in};
-ghost use Rattle.index_files.specs.Units.{AreUnits, OfRecord, RecordComes, is_formed, place_of, unit_id, unit_ids, with_found, with_record, with_unit};
+ghost use Rattle.index_files.specs.Units.{AreUnits, OfRecord, RecordComes, TakesFound, TakesUnit, is_formed, place_of, unit_id, unit_ids, with_found, with_record, with_unit};
 
 use crate::file::File;
-use crate::locals::refused;
 use crate::unit::Unit;
 use indexmap::IndexSet;
 use outside_folder::Content;
-use plan_types::{Cause, Fault, Halt, List, NoMemory, Text, UnitRecord};
+use plan_types::{Cause, Fault, Halt, List, NoMemory, Refusal, Text, UnitRecord};
 use std::alloc::Global;
 use unit_record::read_record;
 
@@ -31,7 +30,7 @@ pub(crate) struct Units {
 /// The units of these files, or the first refusal.
 pub(crate) fn units_of(alloc: Global, files: &[File]) -> Result<Units, Halt>
     requires { AllByRecursion IsReadable files.now }
-    ensures { Settles (λ units. units.list) (AreUnits files.now) result }
+    ensures { Settles (OnPart (λ units. units.list) (AreUnits files.now)) result }
 {
     let mut units = Units::new(alloc);
     for file in files {
@@ -52,23 +51,21 @@ impl Units {
 
     fn with_file(self, alloc: Global, file: &File) -> Result<Units, Halt>
         requires { IsReadable file.now }
-        ensures { Settles (λ units. units.list) (Steps RecordComes with_record self.list file.now) result }
+        ensures { Settles (OnPart (λ units. units.list) (Steps RecordComes with_record self.list file.now)) result }
     {
         match record_in(alloc, &file.content) {
             Ok(found) => self.with_found(&file.path, found),
             Err(Fault::NoMemory) => Err(Halt::NoMemory),
-            Err(Fault::At { line, cause }) => Err(refused(
-                file.path.copy()?,
-                line,
-                cause,
-                Text::new(alloc),
-            )),
+            Err(Fault::At { line, cause }) => {
+                let path = file.path.copy()?;
+                Err(Halt::Refused(Refusal::at(alloc, path, line, cause)))
+            }
         }
     }
 
     fn with_found(self, path: &Text, found: Option<UnitRecord>) -> Result<Units, Halt>
         requires { IfSome found (λ r. (path : List ℕ) → is_formed (record { path = path; record_of = r }) ≡ true) }
-        ensures { Settles (λ units. units.list) (λ outcome. with_found self.list path.now found ≡ outcome) result }
+        ensures { Settles (OnPart (λ units. units.list) (TakesFound self.list path.now found)) result }
     {
         match found {
             None => Ok(self),
@@ -78,7 +75,7 @@ impl Units {
 
     fn with_record(self, path: &Text, record_of: UnitRecord) -> Result<Units, Halt>
         requires { is_formed (record { path = path.now; record_of = record_of }) ≡ true }
-        ensures { Settles (λ units. units.list) (λ outcome. with_unit self.list (record { path = path.now; record_of = record_of }) ≡ outcome) result }
+        ensures { Settles (OnPart (λ units. units.list) (TakesUnit self.list path.now record_of)) result }
     {
         let path = path.copy()?;
         let unit = Unit { path, record_of };
@@ -86,7 +83,12 @@ impl Units {
             None => Ok(self.with(unit)?),
             Some(place) => {
                 let detail = self.list.as_slice()[place].path.copy()?;
-                Err(refused(unit.path, 0, Cause::DuplicateUnit, detail))
+                Err(Halt::Refused(Refusal {
+                    path: unit.path,
+                    line: 0,
+                    cause: Cause::DuplicateUnit,
+                    detail,
+                }))
             }
         }
     }

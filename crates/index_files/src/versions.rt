@@ -1,12 +1,11 @@
 // The versions of a package in the index, by the names of their directories.
 ghost use Rattle.std.specs.Prelude.{IfOk, OnOk};
-ghost use Rattle.description_parts.specs.File.{IsVersion};
 ghost use Rattle.index_files.specs.Releases.{AddsVersion, AreVersions};
 
 use outside_folder::Name;
-use plan_types::{List, NoMemory, Text, TextFault, Version};
+use plan_types::{List, NoMemory, Text, Version};
 use std::alloc::Global;
-use version_range::read_version;
+use version_range::version_of;
 
 /// A version and the name of its directory.
 #[derive(Debug, Drop)]
@@ -29,21 +28,11 @@ pub(crate) fn versions_among(alloc: Global, names: &[Name]) -> Result<List<Versi
 fn push_version(alloc: Global, dirs: &mut List<VersionDir>, text: &Text) -> Result<(), NoMemory>
     ensures { OnOk result (AddsVersion text.now dirs.old dirs.new) }
 {
-    match version_of(alloc, text)? {
+    match version_of(alloc, text.as_bytes())? {
         None => Ok(()),
         Some(version) => {
             let text = text.copy()?;
             dirs.push(VersionDir { text, version })
         }
-    }
-}
-
-fn version_of(alloc: Global, text: &Text) -> Result<Option<Version>, NoMemory>
-    ensures { IfOk result (IsVersion text.now) }
-{
-    match read_version(alloc, text.as_bytes()) {
-        Ok(version) => Ok(Some(version)),
-        Err(TextFault::Bad(_)) => Ok(None),
-        Err(TextFault::NoMemory) => Err(NoMemory),
     }
 }

@@ -4,7 +4,7 @@ use Rattle.std.specs.Prelude.{is_some, option_and_then}
 use Rattle.std.proofs.Math.Seq.{drop-cons}
 use Rattle.std.specs.List.{list_any}
 use Rattle.std.specs.Str.{bytes_eq}
-use Rattle.std.proofs.lemmas.Bool.{cases_Bool, cases_lt, false≢true}
+use Rattle.std.proofs.lemmas.Bool.{cases_Bool, cases_lt, false≢true, and_parts, and_from, not-true, or_parts}
 use Rattle.std.proofs.lemmas.Slice.Eq.{bytes_eq-Decides}
 use Rattle.outside_folder.specs.Files.{Bytes, is_path, is_tree, is_under, after, clashes, slash}
 use Rattle.outside_folder.specs.MemFile.{told, Placed, AreDistinct, IsFront, IsFree, IsUnderFile}
@@ -19,29 +19,10 @@ pub record Good (files : List MemFile) : Type 0 where
   pub paths : (i : ℕ) (d : MemFile) → i < length files → is_path (get_or files i d).path ≡ true
   pub apart : (i j : ℕ) (d : MemFile) → i < j → j < length files → clashes (get_or files i d).path (get_or files j d).path ≡ false
 
-and_both : (a b : Bool) → (a && b) ≡ true → (a ≡ true) × (b ≡ true)
-and_both true b h = (refl, h)
-and_both false b h = absurd (cc)
-
-and_of : (a b : Bool) → a ≡ true → b ≡ true → (a && b) ≡ true
-and_of a b p q = ap (λ t. t && b) p ∙ q
-
-not_true : (a : Bool) → not a ≡ true → a ≡ false
-not_true true h = absurd (cc)
-not_true false h = refl
-
-or_left : (a b : Bool) → (a || b) ≡ false → a ≡ false
-or_left true b h = absurd (cc)
-or_left false b h = refl
-
-or_right : (a b : Bool) → (a || b) ≡ false → b ≡ false
-or_right true b h = absurd (cc)
-or_right false b h = h
-
 not_any : (p : Bytes → Bool) (files : List MemFile) → list_any (λ other. p other.0) (told files) ≡ false → (k : ℕ) (d : MemFile) → k < length files → p (get_or files k d).path ≡ false
 not_any p [] h k d lt = absurd (omega (arith, lt))
-not_any p (g ∷ gs) h zero d lt = or_left (p g.path) _ h
-not_any p (g ∷ gs) h (suc k) d lt = not_any p gs (or_right (p g.path) _ h) k d (omega (arith, lt))
+not_any p (g ∷ gs) h zero d lt = (or_parts (p g.path) _ h).0
+not_any p (g ∷ gs) h (suc k) d lt = not_any p gs ((or_parts (p g.path) _ h).1) k d (omega (arith, lt))
 
 any_none : (p : Bytes → Bool) (files : List MemFile) → ((k : ℕ) (d : MemFile) → k < length files → p (get_or files k d).path ≡ false) → list_any (λ other. p other.0) (told files) ≡ false
 any_none p [] h = refl
@@ -61,20 +42,20 @@ pub tree_good : (files : List MemFile) → is_tree (told files) ≡ true → Goo
 tree_good [] h = record { paths = λ i d lt. absurd (omega (arith, lt)); apart = λ i j d ij lt. absurd (omega (arith, lt)) }
 tree_good (g ∷ gs) h =
     let apart = not (list_any (λ other. clashes g.path other.0) (told gs)) in
-    let one = and_both (is_path g.path && apart) (is_tree (told gs)) h in
-    let two = and_both (is_path g.path) apart one.0 in
+    let one = and_parts (is_path g.path && apart) (is_tree (told gs)) h in
+    let two = and_parts (is_path g.path) apart one.0 in
     let more = tree_good gs one.1 in
     record {
       paths = good_path g gs two.0 more;
-      apart = good_apart g gs (not_any (clashes g.path) gs (not_true _ two.1)) more;
+      apart = good_apart g gs (not_any (clashes g.path) gs (not-true _ two.1)) more;
     }
 
 pub good_tree : (files : List MemFile) → Good files → is_tree (told files) ≡ true
 good_tree [] h = refl
 good_tree (g ∷ gs) h =
     let apart = not (list_any (λ other. clashes g.path other.0) (told gs)) in
-    and_of (is_path g.path && apart) (is_tree (told gs))
-    (and_of (is_path g.path) apart (h.paths 0 g (omega arith)) (ap not (any_none (clashes g.path) gs (λ k d lt. h.apart 0 (suc k) d (omega arith) (omega (arith, lt))))))
+    and_from (is_path g.path && apart) (is_tree (told gs))
+    (and_from (is_path g.path) apart (h.paths 0 g (omega arith)) (ap not (any_none (clashes g.path) gs (λ k d lt. h.apart 0 (suc k) d (omega arith) (omega (arith, lt))))))
     (good_tree gs (record { paths = λ i d lt. h.paths (suc i) d (omega (arith, lt)); apart = λ i j d ij lt. h.apart (suc i) (suc j) d (omega (arith, ij)) (omega (arith, lt)) }))
 
 begins : (rest : Bytes) (t : Bool) → bytes_eq (slash ∷ []) (take 1 rest) ≡ t → is_some (cond t (Some (drop 1 rest)) None) ≡ true → (0 < length rest) × (get_or rest 0 0 ≡ slash)
@@ -119,7 +100,7 @@ none_of (Some k) h = absurd (cc)
 pub same_path : (files : List MemFile) (i j : ℕ) (d : MemFile) → i < j → j < length files → (get_or files i d).path ≡ (get_or files j d).path → is_tree (told files) ≡ false
 same_path files i j d ij lt same = ⊎_elim
     (λ h. let p = (get_or files i d).path in let q = (get_or files j d).path in
-    absurd (false≢true (sym (or_left (bytes_eq p q) (is_under p q) (or_left (bytes_eq p q || is_under p q) (is_under q p) ((tree_good files h).apart i j d ij lt))) ∙ (bytes_eq-Decides p q).1 same)))
+    absurd (false≢true (sym ((or_parts (bytes_eq p q) (is_under p q) ((or_parts (bytes_eq p q || is_under p q) (is_under q p) ((tree_good files h).apart i j d ij lt)).0)).0) ∙ (bytes_eq-Decides p q).1 same)))
     (λ h. h)
     (cases_Bool (is_tree (told files)))
 
@@ -150,8 +131,8 @@ clash files i j d ilt jlt good under differ =
     let p = (get_or files i d).path in
     let q = (get_or files j d).path in
     ⊎_elim
-    (λ ij. false≢true (sym (or_right (bytes_eq p q) (is_under p q) (or_left (bytes_eq p q || is_under p q) (is_under q p) (good.apart i j d ij jlt))) ∙ under))
-    (λ ji. false≢true (sym (or_right (bytes_eq q p || is_under q p) (is_under p q) (good.apart j i d (omega (arith, ji, differ)) ilt)) ∙ under))
+    (λ ij. false≢true (sym ((or_parts (bytes_eq p q) (is_under p q) ((or_parts (bytes_eq p q || is_under p q) (is_under q p) (good.apart i j d ij jlt)).0)).1) ∙ under))
+    (λ ji. false≢true (sym ((or_parts (bytes_eq q p || is_under q p) (is_under p q) (good.apart j i d (omega (arith, ji, differ)) ilt)).1) ∙ under))
     (cases_lt i j)
 
 differ : (files : List MemFile) (i j : ℕ) (d : MemFile) → i < j → j < length files → AreDistinct files → bytes_eq (get_or files i d).path (get_or files j d).path ≡ false

@@ -11,11 +11,12 @@ use Rattle.outside_folder.specs.Files.{Bytes, Files, file_at}
 use Rattle.outside_folder.specs.Folder.{file_limit}
 
 -- The files that are told stay, the count of faults doesn't fall, and it rose where the calls failed.
-pub record Leaves (files : Option Files) (faults : ℕ) (files_after : Option Files) (faults_after : ℕ) (failed : Type 0) : Type 0 where
-  pub same_files : files_after ≡ files
-  pub later : faults ≤ faults_after
-  pub rose : failed → Rose faults faults_after
+pub record Leaves {F : Type 0} (tells : F → Option Files) (faults : F → ℕ) (old new : F) (failed : Type 0) : Type 0 where
+  pub same_files : tells new ≡ tells old
+  pub later : faults old ≤ faults new
+  pub rose : failed → Rose (faults old) (faults new)
 
+-- what is found of a file with these bytes
 abbrev pub content_of : Option Bytes → Content
 content_of None = Missing
 content_of (Some bytes) = if nat_lt file_limit (length bytes) then TooLarge else Holds bytes
@@ -30,6 +31,7 @@ IsWithin Missing = Unit {0}
 IsWithin TooLarge = Unit {0}
 IsWithin (Holds bytes) = length bytes ≤ file_limit
 
+-- what ends a step where a call on a folder had this trouble
 abbrev pub halt_of : Trouble → Halt
 halt_of Failed = halt.Failed
 halt_of NoMemory = halt.NoMemory

@@ -15,6 +15,7 @@ abbrev pub ceiling_of : List ℕ → ℕ
 ceiling_of [] = 0
 ceiling_of (n ∷ ns) = 2 ^ 64 - 1
 
+-- whether a number is in a list
 abbrev pub among : List ℕ → ℕ → Bool
 among ns n = list_any (λ m. m == n) ns
 

@@ -3,9 +3,10 @@ use Rattle.std.specs.Prelude.{ℕ, Bool, true, ◌==◌, ◌&&◌, ◌||◌, not
 use Rattle.std.specs.List.{list_all, list_any, slice_split, starts_with, before_first, position_or_len}
 use Rattle.std.specs.Option.{option_map}
 use Rattle.std.specs.Ordering.{nat_cmp}
-use Rattle.std.specs.Cmp.Lexicographic.{pointwise, slice_cmp}
+use Rattle.std.specs.Cmp.Lexicographic.{slice_cmp}
 use Rattle.std.specs.BTreeMap.{insert_entry}
 use Rattle.outside_folder.specs.declared.folder.Name.{Name}
+use Rattle.plan_types.specs.Bytes.{same_text}
 
 -- the bytes of a text
 abbrev pub Bytes : Type 0
@@ -18,7 +19,7 @@ Files = List (Bytes × Bytes)
 -- the bytes of the file at a path
 abbrev pub file_at : Files → Bytes → Option Bytes
 file_at [] path = None
-file_at (file ∷ files) path = if pointwise nat_eq file.0 path then Some file.1 else file_at files path
+file_at (file ∷ files) path = if same_text file.0 path then Some file.1 else file_at files path
 
 -- the byte between two names of a path
 abbrev pub slash : ℕ
@@ -41,6 +42,7 @@ abbrev pub name_in : Bytes → Bytes → Option (Bytes × Bool)
 name_in [] path = Some (first_name path)
 name_in (b ∷ bs) path = option_map first_name (inside (b ∷ bs) path)
 
+-- the names in a directory with one more, which there may be, in byte order and each once
 abbrev pub with_name : List (Bytes × Bool) → Option (Bytes × Bool) → List (Bytes × Bool)
 with_name names None = names
 with_name names (Some name) = insert_entry (slice_cmp nat_cmp) names name.0 name.1
@@ -49,6 +51,7 @@ with_name names (Some name) = insert_entry (slice_cmp nat_cmp) names name.0 name
 abbrev pub names_in : Files → Bytes → List (Bytes × Bool)
 names_in files dir = fold (λ names file. with_name names (name_in dir file.0)) [] files
 
+-- the same as values of the type of names
 abbrev pub as_names : List (Bytes × Bool) → List Name
 as_names names = map (λ name. record { text = name.0; folder = name.1 }) names
 
@@ -58,6 +61,7 @@ unless_missing [] names = Some (as_names names)
 unless_missing (b ∷ bs) [] = None
 unless_missing (b ∷ bs) (name ∷ names) = Some (as_names (name ∷ names))
 
+-- what a list of a directory gives
 abbrev pub listing : Files → Bytes → Option (List Name)
 listing files dir = unless_missing dir (names_in files dir)
 
@@ -71,7 +75,7 @@ is_under dir path = is_some (inside dir path)
 
 -- the two can't both be paths of files
 abbrev pub clashes : Bytes → Bytes → Bool
-clashes one other = pointwise nat_eq one other || is_under one other || is_under other one
+clashes one other = same_text one other || is_under one other || is_under other one
 
 -- the files can stand in one folder
 abbrev pub is_tree : Files → Bool

@@ -1,10 +1,11 @@
 -- Files in memory.
-use Rattle.std.specs.Prelude.{ℕ, Bool, Option, [], ◌≡◌, ◌≢◌, ◌<◌, List, length, map, take, slice_index, slice_index_or, None, Some, IsSome, String}
+use Rattle.std.specs.Prelude.{ℕ, Bool, true, false, Option, MatchBool, MatchOption, if◌then◌else◌, [], ◌≡◌, ◌≢◌, ◌<◌, ◌⊎◌, List, length, map, take, slice_index, slice_index_or, None, Some, IsSome, String}
 use Rattle.std.specs.BTreeMap.{BTreeMap, get_by_text}
+use Rattle.std.specs.Str.{bytes_eq}
 use Rattle.std.specs.declared.alloc.Global.{Global}
 use Rattle.outside_folder.specs.declared.mem_folder.MemFile.{MemFile}
 use Rattle.plan_types.specs.declared.text.Text.{Text}
-use Rattle.outside_folder.specs.Files.{Bytes, Files, file_at, name_in, names_in, slash, with_name}
+use Rattle.outside_folder.specs.Files.{Bytes, Files, file_at, is_path, is_tree, name_in, names_in, slash, with_name}
 
 -- the paths and bytes of files
 abbrev pub told : List MemFile → Files
@@ -27,6 +28,7 @@ IsFront path n = (n < length path) × (slice_index path n ≡ slash)
 abbrev pub IsFree : BTreeMap (String Global) ℕ → Bytes → Type 0
 IsFree places path = (n : ℕ) → IsFront path n → get_by_text places (take n path) ≡ None
 
+-- a file stands where the path has a directory
 abbrev pub IsUnderFile : BTreeMap (String Global) ℕ → Bytes → Type 0
 IsUnderFile places path = (n : ℕ) × IsFront path n × IsSome (get_by_text places (take n path))
 
@@ -34,16 +36,36 @@ IsUnderFile places path = (n : ℕ) × IsFront path n × IsSome (get_by_text pla
 abbrev pub Dirs : Type 0
 Dirs = BTreeMap (String Global) (BTreeMap Text Bool)
 
+-- the names in a directory, of which there may be none
 abbrev pub entries_of : Option (BTreeMap Text Bool) → List (Bytes × Bool)
 entries_of None = []
 entries_of (Some names) = names.entries
 
+-- the names that a table has for a directory
 abbrev pub names_at : Dirs → Bytes → List (Bytes × Bool)
 names_at dirs dir = entries_of (get_by_text dirs dir)
 
 -- the table gives the names in each directory
 abbrev pub Listed : List MemFile → Dirs → Type 0
 Listed files dirs = (dir : Bytes) → names_at dirs dir ≡ names_in (told files) dir
+
+-- the names in one directory are these now, and those of others are as before
+abbrev pub PutsNames : Dirs → Dirs → Bytes → List (Bytes × Bool) → Type 0
+PutsNames old new dir names = (other : Bytes) → names_at new other ≡ (if bytes_eq dir other then names else names_at old other)
+
+-- a table of the places of files for which this holds, or none, where they make no tree
+abbrev pub HasPlaces : Type 0 → List MemFile → Option (BTreeMap (String Global) ℕ) → Type 0
+HasPlaces Holds files found = MatchOption found (is_tree (told files) ≡ false) (λ places. Holds × Placed files places)
+
+-- whether the path has a directory of so many bytes where a file stands
+abbrev pub IsFileAt : BTreeMap (String Global) ℕ → Bytes → ℕ → Bool → Type 0
+IsFileAt places path n found =
+    MatchBool found (IsFront path n × IsSome (get_by_text places (take n path))) (IsFront path n → get_by_text places (take n path) ≡ None)
+
+-- whether a file may stand at a path beside others: it is a path, and in no file as in a directory
+abbrev pub MayStand : BTreeMap (String Global) ℕ → Bytes → Bool → Type 0
+MayStand places path may =
+    MatchBool may ((is_path path ≡ true) × IsFree places path) ((is_path path ≡ false) ⊎ IsUnderFile places path)
 
 -- of the directories whose paths have so many bytes, each has the name by which the path goes on from it, too
 abbrev pub AddsAt : Dirs → Dirs → Bytes → ℕ → Type 0

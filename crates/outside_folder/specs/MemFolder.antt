@@ -4,6 +4,7 @@ use Rattle.outside_folder.specs.MemFile.{told}
 use Rattle.outside_folder.specs.declared.mem_folder.MemFolder.{MemFolder}
 use Rattle.outside_folder.specs.Files.{Files}
 
+-- the files of a folder in memory
 abbrev pub mem_files : MemFolder → Files
 mem_files folder = told folder.files
 
@@ -15,5 +16,6 @@ mem_fail_at folder = folder.fail_at
 abbrev pub mem_calls : MemFolder → ℕ
 mem_calls folder = folder.calls
 
+-- how many of its calls have failed
 abbrev pub mem_faults : MemFolder → ℕ
 mem_faults folder = folder.faults

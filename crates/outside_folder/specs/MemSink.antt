@@ -3,6 +3,7 @@ use Rattle.std.specs.Prelude.{◌≡◌, ℕ, ◌-◌, min, Bool, List, length}
 use Rattle.outside_folder.specs.declared.mem_sink.MemSink.{MemSink}
 use Rattle.outside_folder.specs.Faults.{fails_next}
 
+-- what was written to a sink in memory
 abbrev pub written_bytes : MemSink → List ℕ
 written_bytes sink = sink.written.items
 
@@ -22,6 +23,7 @@ sink_fail_at sink = sink.fail_at
 abbrev pub sink_writes : MemSink → ℕ
 sink_writes sink = sink.writes
 
+-- how many of its writes have failed
 abbrev pub sink_faults : MemSink → ℕ
 sink_faults sink = sink.faults
 

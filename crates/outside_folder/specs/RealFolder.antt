@@ -1,5 +1,6 @@
 -- A folder of the system: its paths, what its entries and errors tell, and what its names are made of.
-use Rattle.std.specs.Prelude.{◌≡◌, ◌≢◌, ℕ, ◌<◌, ◌⊎◌, Bool, List, [], ◌∷◌, ◌++◌, length, fold, codes, Any, IsErr, Result}
+use Rattle.std.specs.Prelude.{◌≡◌, ◌≢◌, ℕ, ◌<◌, ◌⊎◌, Bool, List, [], ◌∷◌, ◌++◌, length, fold, codes, Any, IsErr, Ok, Option, Result, map}
+use Rattle.std.specs.Iterator.{Drains, Yields}
 use Rattle.std.specs.BTreeMap.{insert_entry}
 use Rattle.std.specs.Cmp.Lexicographic.{slice_cmp}
 use Rattle.std.specs.Ordering.{nat_cmp}
@@ -30,6 +31,7 @@ IsFaultOf error TooLarge = ⊥
 abbrev pub IsMissing : Error → Type 0
 IsMissing error = (error_kind error ≡ kind.NotFound) ⊎ (error_kind error ≡ kind.NotADirectory)
 
+-- names by their texts, with one more
 abbrev pub with_name : List (Bytes × Bool) → Name → List (Bytes × Bool)
 with_name names name = insert_entry (slice_cmp nat_cmp) names name.text name.folder
 
@@ -40,3 +42,11 @@ by_text names = fold with_name [] names
 -- the entries are more than can be listed, or one of them is an error
 abbrev pub HaveFault : List (Result Name Error) → Type 0
 HaveFault entries = (name_limit < length entries) ⊎ Any IsErr entries
+
+-- a listing gives entries to its end, none of which is an error, and this holds of their names
+abbrev pub GivesNames : {S : Type 0} → (S → Option (Result Name Error) → S → Type 0) → S → (List Name → Type 0) → Type 0
+GivesNames next_gives entries Holds = (names : List Name) × Drains next_gives entries (map Ok names) × Holds names
+
+-- the entries that a listing gives are too many, or one of them is an error
+abbrev pub GivesFault : {S : Type 0} → (S → Option (Result Name Error) → S → Type 0) → S → Type 0
+GivesFault {S} next_gives entries = (given : List (Result Name Error)) × (rest : S) × Yields next_gives entries given rest × HaveFault given

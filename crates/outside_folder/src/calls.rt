@@ -54,7 +54,7 @@ pub fn list_names<F: Folder>(
 ) -> Result<Option<List<Name>>, Trouble>
     ensures told { IfSome (F.tells folder.old) (λ files. IfOk result (λ names. names ≡ listing files dir.now)) }
     ensures order { IfOk result (λ names. IfSome names IsInOrder) }
-    ensures folder { Leaves (F.tells folder.old) (F.faults folder.old) (F.tells folder.new) (F.faults folder.new) (IsErrOf result Trouble.Failed) }
+    ensures folder { Leaves F.tells F.faults folder.old folder.new (IsErrOf result Trouble.Failed) }
 {
     match folder.list(alloc, dir) {
         Ok(names) => Ok(names),
@@ -72,7 +72,7 @@ pub fn read_content<F: Folder>(
 ) -> Result<Content, Trouble>
     ensures told { IfSome (F.tells folder.old) (λ files. IfOk result (λ content. content ≡ content_at files path.now)) }
     ensures within { IfOk result IsWithin }
-    ensures folder { Leaves (F.tells folder.old) (F.faults folder.old) (F.tells folder.new) (F.faults folder.new) (IsErrOf result Trouble.Failed) }
+    ensures folder { Leaves F.tells F.faults folder.old folder.new (IsErrOf result Trouble.Failed) }
 {
     match folder.read(alloc, path) {
         Ok(None) => Ok(Content::Missing),

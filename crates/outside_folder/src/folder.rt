@@ -1,3 +1,4 @@
+// What a folder answers.
 ghost use Rattle.std.specs.Prelude.{◌≡◌, ◌≢◌, ◌≤◌, ◌^◌, ◌-◌, ℕ, List, Option, length, [], IfOk, IfSome, IsSome, IsErrOf, IsTrue};
 ghost use Rattle.outside_folder.specs.declared.folder.FolderFault.TheVariants.{NoMemory as folder_no_memory};
 ghost use Rattle.outside_folder.specs.Files.{Files, is_tree, as_names};

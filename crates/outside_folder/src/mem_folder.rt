@@ -1,10 +1,11 @@
+// A folder in memory.
 ghost use Rattle.std.specs.Prelude.{◌≡◌, ◌≤◌, ◌^◌, ◌-◌, ◌⊎◌, ◌↔◌, [], true, false, MatchOption, MatchBool, None, Some, ℕ, List, ◌<◌, length, take, if◌then◌else◌, IfOk, IfSome, IsSome, OnOk, IsOk, IfErr, IsErrOf, IsTrue, IsFalse};
 ghost use Rattle.std.specs.BTreeMap.{get_by_text};
 ghost use Rattle.std.specs.Str.{bytes_eq};
 ghost use Rattle.std.specs.Option.{option_copied, option_map};
 ghost use Rattle.outside_folder.specs.declared.mem_folder.MemFault.TheVariants.{NoMemory as mem_fault_no_memory};
 ghost use Rattle.outside_folder.specs.Files.{is_tree, is_path, after, inside, first_name, name_in, with_name, as_names, unless_missing, file_at};
-ghost use Rattle.outside_folder.specs.MemFile.{told, Placed, Listed, AddsAt, names_at, AreDistinct, IsFront, IsFree, IsUnderFile};
+ghost use Rattle.outside_folder.specs.MemFile.{told, Placed, Listed, AddsAt, PutsNames, HasPlaces, IsFileAt, MayStand, names_at, AreDistinct, IsFront, IsFree, IsUnderFile};
 ghost use Rattle.outside_folder.specs.Folder.{Lists, Reads, IsInOrder, IsWithinLimit};
 ghost use Rattle.outside_folder.specs.Faults.{Rose, among, ceiling_of, fails_next, next_count};
 
@@ -317,7 +318,7 @@ fn add_in(
     dir: &str,
     path: &str,
 ) -> Result<(), NoMemory>
-    ensures { OnOk result ((other : List ℕ) → names_at dirs.new other ≡ (if bytes_eq dir.now other then with_name (names_at dirs.old dir.now) (name_in dir.now path.now) else names_at dirs.old other)) }
+    ensures { OnOk result (PutsNames dirs.old dirs.new dir.now (with_name (names_at dirs.old dir.now) (name_in dir.now path.now))) }
 {
     let mut names = taken_names(alloc, dirs, dir);
     add_name(alloc, &mut names, name_in(dir, path))?;
@@ -345,7 +346,7 @@ fn put_names(
     dir: &str,
     names: BTreeMap<Text, bool>,
 ) -> Result<(), NoMemory>
-    ensures { OnOk result ((other : List ℕ) → names_at dirs.new other ≡ (if bytes_eq dir.now other then names.entries else names_at dirs.old other)) }
+    ensures { OnOk result (PutsNames dirs.old dirs.new dir.now names.entries) }
 {
     dirs.insert(String::from_str(alloc, dir)?, names)?;
     Ok(())
@@ -407,7 +408,7 @@ fn tree_places(
     alloc: Global,
     files: &[MemFile],
 ) -> Result<Option<BTreeMap<String, usize>>, NoMemory>
-    ensures { IfOk result (λ found. MatchOption found (is_tree (told files.now) ≡ false) (λ places. IsTrue (is_tree (told files.now)) × Placed files.now places)) }
+    ensures { IfOk result (HasPlaces (IsTrue (is_tree (told files.now))) files.now) }
 {
     let Some(places) = places_of(alloc, files)? else {
         return Ok(None);
@@ -421,7 +422,7 @@ fn tree_places(
 
 // The place of each file, where no two have the same path.
 fn places_of(alloc: Global, files: &[MemFile]) -> Result<Option<BTreeMap<String, usize>>, NoMemory>
-    ensures { IfOk result (λ found. MatchOption found (is_tree (told files.now) ≡ false) (λ places. AreDistinct files.now × Placed files.now places)) }
+    ensures { IfOk result (HasPlaces (AreDistinct files.now) files.now) }
 {
     let mut places = BTreeMap::new(alloc);
     for place in 0..files.len() {
@@ -450,7 +451,7 @@ fn stand_apart(files: &[MemFile], places: &BTreeMap<String, usize>) -> bool
 
 // Whether a path is one, and no file stands where it has a directory.
 fn fits(places: &BTreeMap<String, usize>, path: &str) -> bool
-    ensures { MatchBool result ((is_path path.now ≡ true) × IsFree places.now path.now) ((is_path path.now ≡ false) ⊎ IsUnderFile places.now path.now) }
+    ensures { MayStand places.now path.now result }
 {
     is_path(path.as_bytes()) && !has_file_above(places, path)
 }
@@ -470,7 +471,7 @@ fn has_file_above(places: &BTreeMap<String, usize>, path: &str) -> bool
 // Whether a path has a slash at this place, and a file stands before it.
 fn is_file_above(places: &BTreeMap<String, usize>, path: &str, end: usize) -> bool
     requires { end < length path.now }
-    ensures { MatchBool result (IsFront path.now end × IsSome (get_by_text places.now (take end path.now))) (IsFront path.now end → get_by_text places.now (take end path.now) ≡ None) }
+    ensures { IsFileAt places.now path.now end result }
 {
     if path.as_bytes()[end] != b'/' {
         return false;

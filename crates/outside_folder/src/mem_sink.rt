@@ -1,3 +1,4 @@
+// A sink in memory.
 ghost use Rattle.std.specs.Prelude.{◌≡◌, ◌≤◌, ◌<◌, ◌^◌, ◌-◌, ◌↔◌, ◌⊎◌, true, [], Some, length, take, vec_len, vec_capacity, IfOk, IsErr, OnOk, OnErr};
 ghost use Rattle.outside_folder.specs.Sink.{Appends, IsCount};
 ghost use Rattle.outside_folder.specs.Faults.{Rose, next_count};

@@ -5,7 +5,7 @@ ghost use Rattle.std.specs.Iterator.{Drains, IsFinite, Yields};
 ghost use Rattle.outside_folder.specs.Files.{as_names};
 ghost use Rattle.outside_folder.specs.Folder.{IsInOrder, IsWithinLimit, within_limit};
 ghost use Rattle.outside_folder.specs.Faults.{Rose};
-ghost use Rattle.outside_folder.specs.RealFolder.{name_limit, system_path, IsFaultOf, IsMissing, with_name, by_text, HaveFault};
+ghost use Rattle.outside_folder.specs.RealFolder.{name_limit, system_path, IsFaultOf, IsMissing, with_name, by_text, GivesFault, GivesNames, HaveFault};
 ghost use Rattle.std.specs.declared.io.Error.{Error};
 ghost use Rattle.std.specs.Fs.{IsDir, dir_entry_name, file_type};
 ghost use Rattle.std.specs.IoError.{error_kind};
@@ -153,8 +153,8 @@ fn listed<I: Iterator<Item = io::Result<Name>> + Drop>(
 ) -> Result<List<Name>, FolderFault>
     requires can { I.can_next entries }
     requires finite { IsFinite (I.remaining entries) }
-    ensures whole { IfOk result (λ listed. (names : List Name) × Drains I.next_gives entries (map Ok names) × (listed ≡ as_names (by_text names))) }
-    ensures failed { IsErrOf result FolderFault.Failed → (given : List (Result Name Error)) × (rest : I) × Yields I.next_gives entries given rest × HaveFault given }
+    ensures whole { IfOk result (λ listed. GivesNames I.next_gives entries (λ names. listed ≡ as_names (by_text names))) }
+    ensures failed { IsErrOf result FolderFault.Failed → GivesFault I.next_gives entries }
     ensures order { IfOk result IsInOrder }
     ensures never_too_large { IsErrOf result FolderFault.TooLarge → ⊥ }
 {
@@ -168,8 +168,8 @@ fn names_of<I: Iterator<Item = io::Result<Name>> + Drop>(
 ) -> Result<BTreeMap<Text, bool>, FolderFault>
     requires can { I.can_next entries }
     requires finite { IsFinite (I.remaining entries) }
-    ensures whole { IfOk result (λ found. (names : List Name) × Drains I.next_gives entries (map Ok names) × (found.entries ≡ by_text names)) }
-    ensures failed { IsErrOf result FolderFault.Failed → (given : List (Result Name Error)) × (rest : I) × Yields I.next_gives entries given rest × HaveFault given }
+    ensures whole { IfOk result (λ found. GivesNames I.next_gives entries (λ names. found.entries ≡ by_text names)) }
+    ensures failed { IsErrOf result FolderFault.Failed → GivesFault I.next_gives entries }
     ensures never_too_large { IsErrOf result FolderFault.TooLarge → ⊥ }
 {
     let mut names = BTreeMap::new(alloc);

@@ -1,3 +1,4 @@
+// What a sink takes.
 ghost use Rattle.std.specs.Prelude.{◌≡◌, ◌≤◌, ◌<◌, ◌^◌, ◌-◌, ℕ, List, Option, length, take, IfOk, OnOk, OnErr};
 ghost use Rattle.outside_folder.specs.Sink.{Appends, AppendsPrefix, IsCount};
 ghost use Rattle.outside_folder.specs.Faults.{Rose};

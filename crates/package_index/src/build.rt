@@ -1,16 +1,16 @@
-ghost use Rattle.std.specs.Prelude.{◌≡◌, true, IfOk, IfSome, IsErrOf};
-ghost use Rattle.std.specs.List.{list_all};
-ghost use Rattle.plan_types.specs.Name.{is_package_name};
-ghost use Rattle.flatten.specs.Sound.{IsSound, has_package};
+// The files of a folder are read first, and then the index is made of them.
+ghost use Rattle.std.specs.Prelude.{IfOk, IfSome, IsErrOf};
+ghost use Rattle.plan_types.specs.Refusal.{Answers};
+ghost use Rattle.flatten.specs.Sound.{IsSound};
 ghost use Rattle.outside_folder.specs.Calls.{Leaves};
-ghost use Rattle.index_files.specs.InTurn.{Answers};
-ghost use Rattle.gathered_index.specs.Folder.{IsFolderIndex};
+ghost use Rattle.index_assembly.specs.Folder.{IsFolderIndex};
+ghost use Rattle.package_index.specs.Extra.{AreMarked, AreNamed, AreThere};
 
-use gathered_index::index_of;
-use index_files::{Places, read_index_files};
+use crate::laws::{extras_are_there, what_is_gathered_is_sound};
+use index_assembly::index_of;
+use index_files::read_index_files;
 use outside_folder::Folder;
-use plan_types::{Env, Halt, Index, List, Named, Text};
-use sound_index::{extras_are_there, what_is_gathered_is_sound};
+use plan_types::{Env, Halt, Index, List, Named, Places, Text};
 use std::alloc::Global;
 
 /// The index of a folder with local files at these paths, in which `extra` names the packages that are asked for
@@ -23,11 +23,12 @@ pub fn build_index<F: Folder>(
     env: &Env,
     folder: &mut F,
 ) -> Result<Index, Halt>
-    requires { list_all (λ named. is_package_name named.name) extra.now ≡ true }
-    ensures told { IfSome (F.tells folder.old) (λ files. Answers (λ index. index) (IsFolderIndex env.now places.now extra.now locals.now files) result) }
+    requires { AreNamed extra.now }
+    ensures told { IfSome (F.tells folder.old) (λ files. Answers (IsFolderIndex env.now places.now extra.now locals.now files) result) }
     ensures sound { IfOk result (IsSound env.now) }
-    ensures extra { IfOk result (λ index. list_all (λ named. has_package index named.name) extra.now ≡ true) }
-    ensures folder { Leaves (F.tells folder.old) (F.faults folder.old) (F.tells folder.new) (F.faults folder.new) (IsErrOf result Halt.Failed) }
+    ensures extra { IfOk result (AreThere extra.now) }
+    ensures marked { IfOk result (AreMarked extra.now) }
+    ensures folder { Leaves F.tells F.faults folder.old folder.new (IsErrOf result Halt.Failed) }
 {
     what_is_gathered_is_sound();
     extras_are_there();

@@ -9,15 +9,15 @@ use Rattle.qualified_goals.specs.Names.{NameTable}
 use Rattle.choice_problem.specs.Problem.{Problem}
 use Rattle.choice_problem.specs.Answer.{answer_of, outcome_of}
 use Rattle.cabal_problem.specs.Problem.{IsProblemOf}
-use Rattle.index_files.specs.declared.places.Places.{Places}
-use Rattle.folder_project.specs.Project.{IsFolderProject}
-use Rattle.folder_project.specs.declared.project.FolderProject.{FolderProject}
-use Rattle.gathered_index.specs.Folder.{IsFolderIndex}
+use Rattle.plan_types.specs.declared.index.Places.{Places}
+use Rattle.project_config.specs.Project.{IsFolderProject}
+use Rattle.project_config.specs.declared.project.FolderProject.{FolderProject}
+use Rattle.index_assembly.specs.Folder.{IsFolderIndex}
 use Rattle.outside_folder.specs.Files.{Bytes, Files}
-use Rattle.plan_words.specs.Reading.{reading}
-use Rattle.plan_words.specs.declared.reading.Command.{Command}
-use Rattle.plan_words.specs.declared.reading.Command.TheVariants.{Plan}
-use Rattle.plan_words.specs.declared.reading.Options.{Options}
+use Rattle.command_line.specs.Reading.{reading}
+use Rattle.command_line.specs.declared.reading.Command.{Command}
+use Rattle.command_line.specs.declared.reading.Command.TheVariants.{Plan}
+use Rattle.command_line.specs.declared.reading.Options.{Options}
 use Rattle.plan_command.specs.declared.output.Output.{Output}
 use Rattle.plan_command.specs.declared.task.Task.{Task}
 use Rattle.plan_command.specs.Output.{output_of_outcome}

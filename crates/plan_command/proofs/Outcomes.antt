@@ -7,7 +7,7 @@ use Rattle.choice_problem.specs.Answer.{Ended, Found, Failed, GaveUp, answer_of,
 use Rattle.outside_folder.specs.Files.{Bytes, Files}
 use Rattle.outside_folder.specs.Sink.{Appends}
 use Rattle.plan_print.specs.Texts.{plan_text}
-use Rattle.plan_words.specs.declared.reading.Options.{Options}
+use Rattle.command_line.specs.declared.reading.Options.{Options}
 use Rattle.plan_command.specs.declared.output.Output.{Output}
 use Rattle.plan_command.specs.declared.status.Status.{Status}
 use Rattle.plan_command.specs.declared.status.Status.TheVariants as status

@@ -14,11 +14,10 @@ use Rattle.plan_types.specs.declared.refusal.Halt.{Halt}
 use Rattle.plan_types.specs.declared.refusal.Halt.TheVariants as halt
 use Rattle.plan_types.specs.declared.refusal.Refusal.{Refusal}
 use Rattle.flatten.specs.Sound.{IsBody, IsEntry, IsPackage, IsSound, has_package, has_unit, has_units}
-use Rattle.index_files.specs.InTurn as turns
-use Rattle.project_paths.specs.Answers.{Answers}
-use Rattle.plan_words.specs.declared.reading.Options.{Options}
+use Rattle.command_line.specs.declared.reading.Options.{Options}
 use Rattle.plan_command.specs.Task.{IsReady, warned}
 use Rattle.plan_command.specs.declared.task.Task.{Task}
+use Rattle.plan_types.specs.Refusal.{Answers}
 
 -- an index is as sound with other warnings
 module _ (env : Env) (project : Project) (index : Index) where
@@ -79,9 +78,3 @@ pub passed-on : {A B : Type 0} (P : Result A Refusal → Type 0) (Q : Result B R
 passed-on P Q wider halt.NoMemory h = tt
 passed-on P Q wider halt.Failed h = tt
 passed-on P Q wider (halt.Refused refusal) h = wider refusal h
-
-pub passed-index : {B : Type 0} (P : Result Index Refusal → Type 0) (Q : Result B Refusal → Type 0) → ((refusal : Refusal) → P (Err refusal) → Q (Err refusal))
-    → (h : Halt) → turns.Answers (λ (index : Index). index) P (Err h) → Answers Q (Err h)
-passed-index P Q wider halt.NoMemory h = tt
-passed-index P Q wider halt.Failed h = tt
-passed-index P Q wider (halt.Refused refusal) h = wider refusal h

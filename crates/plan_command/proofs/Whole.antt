@@ -21,7 +21,7 @@ use Rattle.choice_problem.specs.ConflictSet.{has}
 use Rattle.choice_problem.specs.Answer.{Ended, Found, Failed, GaveUp, answer_of}
 use Rattle.choice_problem.specs.Sound.{IsRightEnd}
 use Rattle.cabal_problem.specs.Problem.{IsProblemOf, problem_of}
-use Rattle.instance_tables.specs.Orders.{AreOrders}
+use Rattle.solver_index.specs.Orders.{AreOrders}
 use Rattle.cabal_problem.specs.WholeDemands.{whole_problem}
 use Rattle.plan_command.specs.Meaning.{IsWholeProblem}
 use Rattle.plan_command.specs.Task.{IsReady}

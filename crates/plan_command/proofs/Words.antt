@@ -2,9 +2,9 @@
 use Rattle.std.proofs.Common.{◌≡◌, List, Option, Some, None, sym, subst}
 use Rattle.std.specs.Option.{IfSome}
 use Rattle.outside_folder.specs.Files.{Bytes, Files}
-use Rattle.plan_words.specs.Reading.{reading}
-use Rattle.plan_words.specs.declared.reading.Command.TheVariants.{Plan}
-use Rattle.plan_words.specs.declared.reading.Options.{Options}
+use Rattle.command_line.specs.Reading.{reading}
+use Rattle.command_line.specs.declared.reading.Command.TheVariants.{Plan}
+use Rattle.command_line.specs.declared.reading.Options.{Options}
 use Rattle.plan_command.specs.declared.status.Status.{Status}
 use Rattle.plan_command.specs.Output.{usage}
 use Rattle.plan_command.specs.Meaning.{AsksFor}

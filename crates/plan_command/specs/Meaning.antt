@@ -1,5 +1,5 @@
 -- What a plan and a conflict mean.
-use Rattle.std.specs.Prelude.{◌≡◌, ℕ, List, Option, Some, Ok}
+use Rattle.std.specs.Prelude.{◌≡◌, ℕ, List, Option, Some, Ok, IfSome}
 use Rattle.plan_types.specs.declared.limit.Limit.TheVariants.{At}
 use Rattle.qualified_goals.specs.Names.{AreNumbers, NameTable}
 use Rattle.qualified_goals.specs.declared.variable.Var.{Var}
@@ -14,13 +14,13 @@ use Rattle.choice_problem.specs.ConflictSet.{has}
 use Rattle.choice_problem.specs.Answer.{GaveUp, answer_of}
 use Rattle.cabal_problem.specs.Problem.{IsProblemOf}
 use Rattle.cabal_problem.specs.WholeDemands.{whole_problem}
-use Rattle.instance_tables.specs.Orders.{AreOrders}
+use Rattle.solver_index.specs.Orders.{AreOrders}
 use Rattle.outside_folder.specs.Files.{Bytes, Files}
 use Rattle.outside_folder.specs.Sink.{Appends}
 use Rattle.plan_print.specs.Texts.{plan_text, conflict_text, gave_up_text}
-use Rattle.plan_words.specs.Reading.{reading}
-use Rattle.plan_words.specs.declared.reading.Command.TheVariants.{Plan}
-use Rattle.plan_words.specs.declared.reading.Options.{Options}
+use Rattle.command_line.specs.Reading.{reading}
+use Rattle.command_line.specs.declared.reading.Command.TheVariants.{Plan}
+use Rattle.command_line.specs.declared.reading.Options.{Options}
 use Rattle.plan_command.specs.declared.task.Task.{Task}
 use Rattle.plan_command.specs.Task.{IsTask}
 
@@ -73,3 +73,13 @@ pub record GivesUp (options : Options) (files : Files) (old new : Option Bytes) 
   pub ended : (answer_of problem task.settings.limit).ended ≡ GaveUp
   pub counts : Counts
   pub printed : Appends old new (gave_up_text task.index counts)
+
+-- ---- what a status means
+
+-- for these options, what is printed means this, where the folder tells its files
+abbrev pub MeansWith : (Options → Files → Option Bytes → Option Bytes → Type 0) → Options → Option Files → Option Bytes → Option Bytes → Type 0
+MeansWith Is options tells old new = IfSome tells (λ files. Is options files old new)
+
+-- the same for words: where the folder tells its files, they are the command `plan`
+abbrev pub Means : (Options → Files → Option Bytes → Option Bytes → Type 0) → List Bytes → Option Files → Option Bytes → Option Bytes → Type 0
+Means Is words tells old new = IfSome tells (λ files. AsksFor words (λ options. Is options files old new))

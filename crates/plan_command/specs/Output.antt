@@ -11,17 +11,21 @@ use Rattle.plan_command.specs.declared.output.Output.{Output}
 use Rattle.plan_command.specs.declared.status.Status.{Status}
 use Rattle.plan_command.specs.declared.status.Status.TheVariants as status
 
+-- the output of a refusal
 abbrev pub refused : Refusal → Output
 refused refusal = record { status = status.Refused; text = refusal_text refusal }
 
+-- the output of what a search found
 abbrev pub output_of_outcome : Index → NameTable → Outcome → Output
 output_of_outcome index names (outcome.Found trail counts) = record { status = status.Planned; text = plan_text index names trail counts }
 output_of_outcome index names (outcome.NoPlan set counts) = record { status = status.NoPlan; text = conflict_text index names set counts }
 output_of_outcome index names (outcome.GaveUp counts) = record { status = status.GaveUp; text = gave_up_text index counts }
 
+-- the line for words without a reading
 abbrev pub usage_text : Bytes
 usage_text = codes "usage: cabal-plan plan or generate, with options" ++ 10 ∷ []
 
+-- the output for words without a reading
 abbrev pub usage : Output
 usage = record { status = status.Usage; text = usage_text }
 

@@ -6,10 +6,10 @@ use Rattle.qualified_goals.specs.Names.{NameTable}
 use Rattle.choice_problem.specs.declared.outcome.Outcome.{Outcome}
 use Rattle.outside_folder.specs.Files.{Bytes, Files}
 use Rattle.outside_folder.specs.Sink.{Appends, AppendsPrefix}
-use Rattle.plan_words.specs.Reading.{reading}
-use Rattle.plan_words.specs.declared.reading.Command.{Command}
-use Rattle.plan_words.specs.declared.reading.Command.TheVariants.{Plan}
-use Rattle.plan_words.specs.declared.reading.Options.{Options}
+use Rattle.command_line.specs.Reading.{reading}
+use Rattle.command_line.specs.declared.reading.Command.{Command}
+use Rattle.command_line.specs.declared.reading.Command.TheVariants.{Plan}
+use Rattle.command_line.specs.declared.reading.Options.{Options}
 use Rattle.plan_command.specs.declared.status.Status.{Status}
 use Rattle.plan_command.specs.declared.status.Status.TheVariants as status
 use Rattle.plan_command.specs.declared.output.Output.{Output}
@@ -20,6 +20,7 @@ use Rattle.plan_command.specs.Task.{IsTask}
 
 -- ---- the output of words over a folder
 
+-- the output of a task, or of the refusal that came instead
 abbrev pub IsOutputOfRead : Result Task Refusal → Output → Type 0
 IsOutputOfRead (Ok task) output = IsOutputOfTask task output
 IsOutputOfRead (Err refusal) output = output ≡ refused refusal
@@ -28,6 +29,7 @@ IsOutputOfRead (Err refusal) output = output ≡ refused refusal
 unfoldable pub IsOutputOfPlan : Options → Files → Output → Type 0
 IsOutputOfPlan options files output = (task : Result Task Refusal) × IsTask options files task × IsOutputOfRead task output
 
+-- the output of a command, or for words without a reading
 abbrev pub IsOutputOfCommand : Option Command → Files → Output → Type 0
 IsOutputOfCommand None files output = output ≡ usage
 IsOutputOfCommand (Some (Plan options)) files output = IsOutputOfPlan options files output

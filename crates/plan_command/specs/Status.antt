@@ -3,6 +3,7 @@ use Rattle.std.specs.Prelude.{ℕ}
 use Rattle.plan_command.specs.declared.status.Status.{Status}
 use Rattle.plan_command.specs.declared.status.Status.TheVariants.{Planned, NoPlan, GaveUp, Refused, ReadFault, WriteFault, NoMemory, Usage}
 
+-- the number of a status
 abbrev pub number_of_status : Status → ℕ
 number_of_status Planned = 0
 number_of_status NoPlan = 1

@@ -7,10 +7,10 @@ use Rattle.plan_types.specs.declared.project.Settings.{Settings}
 use Rattle.plan_types.specs.declared.refusal.Refusal.{Refusal}
 use Rattle.flatten.specs.Sound.{IsSound, has_package}
 use Rattle.outside_folder.specs.Files.{Files}
-use Rattle.folder_project.specs.Project.{IsFolderProject}
-use Rattle.folder_project.specs.declared.project.FolderProject.{FolderProject}
-use Rattle.gathered_index.specs.Folder.{IsFolderIndex}
-use Rattle.plan_words.specs.declared.reading.Options.{Options}
+use Rattle.project_config.specs.Project.{IsFolderProject}
+use Rattle.project_config.specs.declared.project.FolderProject.{FolderProject}
+use Rattle.index_assembly.specs.Folder.{IsFolderIndex}
+use Rattle.command_line.specs.declared.reading.Options.{Options}
 use Rattle.plan_command.specs.declared.task.Task.{Task}
 
 -- the limit of the words stands before that of the project
@@ -21,9 +21,11 @@ settings_of options project = record { env = options.env; project = project; lim
 abbrev pub warned : Project → Index → Index
 warned project index = record { packages = index.packages; skipped = index.skipped; warnings = project.warnings ++ index.warnings }
 
+-- the task of a project with its index
 abbrev pub task_of : Options → Project → Index → Task
 task_of options project index = record { settings = settings_of options project; index = warned project index }
 
+-- the same, where there may be a refusal in place of the index
 abbrev pub task_or_refusal : Options → Project → Result Index Refusal → Result Task Refusal
 task_or_refusal options project (Ok index) = Ok (task_of options project index)
 task_or_refusal options project (Err refusal) = Err refusal

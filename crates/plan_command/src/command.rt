@@ -1,10 +1,11 @@
+// The top call: the words are read, and what the command gives is written.
 ghost use Rattle.std.specs.Prelude.{◌≡◌, ◌≢◌, IfOk, IfSome, IsErrOf, None};
 ghost use Rattle.outside_folder.specs.Calls.{Leaves};
 ghost use Rattle.outside_folder.specs.Faults.{Rose};
-ghost use Rattle.plan_words.specs.Reading.{reading};
-ghost use Rattle.plan_words.specs.declared.reading.Command.TheVariants.{Plan};
+ghost use Rattle.command_line.specs.Reading.{reading};
+ghost use Rattle.command_line.specs.declared.reading.Command.TheVariants.{Plan};
 ghost use Rattle.plan_command.specs.Output.{usage, IsMade, IsUsage};
-ghost use Rattle.plan_command.specs.Meaning.{AsksFor, GivesUp, HasNone, PlansFirst};
+ghost use Rattle.plan_command.specs.Meaning.{GivesUp, HasNone, Means, MeansWith, PlansFirst};
 ghost use Rattle.plan_command.specs.Run.{HasForm, IsOutputOf, IsOutputOfPlan, Prints};
 
 use crate::Status;
@@ -13,9 +14,9 @@ use crate::plan::planned;
 use crate::task::read_task;
 use cabal_problem::valid_as_whole;
 use choice_problem::{ends_right, limit_only_gives_up};
+use command_line::{Command, Options, WordsFault, read_words};
 use outside_folder::{Folder, Sink, Trouble, write_all};
 use plan_types::{Halt, Text};
-use plan_words::{Command, Options, WordsFault, read_words};
 use std::alloc::Global;
 
 /// What is printed where the words have no reading.
@@ -27,9 +28,9 @@ pub fn run<F: Folder, S: Sink>(alloc: Global, words: &[Text], folder: &mut F, ou
     // Where the folder tells its files, the plan is that of the first of all whole valid assignments of the problem
     // that they make, there is no plan exactly where there is no such assignment, and without a limit the search never
     // gives up.
-    ensures planned { result ≡ Status.Planned → IfSome (F.tells folder.old) (λ files. AsksFor words.now (λ options. PlansFirst options files (S.bytes out.old) (S.bytes out.new))) }
-    ensures no_plan { result ≡ Status.NoPlan → IfSome (F.tells folder.old) (λ files. AsksFor words.now (λ options. HasNone options files (S.bytes out.old) (S.bytes out.new))) }
-    ensures gave_up { result ≡ Status.GaveUp → IfSome (F.tells folder.old) (λ files. AsksFor words.now (λ options. GivesUp options files (S.bytes out.old) (S.bytes out.new))) }
+    ensures planned { result ≡ Status.Planned → Means PlansFirst words.now (F.tells folder.old) (S.bytes out.old) (S.bytes out.new) }
+    ensures no_plan { result ≡ Status.NoPlan → Means HasNone words.now (F.tells folder.old) (S.bytes out.old) (S.bytes out.new) }
+    ensures gave_up { result ≡ Status.GaveUp → Means GivesUp words.now (F.tells folder.old) (S.bytes out.old) (S.bytes out.new) }
 
     // There the whole output is that of the files, whether or not a count rose.
     ensures told { IfSome (F.tells folder.old) (λ files. Prints (IsOutputOf words.now files) (S.bytes out.old) (S.bytes out.new) result) }
@@ -71,9 +72,9 @@ fn options_in(command: Command) -> Options
 
 // The command `plan`.
 fn plan<F: Folder, S: Sink>(alloc: Global, options: Options, folder: &mut F, out: &mut S) -> Status
-    ensures planned { result ≡ Status.Planned → IfSome (F.tells folder.old) (λ files. PlansFirst options files (S.bytes out.old) (S.bytes out.new)) }
-    ensures no_plan { result ≡ Status.NoPlan → IfSome (F.tells folder.old) (λ files. HasNone options files (S.bytes out.old) (S.bytes out.new)) }
-    ensures gave_up { result ≡ Status.GaveUp → IfSome (F.tells folder.old) (λ files. GivesUp options files (S.bytes out.old) (S.bytes out.new)) }
+    ensures planned { result ≡ Status.Planned → MeansWith PlansFirst options (F.tells folder.old) (S.bytes out.old) (S.bytes out.new) }
+    ensures no_plan { result ≡ Status.NoPlan → MeansWith HasNone options (F.tells folder.old) (S.bytes out.old) (S.bytes out.new) }
+    ensures gave_up { result ≡ Status.GaveUp → MeansWith GivesUp options (F.tells folder.old) (S.bytes out.old) (S.bytes out.new) }
     ensures told { IfSome (F.tells folder.old) (λ files. Prints (IsOutputOfPlan options files) (S.bytes out.old) (S.bytes out.new) result) }
     ensures one_text { Prints HasForm (S.bytes out.old) (S.bytes out.new) result }
     ensures read_fault { result ≡ Status.ReadFault → Rose (F.faults folder.old) (F.faults folder.new) }
@@ -101,7 +102,7 @@ fn output_of_plan<F: Folder>(
     ensures form { IfOk result HasForm }
     ensures made { IfOk result (λ output. IsMade output.status) }
     ensures read { IfOk result (λ output. output.status ≢ Status.Usage) }
-    ensures folder { Leaves (F.tells folder.old) (F.faults folder.old) (F.tells folder.new) (F.faults folder.new) (IsErrOf result Trouble.Failed) }
+    ensures folder { Leaves F.tells F.faults folder.old folder.new (IsErrOf result Trouble.Failed) }
 {
     match read_task(alloc, options, folder) {
         Ok(task) => Ok(planned(alloc, task)?),

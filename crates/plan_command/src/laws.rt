@@ -1,11 +1,12 @@
+// Words and a folder's files have one answer.
 ghost use Rattle.std.specs.Prelude.{◌≡◌, List};
 ghost use Rattle.outside_folder.specs.Files.{Bytes, Files};
 ghost use Rattle.plan_command.specs.declared.output.Output.{Output};
 ghost use Rattle.plan_command.specs.Run.{IsOutputOf};
 
-use folder_project::one_folder_project;
-use one_problem::one_problem;
+use cabal_problem::one_problem;
 use package_index::one_folder_index;
+use project_config::one_folder_project;
 
 /// Words and a folder's files have one answer: one status and one text.
 pub fn one_answer()

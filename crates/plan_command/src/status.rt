@@ -1,3 +1,4 @@
+// How a run ends, and the number of it.
 ghost use Rattle.std.specs.Prelude.{◌≡◌};
 ghost use Rattle.plan_command.specs.Status.{number_of_status};
 

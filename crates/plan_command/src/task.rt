@@ -1,17 +1,17 @@
 // What is to be planned: the packages of a folder, and what for.
-ghost use Rattle.std.specs.Prelude.{◌≡◌, ◌++◌, IfOk, IfSome, IsErrOf, OnOk, Ok, true};
+ghost use Rattle.std.specs.Prelude.{◌≡◌, ◌++◌, IfOk, IfSome, IsErrOf, Ok, true};
 ghost use Rattle.std.specs.List.{list_all};
 ghost use Rattle.flatten.specs.Sound.{IsSound, has_package};
 ghost use Rattle.outside_folder.specs.Calls.{Leaves};
 ghost use Rattle.plan_types.specs.Name.{is_package_name};
-ghost use Rattle.project_paths.specs.Answers.{Answers};
 ghost use Rattle.plan_command.specs.Task.{IsReady, IsTask, IsTaskOf, task_of, warned};
+ghost use Rattle.plan_types.specs.Refusal.{Answers};
 
-use folder_project::{FolderProject, read_folder_project};
+use command_line::Options;
 use outside_folder::Folder;
 use package_index::build_index;
 use plan_types::{Halt, Index, List, NoMemory, Project, Settings, Warning};
-use plan_words::Options;
+use project_config::{FolderProject, read_folder_project};
 use std::alloc::Global;
 
 /// Packages, and what a plan of them is made for.
@@ -29,7 +29,7 @@ pub(crate) fn read_task<F: Folder>(
 ) -> Result<Task, Halt>
     ensures told { IfSome (F.tells folder.old) (λ files. Answers (IsTask options files) result) }
     ensures ready { IfOk result IsReady }
-    ensures folder { Leaves (F.tells folder.old) (F.faults folder.old) (F.tells folder.new) (F.faults folder.new) (IsErrOf result Halt.Failed) }
+    ensures folder { Leaves F.tells F.faults folder.old folder.new (IsErrOf result Halt.Failed) }
 {
     let found = read_folder_project(alloc, &options.env, folder)?;
     task_in(alloc, options, found, folder)
@@ -45,7 +45,7 @@ fn task_in<F: Folder>(
     requires { list_all (λ named. is_package_name named.name) found.project.extra ≡ true }
     ensures told { IfSome (F.tells folder.old) (λ files. Answers (IsTaskOf options files (Ok found)) result) }
     ensures ready { IfOk result IsReady }
-    ensures folder { Leaves (F.tells folder.old) (F.faults folder.old) (F.tells folder.new) (F.faults folder.new) (IsErrOf result Halt.Failed) }
+    ensures folder { Leaves F.tells F.faults folder.old folder.new (IsErrOf result Halt.Failed) }
 {
     let index = build_index(
         alloc,
@@ -87,10 +87,15 @@ fn warned(alloc: Global, project: &Project, index: Index) -> Result<Index, NoMem
     ensures { IfOk result (λ made. made ≡ warned project.now index) }
 {
     let mut warnings = copied(alloc, project.warnings.as_slice())?;
-    append(&mut warnings, index.warnings)?;
+    let Index {
+        packages,
+        skipped,
+        warnings: mut of_files,
+    } = index;
+    warnings.append(&mut of_files)?;
     Ok(Index {
-        packages: index.packages,
-        skipped: index.skipped,
+        packages,
+        skipped,
         warnings,
     })
 }
@@ -109,13 +114,4 @@ fn copied(alloc: Global, warnings: &[Warning]) -> Result<List<Warning>, NoMemory
         })?;
     }
     Ok(copied)
-}
-
-fn append(warnings: &mut List<Warning>, more: List<Warning>) -> Result<(), NoMemory>
-    ensures { OnOk result (warnings.new ≡ warnings.old ++ more) }
-{
-    for warning in more.into_vec() {
-        warnings.push(warning)?;
-    }
-    Ok(())
 }

@@ -1,8 +1,9 @@
 -- The names of causes.
 use Rattle.std.specs.Prelude.{ℕ, List, codes}
 use Rattle.plan_types.specs.declared.refusal.Cause.{Cause}
-use Rattle.plan_types.specs.declared.refusal.Cause.TheVariants.{NotUtf8, StrayBrace, UnclosedBrace, BadName, TooDeep, BadVersion, BadRange, NeedsVersion, BadCond, BadDepend, BadConstraint, MissingField, WrongCabalVersion, BadField, DuplicateName, UnknownStanza, UnknownFlag, ImportNotFirst, ElseWithoutIf, UnknownComponent, ComponentCycle, TooManyPaths, Unsupported, NoMatch, TwoCabalFiles, NoPackages, TooLarge, WrongPlace, BadRecord, DuplicateLocal, DuplicateUnit, TooMany}
+use Rattle.plan_types.specs.declared.refusal.Cause.TheVariants.{NotUtf8, StrayBrace, UnclosedBrace, BadName, TooDeep, BadVersion, BadRange, NeedsVersion, BadCond, BadDepend, BadConstraint, MissingField, WrongCabalVersion, BadField, DuplicateName, UnknownStanza, UnknownFlag, ImportNotFirst, ElseWithoutIf, UnknownComponent, ComponentCycle, TooManyPaths, Unsupported, NoMatch, TwoCabalFiles, NoPackages, TooLarge, WrongPlace, BadRecord, DuplicateLocal, DuplicateUnit, TooMany, BadEvent}
 
+-- the word of a cause
 abbrev pub cause_name : Cause → List ℕ
 cause_name NotUtf8 = codes "NotUtf8"
 cause_name StrayBrace = codes "StrayBrace"
@@ -36,3 +37,4 @@ cause_name BadRecord = codes "BadRecord"
 cause_name DuplicateLocal = codes "DuplicateLocal"
 cause_name DuplicateUnit = codes "DuplicateUnit"
 cause_name TooMany = codes "TooMany"
+cause_name BadEvent = codes "BadEvent"

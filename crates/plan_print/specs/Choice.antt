@@ -9,9 +9,10 @@ use Rattle.plan_types.specs.declared.index.Package.{Package}
 use Rattle.version_range.specs.Version.{version_text}
 use Rattle.qualified_goals.specs.declared.variable.Part.{Part}
 use Rattle.qualified_goals.specs.declared.variable.Part.TheVariants.{Package as ThePackage, Flag, Tests, Benches}
-use Rattle.qualified_goals.specs.Names.{NameTable, no_package}
+use Rattle.qualified_goals.specs.Names.{NameTable}
 use Rattle.qualified_goals.specs.Printed.{var_text}
 use Rattle.choice_problem.specs.declared.problem.Choice.{Choice}
+use Rattle.plan_types.specs.Packages.{entries_of, no_package}
 
 -- a unit is told apart by its id
 abbrev pub origin_text : Origin → List ℕ → List ℕ
@@ -19,6 +20,7 @@ origin_text Local unit = codes " local"
 origin_text Source unit = codes " source"
 origin_text Installed unit = codes " installed " ++ unit
 
+-- an instance: its version, and where it comes from
 abbrev pub instance_text : Instance → List ℕ
 instance_text instance = version_text instance.version.parts ++ origin_text instance.origin instance.unit
 
@@ -31,9 +33,7 @@ entry_text (Some entry) = instance_text entry.instance
 abbrev pub switch_text : ℕ → List ℕ
 switch_text value = if value == 1 then codes "on" else codes "off"
 
-abbrev pub entries_of : List Package → ℕ → List Entry
-entries_of packages number = (slice_index_or packages number no_package).entries
-
+-- the value of a part: an instance, or on and off
 abbrev pub part_value : List Entry → ℕ → Part → List ℕ
 part_value entries value ThePackage = entry_text (slice_get entries value)
 part_value entries value (Flag f) = switch_text value
@@ -44,5 +44,6 @@ part_value entries value Benches = switch_text value
 abbrev pub value_text : Index → Choice → List ℕ
 value_text index choice = part_value (entries_of index.packages choice.var.«package») choice.val choice.var.part
 
+-- the line of a choice
 abbrev pub choice_line : Index → NameTable → Choice → List ℕ
 choice_line index names choice = codes "choose " ++ var_text names choice.var ++ codes " " ++ value_text index choice ++ 10 ∷ []

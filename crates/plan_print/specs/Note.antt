@@ -6,9 +6,11 @@ use Rattle.plan_types.specs.declared.index.Index.{Index}
 use Rattle.plan_print.specs.Cause.{cause_name}
 use Rattle.plan_print.specs.Place.{where_of}
 
+-- the line of a file that was skipped
 abbrev pub skipped_line : Skipped → List ℕ
 skipped_line file = codes "skipped " ++ where_of file.path file.line ++ codes " " ++ cause_name file.cause ++ 10 ∷ []
 
+-- the line of something that was accepted unread
 abbrev pub warning_line : Warning → List ℕ
 warning_line warning = codes "warning " ++ where_of warning.path warning.line ++ codes " " ++ warning.word ++ 10 ∷ []
 

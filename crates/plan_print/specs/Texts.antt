@@ -13,6 +13,7 @@ use Rattle.plan_print.specs.Place.{where_of}
 use Rattle.plan_print.specs.Note.{notes_text}
 use Rattle.plan_print.specs.Choice.{choice_line}
 
+-- the line of the counts
 abbrev pub counts_line : Counts → List ℕ
 counts_line counts = codes "visited " ++ decimal counts.visited ++ codes " exhausted " ++ decimal counts.exhausted ++ 10 ∷ []
 
@@ -25,6 +26,7 @@ plan_text index names trail counts =
 abbrev pub named_var : NameTable → Var → List ℕ
 named_var names v = 32 ∷ var_text names v
 
+-- the line of the variables of a conflict
 abbrev pub conflict_line : NameTable → List Var → List ℕ
 conflict_line names set = codes "conflict" ++ flat_map (named_var names) set ++ 10 ∷ []
 
@@ -33,6 +35,7 @@ abbrev pub conflict_text : Index → NameTable → List Var → Counts → List 
 conflict_text index names set counts =
     codes "no plan" ++ 10 ∷ notes_text index ++ conflict_line names set ++ counts_line counts
 
+-- the text of a search that gave up
 abbrev pub gave_up_text : Index → Counts → List ℕ
 gave_up_text index counts = codes "gave up" ++ 10 ∷ notes_text index ++ counts_line counts
 
@@ -40,6 +43,7 @@ gave_up_text index counts = codes "gave up" ++ 10 ∷ notes_text index ++ counts
 abbrev pub detail_text : List ℕ → List ℕ
 detail_text detail = if length detail == 0 then [] else codes " " ++ detail
 
+-- the line of a refusal
 abbrev pub refusal_text : Refusal → List ℕ
 refusal_text refusal =
     codes "refused " ++ where_of refusal.path refusal.line ++ codes " " ++ cause_name refusal.cause ++ detail_text refusal.detail ++ 10 ∷ []

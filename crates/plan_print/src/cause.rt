@@ -1,3 +1,4 @@
+// The words of causes.
 ghost use Rattle.std.specs.Prelude.{◌≡◌};
 ghost use Rattle.plan_print.specs.Cause.{cause_name};
 
@@ -39,5 +40,6 @@ pub fn cause_name(cause: Cause) -> &'static str
         Cause::DuplicateLocal => "DuplicateLocal",
         Cause::DuplicateUnit => "DuplicateUnit",
         Cause::TooMany => "TooMany",
+        Cause::BadEvent => "BadEvent",
     }
 }

@@ -1,5 +1,7 @@
+// The line of a choice.
 ghost use Rattle.std.specs.Prelude.{◌≡◌, ◌++◌, OnOk, slice_get};
-ghost use Rattle.plan_print.specs.Choice.{choice_line, entries_of, entry_text, instance_text, origin_text, switch_text, value_text};
+ghost use Rattle.plan_print.specs.Choice.{choice_line, entry_text, instance_text, origin_text, switch_text, value_text};
+ghost use Rattle.plan_types.specs.Packages.{entries_of};
 
 use choice_problem::Choice;
 use plan_types::{Entry, Index, Instance, NoMemory, Origin, Package, Text};
@@ -30,7 +32,7 @@ fn push_value(alloc: Global, text: &mut Text, choice: Choice, index: &Index) -> 
 {
     match choice.var.part {
         Part::Package => {
-            let entries = entries_of(index.packages.as_slice(), choice.var.package);
+            let entries = Package::entries_at(index.packages.as_slice(), choice.var.package);
             push_entry(alloc, text, entries, choice.val)
         }
         Part::Flag(_) => text.push_str(switch_text(choice.val)),
@@ -43,15 +45,6 @@ fn switch_text(value: u64) -> &'static str
     ensures { result.now ≡ switch_text value }
 {
     if value == 1 { "on" } else { "off" }
-}
-
-fn entries_of(packages: &[Package], number: u64) -> &[Entry]
-    ensures { result.now ≡ entries_of packages.now number }
-{
-    match packages.get(number as usize) {
-        Some(found) => found.entries.as_slice(),
-        None => &[],
-    }
 }
 
 fn push_entry(alloc: Global, text: &mut Text, entries: &[Entry], place: u64) -> Result<(), NoMemory>

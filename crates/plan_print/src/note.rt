@@ -1,3 +1,4 @@
+// The lines of what a user should know of an index.
 ghost use Rattle.std.specs.Prelude.{◌≡◌, ◌++◌, OnOk, flat_map};
 ghost use Rattle.plan_print.specs.Note.{skipped_line, warning_line, notes_text};
 

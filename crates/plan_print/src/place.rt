@@ -1,3 +1,4 @@
+// A path with a line.
 ghost use Rattle.std.specs.Prelude.{◌≡◌, ◌++◌, OnOk};
 ghost use Rattle.plan_print.specs.Place.{where_of};
 

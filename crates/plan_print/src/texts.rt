@@ -1,3 +1,4 @@
+// The texts of answers.
 ghost use Rattle.std.specs.Prelude.{◌≡◌, ◌++◌, IfOk, OnOk, flat_map};
 ghost use Rattle.plan_print.specs.Choice.{choice_line};
 ghost use Rattle.plan_print.specs.Texts.{named_var, conflict_line, counts_line, plan_text, conflict_text, gave_up_text, detail_text, refusal_text};

@@ -5,7 +5,7 @@ use crate::packages::{instance, names, version};
 use crate::shared::project;
 use crate::variables::variable;
 use constraint_set::Constraints;
-use depend_text::{read_constraints, read_relax};
+use constraint_text::{read_constraints, read_relax};
 use plan_types::{Instance, Project, Range, Spec, Text, TextFault};
 use qualified_goals::Names;
 use std::alloc::Global;

@@ -1,6 +1,6 @@
 use crate::shared::shown;
+use command_line::read_words;
 use plan_types::{List, NoMemory, Text};
-use plan_words::read_words;
 use std::alloc::Global;
 use std::test::Fail;
 

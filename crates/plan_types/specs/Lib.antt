@@ -5,3 +5,4 @@ pub mod Bytes
 pub mod Refusal
 pub mod Range
 pub mod Format
+pub mod Packages

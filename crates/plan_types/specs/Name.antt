@@ -6,9 +6,11 @@ use Rattle.std.specs.List.{list_all, list_any, slice_split}
 abbrev pub is_letter : ℕ → Bool
 is_letter b = (nat_le 65 b && nat_le b 90) || (nat_le 97 b && nat_le b 122)
 
+-- an ASCII digit
 abbrev pub is_digit : ℕ → Bool
 is_digit b = nat_le 48 b && nat_le b 57
 
+-- an ASCII letter or digit
 abbrev pub is_letter_or_digit : ℕ → Bool
 is_letter_or_digit b = is_letter b || is_digit b
 
@@ -24,6 +26,7 @@ is_package_name bytes = list_all is_group (slice_split (λ b. b == 45) bytes)
 abbrev pub is_component_byte : ℕ → Bool
 is_component_byte b = is_letter_or_digit b || b == 45 || b == 95
 
+-- one or more such bytes
 abbrev pub is_component_name : List ℕ → Bool
 is_component_name [] = false
 is_component_name (b ∷ bs) = list_all is_component_byte (b ∷ bs)

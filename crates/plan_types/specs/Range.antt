@@ -5,6 +5,7 @@ use Rattle.plan_types.specs.declared.range.Range.TheVariants.{Both, Either}
 use Rattle.plan_types.specs.declared.range.Joined.{Joined}
 use Rattle.plan_types.specs.declared.range.Joined.TheVariants as joined
 
+-- a range joined to an operand that was put aside
 abbrev pub joined_to : Range → Joined → Range
 joined_to left (joined.Both right) = Both left right.now
 joined_to left (joined.Either right) = Either left right.now

@@ -1,10 +1,17 @@
 -- What a refusal tells.
-use Rattle.std.specs.Prelude.{ℕ}
+use Rattle.std.specs.Prelude.{ℕ, List, [], Result, Ok, Err}
 use Rattle.plan_types.specs.declared.refusal.Cause.{Cause}
 use Rattle.plan_types.specs.declared.refusal.Fault.{Fault}
 use Rattle.plan_types.specs.declared.refusal.Fault.TheVariants as fault
 use Rattle.plan_types.specs.declared.refusal.TextFault.{TextFault}
 use Rattle.plan_types.specs.declared.refusal.TextFault.TheVariants as text_fault
+use Rattle.plan_types.specs.declared.refusal.Halt.{Halt}
+use Rattle.plan_types.specs.declared.refusal.Halt.TheVariants as halt
+use Rattle.plan_types.specs.declared.refusal.Refusal.{Refusal}
+
+-- a refusal of which nothing is said besides
+abbrev pub refusal_at : List ℕ → ℕ → Cause → Refusal
+refusal_at path line cause = record { path = path; line = line; cause = cause; detail = [] }
 
 -- the fault of a text is a cause that has this, unless memory is wanting
 abbrev pub Refuses : (Cause → Type 0) → TextFault → Type 0
@@ -15,3 +22,17 @@ Refuses P (text_fault.Bad cause) = P cause
 abbrev pub RefusesAt : (ℕ → Cause → Type 0) → Fault → Type 0
 RefusesAt P fault.NoMemory = Unit {0}
 RefusesAt P (fault.At line cause) = P line cause
+
+-- a step of a run answers such an outcome, unless the folder failed or memory was wanting
+abbrev pub Answers : {A : Type 0} → (Result A Refusal → Type 0) → Result A Halt → Type 0
+Answers Is (Ok a) = Is (Ok a)
+Answers Is (Err halt.NoMemory) = Unit {0}
+Answers Is (Err halt.Failed) = Unit {0}
+Answers Is (Err (halt.Refused refusal)) = Is (Err refusal)
+
+-- the same where no folder is asked, so that nothing fails
+abbrev pub Settles : {A : Type 0} → (Result A Refusal → Type 0) → Result A Halt → Type 0
+Settles Is (Ok a) = Is (Ok a)
+Settles Is (Err halt.NoMemory) = Unit {0}
+Settles Is (Err halt.Failed) = ⊥
+Settles Is (Err (halt.Refused refusal)) = Is (Err refusal)

@@ -1,3 +1,4 @@
+// A value in a box, seen as itself.
 ghost use Rattle.std.specs.Prelude.{◌≡◌, IfOk};
 
 use crate::NoMemory;

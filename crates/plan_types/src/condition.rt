@@ -1,3 +1,4 @@
+// Conditions, what they are asked of, and settings of flags.
 ghost use Rattle.std.specs.Prelude.{◌≡◌, IfOk};
 ghost use Rattle.plan_types.specs.declared.condition.Cond.TheVariants.{Impl};
 

@@ -1,3 +1,4 @@
+// What a project asks of its packages.
 use crate::{FlagSet, List, Range, Text};
 
 /// Where a constraint holds: at top level, everywhere, in every setup script, or in that of a package.

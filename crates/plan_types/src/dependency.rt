@@ -1,3 +1,4 @@
+// Dependencies, named ranges and relaxings.
 ghost use Rattle.std.specs.Prelude.{◌≡◌, IfOk};
 
 use crate::{List, NoMemory, Range, Text, Version};
@@ -11,12 +12,24 @@ pub enum LibName {
 }
 
 impl LibName {
+    ghost use Rattle.plan_types.specs.Packages.{library_name};
+
     pub fn copy(&self) -> Result<LibName, NoMemory>
         ensures { IfOk result (λ copied. copied ≡ self.now) }
     {
         match self {
             LibName::Main => Ok(LibName::Main),
             LibName::Named(name) => Ok(LibName::Named(name.copy()?)),
+        }
+    }
+
+    /// The name of the library; empty for the main one.
+    pub fn as_str(&self) -> &str
+        ensures { result.now ≡ library_name self.now }
+    {
+        match self {
+            LibName::Main => "",
+            LibName::Named(name) => name.as_str(),
         }
     }
 }

@@ -1,3 +1,4 @@
+// What a `.cabal` file says of its package.
 use crate::{Cond, Dep, List, Shared, Spec, Text, Version};
 
 /// What a component is.

@@ -1,3 +1,4 @@
+// The fields and sections of a file.
 ghost use Rattle.std.specs.Prelude.{IfOk, OnOk, ◌≡◌, ◌++◌};
 ghost use Rattle.plan_types.specs.Bytes.{joined_text};
 

@@ -1,4 +1,7 @@
-use crate::{Cause, Dep, Description, LibName, List, Text, Version};
+// The packages from which a plan is made.
+ghost use Rattle.std.specs.Prelude.{◌≡◌};
+
+use crate::{Cause, Dep, Description, FlagDecl, LibName, List, Text, Version};
 
 /// A part of a package that is on or off.
 #[derive(Debug, PartialEq, Eq, Drop)]
@@ -72,6 +75,29 @@ pub enum Body {
     },
 }
 
+impl Body {
+    ghost use Rattle.plan_types.specs.Packages.{declared_by, is_installed};
+
+    /// The flags that an instance declares.
+    pub fn declared_flags(&self) -> &[FlagDecl]
+        ensures { result.now ≡ declared_by self.now }
+    {
+        match self {
+            Body::Source { description, .. } => description.flags.as_slice(),
+            Body::Installed { .. } => &[],
+        }
+    }
+
+    pub fn is_installed(&self) -> bool
+        ensures { result ≡ is_installed self.now }
+    {
+        match self {
+            Body::Source { .. } => false,
+            Body::Installed { .. } => true,
+        }
+    }
+}
+
 /// An instance and what is known of it.
 #[derive(Debug, Drop)]
 pub struct Entry {
@@ -87,6 +113,27 @@ pub struct Package {
     /// Whether the project asks for it besides its local packages.
     pub extra: bool,
     pub entries: List<Entry>,
+}
+
+impl Package {
+    ghost use Rattle.plan_types.specs.Packages.{entries_of};
+
+    /// The instances of the package at a place in goal order; none behind the last package.
+    pub fn entries_at(packages: &[Package], place: u64) -> &[Entry]
+        ensures { result.now ≡ entries_of packages.now place }
+    {
+        match packages.get(place as usize) {
+            Some(found) => found.entries.as_slice(),
+            None => &[],
+        }
+    }
+}
+
+/// The directories of the index and of the records of installed units.
+#[derive(Debug, PartialEq, Eq, Drop)]
+pub struct Places {
+    pub index: Text,
+    pub installed: Text,
 }
 
 /// A file of the index that is left out, and why. The line is 0 where the cause has none.

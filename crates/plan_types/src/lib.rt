@@ -28,8 +28,8 @@ pub use dependency::{Dep, DepKind, LibName, Named, Relax, RelaxOwner};
 pub use description::{CompKind, Component, Description, FlagDecl, GuardedDep};
 pub use element::{Element, joined_text};
 pub use index::{
-    Body, Entry, Exposed, FlatDep, Index, Instance, Literal, Origin, Package, PartName, Skipped,
-    UnitRecord, Warning,
+    Body, Entry, Exposed, FlatDep, Index, Instance, Literal, Origin, Package, PartName, Places,
+    Skipped, UnitRecord, Warning,
 };
 pub use limit::Limit;
 pub use list::List;

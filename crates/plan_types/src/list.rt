@@ -1,3 +1,4 @@
+// Growing lists.
 ghost use Rattle.std.specs.Prelude.{◌≡◌, ◌≢◌, ◌+◌, ◌<◌, ◌↔◌, ◌++◌, [], ◌∷◌, IsTrue, IfOk, OnOk, OnErr, MatchOption, length, take, slice_index_or, slice_set};
 ghost use Rattle.std.specs.Cmp.{partial_equiv_from_equiv};
 ghost use Rattle.std.specs.Cmp.Lexicographic.{pointwise, slice_cmp, slice_partial_cmp, lists_per, lists_equiv, lists_po, lists_total, lists_agrees, lists_ties};
@@ -96,6 +97,17 @@ impl<T: Drop> List<T> {
         ensures err { OnErr result (self.new ≡ self.old) }
     {
         self.items.push(item)?;
+        Ok(())
+    }
+
+    /// Moves all items of another list behind its own. After a refusal both are as they were.
+    pub fn append(&mut self, other: &mut List<T>) -> Result<(), NoMemory>
+        ensures ok { OnOk result (self.new ≡ self.old ++ other.old) }
+        ensures emptied { OnOk result (other.new ≡ []) }
+        ensures err { OnErr result (self.new ≡ self.old) }
+        ensures kept { OnErr result (other.new ≡ other.old) }
+    {
+        self.items.append(&mut other.items)?;
         Ok(())
     }
 }

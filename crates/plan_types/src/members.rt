@@ -1,3 +1,4 @@
+// Which versions a range has.
 ghost use Rattle.std.specs.Prelude.{◌≡◌, ◌+◌, ◌&&◌, [], ◌∷◌};
 ghost use Rattle.std.specs.Ordering.{is_lt};
 ghost use Rattle.plan_types.specs.Members.{members, major_end, order};

@@ -1,3 +1,4 @@
+// The forms of names.
 ghost use Rattle.std.specs.Prelude.{◌≡◌};
 ghost use Rattle.std.specs.List.{list_all, list_any};
 ghost use Rattle.plan_types.specs.Name.{is_letter, is_letter_or_digit, is_group, is_package_name, is_component_byte, is_component_name, is_flag_name};

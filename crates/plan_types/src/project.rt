@@ -1,3 +1,4 @@
+// What is planned, and how.
 use crate::{Constraint, Env, Limit, List, Named, Relax, Text, Warning};
 
 /// Where local packages are looked for.

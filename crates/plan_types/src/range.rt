@@ -1,3 +1,4 @@
+// Ranges of versions, and the cabal-versions of files.
 ghost use Rattle.std.specs.Prelude.{◌≡◌, [], IfOk};
 ghost use Rattle.plan_types.specs.declared.range.Range.TheVariants.{Both, Either};
 ghost use Rattle.plan_types.specs.Range.{rebuilt};

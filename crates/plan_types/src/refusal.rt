@@ -1,9 +1,11 @@
+// Why an input is refused.
 ghost use Rattle.plan_types.specs.declared.refusal.Fault.TheVariants.{NoMemory as fault_no_memory};
 ghost use Rattle.plan_types.specs.declared.refusal.Halt.TheVariants.{NoMemory as halt_no_memory};
 ghost use Rattle.plan_types.specs.declared.refusal.TextFault.TheVariants.{NoMemory as text_fault_no_memory};
 ghost use Rattle.std.specs.Prelude.{◌≡◌};
 
 use crate::{NoMemory, Text};
+use std::alloc::Global;
 
 /// Why an input is refused.
 #[derive(Clone, Copy, Debug, PartialEq, Eq)]
@@ -72,6 +74,8 @@ pub enum Cause {
     DuplicateUnit,
     /// There are more files, or more bytes in them, than are read.
     TooMany,
+    /// A line of a file of build events can't be read.
+    BadEvent,
 }
 
 /// Why a file can't be read. Lines are numbered from 1.
@@ -128,4 +132,20 @@ pub struct Refusal {
     pub line: u32,
     pub cause: Cause,
     pub detail: Text,
+}
+
+impl Refusal {
+    ghost use Rattle.plan_types.specs.Refusal.{refusal_at};
+
+    /// A refusal of which nothing is said besides.
+    pub fn at(alloc: Global, path: Text, line: u32, cause: Cause) -> Refusal
+        ensures { result ≡ refusal_at path line cause }
+    {
+        Refusal {
+            path,
+            line,
+            cause,
+            detail: Text::new(alloc),
+        }
+    }
 }

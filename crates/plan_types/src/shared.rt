@@ -1,3 +1,4 @@
+// A value that several hold, seen as itself.
 ghost use Rattle.std.specs.Prelude.{◌≡◌, IfOk, MatchOption};
 
 use crate::NoMemory;

@@ -1,3 +1,4 @@
+// Growing texts.
 ghost use Rattle.std.specs.Prelude.{◌≡◌, ◌++◌, [], refl, IfOk, OnOk, OnErr, Some, nat_eq, length};
 ghost use Rattle.std.specs.Hash as fed;
 ghost use Rattle.std.specs.Str.{IsAscii, str_to_ascii_lowercase};

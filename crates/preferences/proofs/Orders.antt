@@ -12,6 +12,7 @@ use Rattle.preferences.specs.declared.policy.Policy.TheVariants as policy
 use Rattle.preferences.specs.declared.candidate.Candidate.{Candidate}
 use Rattle.preferences.specs.Places.{is_preferred, is_installed, true_first, earlier_first, later_first, installed_first, by_policy, by_unit, instance_cmp, instance_at, place_cmp}
 use Rattle.preferences.specs.Candidate.{candidate_cmp}
+use Rattle.common_laws.specs.Small.{second-equal}
 
 true-first-total : IsTotalOrder true_first
 true-first-total = back_total bool_cmp_total
@@ -45,14 +46,9 @@ candidate-total p =
     (then_total (then_total (on_total (λ (c : Candidate). c.preferred) true-first-total) (on_total (λ (c : Candidate). c.instance.now) (policy-total p))) (on_total (λ (c : Candidate). c.instance.now) unit-total))
     (on_total (λ (c : Candidate). c.place) nat_cmp_total)
 
-then-right : (o q : Ordering) → ordering_then o q ≡ Equal → q ≡ Equal
-then-right Less q h = absurd (cc h)
-then-right Equal q h = h
-then-right Greater q h = absurd (cc h)
-
 nat-ties : (a b : ℕ) → nat_cmp a b ≡ Equal → a ≡ b
 nat-ties a b h = by_ranked (a < b) (a ≡ b) (b < a) (nat_cmp a b) (ranked a b (nat_cmp a b) refl) (λ e k. absurd (cc (e, h))) (λ e k. k) (λ e k. absurd (cc (e, h)))
 
 -- places that tie are one
 pub place-ties : (p : Policy) (preferred : List Range) (instances : List Instance) (a b : ℕ) → place_cmp p preferred instances a b ≡ Equal → a ≡ b
-place-ties p preferred instances a b h = nat-ties a b (then-right (instance_cmp p preferred (instance_at instances a) (instance_at instances b)) (nat_cmp a b) h)
+place-ties p preferred instances a b h = nat-ties a b (second-equal (instance_cmp p preferred (instance_at instances a) (instance_at instances b)) (nat_cmp a b) h)

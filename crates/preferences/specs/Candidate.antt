@@ -8,6 +8,7 @@ use Rattle.preferences.specs.declared.policy.Policy.{Policy}
 use Rattle.preferences.specs.declared.candidate.Candidate.{Candidate}
 use Rattle.preferences.specs.Places.{is_preferred, true_first, by_policy, by_unit, instance_at}
 
+-- the order of two candidates
 abbrev pub candidate_cmp : Policy → Candidate → Candidate → Ordering
 candidate_cmp p a b =
     ordering_then (ordering_then (ordering_then (true_first a.preferred b.preferred) (by_policy p a.instance.now b.instance.now)) (by_unit a.instance.now b.instance.now)) (nat_cmp a.place b.place)

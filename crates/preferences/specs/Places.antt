@@ -27,26 +27,33 @@ is_installed Installed = true
 abbrev pub true_first : Bool → Bool → Ordering
 true_first a b = bool_cmp b a
 
+-- the earlier version is tried first
 abbrev pub earlier_first : Instance → Instance → Ordering
 earlier_first a b = slice_cmp nat_cmp a.version.parts b.version.parts
 
+-- the later version is tried first
 abbrev pub later_first : Instance → Instance → Ordering
 later_first a b = earlier_first b a
 
+-- an installed instance is tried before a source instance
 abbrev pub installed_first : Instance → Instance → Ordering
 installed_first a b = true_first (is_installed a.origin) (is_installed b.origin)
 
+-- the order of a policy
 abbrev pub by_policy : Policy → Instance → Instance → Ordering
 by_policy policy.Latest a b = ordering_then (later_first a b) (installed_first a b)
 by_policy policy.Installed a b = ordering_then (installed_first a b) (later_first a b)
 by_policy policy.Oldest a b = ordering_then (earlier_first a b) (installed_first a b)
 
+-- an instance in the preferred ranges is tried before others
 abbrev pub preferred_first : List Range → Instance → Instance → Ordering
 preferred_first preferred a b = true_first (is_preferred preferred a) (is_preferred preferred b)
 
+-- the order of unit ids
 abbrev pub by_unit : Instance → Instance → Ordering
 by_unit a b = slice_cmp nat_cmp a.unit b.unit
 
+-- the order in which two instances are tried
 abbrev pub instance_cmp : Policy → List Range → Instance → Instance → Ordering
 instance_cmp p preferred a b = ordering_then (ordering_then (preferred_first preferred a b) (by_policy p a b)) (by_unit a b)
 
@@ -54,6 +61,7 @@ instance_cmp p preferred a b = ordering_then (ordering_then (preferred_first pre
 abbrev pub no_instance : Instance
 no_instance = record { name = []; version = record { parts = [] }; origin = Source; unit = [] }
 
+-- the instance at a place
 abbrev pub instance_at : List Instance → ℕ → Instance
 instance_at instances place = slice_index_or instances place no_instance
 

@@ -1,3 +1,4 @@
+// Instances with what orders them.
 ghost use Rattle.std.specs.Prelude.{◌≡◌, length, IfOk, map, All};
 ghost use Rattle.std.specs.List.{range_with_len};
 ghost use Rattle.preferences.specs.Places.{is_preferred, is_installed, by_policy, installed_first};

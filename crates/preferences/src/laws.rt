@@ -1,3 +1,4 @@
+// There is one order.
 ghost use Rattle.std.specs.Prelude.{◌≡◌, ℕ, List};
 ghost use Rattle.plan_types.specs.declared.index.Instance.{Instance};
 ghost use Rattle.plan_types.specs.declared.range.Range.{Range};
@@ -6,5 +7,6 @@ ghost use Rattle.preferences.specs.Places.{IsOrder};
 
 /// There is one order of some instances.
 pub fn one_order()
-    ensures { (policy : Policy) (preferred : List Range) (instances : List Instance) (a b : List ℕ) → IsOrder policy preferred instances a → IsOrder policy preferred instances b → a ≡ b }
+    ensures { (policy : Policy) (preferred : List Range) (instances : List Instance) (a b : List ℕ)
+        → IsOrder policy preferred instances a → IsOrder policy preferred instances b → a ≡ b }
 {}

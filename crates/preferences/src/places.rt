@@ -1,3 +1,4 @@
+// The order in which instances are tried.
 ghost use Rattle.std.specs.Prelude.{◌≡◌, IfOk, OnOk, map};
 ghost use Rattle.std.specs.List.Sorted.{IsPermutation, IsSorted};
 ghost use Rattle.preferences.specs.Places.{IsOrder};

@@ -1,10 +1,9 @@
 -- The names of the packages that a project asks for besides have their form.
-use Rattle.std.proofs.Common.{◌≡◌, ℕ, Bool, true, false, ◌||◌, if◌then◌else◌, inl, inr, List, [], ◌∷◌, ◌++◌, codes, refl, sym, ap, subst, ◌∙◌}
+use Rattle.std.proofs.Common.{◌≡◌, ℕ, Bool, true, false, ◌||◌, if◌then◌else◌, inl, inr, List, [], ◌∷◌, codes, refl, sym, ap, subst, ◌∙◌}
 use Rattle.std.specs.Prelude.{Option, Some, None, Result, Ok, Err, IfOk}
 use Rattle.std.specs.List.{list_all}
 use Rattle.std.proofs.lemmas.Bool.{and_from, and_parts}
-use Rattle.std.proofs.lemmas.List.Folds.{list_all-append}
-use Rattle.plan_types.specs.Bytes.{joined_text}
+use Rattle.plan_types.specs.Bytes.{joined_text, same_text}
 use Rattle.plan_types.specs.Name.{is_package_name}
 use Rattle.plan_types.specs.declared.condition.Env.{Env}
 use Rattle.plan_types.specs.declared.dependency.Named.{Named}
@@ -12,13 +11,11 @@ use Rattle.plan_types.specs.declared.project.Project.{Project}
 use Rattle.plan_types.specs.declared.refusal.Cause.{Cause}
 use Rattle.plan_types.specs.declared.refusal.Cause.TheVariants.{BadName, ElseWithoutIf, Unsupported}
 use Rattle.plan_types.specs.declared.refusal.Refusal.{Refusal}
-use Rattle.depend_text.specs.Constraints.{Constraints, ConstraintsFault}
-use Rattle.depend_text.specs.Entries.{Each, none, more}
-use Rattle.depend_text.specs.Named.{NamedEntry, NamedFault, NamedRanges}
-use Rattle.depend_text.specs.Relaxes.{RelaxFault, Relaxes}
-use Rattle.description_parts.specs.Branch.{Read}
-use Rattle.description_parts.specs.Tree.{Tree, end, field, section, tree_of}
-use Rattle.description_parts.specs.Words.{boolean, is}
+use Rattle.constraint_text.specs.Constraints.{Constraints, ConstraintsFault}
+use Rattle.entry_text.specs.Entries.{Each, none, more}
+use Rattle.constraint_text.specs.Named.{NamedEntry, NamedFault, NamedRanges}
+use Rattle.constraint_text.specs.Relaxes.{RelaxFault, Relaxes}
+use Rattle.cabal_lexer.specs.Tree.{Tree, end, field, section, tree_of}
 use Rattle.project_file.specs.Branches.{branch_fault, fits}
 use Rattle.project_file.specs.Fields.{FieldSays, IsRead, KindSays, or_bad, said_of}
 use Rattle.project_file.specs.Flags.{flags_in}
@@ -26,8 +23,8 @@ use Rattle.project_file.specs.Parts.{IfTaken, IsBranch, Says, SectionSays, flag_
 use Rattle.project_file.specs.Project.{Placed, all, given, given_at, placed_all, placed_at}
 use Rattle.project_file.specs.Read.{AllRead, FileReads, GoesOn, IsProject, in_front, or_refusal, project_of}
 use Rattle.project_file.specs.Texts.{Reads, first_fault, unless_bad}
-use Rattle.project_file.specs.Words.{field_word, limit, section_word}
-use Rattle.project_file.specs.declared.part.Part.{Part}
+use Rattle.project_file.specs.Words.{field_word, section_word}
+use Rattle.project_file.specs.declared.part.ProjectPart.{ProjectPart}
 use Rattle.project_file.specs.declared.part.Said.{Said}
 use Rattle.project_file.specs.declared.part.Said.TheVariants as said
 use Rattle.project_file.specs.declared.part.Switch.{Switch}
@@ -40,6 +37,10 @@ use Rattle.project_file.specs.declared.words.FieldKind.TheVariants as kinds
 use Rattle.project_file.specs.declared.words.FieldWord.{FieldWord}
 use Rattle.project_file.specs.declared.words.FieldWord.TheVariants as fields
 use Rattle.project_file.specs.declared.words.SectionWord.{SectionWord}
+use Rattle.common_laws.specs.Passing.{all-append}
+use Rattle.text_grammar.specs.Words.{boolean}
+use Rattle.text_grammar.specs.Outcome.{Read}
+use Rattle.version_range.specs.Number.{limit_of}
 use Rattle.project_file.specs.declared.words.SectionWord.TheVariants as sections
 
 -- the names have their form
@@ -50,11 +51,8 @@ are_named extra = list_all (λ named. is_package_name named.name) extra
 abbrev is_well : Said → Bool
 is_well found = are_named (given_at [] 0 found).extra
 
-abbrev are_well : List Part → Bool
+abbrev are_well : List ProjectPart → Bool
 are_well parts = list_all (λ part. is_well part.said) parts
-
-appended : {A : Type 0} (p : A → Bool) (xs ys : List A) → list_all p xs ≡ true → list_all p ys ≡ true → list_all p (xs ++ ys) ≡ true
-appended p xs ys h k = list_all-append p xs ys ∙ and_from (list_all p xs) (list_all p ys) h k
 
 either : {A : Type 0} (p : A → Bool) (b : Bool) (x y : A) → p x ≡ true → p y ≡ true → p (if b then x else y) ≡ true
 either p true x y h k = h
@@ -93,7 +91,7 @@ kind-well kinds.Preferences text found says = said-well said.Preferences (NamedR
 kind-well kinds.Newer text found says = said-well said.Newer (Relaxes text) (RelaxFault text) (λ relaxes stands. refl) found says
 kind-well kinds.Older text found says = said-well said.Older (Relaxes text) (RelaxFault text) (λ relaxes stands. refl) found says
 kind-well (kinds.Switch which) text found says = ap is_well says ∙ bad-well (said.Switch which) (switch-well which) (boolean text)
-kind-well kinds.Limit text found says = ap is_well says ∙ bad-well said.Limit (λ value. refl) (limit text)
+kind-well kinds.Limit text found says = ap is_well says ∙ bad-well said.Limit (λ value. refl) (limit_of text)
 
 field-well : (word : FieldWord) (name text : List ℕ) (line : ℕ) (found : Option Said) → FieldSays word name text found → are_well (placed line found) ≡ true
 field-well (fields.Read kind) name text line found says = ap (λ f. are_well (placed line f)) says.2 ∙ and_from (is_well says.0) true (kind-well kind text says.0 says.1) refl
@@ -108,13 +106,13 @@ flags-well args text = either is_well (is_every args) (said.Bad Unsupported) (or
 
 flag-well : (args : List ℕ) (line : ℕ) (name text : List ℕ) → are_well (flag_part args line name text) ≡ true
 flag-well args line name text =
-    either are_well (is name (codes "flags")) (record { line = line; said = flags_said args text } ∷ []) [] (and_from (is_well (flags_said args text)) true (flags-well args text) refl) refl
+    either are_well (same_text name (codes "flags")) (record { line = line; said = flags_said args text } ∷ []) [] (and_from (is_well (flags_said args text)) true (flags-well args text) refl) refl
 
 items-well : (args : List ℕ) (items : Tree) → are_well (flag_parts args items) ≡ true
 unfolding flag_parts
 items-well args end = refl
 items-well args (field line name values behind) =
-    appended (λ part. is_well part.said) (flag_part args line name (joined_text values)) (flag_parts args behind) (flag-well args line name (joined_text values)) (items-well args behind)
+    all-append (λ part. is_well part.said) (flag_part args line name (joined_text values)) (flag_parts args behind) (flag-well args line name (joined_text values)) (items-well args behind)
 items-well args (section line name inner items behind) = items-well args behind
 
 package-well : (line : ℕ) (args : List ℕ) (items : Tree) → are_well (package_parts line args items) ≡ true
@@ -125,54 +123,54 @@ fault-well : (word : BranchWord) (line : ℕ) (chain : Option Bool) (own : Resul
 fault-well word line chain (Err cause) = refl
 fault-well word line chain (Ok value) = either (λ fault. are_well (placed line fault)) (fits word chain) None (Some (said.Bad ElseWithoutIf)) refl refl
 
-inside-well : (taken : Bool) (Within : List Part → Type 0) → ((parts : List Part) → Within parts → are_well parts ≡ true) → (parts : List Part) → IfTaken taken Within parts → are_well parts ≡ true
+inside-well : (taken : Bool) (Within : List ProjectPart → Type 0) → ((parts : List ProjectPart) → Within parts → are_well parts ≡ true) → (parts : List ProjectPart) → IfTaken taken Within parts → are_well parts ≡ true
 inside-well true Within each parts inside = each parts inside
 inside-well false Within each parts inside = ap are_well inside
 
-module _ (env : Env) (line : ℕ) (name args : List ℕ) (items : Tree) (chain : Option Bool) (Within : List Part → Type 0) (Behind : Option Bool → List Part → Type 0)
-    (within : (parts : List Part) → Within parts → are_well parts ≡ true) (behind : (left : Option Bool) (parts : List Part) → Behind left parts → are_well parts ≡ true) where
-  branch-well : (word : BranchWord) (left : Option Bool) (found : List Part) → IsBranch env word line args chain Within left found → are_well found ≡ true
+module _ (env : Env) (line : ℕ) (name args : List ℕ) (items : Tree) (chain : Option Bool) (Within : List ProjectPart → Type 0) (Behind : Option Bool → List ProjectPart → Type 0)
+    (within : (parts : List ProjectPart) → Within parts → are_well parts ≡ true) (behind : (left : Option Bool) (parts : List ProjectPart) → Behind left parts → are_well parts ≡ true) where
+  branch-well : (word : BranchWord) (left : Option Bool) (found : List ProjectPart) → IsBranch env word line args chain Within left found → are_well found ≡ true
   branch-well word left found branch =
       ap are_well branch.are
-      ∙ appended (λ part. is_well part.said) (placed line (branch_fault word chain branch.own)) branch.within (fault-well word line chain branch.own) (inside-well _ Within within branch.within branch.inside)
+      ∙ all-append (λ part. is_well part.said) (placed line (branch_fault word chain branch.own)) branch.within (fault-well word line chain branch.own) (inside-well _ Within within branch.within branch.inside)
 
-  section-well : (word : SectionWord) (parts : List Part) → SectionSays env word line name args items chain Within Behind parts → are_well parts ≡ true
+  section-well : (word : SectionWord) (parts : List ProjectPart) → SectionSays env word line name args items chain Within Behind parts → are_well parts ≡ true
   section-well (sections.Branch word) parts says =
-      ap are_well says.5 ∙ appended (λ part. is_well part.said) says.1 says.2 (branch-well word says.0 says.1 says.3) (behind says.0 says.2 says.4)
+      ap are_well says.5 ∙ all-append (λ part. is_well part.said) says.1 says.2 (branch-well word says.0 says.1 says.3) (behind says.0 says.2 says.4)
   section-well sections.Package parts says =
-      ap are_well says.2 ∙ appended (λ part. is_well part.said) (package_parts line args items) says.0 (package-well line args items) (behind None says.0 says.1)
+      ap are_well says.2 ∙ all-append (λ part. is_well part.said) (package_parts line args items) says.0 (package-well line args items) (behind None says.0 says.1)
   section-well sections.Warned parts says = ap are_well says.2 ∙ behind None says.0 says.1
   section-well sections.Unsupported parts says = ap are_well says.2 ∙ behind None says.0 says.1
   section-well sections.Unread parts says = behind None parts says
 
 -- ---- a file
 
-says-well : (env : Env) (tree : Tree) (chain : Option Bool) (parts : List Part) → Says env tree chain parts → are_well parts ≡ true
+says-well : (env : Env) (tree : Tree) (chain : Option Bool) (parts : List ProjectPart) → Says env tree chain parts → are_well parts ≡ true
 unfolding Says
 says-well env end chain parts says = ap are_well says
 says-well env (field line name values behind) chain parts says =
     ap are_well says.4
-    ∙ appended (λ part. is_well part.said) (placed line says.0) says.1 (field-well (field_word name) name (joined_text values) line says.0 says.2) (says-well env behind None says.1 says.3)
+    ∙ all-append (λ part. is_well part.said) (placed line says.0) says.1 (field-well (field_word name) name (joined_text values) line says.0 says.2) (says-well env behind None says.1 says.3)
 says-well env (section line name args items behind) chain parts says =
     section-well env line name args items chain (λ within. Says env items None within) (λ left more. Says env behind left more)
     (λ within is. says-well env items None within is) (λ left more is. says-well env behind left more is) (section_word name) parts says
 
-abbrev IsWell : {E : Type 0} → Result (List Part) E → Type 0
+abbrev IsWell : {E : Type 0} → Result (List ProjectPart) E → Type 0
 IsWell read = IfOk read (λ parts. are_well parts ≡ true)
 
-unless-well : (fault : Option At) (parts : List Part) → are_well parts ≡ true → IsWell (unless_bad fault parts)
+unless-well : (fault : Option At) (parts : List ProjectPart) → are_well parts ≡ true → IsWell (unless_bad fault parts)
 unless-well None parts well = well
 unless-well (Some at) parts well = tt
 
-text-well : (env : Env) (bytes : List ℕ) (read : Result (List Part) At) → Reads env bytes read → IsWell read
+text-well : (env : Env) (bytes : List ℕ) (read : Result (List ProjectPart) At) → Reads env bytes read → IsWell read
 text-well env bytes read (inl misfits) = subst (λ r. IsWell r) (sym misfits.comes) tt
 text-well env bytes read (inr says) = subst (λ r. IsWell r) (sym says.comes) (unless-well (first_fault says.parts) says.parts (says-well env (tree_of says.items) None says.parts says.says))
 
-or_refusal-well : (path : List ℕ) (read : Result (List Part) At) → IsWell read → IsWell (or_refusal path read)
+or_refusal-well : (path : List ℕ) (read : Result (List ProjectPart) At) → IsWell read → IsWell (or_refusal path read)
 or_refusal-well path (Ok parts) well = well
 or_refusal-well path (Err at) well = tt
 
-file-well : (env : Env) (text : ProjectText) (read : Result (List Part) Refusal) → FileReads env text read → IsWell read
+file-well : (env : Env) (text : ProjectText) (read : Result (List ProjectPart) Refusal) → FileReads env text read → IsWell read
 file-well env text read is = subst (λ r. IsWell r) (sym is.2) (or_refusal-well text.path is.0 (text-well env text.bytes is.0 is.1))
 
 -- ---- all files
@@ -196,17 +194,17 @@ given-extra path line (said.Limit value) = refl
 given-extra path line (said.Warning word) = refl
 given-extra path line (said.Bad cause) = refl
 
-placed-well : (path : List ℕ) (parts : List Part) → are_well parts ≡ true → are_placed_well (placed_all path parts) ≡ true
+placed-well : (path : List ℕ) (parts : List ProjectPart) → are_well parts ≡ true → are_placed_well (placed_all path parts) ≡ true
 placed-well path [] well = refl
 placed-well path (part ∷ parts) well =
     let both = and_parts (is_well part.said) (are_well parts) well in
     and_from (are_named (given (placed_at path part)).extra) (are_placed_well (placed_all path parts)) (ap are_named (given-extra path part.line part.said) ∙ both.0) (placed-well path parts both.1)
 
 front-well : (parts : List Placed) (more : Result (List Placed) Refusal) → are_placed_well parts ≡ true → IsPlacedWell more → IsPlacedWell (in_front parts more)
-front-well parts (Ok others) well also = appended (λ part. are_named (given part).extra) parts others well also
+front-well parts (Ok others) well also = all-append (λ part. are_named (given part).extra) parts others well also
 front-well parts (Err refusal) well also = tt
 
-on-well : (path : List ℕ) (read : Result (List Part) Refusal) (Rest : Result (List Placed) Refusal → Type 0) → IsWell read → ((more : Result (List Placed) Refusal) → Rest more → IsPlacedWell more)
+on-well : (path : List ℕ) (read : Result (List ProjectPart) Refusal) (Rest : Result (List Placed) Refusal → Type 0) → IsWell read → ((more : Result (List Placed) Refusal) → Rest more → IsPlacedWell more)
     → (outcome : Result (List Placed) Refusal) → GoesOn path read Rest outcome → IsPlacedWell outcome
 on-well path (Ok parts) Rest well rest outcome goes = subst (λ r. IsPlacedWell r) (sym goes.2) (front-well (placed_all path parts) goes.0 (placed-well path parts well) (rest goes.0 goes.1))
 on-well path (Err refusal) Rest well rest outcome goes = subst (λ r. IsPlacedWell r) (sym goes) tt
@@ -221,7 +219,7 @@ extra-named : (parts : List Placed) → are_placed_well parts ≡ true → are_n
 extra-named [] well = refl
 extra-named (part ∷ parts) well =
     let both = and_parts (are_named (given part).extra) (are_placed_well parts) well in
-    appended (λ named. is_package_name named.name) (given part).extra (all (λ g. g.extra) parts) both.0 (extra-named parts both.1)
+    all-append (λ named. is_package_name named.name) (given part).extra (all (λ g. g.extra) parts) both.0 (extra-named parts both.1)
 
 abbrev pub IsNamed : Result Project Refusal → Type 0
 IsNamed outcome = IfOk outcome (λ project. list_all (λ named. is_package_name named.name) project.extra ≡ true)

@@ -8,11 +8,11 @@ use Rattle.plan_types.specs.declared.project.Project.{Project}
 use Rattle.plan_types.specs.declared.refusal.Halt.{Halt}
 use Rattle.plan_types.specs.declared.refusal.Halt.TheVariants as halt
 use Rattle.plan_types.specs.declared.refusal.Refusal.{Refusal}
-use Rattle.project_file.specs.Answers.{Settles}
 use Rattle.project_file.specs.Project.{Placed, placed_all, project_from}
 use Rattle.project_file.specs.Read.{AllRead, FileReads, GoesOn, IsProject, in_front}
-use Rattle.project_file.specs.declared.part.Part.{Part}
+use Rattle.project_file.specs.declared.part.ProjectPart.{ProjectPart}
 use Rattle.project_file.specs.declared.read.ProjectText.{ProjectText}
+use Rattle.plan_types.specs.Refusal.{Settles}
 
 in_front-twice : (front parts : List Placed) (more : Result (List Placed) Refusal) → in_front front (in_front parts more) ≡ in_front (front ++ parts) more
 in_front-twice front parts (Ok more) = ap Ok (sym (append_assoc front parts more))
@@ -23,13 +23,13 @@ module _ (env : Env) (texts : List ProjectText) where
   abbrev pub Told : ℕ → Project → Type 0
   Told n project = (front : List Placed) × (project ≡ project_from front) × ((more : Result (List Placed) Refusal) → AllRead env (drop n texts) more → AllRead env texts (in_front front more))
 
-  first_read : (n : ℕ) (text : ProjectText) (read : Result (List Part) Refusal) (outcome : Result (List Placed) Refusal) → n < length texts → get_or texts n text ≡ text →
+  first_read : (n : ℕ) (text : ProjectText) (read : Result (List ProjectPart) Refusal) (outcome : Result (List Placed) Refusal) → n < length texts → get_or texts n text ≡ text →
       FileReads env text read → GoesOn text.path read (λ more. AllRead env (drop (n + 1) texts) more) outcome → AllRead env (drop n texts) outcome
   unfolding AllRead
   first_read n text read outcome lt is reads rest =
       subst (λ l. AllRead env l outcome) (sym (drop-cons texts n text lt ∙ ap (λ v. v ∷ drop (suc n) texts) is ∙ ap (λ m. text ∷ drop m texts) (sym (add-one n)))) (read, reads, rest)
 
-  pub more_told : (n : ℕ) (text : ProjectText) (parts : List Part) (old : Project) {new : Project} → n < length texts → get_or texts n text ≡ text → Told n old → FileReads env text (Ok parts) →
+  pub more_told : (n : ℕ) (text : ProjectText) (parts : List ProjectPart) (old : Project) {new : Project} → n < length texts → get_or texts n text ≡ text → Told n old → FileReads env text (Ok parts) →
       ((before : List Placed) → old ≡ project_from before → new ≡ project_from (before ++ placed_all text.path parts)) → Told (n + 1) new
   more_told n text parts old lt is told reads step = (
     told.0 ++ placed_all text.path parts,
@@ -39,7 +39,7 @@ module _ (env : Env) (texts : List ProjectText) where
   )
 
   pub refused_at : (n : ℕ) (text : ProjectText) (old : Project) (halt : Halt) → n < length texts → get_or texts n text ≡ text → Told n old →
-      Settles {A = List Part} (FileReads env text) (Err halt) → Settles {A = Project} (IsProject env texts) (Err halt)
+      Settles {A = List ProjectPart} (FileReads env text) (Err halt) → Settles {A = Project} (IsProject env texts) (Err halt)
   refused_at n text old halt.NoMemory lt is told reads = tt
   refused_at n text old halt.Failed lt is told reads = reads
   refused_at n text old (halt.Refused refusal) lt is told reads =

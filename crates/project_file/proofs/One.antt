@@ -9,18 +9,16 @@ use Rattle.plan_types.specs.declared.range.Spec.TheVariants.{V3_0}
 use Rattle.plan_types.specs.declared.refusal.Cause.{Cause}
 use Rattle.plan_types.specs.declared.refusal.Refusal.{Refusal}
 use Rattle.cabal_lexer.proofs.Exact as lexer
-use Rattle.conditionals.specs.Grammar.{Stands, FirstFault}
-use Rattle.conditionals.proofs.Whole as conditions
-use Rattle.depend_text.specs.Constraints.{ConstraintEntry, Constraints, ConstraintsFault}
-use Rattle.depend_text.specs.Entries.{BadAsNone}
-use Rattle.depend_text.specs.Named.{NamedEntry, NamedFault, NamedRanges}
-use Rattle.depend_text.specs.Relaxes.{RelaxEntry, RelaxFault, Relaxes}
-use Rattle.depend_text.proofs.Only as only
-use Rattle.depend_text.proofs.OneConstraint.{constraint_settled}
-use Rattle.depend_text.proofs.OneNamed.{named_settled}
-use Rattle.depend_text.proofs.OneRelax.{given_reading, no_fault, relax_settled}
-use Rattle.description_parts.specs.Branch.{Read}
-use Rattle.description_parts.specs.Tree.{Tree, end, field, section, tree_of}
+use Rattle.condition_text.specs.Grammar.{Stands, FirstFault}
+use Rattle.condition_text.proofs.Whole as conditions
+use Rattle.constraint_text.specs.Constraints.{ConstraintEntry, Constraints, ConstraintsFault}
+use Rattle.constraint_text.specs.Named.{NamedEntry, NamedFault, NamedRanges}
+use Rattle.constraint_text.specs.Relaxes.{RelaxEntry, RelaxFault, Relaxes}
+use Rattle.entry_text.proofs.Only as only
+use Rattle.constraint_text.proofs.OneConstraint.{constraint_settled}
+use Rattle.constraint_text.proofs.OneNamed.{named_settled}
+use Rattle.constraint_text.proofs.OneRelax.{given_reading, no_fault, relax_settled}
+use Rattle.cabal_lexer.specs.Tree.{Tree, end, field, section, tree_of}
 use Rattle.project_file.specs.Branches.{Decides, branch_fault, chain_behind, decided_of, is_taken}
 use Rattle.project_file.specs.Fields.{FieldSays, IsRead, KindSays, said_of}
 use Rattle.project_file.specs.Parts.{IfTaken, IsBranch, Says, SectionSays, package_parts, placed}
@@ -28,7 +26,7 @@ use Rattle.project_file.specs.Project.{Placed, placed_all}
 use Rattle.project_file.specs.Read.{AllRead, FileReads, GoesOn, IsProject, in_front, or_refusal, project_of}
 use Rattle.project_file.specs.Texts.{Reads, first_fault, unless_bad}
 use Rattle.project_file.specs.Words.{field_word, section_word}
-use Rattle.project_file.specs.declared.part.Part.{Part}
+use Rattle.project_file.specs.declared.part.ProjectPart.{ProjectPart}
 use Rattle.project_file.specs.declared.part.Said.{Said}
 use Rattle.project_file.specs.declared.part.Said.TheVariants as said
 use Rattle.project_file.specs.declared.read.ProjectText.{ProjectText}
@@ -40,6 +38,8 @@ use Rattle.project_file.specs.declared.words.FieldKind.TheVariants as kinds
 use Rattle.project_file.specs.declared.words.FieldWord.{FieldWord}
 use Rattle.project_file.specs.declared.words.FieldWord.TheVariants as fields
 use Rattle.project_file.specs.declared.words.SectionWord.{SectionWord}
+use Rattle.constraint_text.specs.Faults.{BadAsNone}
+use Rattle.text_grammar.specs.Outcome.{Read}
 use Rattle.project_file.specs.declared.words.SectionWord.TheVariants as sections
 
 module _ {A : Type 0} (S : A → Type 0) (F : Cause → Type 0) (one : (a b : A) → S a → S b → a ≡ b) (one_fault : (c d : Cause) → F c → F d → c ≡ d) (both : (a : A) (c : Cause) → S a → F c → ⊥) where
@@ -93,13 +93,13 @@ one_own env If args x y p q = p.2 ∙ ap (decided_of env) (one_condition args p.
 one_own env Elif args x y p q = p.2 ∙ ap (decided_of env) (one_condition args p.0 q.0 p.1 q.1) ∙ sym q.2
 one_own env Else args x y p q = p ∙ sym q
 
-one_within : (taken : Bool) (Within : List Part → Type 0) → ((x y : List Part) → Within x → Within y → x ≡ y) → (x y : List Part) → IfTaken taken Within x → IfTaken taken Within y → x ≡ y
+one_within : (taken : Bool) (Within : List ProjectPart → Type 0) → ((x y : List ProjectPart) → Within x → Within y → x ≡ y) → (x y : List ProjectPart) → IfTaken taken Within x → IfTaken taken Within y → x ≡ y
 one_within true Within one x y p q = one x y p q
 one_within false Within one x y p q = p ∙ sym q
 
-module _ (env : Env) (line : ℕ) (name args : List ℕ) (items : Tree) (chain : Option Bool) (Within : List Part → Type 0) (Behind : Option Bool → List Part → Type 0)
-    (within : (x y : List Part) → Within x → Within y → x ≡ y) (behind : (left : Option Bool) (x y : List Part) → Behind left x → Behind left y → x ≡ y) where
-  one_branch : (word : BranchWord) (left other : Option Bool) (a b : List Part) → IsBranch env word line args chain Within left a → IsBranch env word line args chain Within other b → (left ≡ other) × (a ≡ b)
+module _ (env : Env) (line : ℕ) (name args : List ℕ) (items : Tree) (chain : Option Bool) (Within : List ProjectPart → Type 0) (Behind : Option Bool → List ProjectPart → Type 0)
+    (within : (x y : List ProjectPart) → Within x → Within y → x ≡ y) (behind : (left : Option Bool) (x y : List ProjectPart) → Behind left x → Behind left y → x ≡ y) where
+  one_branch : (word : BranchWord) (left other : Option Bool) (a b : List ProjectPart) → IsBranch env word line args chain Within left a → IsBranch env word line args chain Within other b → (left ≡ other) × (a ≡ b)
   one_branch word left other a b p q =
       let own = one_own env word args p.own q.own p.decides q.decides in
       let here = one_within (is_taken word chain q.own) Within within p.within q.within (subst (λ o. IfTaken (is_taken word chain o) Within p.within) own p.inside) q.inside in (
@@ -107,7 +107,7 @@ module _ (env : Env) (line : ℕ) (name args : List ℕ) (items : Tree) (chain :
         p.are ∙ ap (λ o. placed line (branch_fault word chain o) ++ p.within) own ∙ ap (λ w. placed line (branch_fault word chain q.own) ++ w) here ∙ sym q.are,
       )
 
-  one_section : (word : SectionWord) (a b : List Part) → SectionSays env word line name args items chain Within Behind a → SectionSays env word line name args items chain Within Behind b → a ≡ b
+  one_section : (word : SectionWord) (a b : List ProjectPart) → SectionSays env word line name args items chain Within Behind a → SectionSays env word line name args items chain Within Behind b → a ≡ b
   one_section (sections.Branch word) a b p q =
       let here = one_branch word p.0 q.0 p.1 q.1 p.3 q.3 in
       p.5 ∙ ap (λ f. f ++ p.2) here.1 ∙ ap (λ m. q.1 ++ m) (behind q.0 p.2 q.2 (subst (λ l. Behind l p.2) here.0 p.4) q.4) ∙ sym q.5
@@ -116,7 +116,7 @@ module _ (env : Env) (line : ℕ) (name args : List ℕ) (items : Tree) (chain :
   one_section sections.Unsupported a b p q = p.2 ∙ ap (λ m. placed line (Some (said.Bad _)) ++ m) (behind None p.0 q.0 p.1 q.1) ∙ sym q.2
   one_section sections.Unread a b p q = behind None a b p q
 
-one_says : (env : Env) (tree : Tree) (chain : Option Bool) (a b : List Part) → Says env tree chain a → Says env tree chain b → a ≡ b
+one_says : (env : Env) (tree : Tree) (chain : Option Bool) (a b : List ProjectPart) → Says env tree chain a → Says env tree chain b → a ≡ b
 unfolding Says
 one_says env end chain a b p q = p ∙ sym q
 one_says env (field line name values behind) chain a b p q =
@@ -128,7 +128,7 @@ one_says env (section line name args items behind) chain a b p q =
     one_section env line name args items chain (λ within. Says env items None within) (λ left more. Says env behind left more)
     (λ x y. one_says env items None x y) (λ left x y. one_says env behind left x y) (section_word name) a b p q
 
-one_text : (env : Env) (bytes : List ℕ) (a b : Result (List Part) At) → Reads env bytes a → Reads env bytes b → a ≡ b
+one_text : (env : Env) (bytes : List ℕ) (a b : Result (List ProjectPart) At) → Reads env bytes a → Reads env bytes b → a ≡ b
 one_text env bytes a b (inl p) (inl q) =
     let same = lexer.one_refusal bytes p.at.line q.at.line p.at.cause q.at.cause p.fault q.fault in
     p.comes ∙ ap (λ l. Err (record { line = l; cause = p.at.cause })) same.0 ∙ ap (λ c. Err (record { line = q.at.line; cause = c })) same.1 ∙ sym q.comes
@@ -139,10 +139,10 @@ one_text env bytes a b (inr p) (inr q) =
     let parts = one_says env (tree_of q.items) None p.parts q.parts (subst (λ i. Says env (tree_of i) None p.parts) items p.says) q.says in
     p.comes ∙ ap (λ v. unless_bad (first_fault v) v) parts ∙ sym q.comes
 
-one_file : (env : Env) (text : ProjectText) (a b : Result (List Part) Refusal) → FileReads env text a → FileReads env text b → a ≡ b
+one_file : (env : Env) (text : ProjectText) (a b : Result (List ProjectPart) Refusal) → FileReads env text a → FileReads env text b → a ≡ b
 one_file env text a b p q = p.2 ∙ ap (or_refusal text.path) (one_text env text.bytes p.0 q.0 p.1 q.1) ∙ sym q.2
 
-one_rest : (path : List ℕ) (read : Result (List Part) Refusal) (Rest : Result (List Placed) Refusal → Type 0) → ((x y : Result (List Placed) Refusal) → Rest x → Rest y → x ≡ y) →
+one_rest : (path : List ℕ) (read : Result (List ProjectPart) Refusal) (Rest : Result (List Placed) Refusal → Type 0) → ((x y : Result (List Placed) Refusal) → Rest x → Rest y → x ≡ y) →
     (a b : Result (List Placed) Refusal) → GoesOn path read Rest a → GoesOn path read Rest b → a ≡ b
 one_rest path (Err refusal) Rest one a b p q = p ∙ sym q
 one_rest path (Ok parts) Rest one a b p q = p.2 ∙ ap (in_front (placed_all path parts)) (one p.0 q.0 p.1 q.1) ∙ sym q.2

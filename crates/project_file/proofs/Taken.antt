@@ -1,6 +1,9 @@
 -- What a part adds to a project.
 use Rattle.std.proofs.Common.{◌≡◌, ℕ, Bool, false, List, [], ◌∷◌, ◌++◌, refl, sym, ap, ◌∙◌}
-use Rattle.std.specs.Prelude.{Option, unwrap_or}
+use Rattle.std.specs.Prelude.{Option, None, Some, unwrap_or}
+use Rattle.std.specs.Option.{option_or}
+use Rattle.text_grammar.specs.Last.{last_said}
+use Rattle.text_grammar.proofs.LastSaid.{last_push as said_push}
 use Rattle.std.proofs.lemmas.Grind.{flat_map-append}
 use Rattle.std.proofs.lemmas.List.{append-nil}
 use Rattle.plan_types.specs.declared.limit.Limit.TheVariants.{At}
@@ -37,9 +40,13 @@ joined old g = record {
   warnings = plus old.warnings g.warnings;
 }
 
+unwrap_either : {A : Type 0} (value : A) (a b : Option A) → unwrap_or (option_or a b) value ≡ unwrap_or a (unwrap_or b value)
+unwrap_either value None b = refl
+unwrap_either value (Some x) b = refl
+
 last_push : {A : Type 0} (value : A) (of : Given → Option A) (parts : List Placed) (part : Placed) → last_or value of (parts ++ part ∷ []) ≡ unwrap_or (of (given part)) (last_or value of parts)
-last_push value of [] part = refl
-last_push value of (p ∷ parts) part = last_push (unwrap_or (of (given p)) value) of parts part
+last_push value of parts part =
+    ap (λ o. unwrap_or o value) (said_push (λ p. of (given p)) parts part) ∙ unwrap_either value (of (given part)) (last_said (λ p. of (given p)) parts)
 
 all_push : {A : Type 0} (of : Given → List A) (parts : List Placed) (part : Placed) → all of (parts ++ part ∷ []) ≡ plus (all of parts) (of (given part))
 all_push of parts part =

@@ -1,18 +1,9 @@
 -- What stands as a value.
-use Rattle.std.proofs.Common.{◌≡◌, ℕ, suc, ◌+◌, ◌<◌, List, [], ◌∷◌, ◌++◌, length, drop, get_or, refl, sym, ap, ◌∙◌, arith, append_assoc, add-one}
+use Rattle.std.proofs.Common.{◌≡◌, ℕ, suc, ◌+◌, ◌<◌, List, [], ◌∷◌, ◌++◌, length, drop, get_or, refl, sym, ap, ◌∙◌, append_assoc, add-one}
 use Rattle.std.proofs.Math.Seq.{drop-cons}
 use Rattle.std.specs.Prelude.{Option, None, Some}
-use Rattle.std.proofs.lemmas.Bool.Decides.{nat_tests}
-use Rattle.cabal_lexer.proofs.Texts.{PassesAscii}
 use Rattle.plan_types.specs.declared.condition.FlagSet.{FlagSet}
-use Rattle.project_file.specs.Words.{is_between}
 use Rattle.project_file.specs.Flags.{flag_of, flag_sets, with_flag}
-use Rattle.project_file.specs.declared.words.Between.{Between}
-use Rattle.project_file.specs.declared.words.Between.TheVariants.{Spaces, SpacesAndCommas}
-
-pub is_between-ascii : (between : Between) → PassesAscii (is_between between)
-is_between-ascii Spaces b h = grind (arith, nat_tests)
-is_between-ascii SpacesAndCommas b h = grind (arith, nat_tests)
 
 -- these flags, and those behind them
 abbrev pub after_flags : List FlagSet → Option (List FlagSet) → Option (List FlagSet)

@@ -1,5 +1,5 @@
 -- What is added to the parts for one element.
-use Rattle.std.proofs.Common.{◌≡◌, ℕ, Bool, ◌+◌, ◌<◌, length, List, ◌++◌, get_or, drop, ◌≤◌, sym, subst, ap, ◌∙◌, refl, append_assoc}
+use Rattle.std.proofs.Common.{◌≡◌, ℕ, Bool, ◌+◌, ◌<◌, length, List, ◌++◌, get_or, drop, ◌≤◌, sym, subst, ap, ◌∙◌, refl}
 use Rattle.std.proofs.lemmas.List.{append-nil, drop_all}
 use Rattle.std.specs.Prelude.{Option, None, Some}
 use Rattle.plan_types.specs.Bytes.{joined_text}
@@ -7,29 +7,22 @@ use Rattle.plan_types.specs.declared.condition.Env.{Env}
 use Rattle.plan_types.specs.declared.element.Element.{Element}
 use Rattle.plan_types.specs.declared.element.Element.TheVariants.{Field, Section}
 use Rattle.plan_types.specs.declared.refusal.Cause.TheVariants.{Unsupported}
-use Rattle.description_parts.specs.Tree.{Tree, in_front, tree_of}
-use Rattle.description_parts.proofs.Trees.{field_in_front, section_in_front, tree_from}
+use Rattle.cabal_lexer.specs.Tree.{Tree, in_front, tree_of, Goes}
 use Rattle.project_file.specs.Fields.{FieldSays}
 use Rattle.project_file.specs.Parts.{IsBranch, Says, SectionSays, flag_part, flag_parts, package_parts, placed}
 use Rattle.project_file.specs.Words.{field_word, section_word}
-use Rattle.project_file.specs.declared.part.Part.{Part}
+use Rattle.project_file.specs.declared.part.ProjectPart.{ProjectPart}
 use Rattle.project_file.specs.declared.part.Said.{Said}
 use Rattle.project_file.specs.declared.part.Said.TheVariants as said
 use Rattle.project_file.specs.declared.words.BranchWord.{BranchWord}
 use Rattle.project_file.specs.declared.words.SectionWord.{SectionWord}
+use Rattle.cabal_lexer.proofs.Trees.{added, field_in_front, section_in_front, tree_from}
 use Rattle.project_file.specs.declared.words.SectionWord.TheVariants as sections
 
--- items behind the new parts go on with what those in front are
-abbrev pub Goes : (List Part → Type 0) → List Part → List Part → List Part → Type 0
-Goes Are old new more = (found : List Part) × Are found × (new ++ more ≡ old ++ found)
-
-pub added : (old part more : List Part) {new : List Part} → new ≡ old ++ part → new ++ more ≡ old ++ (part ++ more)
-added old part more is = ap (λ v. v ++ more) is ∙ append_assoc old part more
-
 module _ (env : Env) where
-  pub field_goes : {item : Element} (line : ℕ) (name : List ℕ) (values : List (List ℕ)) (chain : Option Bool) (found : Option Said) (old : List Part) {new : List Part} →
+  pub field_goes : {item : Element} (line : ℕ) (name : List ℕ) (values : List (List ℕ)) (chain : Option Bool) (found : Option Said) (old : List ProjectPart) {new : List ProjectPart} →
       item ≡ Field line name values → FieldSays (field_word name) name (joined_text values) found → new ≡ old ++ placed line found →
-      (behind : Tree) (more : List Part) → Says env behind None more → Goes (λ x. Says env (in_front item behind) chain x) old new more
+      (behind : Tree) (more : List ProjectPart) → Says env behind None more → Goes (λ x. Says env (in_front item behind) chain x) old new more
   unfolding Says
   field_goes line name values chain found old is says new-is behind more rest = (
     placed line found ++ more,
@@ -37,7 +30,7 @@ module _ (env : Env) where
     added old (placed line found) more new-is,
   )
 
-  pub section_goes : {item : Element} (line : ℕ) (name args : List ℕ) (items : List Element) {word : SectionWord} (chain : Option Bool) (old new : List Part) (behind : Tree) (more : List Part) →
+  pub section_goes : {item : Element} (line : ℕ) (name args : List ℕ) (items : List Element) {word : SectionWord} (chain : Option Bool) (old new : List ProjectPart) (behind : Tree) (more : List ProjectPart) →
       item ≡ Section line name args items → word ≡ section_word name →
       Goes (λ x. SectionSays env word line name args (tree_of items) chain (λ within. Says env (tree_of items) None within) (λ left said. Says env behind left said) x) old new more →
       Goes (λ x. Says env (in_front item behind) chain x) old new more
@@ -50,40 +43,40 @@ module _ (env : Env) where
   )
 
   -- one element further
-  pub loop_goes : (items : List Element) (n : ℕ) (item : Element) (chain left : Option Bool) (Are : List Part → Type 0) (first old new : List Part) →
+  pub loop_goes : (items : List Element) (n : ℕ) (item : Element) (chain left : Option Bool) (Are : List ProjectPart → Type 0) (first old new : List ProjectPart) →
       n < length items → get_or items n item ≡ item →
-      ((more : List Part) → Says env (tree_of (drop n items)) chain more → Goes Are first old more) →
-      ((behind : Tree) (more : List Part) → Says env behind left more → Goes (λ x. Says env (in_front item behind) chain x) old new more) →
-      (more : List Part) → Says env (tree_of (drop (n + 1) items)) left more → Goes Are first new more
+      ((more : List ProjectPart) → Says env (tree_of (drop n items)) chain more → Goes Are first old more) →
+      ((behind : Tree) (more : List ProjectPart) → Says env behind left more → Goes (λ x. Says env (in_front item behind) chain x) old new more) →
+      (more : List ProjectPart) → Says env (tree_of (drop (n + 1) items)) left more → Goes Are first new more
   loop_goes items n item chain left Are first old new lt is before step more rest =
       let here = step (tree_of (drop (n + 1) items)) more rest in
       let there = before here.0 (subst (λ t. Says env t chain here.0) (sym (tree_from items n item lt is)) here.1) in
       (there.0, there.1, here.2 ∙ there.2)
 
 -- a section further
-module _ (env : Env) (line : ℕ) (name args : List ℕ) (items : Tree) (chain : Option Bool) (Within : List Part → Type 0) (Behind : Option Bool → List Part → Type 0) where
-  abbrev Are : SectionWord → List Part → Type 0
+module _ (env : Env) (line : ℕ) (name args : List ℕ) (items : Tree) (chain : Option Bool) (Within : List ProjectPart → Type 0) (Behind : Option Bool → List ProjectPart → Type 0) where
+  abbrev Are : SectionWord → List ProjectPart → Type 0
   Are word parts = SectionSays env word line name args items chain Within Behind parts
 
-  pub unread_goes : {word : SectionWord} (old more : List Part) → word ≡ sections.Unread → Behind None more → Goes (Are word) old old more
+  pub unread_goes : {word : SectionWord} (old more : List ProjectPart) → word ≡ sections.Unread → Behind None more → Goes (Are word) old old more
   unread_goes old more is rest = (more, subst (λ w. Are w more) (sym is) rest, refl)
 
-  pub warned_goes : {word : SectionWord} (old more : List Part) {new : List Part} → word ≡ sections.Warned → new ≡ old ++ placed line (Some (said.Warning name)) → Behind None more → Goes (Are word) old new more
+  pub warned_goes : {word : SectionWord} (old more : List ProjectPart) {new : List ProjectPart} → word ≡ sections.Warned → new ≡ old ++ placed line (Some (said.Warning name)) → Behind None more → Goes (Are word) old new more
   warned_goes old more is new-is rest =
       let front = placed line (Some (said.Warning name)) in
       (front ++ more, subst (λ w. Are w (front ++ more)) (sym is) (more, rest, refl), added old front more new-is)
 
-  pub unsupported_goes : {word : SectionWord} (old more : List Part) {new : List Part} → word ≡ sections.Unsupported → new ≡ old ++ placed line (Some (said.Bad Unsupported)) → Behind None more → Goes (Are word) old new more
+  pub unsupported_goes : {word : SectionWord} (old more : List ProjectPart) {new : List ProjectPart} → word ≡ sections.Unsupported → new ≡ old ++ placed line (Some (said.Bad Unsupported)) → Behind None more → Goes (Are word) old new more
   unsupported_goes old more is new-is rest =
       let front = placed line (Some (said.Bad Unsupported)) in
       (front ++ more, subst (λ w. Are w (front ++ more)) (sym is) (more, rest, refl), added old front more new-is)
 
-  pub package_goes : {word : SectionWord} (old more : List Part) {new : List Part} → word ≡ sections.Package → new ≡ old ++ package_parts line args items → Behind None more → Goes (Are word) old new more
+  pub package_goes : {word : SectionWord} (old more : List ProjectPart) {new : List ProjectPart} → word ≡ sections.Package → new ≡ old ++ package_parts line args items → Behind None more → Goes (Are word) old new more
   package_goes old more is new-is rest =
       let front = package_parts line args items in
       (front ++ more, subst (λ w. Are w (front ++ more)) (sym is) (more, rest, refl), added old front more new-is)
 
-  pub branch_goes : {word : SectionWord} (branch-word : BranchWord) (left : Option Bool) (found old more : List Part) {new : List Part} → word ≡ sections.Branch branch-word →
+  pub branch_goes : {word : SectionWord} (branch-word : BranchWord) (left : Option Bool) (found old more : List ProjectPart) {new : List ProjectPart} → word ≡ sections.Branch branch-word →
       IsBranch env branch-word line args chain Within left found → new ≡ old ++ found → Behind left more → Goes (Are word) old new more
   branch_goes branch-word left found old more is branch new-is rest =
       (found ++ more, subst (λ w. Are w (found ++ more)) (sym is) (left, found, more, branch, rest, refl), added old found more new-is)
@@ -99,14 +92,14 @@ pub flag_section : (args : List ℕ) {item : Element} (line : ℕ) (name inner :
 unfolding flag_parts
 flag_section args line name inner items behind is = ap (λ i. flag_parts args (in_front i behind)) is ∙ ap (flag_parts args) (section_in_front line name inner items behind)
 
-pub flag_more : (args : List ℕ) (items : List Element) (n : ℕ) (item : Element) (old new whole : List Part) → n < length items → get_or items n item ≡ item →
+pub flag_more : (args : List ℕ) (items : List Element) (n : ℕ) (item : Element) (old new whole : List ProjectPart) → n < length items → get_or items n item ≡ item →
     old ++ flag_parts args (tree_of (drop n items)) ≡ whole →
     ((behind : Tree) → new ++ flag_parts args behind ≡ old ++ flag_parts args (in_front item behind)) →
     new ++ flag_parts args (tree_of (drop (n + 1) items)) ≡ whole
 flag_more args items n item old new whole lt is before step =
     step (tree_of (drop (n + 1) items)) ∙ ap (λ t. old ++ flag_parts args t) (sym (tree_from items n item lt is)) ∙ before
 
-pub flag_end : (args : List ℕ) (items : List Element) (n : ℕ) (parts whole : List Part) → length items ≤ n → parts ++ flag_parts args (tree_of (drop n items)) ≡ whole → parts ≡ whole
+pub flag_end : (args : List ℕ) (items : List Element) (n : ℕ) (parts whole : List ProjectPart) → length items ≤ n → parts ++ flag_parts args (tree_of (drop n items)) ≡ whole → parts ≡ whole
 unfolding flag_parts
 flag_end args items n parts whole over before =
     sym (append-nil parts) ∙ ap (λ l. parts ++ flag_parts args (tree_of l)) (sym (drop_all n items over)) ∙ before

@@ -9,15 +9,15 @@ use Rattle.plan_types.specs.declared.condition.Env.{Env}
 use Rattle.plan_types.specs.declared.range.Spec.TheVariants.{V3_0}
 use Rattle.plan_types.specs.declared.refusal.Cause.{Cause}
 use Rattle.plan_types.specs.declared.refusal.Cause.TheVariants.{BadField, ElseWithoutIf}
-use Rattle.conditionals.specs.Grammar.{Stands, FirstFault}
+use Rattle.condition_text.specs.Grammar.{Stands, FirstFault}
 use Rattle.conditionals.specs.Value.{flag_in, value}
 use Rattle.conditionals.specs.declared.value.Tri.{Tri}
 use Rattle.conditionals.specs.declared.value.Tri.TheVariants.{Yes, No, Unknown}
-use Rattle.description_parts.specs.Branch.{Read}
 use Rattle.project_file.specs.declared.part.Said.{Said}
 use Rattle.project_file.specs.declared.part.Said.TheVariants.{Bad}
 use Rattle.project_file.specs.declared.words.BranchWord.{BranchWord}
 use Rattle.project_file.specs.declared.words.BranchWord.TheVariants.{If, Elif, Else}
+use Rattle.text_grammar.specs.Outcome.{Read}
 
 -- one layer of a condition, with what is so of its parts in their place
 abbrev pub flag_step : Cond-F Bool → Bool
@@ -35,6 +35,7 @@ flag_step (Or left right) = left || right
 abbrev pub has_flag : Cond → Bool
 has_flag = fold-Cond Bool flag_step
 
+-- whether a value is Yes
 abbrev pub is_yes : Tri → Bool
 is_yes Yes = true
 is_yes No = false
@@ -44,10 +45,12 @@ is_yes Unknown = false
 abbrev pub decided : Env → Cond → Result Bool Cause
 decided env cond = if has_flag cond then Err BadField else Ok (is_yes (value env (flag_in []) cond))
 
+-- whether what was read holds
 abbrev pub decided_of : Env → Result Cond Cause → Result Bool Cause
 decided_of env (Ok cond) = decided env cond
 decided_of env (Err cause) = Err cause
 
+-- the text of a condition comes to this
 abbrev pub Settles : Env → List ℕ → Result Bool Cause → Type 0
 Settles env text own = (read : Result Cond Cause) × Read (Stands V3_0 64 text) (FirstFault V3_0 64 text) read × (own ≡ decided_of env read)
 
@@ -62,6 +65,7 @@ Decides env If args own = Settles env args own
 Decides env Elif args own = Settles env args own
 Decides env Else args own = own ≡ bare args
 
+-- whether a condition is known to hold
 abbrev pub holds : Result Bool Cause → Bool
 holds (Ok value) = value
 holds (Err cause) = false

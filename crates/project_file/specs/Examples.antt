@@ -6,19 +6,20 @@ use Rattle.plan_types.specs.declared.refusal.Cause.TheVariants.{BadField, ElseWi
 use Rattle.project_file.specs.Branches.{bare, branch_fault, chain_behind, is_taken}
 use Rattle.project_file.specs.Flags.{flags_in}
 use Rattle.project_file.specs.Project.{project_from}
-use Rattle.project_file.specs.Words.{limit, words}
 use Rattle.project_file.specs.declared.part.Said.TheVariants as said
 use Rattle.project_file.specs.declared.part.Switch.TheVariants.{Tests}
-use Rattle.project_file.specs.declared.words.Between.TheVariants.{SpacesAndCommas}
+use Rattle.text_grammar.specs.declared.word.Between.TheVariants.{SpacesAndCommas}
 use Rattle.project_file.specs.declared.words.BranchWord.TheVariants.{Elif, Else}
+use Rattle.text_grammar.specs.Words.{words}
+use Rattle.version_range.specs.Number.{limit_of}
 
-no_limit : limit (codes "-1") ≡ Some Unlimited
+no_limit : limit_of (codes "-1") ≡ Some Unlimited
 no_limit = refl
 
-minus_zero : limit (codes "-000") ≡ Some (At 0)
+minus_zero : limit_of (codes "-000") ≡ Some (At 0)
 minus_zero = refl
 
-too_long : limit (codes "1234567890") ≡ None
+too_long : limit_of (codes "1234567890") ≡ None
 too_long = refl
 
 three_entries : words SpacesAndCommas (codes "a, ./b  c/") ≡ codes "a" ∷ codes "./b" ∷ codes "c/" ∷ []

@@ -4,19 +4,19 @@ use Rattle.std.specs.declared.result.Result.{Result}
 use Rattle.std.specs.declared.result.Result.TheVariants.{Ok, Err}
 use Rattle.plan_types.specs.declared.refusal.Cause.{Cause}
 use Rattle.plan_types.specs.declared.refusal.Cause.TheVariants.{BadField, Unsupported}
-use Rattle.depend_text.specs.Constraints.{Constraints, ConstraintsFault}
-use Rattle.depend_text.specs.Named.{NamedRanges, NamedFault}
-use Rattle.depend_text.specs.Relaxes.{Relaxes, RelaxFault}
-use Rattle.description_parts.specs.Branch.{Read}
-use Rattle.description_parts.specs.Words.{boolean}
-use Rattle.project_file.specs.Words.{limit, words}
+use Rattle.constraint_text.specs.Constraints.{Constraints, ConstraintsFault}
+use Rattle.constraint_text.specs.Named.{NamedRanges, NamedFault}
+use Rattle.constraint_text.specs.Relaxes.{Relaxes, RelaxFault}
 use Rattle.project_file.specs.declared.part.Said.{Said}
 use Rattle.project_file.specs.declared.part.Said.TheVariants as said
 use Rattle.project_file.specs.declared.part.Switch.{Switch}
-use Rattle.project_file.specs.declared.words.Between.TheVariants.{SpacesAndCommas}
+use Rattle.text_grammar.specs.declared.word.Between.TheVariants.{SpacesAndCommas}
 use Rattle.project_file.specs.declared.words.FieldKind.{FieldKind}
 use Rattle.project_file.specs.declared.words.FieldKind.TheVariants as kinds
 use Rattle.project_file.specs.declared.words.FieldWord.{FieldWord}
+use Rattle.text_grammar.specs.Words.{words, boolean}
+use Rattle.text_grammar.specs.Outcome.{Read}
+use Rattle.version_range.specs.Number.{limit_of}
 use Rattle.project_file.specs.declared.words.FieldWord.TheVariants as fields
 
 -- what was read, or why it wasn't
@@ -33,6 +33,7 @@ abbrev pub or_bad : {A : Type 0} → (A → Said) → Option A → Said
 or_bad as' None = said.Bad BadField
 or_bad as' (Some value) = as' value
 
+-- what a switch says
 abbrev pub switch_said : Switch → Option Bool → Said
 switch_said which value = or_bad (said.Switch which) value
 
@@ -46,7 +47,7 @@ KindSays kinds.Preferences text found = IsRead said.Preferences (NamedRanges tex
 KindSays kinds.Newer text found = IsRead said.Newer (Relaxes text) (RelaxFault text) found
 KindSays kinds.Older text found = IsRead said.Older (Relaxes text) (RelaxFault text) found
 KindSays (kinds.Switch which) text found = found ≡ switch_said which (boolean text)
-KindSays kinds.Limit text found = found ≡ or_bad said.Limit (limit text)
+KindSays kinds.Limit text found = found ≡ or_bad said.Limit (limit_of text)
 
 -- What a field says, where it is read. Some aren't, and are told by their names.
 abbrev pub FieldSays : FieldWord → List ℕ → List ℕ → Option Said → Type 0

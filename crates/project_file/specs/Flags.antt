@@ -3,8 +3,8 @@ use Rattle.std.specs.Prelude.{ℕ, Bool, true, false, ◌==◌, if◌then◌else
 use Rattle.std.specs.Char.{to_ascii_lowercase}
 use Rattle.plan_types.specs.Name.{is_flag_name}
 use Rattle.plan_types.specs.declared.condition.FlagSet.{FlagSet}
-use Rattle.project_file.specs.Words.{words}
-use Rattle.project_file.specs.declared.words.Between.TheVariants.{Spaces}
+use Rattle.text_grammar.specs.declared.word.Between.TheVariants.{Spaces}
+use Rattle.text_grammar.specs.Words.{words}
 
 -- a flag's name is kept in lower case
 abbrev pub named_flag : List ℕ → Bool → Option FlagSet
@@ -15,6 +15,7 @@ abbrev pub flag_of : List ℕ → Option FlagSet
 flag_of [] = None
 flag_of (b ∷ bs) = if b == 43 then named_flag bs true else if b == 45 then named_flag bs false else named_flag (b ∷ bs) true
 
+-- a flag and those behind it
 abbrev pub with_flag : Option FlagSet → Option (List FlagSet) → Option (List FlagSet)
 with_flag None flags = None
 with_flag (Some flag) None = None
@@ -25,5 +26,6 @@ abbrev pub flag_sets : List (List ℕ) → Option (List FlagSet)
 flag_sets [] = Some []
 flag_sets (word ∷ words) = with_flag (flag_of word) (flag_sets words)
 
+-- the flags that a text sets
 abbrev pub flags_in : List ℕ → Option (List FlagSet)
 flags_in text = flag_sets (words Spaces text)

@@ -6,5 +6,4 @@ pub mod Parts
 pub mod Texts
 pub mod Project
 pub mod Read
-pub mod Answers
 pub mod Examples

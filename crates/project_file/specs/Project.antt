@@ -1,5 +1,5 @@
 -- The project that the parts of all files come to.
-use Rattle.std.specs.Prelude.{ℕ, Bool, false, List, [], ◌∷◌, map, flat_map, Option, Some, None, unwrap_or}
+use Rattle.std.specs.Prelude.{◌≡◌, ℕ, Bool, false, List, [], ◌∷◌, ◌++◌, map, flat_map, Option, Some, None, unwrap_or}
 use Rattle.plan_types.specs.declared.constraint.Constraint.{Constraint}
 use Rattle.plan_types.specs.declared.dependency.Named.{Named}
 use Rattle.plan_types.specs.declared.dependency.Relax.{Relax}
@@ -8,7 +8,8 @@ use Rattle.plan_types.specs.declared.limit.Limit.{Limit}
 use Rattle.plan_types.specs.declared.limit.Limit.TheVariants.{At}
 use Rattle.plan_types.specs.declared.project.Project.{Project}
 use Rattle.plan_types.specs.declared.project.ProjectEntry.{ProjectEntry}
-use Rattle.project_file.specs.declared.part.Part.{Part}
+use Rattle.text_grammar.specs.Last.{last_said}
+use Rattle.project_file.specs.declared.part.ProjectPart.{ProjectPart}
 use Rattle.project_file.specs.declared.part.Said.{Said}
 use Rattle.project_file.specs.declared.part.Said.TheVariants as said
 use Rattle.project_file.specs.declared.part.Switch.{Switch}
@@ -20,10 +21,12 @@ pub record Placed : Type 0 where
   pub line : ℕ
   pub said : Said
 
-abbrev pub placed_at : List ℕ → Part → Placed
+-- a part of the file with this path
+abbrev pub placed_at : List ℕ → ProjectPart → Placed
 placed_at path part = record { path = path; line = part.line; said = part.said }
 
-abbrev pub placed_all : List ℕ → List Part → List Placed
+-- all parts of that file
+abbrev pub placed_all : List ℕ → List ProjectPart → List Placed
 placed_all path parts = map (placed_at path) parts
 
 -- what a part gives to a project
@@ -41,6 +44,7 @@ pub record Given : Type 0 where
   pub boot_installs : Option Bool
   pub warnings : List Warning
 
+-- what a part gives that says nothing
 abbrev pub nothing : Given
 nothing = record {
   entries = [];
@@ -57,15 +61,18 @@ nothing = record {
   warnings = [];
 }
 
+-- the entries of a field at a line
 abbrev pub entries_at : List ℕ → ℕ → List (List ℕ) → Bool → List ProjectEntry
 entries_at path line texts optional = map (λ text. record { path = path; line = line; text = text; optional = optional }) texts
 
+-- what a switch gives
 abbrev pub switched : Switch → Bool → Given
 switched Tests on = record nothing { tests = Some on }
 switched Benchmarks on = record nothing { benchmarks = Some on }
 switched PreferOldest on = record nothing { prefer_oldest = Some on }
 switched BootInstalls on = record nothing { boot_installs = Some on }
 
+-- what is said at a line of a file gives this
 abbrev pub given_at : List ℕ → ℕ → Said → Given
 given_at path line (said.Entries texts optional) = record nothing { entries = entries_at path line texts optional }
 given_at path line (said.Extra extra) = record nothing { extra = extra }
@@ -78,14 +85,15 @@ given_at path line (said.Limit limit) = record nothing { limit = Some limit }
 given_at path line (said.Warning word) = record nothing { warnings = record { path = path; line = line; word = word } ∷ [] }
 given_at path line (said.Bad cause) = nothing
 
+-- what a part gives
 abbrev pub given : Placed → Given
 given part = given_at part.path part.line part.said
 
 -- what the last part that gives a value gives, or this where none does
 abbrev pub last_or : {A : Type 0} → A → (Given → Option A) → List Placed → A
-last_or value of [] = value
-last_or value of (part ∷ parts) = last_or (unwrap_or (of (given part)) value) of parts
+last_or value of parts = unwrap_or (last_said (λ part. of (given part)) parts) value
 
+-- what all parts give, in order
 abbrev pub all : {A : Type 0} → (Given → List A) → List Placed → List A
 all of parts = flat_map (λ part. of (given part)) parts
 
@@ -112,3 +120,7 @@ turned Tests on old = record old { tests = on }
 turned Benchmarks on old = record old { benchmarks = on }
 turned PreferOldest on old = record old { prefer_oldest = on }
 turned BootInstalls on old = record old { boot_installs = on }
+
+-- the project with further parts
+abbrev pub Takes : List Placed → Project → Project → Type 0
+Takes parts old new = (before : List Placed) → old ≡ project_from before → new ≡ project_from (before ++ parts)

@@ -5,7 +5,7 @@ use Rattle.plan_types.specs.declared.project.Project.{Project}
 use Rattle.plan_types.specs.declared.refusal.Refusal.{Refusal}
 use Rattle.project_file.specs.Project.{Placed, placed_all, project_from}
 use Rattle.project_file.specs.Texts.{Reads}
-use Rattle.project_file.specs.declared.part.Part.{Part}
+use Rattle.project_file.specs.declared.part.ProjectPart.{ProjectPart}
 use Rattle.project_file.specs.declared.read.ProjectText.{ProjectText}
 use Rattle.project_file.specs.declared.text.At.{At}
 
@@ -13,23 +13,26 @@ use Rattle.project_file.specs.declared.text.At.{At}
 abbrev pub IsWithin : ProjectText → Type 0
 IsWithin text = length text.bytes ≤ 1048576
 
+-- the refusal of a fault in a file
 abbrev pub refusal_at : List ℕ → At → Refusal
 refusal_at path at = record { path = path; line = at.line; cause = at.cause; detail = [] }
 
-abbrev pub or_refusal : List ℕ → Result (List Part) At → Result (List Part) Refusal
+-- the parts of a file, or the refusal of its fault
+abbrev pub or_refusal : List ℕ → Result (List ProjectPart) At → Result (List ProjectPart) Refusal
 or_refusal path (Ok parts) = Ok parts
 or_refusal path (Err at) = Err (refusal_at path at)
 
 -- the parts of a file, or the refusal of its first fault
-abbrev pub FileReads : Env → ProjectText → Result (List Part) Refusal → Type 0
-FileReads env text outcome = (read : Result (List Part) At) × Reads env text.bytes read × (outcome ≡ or_refusal text.path read)
+abbrev pub FileReads : Env → ProjectText → Result (List ProjectPart) Refusal → Type 0
+FileReads env text outcome = (read : Result (List ProjectPart) At) × Reads env text.bytes read × (outcome ≡ or_refusal text.path read)
 
+-- parts in front of those of further files
 abbrev pub in_front : List Placed → Result (List Placed) Refusal → Result (List Placed) Refusal
 in_front parts (Ok more) = Ok (parts ++ more)
 in_front parts (Err refusal) = Err refusal
 
 -- after a refusal no further file is read
-abbrev pub GoesOn : List ℕ → Result (List Part) Refusal → (Result (List Placed) Refusal → Type 0) → Result (List Placed) Refusal → Type 0
+abbrev pub GoesOn : List ℕ → Result (List ProjectPart) Refusal → (Result (List Placed) Refusal → Type 0) → Result (List Placed) Refusal → Type 0
 GoesOn path (Err refusal) Rest outcome = outcome ≡ Err refusal
 GoesOn path (Ok parts) Rest outcome = (more : Result (List Placed) Refusal) × Rest more × (outcome ≡ in_front (placed_all path parts) more)
 
@@ -37,8 +40,9 @@ GoesOn path (Ok parts) Rest outcome = (more : Result (List Placed) Refusal) × R
 unfoldable pub AllRead : Env → List ProjectText → Result (List Placed) Refusal → Type 0
 AllRead env [] outcome = outcome ≡ Ok []
 AllRead env (text ∷ texts) outcome =
-    (read : Result (List Part) Refusal) × FileReads env text read × GoesOn text.path read (λ more. AllRead env texts more) outcome
+    (read : Result (List ProjectPart) Refusal) × FileReads env text read × GoesOn text.path read (λ more. AllRead env texts more) outcome
 
+-- the project of all parts
 abbrev pub project_of : Result (List Placed) Refusal → Result Project Refusal
 project_of (Ok parts) = Ok (project_from parts)
 project_of (Err refusal) = Err refusal

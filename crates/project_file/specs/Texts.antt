@@ -4,16 +4,18 @@ use Rattle.plan_types.specs.declared.condition.Env.{Env}
 use Rattle.plan_types.specs.declared.element.Element.{Element}
 use Rattle.plan_types.specs.declared.refusal.Cause.{Cause}
 use Rattle.cabal_lexer.specs.Fault.{IsFault, IsTree}
-use Rattle.description_parts.specs.Tree.{tree_of}
+use Rattle.cabal_lexer.specs.Tree.{tree_of}
 use Rattle.project_file.specs.Parts.{Says}
-use Rattle.project_file.specs.declared.part.Part.{Part}
+use Rattle.project_file.specs.declared.part.ProjectPart.{ProjectPart}
 use Rattle.project_file.specs.declared.part.Said.{Said}
 use Rattle.project_file.specs.declared.part.Said.TheVariants as said
 use Rattle.project_file.specs.declared.text.At.{At}
 
+-- a cause at a line
 abbrev pub fault_at : ℕ → Cause → At
 fault_at line cause = record { line = line; cause = cause }
 
+-- the cause of a part that is a fault
 abbrev pub bad_cause : Said → Option Cause
 bad_cause (said.Entries texts optional) = None
 bad_cause (said.Extra extra) = None
@@ -26,34 +28,35 @@ bad_cause (said.Limit limit) = None
 bad_cause (said.Warning word) = None
 bad_cause (said.Bad cause) = Some cause
 
+-- a fault, or that of a later part
 abbrev pub fault_or : Option Cause → ℕ → Option At → Option At
 fault_or None line later = later
 fault_or (Some cause) line later = Some (fault_at line cause)
 
 -- The first fault in file order, in which lines rise from part to part: so it is that of the least line.
-abbrev pub first_fault : List Part → Option At
+abbrev pub first_fault : List ProjectPart → Option At
 first_fault [] = None
 first_fault (part ∷ parts) = fault_or (bad_cause part.said) part.line (first_fault parts)
 
 -- parts of which none is a fault
-abbrev pub unless_bad : Option At → List Part → Result (List Part) At
+abbrev pub unless_bad : Option At → List ProjectPart → Result (List ProjectPart) At
 unless_bad None parts = Ok parts
 unless_bad (Some at) parts = Err at
 
 -- what a file with a tree comes to
-pub record SaysOf (env : Env) (bytes : List ℕ) (outcome : Result (List Part) At) : Type 0 where
+pub record SaysOf (env : Env) (bytes : List ℕ) (outcome : Result (List ProjectPart) At) : Type 0 where
   pub items : List Element
-  pub parts : List Part
+  pub parts : List ProjectPart
   pub tree : IsTree bytes items
   pub says : Says env (tree_of items) None parts
   pub comes : outcome ≡ unless_bad (first_fault parts) parts
 
 -- the file has no tree, but a fault of its layout
-pub record Misfits (bytes : List ℕ) (outcome : Result (List Part) At) : Type 0 where
+pub record Misfits (bytes : List ℕ) (outcome : Result (List ProjectPart) At) : Type 0 where
   pub at : At
   pub fault : IsFault bytes at.line at.cause
   pub comes : outcome ≡ Err at
 
 -- The parts of a file, or its first fault. A fault of the layout comes before all others.
-abbrev pub Reads : Env → List ℕ → Result (List Part) At → Type 0
+abbrev pub Reads : Env → List ℕ → Result (List ProjectPart) At → Type 0
 Reads env bytes outcome = Misfits bytes outcome ⊎ SaysOf env bytes outcome

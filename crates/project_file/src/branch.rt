@@ -4,7 +4,8 @@ ghost use Rattle.project_file.specs.Branches.{Decides, Settles, bare, branch_fau
 
 use crate::part::Said;
 use crate::words::BranchWord;
-use conditionals::{Tri, eval, read_cond};
+use condition_text::read_cond;
+use conditionals::{Tri, eval};
 use plan_types::{Cause, Cond, Env, List, NoMemory, Spec, Text, TextFault};
 use std::alloc::Global;
 

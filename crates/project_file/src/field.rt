@@ -1,17 +1,21 @@
 // A field beside the sections, and what it says.
 ghost use Rattle.std.specs.Prelude.{◌≡◌, IfOk};
 ghost use Rattle.plan_types.specs.Bytes.{joined_text};
-ghost use Rattle.depend_text.specs.Constraints.{Constraints, ConstraintsFault};
-ghost use Rattle.depend_text.specs.Named.{NamedRanges, NamedFault};
-ghost use Rattle.depend_text.specs.Relaxes.{Relaxes, RelaxFault};
-ghost use Rattle.project_file.specs.Words.{field_word, limit, words};
+ghost use Rattle.constraint_text.specs.Constraints.{Constraints, ConstraintsFault};
+ghost use Rattle.constraint_text.specs.Named.{NamedRanges, NamedFault};
+ghost use Rattle.constraint_text.specs.Relaxes.{Relaxes, RelaxFault};
+ghost use Rattle.project_file.specs.Words.{field_word};
 ghost use Rattle.project_file.specs.Fields.{FieldSays, IsRead, KindSays, or_bad, switch_said};
+ghost use Rattle.text_grammar.specs.Words.{words};
+ghost use Rattle.version_range.specs.Number.{limit_of};
 
 use crate::part::{Said, Switch};
-use crate::words::{Between, FieldKind, FieldWord, boolean, field_word, limit, words};
-use depend_text::{read_constraints, read_named, read_relax};
+use crate::words::{FieldKind, FieldWord, field_word};
+use constraint_text::{read_constraints, read_named, read_relax};
 use plan_types::{Cause, List, NoMemory, Text, TextFault, joined_text};
 use std::alloc::Global;
+use text_grammar::{Between, boolean, words};
+use version_range::limit_of;
 
 /// What a field of this name and these values says, where it is read. The values of a field that is unread aren't joined.
 pub(crate) fn said_by(
@@ -116,9 +120,9 @@ fn switch_said(which: Switch, value: Option<bool>) -> Said
 }
 
 fn limit_said(text: &[u8]) -> Said
-    ensures { result ≡ or_bad Said.Limit (limit text.now) }
+    ensures { result ≡ or_bad Said.Limit (limit_of text.now) }
 {
-    match limit(text) {
+    match limit_of(text) {
         Some(limit) => Said::Limit(limit),
         None => Said::Bad(Cause::BadField),
     }

@@ -2,9 +2,9 @@
 ghost use Rattle.std.specs.Prelude.{◌≡◌, ◌≢◌, ◌<◌, ◌∷◌, ℕ, List, IfOk, MatchOption};
 ghost use Rattle.project_file.specs.Flags.{flag_of, flag_sets, flags_in, named_flag};
 
-use crate::words::{Between, words};
 use plan_types::{FlagSet, List, NoMemory, Text, is_flag_name};
 use std::alloc::Global;
+use text_grammar::{Between, words};
 
 /// The flags that stand between spaces; none where one of them isn't of its form.
 pub(crate) fn flags_in(alloc: Global, text: &Text) -> Result<Option<List<FlagSet>>, NoMemory>
@@ -42,7 +42,8 @@ fn flag_of(alloc: Global, word: &str) -> Result<Option<FlagSet>, NoMemory>
 // What follows a sign.
 fn behind(word: &str, sign: char) -> Option<&str>
     requires { sign < 128 }
-    ensures { MatchOption result ((rest : List ℕ) → word.now ≢ sign ∷ rest) (λ rest. word.now ≡ sign ∷ rest.now) }
+    ensures { MatchOption result ((rest : List ℕ) → word.now ≢ sign ∷ rest)
+        (λ rest. word.now ≡ sign ∷ rest.now) }
 {
     word.strip_prefix(sign)
 }

@@ -2,11 +2,11 @@
 ghost use Rattle.std.specs.Prelude.{◌≡◌, ◌++◌, ◌||◌, IfOk, OnOk};
 ghost use Rattle.plan_types.specs.Bytes.{joined_text};
 ghost use Rattle.plan_types.specs.Name.{is_package_name};
-ghost use Rattle.description_parts.specs.Tree.{Tree, in_front, tree_of};
-ghost use Rattle.project_file.specs.Parts.{flag_part, flag_parts, flags_said, is_every, package_parts, said_flags};
+ghost use Rattle.cabal_lexer.specs.Tree.{tree_of};
+ghost use Rattle.project_file.specs.Parts.{FlagsAdded, flag_part, flag_parts, flags_said, is_every, package_parts, said_flags};
 
 use crate::flags::flags_in;
-use crate::part::{Part, Said};
+use crate::part::{ProjectPart, Said};
 use plan_types::{
     Cause, Constraint, Element, FlagSet, List, NoMemory, Scope, Text, What, is_package_name,
     joined_text,
@@ -19,14 +19,14 @@ pub(crate) fn read_package(
     line: u32,
     args: &Text,
     items: &[Element],
-    parts: &mut List<Part>,
+    parts: &mut List<ProjectPart>,
 ) -> Result<(), NoMemory>
     ensures { OnOk result (parts.new ≡ parts.old ++ package_parts line args.now (tree_of items.now)) }
 {
     if is_about(args) {
         read_flags(alloc, args, items, parts)
     } else {
-        parts.push(Part {
+        parts.push(ProjectPart {
             line,
             said: Said::Bad(Cause::BadName),
         })
@@ -49,7 +49,7 @@ fn read_flags(
     alloc: Global,
     args: &Text,
     items: &[Element],
-    parts: &mut List<Part>,
+    parts: &mut List<ProjectPart>,
 ) -> Result<(), NoMemory>
     ensures { OnOk result (parts.new ≡ parts.old ++ flag_parts args.now (tree_of items.now)) }
 {
@@ -63,9 +63,9 @@ fn read_item(
     alloc: Global,
     args: &Text,
     item: &Element,
-    parts: &mut List<Part>,
+    parts: &mut List<ProjectPart>,
 ) -> Result<(), NoMemory>
-    ensures { OnOk result ((behind : Tree) → parts.new ++ flag_parts args.now behind ≡ parts.old ++ flag_parts args.now (in_front item.now behind)) }
+    ensures { OnOk result (FlagsAdded args.now item.now parts.old parts.new) }
 {
     match item {
         Element::Field { line, name, values } => {
@@ -86,7 +86,7 @@ fn read_field(
     line: u32,
     name: &Text,
     values: &List<Text>,
-    parts: &mut List<Part>,
+    parts: &mut List<ProjectPart>,
 ) -> Result<(), NoMemory>
     ensures { OnOk result (parts.new ≡ parts.old ++ flag_part args.now line name.now (joined_text values.now)) }
 {
@@ -95,7 +95,7 @@ fn read_field(
     }
     let text = joined_text(alloc, values.as_slice())?;
     let said = flags_said(alloc, args, &text)?;
-    parts.push(Part { line, said })
+    parts.push(ProjectPart { line, said })
 }
 
 fn flags_said(alloc: Global, args: &Text, text: &Text) -> Result<Said, NoMemory>

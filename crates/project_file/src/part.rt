@@ -1,3 +1,4 @@
+// The parts of a project file, and what they say.
 use plan_types::{Cause, Constraint, Limit, List, Named, Relax, Text};
 
 /// What is true or false of a project.
@@ -29,7 +30,7 @@ pub(crate) enum Said {
 
 /// A part of a file.
 #[derive(Debug, Drop)]
-pub(crate) struct Part {
+pub(crate) struct ProjectPart {
     /// From 1.
     pub line: u32,
     pub said: Said,

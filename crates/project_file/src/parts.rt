@@ -1,13 +1,12 @@
 // The parts of a file, in file order.
-ghost use Rattle.std.specs.Prelude.{◌≡◌, ◌++◌, List, None, Option, Bool, IfOk, OnOk};
-ghost use Rattle.description_parts.specs.Tree.{Tree, in_front, tree_of};
-ghost use Rattle.project_file.specs.declared.part.Part.{Part};
-ghost use Rattle.project_file.specs.Parts.{Says, SectionSays, IsBranch, IfTaken, placed};
+ghost use Rattle.std.specs.Prelude.{◌≡◌, ◌++◌, None, IfOk, OnOk};
+ghost use Rattle.cabal_lexer.specs.Tree.{tree_of};
+ghost use Rattle.project_file.specs.Parts.{Adds, IfTaken, IsBranch, ItemAdds, Says, SaysAll, SectionAdds, placed};
 
 use crate::branch::{branch_fault, chain_behind, is_taken, own_condition};
 use crate::field::said_by;
 use crate::package::read_package;
-use crate::part::{Part, Said};
+use crate::part::{ProjectPart, Said};
 use crate::words::{BranchWord, SectionWord, section_word};
 use plan_types::{Cause, Element, Env, List, NoMemory, Text};
 use std::alloc::Global;
@@ -17,7 +16,7 @@ pub(crate) fn read_parts(
     alloc: Global,
     env: &Env,
     items: &[Element],
-) -> Result<List<Part>, NoMemory>
+) -> Result<List<ProjectPart>, NoMemory>
     ensures { IfOk result (Says env.now (tree_of items.now) None) }
 {
     let mut parts = List::new(alloc);
@@ -30,9 +29,9 @@ fn read_items(
     alloc: Global,
     env: &Env,
     items: &[Element],
-    parts: &mut List<Part>,
+    parts: &mut List<ProjectPart>,
 ) -> Result<(), NoMemory>
-    ensures { OnOk result ((found : List Part) × Says env.now (tree_of items.now) None found × (parts.new ≡ parts.old ++ found)) }
+    ensures { OnOk result (Adds (SaysAll env.now items.now) parts.old parts.new) }
 {
     let mut chain = None;
     for item in items {
@@ -48,10 +47,9 @@ fn read_item(
     env: &Env,
     item: &Element,
     chain: Option<bool>,
-    parts: &mut List<Part>,
+    parts: &mut List<ProjectPart>,
 ) -> Result<Option<bool>, NoMemory>
-    ensures { IfOk result (λ left. (behind : Tree) (more : List Part) → Says env.now behind left more
-        → (found : List Part) × Says env.now (in_front item.now behind) chain found × (parts.new ++ more ≡ parts.old ++ found)) }
+    ensures { IfOk result (λ left. ItemAdds env.now item.now chain left parts.old parts.new) }
 {
     match item {
         Element::Field { line, name, values } => {
@@ -82,11 +80,11 @@ fn read_item(
     }
 }
 
-fn place(line: u32, said: Option<Said>, parts: &mut List<Part>) -> Result<(), NoMemory>
+fn place(line: u32, said: Option<Said>, parts: &mut List<ProjectPart>) -> Result<(), NoMemory>
     ensures { OnOk result (parts.new ≡ parts.old ++ placed line said) }
 {
     match said {
-        Some(said) => parts.push(Part { line, said }),
+        Some(said) => parts.push(ProjectPart { line, said }),
         None => Ok(()),
     }
 }
@@ -101,11 +99,10 @@ fn read_section(
     args: &Text,
     items: &[Element],
     chain: Option<bool>,
-    parts: &mut List<Part>,
+    parts: &mut List<ProjectPart>,
 ) -> Result<Option<bool>, NoMemory>
-    ensures { IfOk result (λ left. (behind : Tree) (more : List Part) → Says env.now behind left more
-        → (found : List Part) × SectionSays env.now word line name.now args.now (tree_of items.now) chain (λ within. Says env.now (tree_of items.now) None within) (λ left said. Says env.now behind left said) found
-        × (parts.new ++ more ≡ parts.old ++ found)) }
+    ensures { IfOk result
+        (λ left. SectionAdds env.now word line name.now args.now items.now chain left parts.old parts.new) }
 {
     match word {
         SectionWord::Unread => Ok(None),
@@ -138,10 +135,10 @@ fn read_branch(
     args: &Text,
     items: &[Element],
     chain: Option<bool>,
-    parts: &mut List<Part>,
+    parts: &mut List<ProjectPart>,
 ) -> Result<Option<bool>, NoMemory>
-    ensures { IfOk result (λ left. (found : List Part) × IsBranch env.now word line args.now chain (λ within. Says env.now (tree_of items.now) None within) left found
-        × (parts.new ≡ parts.old ++ found)) }
+    ensures { IfOk result (λ left.
+        Adds (IsBranch env.now word line args.now chain (SaysAll env.now items.now) left) parts.old parts.new) }
 {
     let own = own_condition(alloc, env, word, args)?;
     place(line, branch_fault(word, chain, own), parts)?;
@@ -156,9 +153,9 @@ fn read_taken(
     env: &Env,
     taken: bool,
     items: &[Element],
-    parts: &mut List<Part>,
+    parts: &mut List<ProjectPart>,
 ) -> Result<(), NoMemory>
-    ensures { OnOk result ((found : List Part) × IfTaken taken (λ within. Says env.now (tree_of items.now) None within) found × (parts.new ≡ parts.old ++ found)) }
+    ensures { OnOk result (Adds (IfTaken taken (SaysAll env.now items.now)) parts.old parts.new) }
 {
     if taken {
         read_items(alloc, env, items, parts)

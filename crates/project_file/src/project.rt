@@ -1,8 +1,8 @@
 // What the parts of the project files come to together.
 ghost use Rattle.std.specs.Prelude.{◌≡◌, ◌++◌, ◌∷◌, [], List, OnOk};
-ghost use Rattle.project_file.specs.Project.{Placed, entries_at, placed_all, placed_at, project_from, turned};
+ghost use Rattle.project_file.specs.Project.{Takes, entries_at, placed_all, placed_at, project_from, turned};
 
-use crate::part::{Part, Said, Switch};
+use crate::part::{ProjectPart, Said, Switch};
 use plan_types::{Limit, List, NoMemory, Project, ProjectEntry, Text, Warning};
 use std::alloc::Global;
 
@@ -30,9 +30,9 @@ pub(crate) fn nothing(alloc: Global) -> Project
 pub(crate) fn take_file(
     project: &mut Project,
     path: &Text,
-    parts: List<Part>,
+    parts: List<ProjectPart>,
 ) -> Result<(), NoMemory>
-    ensures { OnOk result ((before : List Placed) → project.old ≡ project_from before → project.new ≡ project_from (before ++ placed_all path.now parts)) }
+    ensures { OnOk result (Takes (placed_all path.now parts) project.old project.new) }
 {
     for part in parts.into_vec() {
         take(project, path, part)?;
@@ -40,19 +40,19 @@ pub(crate) fn take_file(
     Ok(())
 }
 
-fn take(project: &mut Project, path: &Text, part: Part) -> Result<(), NoMemory>
-    ensures { OnOk result ((before : List Placed) → project.old ≡ project_from before → project.new ≡ project_from (before ++ placed_at path.now part ∷ [])) }
+fn take(project: &mut Project, path: &Text, part: ProjectPart) -> Result<(), NoMemory>
+    ensures { OnOk result (Takes (placed_at path.now part ∷ []) project.old project.new) }
 {
-    let Part { line, said } = part;
+    let ProjectPart { line, said } = part;
     match said {
         Said::Entries { texts, optional } => {
             push_entries(&mut project.entries, path, line, texts, optional)
         }
-        Said::Extra(found) => append(&mut project.extra, found),
-        Said::Constraints(found) => append(&mut project.constraints, found),
-        Said::Preferences(found) => append(&mut project.preferences, found),
-        Said::Newer(found) => append(&mut project.newer, found),
-        Said::Older(found) => append(&mut project.older, found),
+        Said::Extra(mut found) => project.extra.append(&mut found),
+        Said::Constraints(mut found) => project.constraints.append(&mut found),
+        Said::Preferences(mut found) => project.preferences.append(&mut found),
+        Said::Newer(mut found) => project.newer.append(&mut found),
+        Said::Older(mut found) => project.older.append(&mut found),
         Said::Switch { which, on } => {
             turn(project, which, on);
             Ok(())
@@ -83,15 +83,6 @@ fn push_entries(
             text,
             optional,
         })?;
-    }
-    Ok(())
-}
-
-fn append<T: Drop>(list: &mut List<T>, more: List<T>) -> Result<(), NoMemory>
-    ensures { OnOk result (list.new ≡ list.old ++ more) }
-{
-    for item in more.into_vec() {
-        list.push(item)?;
     }
     Ok(())
 }

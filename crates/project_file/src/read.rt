@@ -2,10 +2,10 @@
 ghost use Rattle.std.specs.Prelude.{◌≡◌, ◌≤◌, true, [], length, IfOk};
 ghost use Rattle.std.specs.List.{list_all, AllByRecursion};
 ghost use Rattle.plan_types.specs.Name.{is_package_name};
-ghost use Rattle.project_file.specs.Answers.{Settles};
 ghost use Rattle.project_file.specs.Read.{FileReads, IsProject, IsWithin};
+ghost use Rattle.plan_types.specs.Refusal.{Settles};
 
-use crate::part::Part;
+use crate::part::ProjectPart;
 use crate::project::{nothing, take_file};
 use crate::text::read_text;
 use plan_types::{Cause, Env, Fault, Halt, List, NoMemory, Project, Refusal, Text};
@@ -25,7 +25,8 @@ pub struct ProjectText {
 pub fn read_project(alloc: Global, texts: &List<ProjectText>, env: &Env) -> Result<Project, Halt>
     requires { AllByRecursion IsWithin texts.now }
     ensures project { Settles (IsProject env.now texts.now) result }
-    ensures extra { IfOk result (λ project. list_all (λ named. is_package_name named.name) project.extra ≡ true) }
+    ensures extra { IfOk result (λ project. list_all (λ named. is_package_name named.name)
+        project.extra ≡ true) }
 {
     let mut project = nothing(alloc);
     for text in texts.as_slice() {
@@ -35,7 +36,7 @@ pub fn read_project(alloc: Global, texts: &List<ProjectText>, env: &Env) -> Resu
     Ok(project)
 }
 
-fn read_file(alloc: Global, env: &Env, text: &ProjectText) -> Result<List<Part>, Halt>
+fn read_file(alloc: Global, env: &Env, text: &ProjectText) -> Result<List<ProjectPart>, Halt>
     requires { IsWithin text.now }
     ensures { Settles (FileReads env.now text.now) result }
 {
@@ -47,13 +48,9 @@ fn read_file(alloc: Global, env: &Env, text: &ProjectText) -> Result<List<Part>,
 }
 
 fn refused(alloc: Global, path: &Text, line: u32, cause: Cause) -> Result<Halt, NoMemory>
-    ensures { IfOk result (λ halt. halt ≡ Halt.Refused (record { path = path.now; line = line; cause = cause; detail = [] })) }
+    ensures { IfOk result (λ halt. halt ≡ Halt.Refused
+        (record { path = path.now; line = line; cause = cause; detail = [] })) }
 {
     let path = path.copy()?;
-    Ok(Halt::Refused(Refusal {
-        path,
-        line,
-        cause,
-        detail: Text::new(alloc),
-    }))
+    Ok(Halt::Refused(Refusal::at(alloc, path, line, cause)))
 }

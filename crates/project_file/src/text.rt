@@ -3,7 +3,7 @@ ghost use Rattle.std.specs.Prelude.{◌≡◌, ◌≤◌, length, Ok, Err, IfOk,
 ghost use Rattle.plan_types.specs.Refusal.{RefusesAt};
 ghost use Rattle.project_file.specs.Texts.{Reads, bad_cause, fault_at, first_fault};
 
-use crate::part::{Part, Said};
+use crate::part::{ProjectPart, Said};
 use crate::parts::read_parts;
 use cabal_lexer::read_elements;
 use plan_types::{Cause, Env, Fault, List};
@@ -17,10 +17,11 @@ pub(crate) struct At {
 }
 
 /// The parts of a text, or its first fault.
-pub(crate) fn read_text(alloc: Global, env: &Env, bytes: &[u8]) -> Result<List<Part>, Fault>
+pub(crate) fn read_text(alloc: Global, env: &Env, bytes: &[u8]) -> Result<List<ProjectPart>, Fault>
     requires { length bytes.now ≤ 1048576 }
     ensures parts { IfOk result (λ parts. Reads env.now bytes.now (Ok parts)) }
-    ensures fault { IfErr result (RefusesAt (λ line cause. Reads env.now bytes.now (Err (fault_at line cause)))) }
+    ensures fault { IfErr result (RefusesAt
+        (λ line cause. Reads env.now bytes.now (Err (fault_at line cause)))) }
 {
     let items = read_elements(alloc, bytes)?;
     let parts = read_parts(alloc, env, items.as_slice())?;
@@ -34,7 +35,7 @@ pub(crate) fn read_text(alloc: Global, env: &Env, bytes: &[u8]) -> Result<List<P
 }
 
 // Parts stand in the order of their lines.
-fn first_fault(parts: &[Part]) -> Option<At>
+fn first_fault(parts: &[ProjectPart]) -> Option<At>
     ensures { result ≡ first_fault parts.now }
 {
     for part in parts {

@@ -1,21 +1,14 @@
 -- What the entries of a project come to together.
-use Rattle.std.proofs.Common.{◌≡◌, List, [], ◌∷◌, ◌++◌, refl, sym, subst, ap, ◌∙◌, append_assoc}
-use Rattle.std.specs.Prelude.{Option, Some, None, Result, Ok, Err, IfSome}
+use Rattle.std.proofs.Common.{◌≡◌, List, [], ◌∷◌, ◌++◌, refl, sym, ap, ◌∙◌, append_assoc}
+use Rattle.std.specs.Prelude.{Result, Ok, Err}
 use Rattle.plan_types.specs.declared.project.ProjectEntry.{ProjectEntry}
 use Rattle.plan_types.specs.declared.refusal.Halt.{Halt}
 use Rattle.plan_types.specs.declared.refusal.Halt.TheVariants as halt
 use Rattle.plan_types.specs.declared.refusal.Refusal.{Refusal}
 use Rattle.outside_folder.specs.Files.{Bytes, Files}
-use Rattle.project_paths.specs.Answers.{Answers, Settles}
 use Rattle.project_paths.specs.Entries.{entry_files}
 use Rattle.project_paths.specs.Local.{all_files, and_then, finished, finished_of, local_files}
-
-pub if_some : {X : Type 0} (P : X → Type 0) (o : Option X) → ((x : X) → o ≡ Some x → P x) → IfSome o P
-if_some P None f = tt
-if_some P (Some x) f = f x refl
-
-pub some_at : {X : Type 0} (P : X → Type 0) (o : Option X) (x : X) → o ≡ Some x → IfSome o P → P x
-some_at P o x e h = let Q : Option _ → Type 0 = λ o. IfSome o P in subst Q e h
+use Rattle.plan_types.specs.Refusal.{Answers, Settles}
 
 then-assoc : (a b c : Result (List Bytes) Refusal) → and_then a (and_then b c) ≡ and_then (and_then a b) c
 then-assoc (Err r) b c = refl

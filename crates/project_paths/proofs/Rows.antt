@@ -6,6 +6,7 @@ use Rattle.std.proofs.lemmas.List.{map-append, reverse-append, length-reverse, t
 use Rattle.std.proofs.lemmas.Grind.{fold-append}
 use Rattle.project_paths.specs.Rows.{empty_row, fit_at, last_of, last_row, paired, row_before, running}
 use Rattle.project_paths.specs.Wildcards.{fits, fits_byte, tails}
+use Rattle.std.proofs.Math.Bool.{and-false}
 
 -- the tails of a text, from the empty one on
 ups : List ℕ → List (List ℕ)
@@ -95,10 +96,6 @@ star-row f (b ∷ bs) =
     ∙ sym (map-append (λ rest. list_any f (tails rest)) (ups bs) ((b ∷ bs) ∷ []))
 
 -- ---- another byte
-
-and-false : (a : Bool) → (a && false) ≡ false
-and-false true = refl
-and-false false = refl
 
 pair-push : (p : ℕ) (xs : List ℕ) (x : ℕ) (r : List Bool) → paired p (xs ++ x ∷ []) r ≡ paired p xs r ++ (p == x && fit_at r (length xs)) ∷ []
 pair-push p [] x [] = ap (λ b. b ∷ []) (sym (and-false (p == x)))

@@ -9,16 +9,18 @@ use Rattle.plan_types.specs.declared.refusal.Refusal.{Refusal}
 use Rattle.outside_folder.specs.Files.{Bytes, Files}
 use Rattle.project_paths.specs.Found.{found_by}
 use Rattle.project_paths.specs.Patterns.{pattern_of}
-use Rattle.project_paths.specs.declared.found.Found.{Found}
+use Rattle.project_paths.specs.declared.found.FoundFiles.{FoundFiles}
 use Rattle.project_paths.specs.declared.pattern.Pattern.{Pattern}
 
+-- the refusal of an entry
 abbrev pub refusal_of : ProjectEntry → Cause → Bytes → Refusal
 refusal_of entry cause detail = record { path = entry.path; line = entry.line; cause = cause; detail = detail }
 
 -- a directory with two local files or more
-abbrev pub is_crowded : Found → Bool
+abbrev pub is_crowded : FoundFiles → Bool
 is_crowded found = nat_le 2 (length found.files)
 
+-- the lesser of two paths
 abbrev pub lesser : Option Bytes → Bytes → Bytes
 lesser None path = path
 lesser (Some first) path = if is_lt (slice_cmp nat_cmp path first) then path else first
@@ -27,7 +29,8 @@ lesser (Some first) path = if is_lt (slice_cmp nat_cmp path first) then path els
 abbrev pub least : List Bytes → Option Bytes
 least paths = fold (λ first path. Some (lesser first path)) None paths
 
-abbrev pub first_crowded : List Found → Option Bytes
+-- the first such directory
+abbrev pub first_crowded : List FoundFiles → Option Bytes
 first_crowded found = least (map (λ f. f.path) (filter is_crowded found))
 
 -- the root is a point
@@ -40,13 +43,16 @@ abbrev pub unless_none : ProjectEntry → List Bytes → Result (List Bytes) Ref
 unless_none entry [] = if entry.optional then Ok [] else Err (refusal_of entry NoMatch entry.text)
 unless_none entry (path ∷ paths) = Ok (path ∷ paths)
 
+-- the local files, where no directory has several
 abbrev pub unless_crowded : Option Bytes → ProjectEntry → List Bytes → Result (List Bytes) Refusal
 unless_crowded None entry paths = unless_none entry paths
 unless_crowded (Some dir) entry paths = Err (refusal_of entry TwoCabalFiles (shown dir))
 
-abbrev pub judged : ProjectEntry → List Found → Result (List Bytes) Refusal
+-- what is found comes to this
+abbrev pub judged : ProjectEntry → List FoundFiles → Result (List Bytes) Refusal
 judged entry found = unless_crowded (first_crowded found) entry (flat_map (λ f. f.files) found)
 
+-- what is found by a pattern comes to this
 abbrev pub files_by : Files → ProjectEntry → Option Pattern → Result (List Bytes) Refusal
 files_by files entry None = Err (refusal_of entry Unsupported [])
 files_by files entry (Some pattern) = judged entry (found_by files pattern)

@@ -4,6 +4,5 @@ pub mod Rows
 pub mod Places
 pub mod Found
 pub mod Entries
-pub mod Answers
 pub mod Local
 pub mod Examples

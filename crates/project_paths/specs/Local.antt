@@ -13,6 +13,7 @@ use Rattle.project_paths.specs.Entries.{entry_files}
 abbrev pub implied : Bool → List ProjectEntry
 implied implicit = if implicit then record { path = codes "cabal.project"; line = 0; text = codes "./*.cabal"; optional = true } ∷ [] else []
 
+-- the entries by which local files are looked for
 abbrev pub sought : Bool → List ProjectEntry → List ProjectEntry
 sought implicit entries = implied implicit ++ entries
 
@@ -31,16 +32,20 @@ all_files files (entry ∷ entries) = and_then (entry_files files entry) (all_fi
 abbrev pub in_order : List Bytes → List Bytes
 in_order paths = fold (insert_key (slice_cmp nat_cmp)) [] paths
 
+-- the refusal of a project without packages
 abbrev pub no_packages : Refusal
 no_packages = record { path = codes "."; line = 0; cause = NoPackages; detail = [] }
 
+-- the paths, where there are any
 abbrev pub unless_none : List Bytes → Result (List Bytes) Refusal
 unless_none [] = Err no_packages
 unless_none (path ∷ paths) = Ok (path ∷ paths)
 
+-- what is found comes to this
 abbrev pub finished : List Bytes → Result (List Bytes) Refusal
 finished found = unless_none (in_order found)
 
+-- the same, unless there was a refusal
 abbrev pub finished_of : Result (List Bytes) Refusal → Result (List Bytes) Refusal
 finished_of (Ok found) = finished found
 finished_of (Err refusal) = Err refusal

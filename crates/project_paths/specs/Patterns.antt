@@ -1,13 +1,10 @@
 -- The text of an entry of a project.
 use Rattle.std.specs.Prelude.{ℕ, Bool, false, ◌||◌, ◌==◌, not, if◌then◌else◌, nat_eq, List, [], ◌∷◌, codes, filter, Option, Some, None}
-use Rattle.std.specs.Cmp.Lexicographic.{pointwise}
 use Rattle.std.specs.List.{list_any, slice_split, starts_with}
-use Rattle.plan_types.specs.Bytes.{begins_with}
+use Rattle.plan_types.specs.Bytes.{begins_with, same_text}
 use Rattle.project_paths.specs.declared.pattern.Pattern.{Pattern}
 
-abbrev pub is : List ℕ → List ℕ → Bool
-is = pointwise nat_eq
-
+-- whether the last byte is `/`
 abbrev pub ends_in_slash : List ℕ → Bool
 ends_in_slash [] = false
 ends_in_slash (b ∷ []) = b == 47
@@ -21,11 +18,13 @@ stem (b ∷ c ∷ bs) = b ∷ stem (c ∷ bs)
 
 -- a `.` between slashes is no name
 abbrev pub is_name : List ℕ → Bool
-is_name piece = not (is piece (codes "."))
+is_name piece = not (same_text piece (codes "."))
 
+-- the names between the slashes
 abbrev pub names_in : List ℕ → List (List ℕ)
 names_in stem = filter is_name (slice_split (λ b. b == 47) stem)
 
+-- the names of a pattern
 abbrev pub names_of : List ℕ → List (List ℕ)
 names_of text = names_in (stem text)
 
@@ -34,6 +33,7 @@ abbrev pub has : List ℕ → List ℕ → Bool
 has part [] = starts_with nat_eq [] part
 has part (b ∷ bs) = starts_with nat_eq (b ∷ bs) part || has part bs
 
+-- whether there is a brace
 abbrev pub has_brace : List ℕ → Bool
 has_brace text = list_any (λ b. b == 123 || b == 125) text
 
@@ -43,8 +43,9 @@ has_mark text = (begins_with 47 text || begins_with 126 text) || has_brace text 
 
 -- it leads out of a directory
 abbrev pub leaves_root : List (List ℕ) → Bool
-leaves_root names = list_any (λ name. is name (codes "..")) names
+leaves_root names = list_any (λ name. same_text name (codes "..")) names
 
+-- whether an entry asks for what isn't supported
 abbrev pub is_unsupported : List ℕ → Bool
 is_unsupported text = has_mark text || leaves_root (names_of text)
 

@@ -10,6 +10,7 @@ abbrev pub running : Bool → List Bool → List Bool
 running any [] = []
 running any (fit ∷ row) = (any || fit) ∷ running (any || fit) row
 
+-- whether the tail at a place fits
 abbrev pub fit_at : List Bool → ℕ → Bool
 fit_at row at = slice_index_or row at false
 
@@ -19,6 +20,7 @@ paired byte [] row = []
 paired byte (b ∷ bs) [] = false ∷ paired byte bs []
 paired byte (b ∷ bs) (fit ∷ row) = (byte == b && fit) ∷ paired byte bs row
 
+-- the row of a pattern with one byte more in front
 abbrev pub row_before : ℕ → List ℕ → List Bool → List Bool
 row_before byte backwards row = if byte == 42 then running false row else false ∷ paired byte backwards row
 
@@ -26,6 +28,7 @@ row_before byte backwards row = if byte == 42 then running false row else false 
 abbrev pub last_row : List ℕ → List ℕ → List Bool
 last_row backwards upwards = fold (λ row byte. row_before byte backwards row) (empty_row backwards) upwards
 
+-- the last of a row
 abbrev pub last_of : List Bool → Bool
 last_of [] = false
 last_of (fit ∷ []) = fit

@@ -8,6 +8,7 @@ abbrev pub tails : List ℕ → List (List ℕ)
 tails [] = [] ∷ []
 tails (b ∷ bs) = (b ∷ bs) ∷ tails bs
 
+-- a byte stands for itself
 abbrev pub fits_byte : ℕ → (List ℕ → Bool) → List ℕ → Bool
 fits_byte byte rest [] = false
 fits_byte byte rest (b ∷ bs) = byte == b && rest bs

@@ -1,11 +1,11 @@
 // One entry: what is found by it, and whether that is right.
-ghost use Rattle.std.specs.Prelude.{◌≡◌, ◌++◌, flat_map, IfOk, IfSome, OnOk, IsErrOf};
+ghost use Rattle.std.specs.Prelude.{◌≡◌, flat_map, IfOk, IfSome, IsErrOf};
 ghost use Rattle.std.specs.Option.{option_copied};
 ghost use Rattle.outside_folder.specs.Calls.{Leaves};
-ghost use Rattle.project_paths.specs.Answers.{Answers, Settles};
 ghost use Rattle.project_paths.specs.Entries.{entry_files, first_crowded, is_crowded, judged, lesser, refusal_of, shown, unless_none};
+ghost use Rattle.plan_types.specs.Refusal.{Answers, Settles};
 
-use crate::found::{Found, found_by};
+use crate::found::{FoundFiles, found_by};
 use crate::pattern::pattern_of;
 use outside_folder::Folder;
 use plan_types::{Cause, Halt, List, NoMemory, ProjectEntry, Refusal, Text};
@@ -17,8 +17,9 @@ pub(crate) fn entry_files<F: Folder>(
     folder: &mut F,
     entry: &ProjectEntry,
 ) -> Result<List<Text>, Halt>
-    ensures told { IfSome (F.tells folder.old) (λ files. Answers (λ outcome. outcome ≡ entry_files files entry.now) result) }
-    ensures folder { Leaves (F.tells folder.old) (F.faults folder.old) (F.tells folder.new) (F.faults folder.new) (IsErrOf result Halt.Failed) }
+    ensures told { IfSome (F.tells folder.old)
+        (λ files. Answers (λ outcome. outcome ≡ entry_files files entry.now) result) }
+    ensures folder { Leaves F.tells F.faults folder.old folder.new (IsErrOf result Halt.Failed) }
 {
     match pattern_of(alloc, entry.text.as_str())? {
         None => Err(refused(entry, Cause::Unsupported, Text::new(alloc))?),
@@ -42,7 +43,7 @@ fn refused(entry: &ProjectEntry, cause: Cause, detail: Text) -> Result<Halt, NoM
     }))
 }
 
-fn judged(alloc: Global, entry: &ProjectEntry, found: List<Found>) -> Result<List<Text>, Halt>
+fn judged(alloc: Global, entry: &ProjectEntry, found: List<FoundFiles>) -> Result<List<Text>, Halt>
     ensures { Settles (λ outcome. outcome ≡ judged entry.now found) result }
 {
     match first_crowded(found.as_slice()) {
@@ -58,7 +59,7 @@ fn judged(alloc: Global, entry: &ProjectEntry, found: List<Found>) -> Result<Lis
 }
 
 // The first directory, in byte order, with more than one `.cabal` file.
-fn first_crowded(found: &[Found]) -> Option<&Text>
+fn first_crowded(found: &[FoundFiles]) -> Option<&Text>
     ensures { option_copied result ≡ first_crowded found.now }
 {
     let mut first = None;
@@ -70,7 +71,7 @@ fn first_crowded(found: &[Found]) -> Option<&Text>
     first
 }
 
-fn is_crowded(found: &Found) -> bool
+fn is_crowded(found: &FoundFiles) -> bool
     ensures { result ≡ is_crowded found.now }
 {
     found.files.len() >= 2
@@ -96,23 +97,14 @@ fn shown(alloc: Global, dir: &Text) -> Result<Text, NoMemory>
     }
 }
 
-fn all_files(alloc: Global, found: List<Found>) -> Result<List<Text>, NoMemory>
+fn all_files(alloc: Global, found: List<FoundFiles>) -> Result<List<Text>, NoMemory>
     ensures { IfOk result (λ files. files ≡ flat_map (λ f. f.files) found) }
 {
     let mut files = List::new(alloc);
-    for one in found.into_vec() {
-        append(&mut files, one.files)?;
+    for mut one in found.into_vec() {
+        files.append(&mut one.files)?;
     }
     Ok(files)
-}
-
-pub(crate) fn append(list: &mut List<Text>, more: List<Text>) -> Result<(), NoMemory>
-    ensures { OnOk result (list.new ≡ list.old ++ more) }
-{
-    for text in more.into_vec() {
-        list.push(text)?;
-    }
-    Ok(())
 }
 
 fn unless_none(entry: &ProjectEntry, files: List<Text>) -> Result<List<Text>, Halt>

@@ -4,10 +4,10 @@ ghost use Rattle.std.specs.Cmp.Lexicographic.{slice_cmp};
 ghost use Rattle.std.specs.List.Sorted.{IsStrictlySortedBy};
 ghost use Rattle.std.specs.Ordering.{nat_cmp};
 ghost use Rattle.outside_folder.specs.Calls.{Leaves};
-ghost use Rattle.project_paths.specs.Answers.{Answers, Settles};
 ghost use Rattle.project_paths.specs.Local.{all_files, finished, implied, in_order, local_files, no_packages, sought};
+ghost use Rattle.plan_types.specs.Refusal.{Answers, Settles};
 
-use crate::entry::{append, entry_files};
+use crate::entry::entry_files;
 use outside_folder::Folder;
 use plan_types::{Cause, Halt, List, NoMemory, Project, ProjectEntry, Refusal, Text};
 use std::alloc::Global;
@@ -22,14 +22,16 @@ pub fn find_packages<F: Folder>(
     implicit: bool,
     folder: &mut F,
 ) -> Result<List<Text>, Halt>
-    ensures told { IfSome (F.tells folder.old) (λ files. Answers (λ outcome. outcome ≡ local_files files (sought implicit project.now.entries)) result) }
+    ensures told { IfSome (F.tells folder.old)
+        (λ files. Answers (λ outcome. outcome ≡ local_files files
+        (sought implicit project.now.entries)) result) }
     ensures order { IfOk result (IsStrictlySortedBy (slice_cmp nat_cmp)) }
-    ensures folder { Leaves (F.tells folder.old) (F.faults folder.old) (F.tells folder.new) (F.faults folder.new) (IsErrOf result Halt.Failed) }
+    ensures folder { Leaves F.tells F.faults folder.old folder.new (IsErrOf result Halt.Failed) }
 {
     let implied = implied(alloc, implicit)?;
     let mut found = find_entries(alloc, folder, implied.as_slice())?;
-    let others = find_entries(alloc, folder, project.entries.as_slice())?;
-    append(&mut found, others)?;
+    let mut others = find_entries(alloc, folder, project.entries.as_slice())?;
+    found.append(&mut others)?;
     let paths = finished(alloc, found)?;
     Ok(paths)
 }
@@ -56,13 +58,14 @@ fn find_entries<F: Folder>(
     folder: &mut F,
     entries: &[ProjectEntry],
 ) -> Result<List<Text>, Halt>
-    ensures told { IfSome (F.tells folder.old) (λ files. Answers (λ outcome. outcome ≡ all_files files entries.now) result) }
-    ensures folder { Leaves (F.tells folder.old) (F.faults folder.old) (F.tells folder.new) (F.faults folder.new) (IsErrOf result Halt.Failed) }
+    ensures told { IfSome (F.tells folder.old)
+        (λ files. Answers (λ outcome. outcome ≡ all_files files entries.now) result) }
+    ensures folder { Leaves F.tells F.faults folder.old folder.new (IsErrOf result Halt.Failed) }
 {
     let mut found = List::new(alloc);
     for entry in entries {
-        let files = entry_files(alloc, folder, entry)?;
-        append(&mut found, files)?;
+        let mut files = entry_files(alloc, folder, entry)?;
+        found.append(&mut files)?;
     }
     Ok(found)
 }
@@ -82,12 +85,7 @@ fn no_packages(alloc: Global) -> Result<Halt, NoMemory>
     ensures { IfOk result (λ halt. halt ≡ Halt.Refused no_packages) }
 {
     let path = Text::from_str(alloc, ".")?;
-    Ok(Halt::Refused(Refusal {
-        path,
-        line: 0,
-        cause: Cause::NoPackages,
-        detail: Text::new(alloc),
-    }))
+    Ok(Halt::Refused(Refusal::at(alloc, path, 0, Cause::NoPackages)))
 }
 
 fn in_order(alloc: Global, found: List<Text>) -> Result<List<Text>, NoMemory>

@@ -4,14 +4,14 @@ ghost use Rattle.outside_folder.specs.Calls.{Leaves};
 ghost use Rattle.project_paths.specs.Found.{cabal_in, files_of, found_at, found_by, is_cabal, is_cabal_file, is_local};
 
 use crate::pattern::Pattern;
-use crate::places::{Place, names_at, path_in, places};
+use crate::places::{FolderPlace, names_at, path_in, places};
 use outside_folder::{Folder, Name, Trouble};
 use plan_types::{List, NoMemory, Text};
 use std::alloc::Global;
 
 /// A place, and the paths of its local files: itself, or the `.cabal` files in it.
 #[derive(Debug, Drop)]
-pub(crate) struct Found {
+pub(crate) struct FoundFiles {
     pub path: Text,
     pub files: List<Text>,
 }
@@ -21,9 +21,10 @@ pub(crate) fn found_by<F: Folder>(
     alloc: Global,
     folder: &mut F,
     pattern: &Pattern,
-) -> Result<List<Found>, Trouble>
-    ensures told { IfSome (F.tells folder.old) (λ files. IfOk result (λ all. all ≡ found_by files pattern.now)) }
-    ensures folder { Leaves (F.tells folder.old) (F.faults folder.old) (F.tells folder.new) (F.faults folder.new) (IsErrOf result Trouble.Failed) }
+) -> Result<List<FoundFiles>, Trouble>
+    ensures told { IfSome (F.tells folder.old)
+        (λ files. IfOk result (λ all. all ≡ found_by files pattern.now)) }
+    ensures folder { Leaves F.tells F.faults folder.old folder.new (IsErrOf result Trouble.Failed) }
 {
     let places = places(alloc, folder, pattern.names.as_slice())?;
     let mut all = List::new(alloc);
@@ -38,21 +39,22 @@ fn found_at<F: Folder>(
     alloc: Global,
     folder: &mut F,
     folders: bool,
-    place: &Place,
-) -> Result<Found, Trouble>
-    ensures told { IfSome (F.tells folder.old) (λ files. IfOk result (λ found. found ≡ found_at files folders place.now)) }
-    ensures folder { Leaves (F.tells folder.old) (F.faults folder.old) (F.tells folder.new) (F.faults folder.new) (IsErrOf result Trouble.Failed) }
+    place: &FolderPlace,
+) -> Result<FoundFiles, Trouble>
+    ensures told { IfSome (F.tells folder.old)
+        (λ files. IfOk result (λ found. found ≡ found_at files folders place.now)) }
+    ensures folder { Leaves F.tells F.faults folder.old folder.new (IsErrOf result Trouble.Failed) }
 {
     let names = names_at(alloc, folder, place)?;
     let files = files_of(alloc, folders, place, names.as_slice())?;
     let path = place.path.copy()?;
-    Ok(Found { path, files })
+    Ok(FoundFiles { path, files })
 }
 
 fn files_of(
     alloc: Global,
     folders: bool,
-    place: &Place,
+    place: &FolderPlace,
     names: &[Name],
 ) -> Result<List<Text>, NoMemory>
     ensures { IfOk result (λ files. files ≡ files_of folders place.now names.now) }
@@ -67,7 +69,7 @@ fn files_of(
     Ok(files)
 }
 
-fn is_local(folders: bool, place: &Place) -> bool
+fn is_local(folders: bool, place: &FolderPlace) -> bool
     ensures { result ≡ is_local folders place.now }
 {
     !folders && is_cabal(&place.path)

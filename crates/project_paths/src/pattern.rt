@@ -1,8 +1,8 @@
 // The text of an entry: names, in which a star stands for any bytes.
 ghost use Rattle.std.specs.Prelude.{◌≡◌, ◌||◌, ◌==◌, filter, map, IfOk};
 ghost use Rattle.std.specs.List.{list_any, slice_split};
-ghost use Rattle.plan_types.specs.Bytes.{begins_with};
-ghost use Rattle.project_paths.specs.Patterns.{ends_in_slash, has, has_brace, has_mark, is, is_name, is_unsupported, leaves_root, names_in, names_of, pattern_of, stem};
+ghost use Rattle.plan_types.specs.Bytes.{begins_with, same_text};
+ghost use Rattle.project_paths.specs.Patterns.{ends_in_slash, has, has_brace, has_mark, is_name, is_unsupported, leaves_root, names_in, names_of, pattern_of, stem};
 
 use plan_types::{List, NoMemory, Text};
 use std::alloc::{AllocError, Global};
@@ -47,7 +47,8 @@ fn names_in(alloc: Global, stem: &str) -> Result<List<Text>, NoMemory>
 }
 
 fn pieces(alloc: Global, text: &str) -> Result<Vec<&str>, AllocError>
-    ensures { IfOk result (λ pieces. map (λ piece. piece.now) pieces.items ≡ slice_split (λ b. b == 47) text.now) }
+    ensures { IfOk result (λ pieces. map (λ piece. piece.now) pieces.items ≡ slice_split
+        (λ b. b == 47) text.now) }
 {
     text.split('/').collect(alloc)
 }

@@ -10,7 +10,7 @@ use std::alloc::Global;
 
 /// A file or a directory of a folder.
 #[derive(Debug, Drop)]
-pub(crate) struct Place {
+pub(crate) struct FolderPlace {
     pub path: Text,
     pub folder: bool,
 }
@@ -20,9 +20,10 @@ pub(crate) fn places<F: Folder>(
     alloc: Global,
     folder: &mut F,
     names: &[Text],
-) -> Result<List<Place>, Trouble>
-    ensures told { IfSome (F.tells folder.old) (λ files. IfOk result (λ found. found ≡ places files names.now)) }
-    ensures folder { Leaves (F.tells folder.old) (F.faults folder.old) (F.tells folder.new) (F.faults folder.new) (IsErrOf result Trouble.Failed) }
+) -> Result<List<FolderPlace>, Trouble>
+    ensures told { IfSome (F.tells folder.old)
+        (λ files. IfOk result (λ found. found ≡ places files names.now)) }
+    ensures folder { Leaves F.tells F.faults folder.old folder.new (IsErrOf result Trouble.Failed) }
 {
     let mut found = root(alloc)?;
     for name in names {
@@ -31,11 +32,11 @@ pub(crate) fn places<F: Folder>(
     Ok(found)
 }
 
-fn root(alloc: Global) -> Result<List<Place>, NoMemory>
+fn root(alloc: Global) -> Result<List<FolderPlace>, NoMemory>
     ensures { IfOk result (λ found. found ≡ root ∷ []) }
 {
     let mut found = List::new(alloc);
-    found.push(Place {
+    found.push(FolderPlace {
         path: Text::new(alloc),
         folder: true,
     })?;
@@ -46,10 +47,11 @@ fn all_below<F: Folder>(
     alloc: Global,
     folder: &mut F,
     pattern: &Text,
-    places: &[Place],
-) -> Result<List<Place>, Trouble>
-    ensures told { IfSome (F.tells folder.old) (λ files. IfOk result (λ found. found ≡ flat_map (below files pattern.now) places.now)) }
-    ensures folder { Leaves (F.tells folder.old) (F.faults folder.old) (F.tells folder.new) (F.faults folder.new) (IsErrOf result Trouble.Failed) }
+    places: &[FolderPlace],
+) -> Result<List<FolderPlace>, Trouble>
+    ensures told { IfSome (F.tells folder.old)
+        (λ files. IfOk result (λ found. found ≡ flat_map (below files pattern.now) places.now)) }
+    ensures folder { Leaves F.tells F.faults folder.old folder.new (IsErrOf result Trouble.Failed) }
 {
     let mut found = List::new(alloc);
     for place in places {
@@ -63,10 +65,11 @@ fn all_below<F: Folder>(
 pub(crate) fn names_at<F: Folder>(
     alloc: Global,
     folder: &mut F,
-    place: &Place,
+    place: &FolderPlace,
 ) -> Result<List<Name>, Trouble>
-    ensures told { IfSome (F.tells folder.old) (λ files. IfOk result (λ names. names ≡ names_at files place.now)) }
-    ensures folder { Leaves (F.tells folder.old) (F.faults folder.old) (F.tells folder.new) (F.faults folder.new) (IsErrOf result Trouble.Failed) }
+    ensures told { IfSome (F.tells folder.old)
+        (λ files. IfOk result (λ names. names ≡ names_at files place.now)) }
+    ensures folder { Leaves F.tells F.faults folder.old folder.new (IsErrOf result Trouble.Failed) }
 {
     if !place.folder {
         return Ok(List::new(alloc));
@@ -78,11 +81,12 @@ pub(crate) fn names_at<F: Folder>(
 fn push_matched(
     alloc: Global,
     pattern: &Text,
-    place: &Place,
+    place: &FolderPlace,
     names: &[Name],
-    found: &mut List<Place>,
+    found: &mut List<FolderPlace>,
 ) -> Result<(), NoMemory>
-    ensures { OnOk result (found.new ≡ found.old ++ map (place_in place.now.path) (filter (is_matched pattern.now) names.now)) }
+    ensures { OnOk result (found.new ≡ found.old ++ map (place_in place.now.path)
+        (filter (is_matched pattern.now) names.now)) }
 {
     for name in names {
         if matches(alloc, pattern.as_bytes(), name.text.as_bytes())? {
@@ -92,11 +96,11 @@ fn push_matched(
     Ok(())
 }
 
-fn place_in(dir: &Place, name: &Name) -> Result<Place, NoMemory>
+fn place_in(dir: &FolderPlace, name: &Name) -> Result<FolderPlace, NoMemory>
     ensures { IfOk result (λ place. place ≡ place_in dir.now.path name.now) }
 {
     let path = path_in(&dir.path, &name.text)?;
-    Ok(Place {
+    Ok(FolderPlace {
         path,
         folder: name.folder,
     })

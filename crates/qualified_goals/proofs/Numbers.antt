@@ -22,54 +22,51 @@ use Rattle.qualified_goals.specs.declared.variable.Qual.TheVariants.{Top, Setup,
 use Rattle.qualified_goals.specs.declared.variable.Part.{Part}
 use Rattle.qualified_goals.specs.declared.variable.Part.TheVariants.{Package as ThePackage, Flag, Tests, Benches}
 use Rattle.qualified_goals.specs.Variable.{qual_cmp, part_cmp}
-use Rattle.qualified_goals.specs.Names.{Name, NameTable, is_text, is_listed, class_of, package_cmp, no_package, by_package, by_flag, qual_order, part_order, HasQual, HasPart, AreNumbers, IsGoalOrder}
+use Rattle.qualified_goals.specs.Names.{Name, NameTable, is_listed, class_of, package_cmp, by_package, by_flag, qual_order, part_order, HasQual, HasPart, AreNumbers, IsGoalOrder}
+use Rattle.plan_types.specs.Bytes.{same_text}
+use Rattle.common_laws.specs.Small.{or-last}
+use Rattle.plan_types.specs.Packages.{no_package}
 
 -- a name that is put behind others isn't among these
-none-before : (names : List Name) (name : Name) (more : List Name) → IsDistinct is_text (names ++ name ∷ more) → list_any (is_text name) names ≡ false
+none-before : (names : List Name) (name : Name) (more : List Name) → IsDistinct same_text (names ++ name ∷ more) → list_any (same_text name) names ≡ false
 none-before [] name more h = refl
 none-before (n ∷ names) name more h =
-    let first = at-end names name more (IsDistinct-head is_text n (names ++ name ∷ more) h) in
-    ap (λ b. b || list_any (is_text name) names) (nat_list_eq_equiv.symm name n ∙ first) ∙ none-before names name more (IsDistinct-tail is_text n (names ++ name ∷ more) h)
+    let first = at-end names name more (IsDistinct-head same_text n (names ++ name ∷ more) h) in
+    ap (λ b. b || list_any (same_text name) names) (nat_list_eq_equiv.symm name n ∙ first) ∙ none-before names name more (IsDistinct-tail same_text n (names ++ name ∷ more) h)
   where
-    at-end : (ns : List Name) (m : Name) (more : List Name) → AllByRecursion (λ y. is_text n y ≡ false) (ns ++ m ∷ more) → is_text n m ≡ false
+    at-end : (ns : List Name) (m : Name) (more : List Name) → AllByRecursion (λ y. same_text n y ≡ false) (ns ++ m ∷ more) → same_text n m ≡ false
     at-end [] m more h = h.0
     at-end (x ∷ ns) m more h = at-end ns m more h.1
 
 -- names that differ go in one by one
-put-all : (names more : List Name) → IsDistinct is_text (names ++ more) → fold (insert_key is_text) names more ≡ names ++ more
+put-all : (names more : List Name) → IsDistinct same_text (names ++ more) → fold (insert_key same_text) names more ≡ names ++ more
 put-all names [] h = sym (append-nil names)
 put-all names (n ∷ more) h =
     let fresh = none-before names n more h in
-    ap (λ b. fold (insert_key is_text) (if b then names else names ++ n ∷ []) more) fresh
-    ∙ put-all (names ++ n ∷ []) more (subst (IsDistinct is_text) (sym (append_assoc names (n ∷ []) more)) h)
+    ap (λ b. fold (insert_key same_text) (if b then names else names ++ n ∷ []) more) fresh
+    ∙ put-all (names ++ n ∷ []) more (subst (IsDistinct same_text) (sym (append_assoc names (n ∷ []) more)) h)
     ∙ append_assoc names (n ∷ []) more
 
-pub distinct-kept : (names : List Name) → IsDistinct is_text names → fold (insert_key is_text) [] names ≡ names
+pub distinct-kept : (names : List Name) → IsDistinct same_text names → fold (insert_key same_text) [] names ≡ names
 distinct-kept names h = put-all [] names h
 
 -- names that are sorted and differ rise
 
-kept-from : (name : Name) (names : List Name) → IsDistinct is_text (name ∷ names) → dedup_from is_text name names ≡ name ∷ names
+kept-from : (name : Name) (names : List Name) → IsDistinct same_text (name ∷ names) → dedup_from same_text name names ≡ name ∷ names
 kept-from name [] h = refl
 kept-from name (n ∷ names) h =
-    let differ : is_text n name ≡ false = nat_list_eq_equiv.symm n name ∙ (IsDistinct-head is_text name (n ∷ names) h).0 in
-    ap (λ b. cond b (dedup_from is_text name names) (name ∷ dedup_from is_text n names)) differ
-    ∙ ap (λ ns. name ∷ ns) (kept-from n names (IsDistinct-tail is_text name (n ∷ names) h))
+    let differ : same_text n name ≡ false = nat_list_eq_equiv.symm n name ∙ (IsDistinct-head same_text name (n ∷ names) h).0 in
+    ap (λ b. cond b (dedup_from same_text name names) (name ∷ dedup_from same_text n names)) differ
+    ∙ ap (λ ns. name ∷ ns) (kept-from n names (IsDistinct-tail same_text name (n ∷ names) h))
 
-kept : (names : List Name) → IsDistinct is_text names → dedup is_text names ≡ names
+kept : (names : List Name) → IsDistinct same_text names → dedup same_text names ≡ names
 kept [] h = refl
 kept (n ∷ names) h = kept-from n names h
 
-pub sorted-rise : (names : List Name) → IsSorted (slice_cmp nat_cmp) names → IsDistinct is_text names → IsStrictlySortedBy (slice_cmp nat_cmp) names
+pub sorted-rise : (names : List Name) → IsSorted (slice_cmp nat_cmp) names → IsDistinct same_text names → IsStrictlySortedBy (slice_cmp nat_cmp) names
 sorted-rise names sorted distinct = subst (IsStrictlySortedBy (slice_cmp nat_cmp)) (kept names distinct) (IsStrictlySortedBy-dedup nat_list_cmp_total texts_ties names sorted)
 
 -- names that are put in are the names that were
-
-or-last : (a b : Bool) → (a || (b || false)) ≡ (b || a)
-or-last true true = refl
-or-last true false = refl
-or-last false true = refl
-or-last false false = refl
 
 or-turn : (a b c : Bool) → ((a || b) || c) ≡ (b || (a || c))
 or-turn true true c = refl
@@ -77,28 +74,28 @@ or-turn true false c = refl
 or-turn false true c = refl
 or-turn false false c = refl
 
-same-listed : (k q : Name) (names : List Name) → is_text q k ≡ true → is_listed names q ≡ is_listed names k
+same-listed : (k q : Name) (names : List Name) → same_text q k ≡ true → is_listed names q ≡ is_listed names k
 same-listed k q [] h = refl
-same-listed k q (n ∷ names) h = ap (λ b. b || is_listed names q) (nat_list_eq_equiv.congr q k n h) ∙ ap (λ b. is_text k n || b) (same-listed k q names h)
+same-listed k q (n ∷ names) h = ap (λ b. b || is_listed names q) (nat_list_eq_equiv.congr q k n h) ∙ ap (λ b. same_text k n || b) (same-listed k q names h)
 
-listed-insert : (names : List Name) (k q : Name) → is_listed (insert_key is_text names k) q ≡ (is_text q k || is_listed names q)
+listed-insert : (names : List Name) (k q : Name) → is_listed (insert_key same_text names k) q ≡ (same_text q k || is_listed names q)
 listed-insert names k q =
-    elim (is_listed names k) as (λ b. is_listed names k ≡ b → is_listed (if b then names else names ++ k ∷ []) q ≡ (is_text q k || is_listed names q)) [
-      | true ↦ λ e. elim (is_text q k) as (λ c. is_text q k ≡ c → is_listed names q ≡ (c || is_listed names q)) [
+    elim (is_listed names k) as (λ b. is_listed names k ≡ b → is_listed (if b then names else names ++ k ∷ []) q ≡ (same_text q k || is_listed names q)) [
+      | true ↦ λ e. elim (same_text q k) as (λ c. same_text q k ≡ c → is_listed names q ≡ (c || is_listed names q)) [
         | true ↦ λ f. same-listed k q names f ∙ e
         | false ↦ λ f. refl
       ] refl
-      | false ↦ λ e. list_any-append (is_text q) names (k ∷ []) ∙ or-last (is_listed names q) (is_text q k)
+      | false ↦ λ e. list_any-append (same_text q) names (k ∷ []) ∙ or-last (is_listed names q) (same_text q k)
     ] refl
 
-listed-all : (names more : List Name) (q : Name) → is_listed (fold (insert_key is_text) names more) q ≡ (is_listed names q || is_listed more q)
+listed-all : (names more : List Name) (q : Name) → is_listed (fold (insert_key same_text) names more) q ≡ (is_listed names q || is_listed more q)
 listed-all names [] q = sym (or-false (is_listed names q))
 listed-all names (n ∷ more) q =
-    listed-all (insert_key is_text names n) more q
+    listed-all (insert_key same_text names n) more q
     ∙ ap (λ b. b || is_listed more q) (listed-insert names n q)
-    ∙ or-turn (is_text q n) (is_listed names q) (is_listed more q)
+    ∙ or-turn (same_text q n) (is_listed names q) (is_listed more q)
 
-pub names-stay : (names : List Name) (q : Name) → is_listed (fold (insert_key is_text) [] names) q ≡ is_listed names q
+pub names-stay : (names : List Name) (q : Name) → is_listed (fold (insert_key same_text) [] names) q ≡ is_listed names q
 names-stay names q = listed-all [] names q
 
 -- places in a sorted list are in its order
@@ -162,8 +159,8 @@ module _ (packages : List Package) (names : NameTable) (sorted : IsStrictlySorte
 
 -- one name more is put in
 pub put-one : {X : Type 0} (name : X → Name) (start : List Name) (xs : List X) (i : ℕ) (x : X) (before after : List Name) (n : Name)
-    → i < length xs → x ≡ get_or xs i x → n ≡ name x → before ≡ fold (insert_key is_text) start (map name (take i xs)) → after ≡ insert_key is_text before n
-    → after ≡ fold (insert_key is_text) start (map name (take (i + 1) xs))
+    → i < length xs → x ≡ get_or xs i x → n ≡ name x → before ≡ fold (insert_key same_text) start (map name (take i xs)) → after ≡ insert_key same_text before n
+    → after ≡ fold (insert_key same_text) start (map name (take (i + 1) xs))
 put-one name start xs i x before after n within at is so_far put =
-    put ∙ ap (λ m. insert_key is_text before m) (is ∙ ap name at) ∙ ap (λ ns. insert_key is_text ns (name (get_or xs i x))) so_far
-    ∙ sym (ap (λ ys. fold (insert_key is_text) start (map name ys)) (take_more xs i x within) ∙ ap (fold (insert_key is_text) start) (map-append name (take i xs) (get_or xs i x ∷ [])) ∙ fold-append (insert_key is_text) start (map name (take i xs)) (name (get_or xs i x) ∷ []))
+    put ∙ ap (λ m. insert_key same_text before m) (is ∙ ap name at) ∙ ap (λ ns. insert_key same_text ns (name (get_or xs i x))) so_far
+    ∙ sym (ap (λ ys. fold (insert_key same_text) start (map name ys)) (take_more xs i x within) ∙ ap (fold (insert_key same_text) start) (map-append name (take i xs) (get_or xs i x ∷ [])) ∙ fold-append (insert_key same_text) start (map name (take i xs)) (name (get_or xs i x) ∷ []))

@@ -13,6 +13,7 @@ use Rattle.qualified_goals.specs.declared.variable.Part.TheVariants.{Package, Fl
 use Rattle.qualified_goals.specs.declared.variable.Var.{Var}
 use Rattle.qualified_goals.specs.Variable.{qual_cmp, part_cmp, var_cmp, is_equal, is_before}
 use Rattle.qualified_goals.specs.SameVariable.{same_var-is}
+use Rattle.common_laws.specs.Small.{is-less}
 
 -- an order that is another one at each pair is total where that is
 total-alike : {K : Type 0} (R S : K → K → Ordering) → ((x y : K) → R x y ≡ S x y) → IsTotalOrder S → IsTotalOrder R
@@ -110,16 +111,11 @@ var_cmp_total = then_total (on_total (λ (v : Var). v.qual) qual_cmp_total) (the
 
 -- what a test for before says
 
-lt-less : (o : Ordering) → is_lt o ≡ true → o ≡ Less
-lt-less Less h = refl
-lt-less Equal h = absurd (false≢true h)
-lt-less Greater h = absurd (false≢true h)
-
 pub before-itself : (v : Var) → is_before v v ≡ false
 before-itself v = ap is_lt (tied_itself var_cmp_total v)
 
 pub before-trans : (u v w : Var) → is_before u v ≡ true → is_before v w ≡ true → is_before u w ≡ true
-before-trans u v w h k = ap is_lt (var_cmp_total.trans u v w (lt-less (var_cmp u v) h) (lt-less (var_cmp v w) k))
+before-trans u v w h k = ap is_lt (var_cmp_total.trans u v w (is-less (var_cmp u v) h) (is-less (var_cmp v w) k))
 
 reverse-lt : (o : Ordering) → is_lt o ≡ true → is_lt (ordering_reverse o) ≡ false
 reverse-lt Less h = refl

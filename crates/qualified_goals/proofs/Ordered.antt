@@ -4,7 +4,8 @@ use Rattle.std.specs.List.{IsDistinct}
 use Rattle.std.specs.List.Sorted.{IsStrictlySortedBy}
 use Rattle.std.specs.declared.cmp.Ordering.{Ordering}
 use Rattle.plan_types.specs.declared.index.Package.{Package}
-use Rattle.qualified_goals.specs.Names.{Name, is_text, package_cmp, AreInGoalOrder}
+use Rattle.qualified_goals.specs.Names.{Name, package_cmp, AreInGoalOrder}
+use Rattle.plan_types.specs.Bytes.{same_text}
 
 abbrev by-names : Name → Bool → Name → Bool → Ordering
 by-names m a n b = package_cmp (record { name = m; local = a; extra = false; entries = [] }) (record { name = n; local = b; extra = false; entries = [] })
@@ -13,8 +14,8 @@ named : (p q : Package) (m n : Name) (a b : Bool) → p.name ≡ m → p.local �
 named p q m n a b e f g h =
     ap (λ x. by-names x p.local q.name q.local) e ∙ ap (λ x. by-names m x q.name q.local) f ∙ ap (λ x. by-names m a x q.local) g ∙ ap (λ x. by-names m a n x) h
 
-differ : (p q : Package) (m n : Name) → p.name ≡ m → q.name ≡ n → is_text p.name q.name ≡ is_text m n
-differ p q m n e f = ap (λ x. is_text x q.name) e ∙ ap (is_text m) f
+differ : (p q : Package) (m n : Name) → p.name ≡ m → q.name ≡ n → same_text p.name q.name ≡ same_text m n
+differ p q m n e f = ap (λ x. same_text x q.name) e ∙ ap (same_text m) f
 
 module _ (base main other : Package) (base_named : base.name ≡ codes "base") (base_is : base.local ≡ false) (main_named : main.name ≡ codes "main") (main_is : main.local ≡ true) (other_named : other.name ≡ codes "a") (other_is : other.local ≡ false) where
   pub in_order : AreInGoalOrder (base ∷ main ∷ other ∷ [])

@@ -1,11 +1,11 @@
 -- Names and their numbers, and the goal order in terms of names.
-use Rattle.std.specs.Prelude.{◌≡◌, ℕ, ◌<◌, ⊤, Bool, false, List, [], length, map, flat_map, position, codes, Option, nat_eq, get_or, if◌then◌else◌}
+use Rattle.std.specs.Prelude.{◌≡◌, ℕ, ◌<◌, ⊤, Bool, false, List, [], length, map, flat_map, position, codes, Option, get_or, if◌then◌else◌}
 use Rattle.std.specs.List.{list_any, IsDistinct}
 use Rattle.std.specs.List.Sorted.{IsStrictlySortedBy}
 use Rattle.std.specs.Ordering.{nat_cmp, ordering_then}
 use Rattle.std.specs.declared.cmp.Ordering.{Ordering}
 use Rattle.std.specs.declared.cmp.Ordering.TheVariants.{Less, Equal, Greater}
-use Rattle.std.specs.Cmp.Lexicographic.{pointwise, slice_cmp}
+use Rattle.std.specs.Cmp.Lexicographic.{slice_cmp}
 use Rattle.plan_types.specs.declared.description.FlagDecl.{FlagDecl}
 use Rattle.plan_types.specs.declared.index.Body.{Body}
 use Rattle.plan_types.specs.declared.index.Body.TheVariants.{Source, Installed}
@@ -16,36 +16,37 @@ use Rattle.qualified_goals.specs.declared.variable.Part.{Part}
 use Rattle.qualified_goals.specs.declared.variable.Part.TheVariants.{Package as ThePackage, Flag, Tests, Benches}
 use Rattle.qualified_goals.specs.declared.variable.Var.{Var}
 use Rattle.qualified_goals.specs.Variable.{var_cmp}
+use Rattle.plan_types.specs.Bytes.{same_text}
+use Rattle.plan_types.specs.Packages.{declared_by, no_package}
 
+-- a name is its bytes
 abbrev pub Name : Type 0
 Name = List ℕ
 
-abbrev pub is_text : Name → Name → Bool
-is_text one other = pointwise nat_eq one other
-
+-- whether a name is among these
 abbrev pub is_listed : List Name → Name → Bool
-is_listed names name = list_any (is_text name) names
+is_listed names name = list_any (same_text name) names
 
 -- a name's number is its place among the names of its kind
 pub record NameTable : Type 0 where
   pub packages : List Name
   pub flags : List Name
 
+-- the number of a name is its place
 abbrev pub number_of : List Name → Name → Option ℕ
-number_of names name = position (is_text name) names
+number_of names name = position (same_text name) names
 
+-- the name that has a number
 abbrev pub name_of : List Name → ℕ → Name
 name_of names number = get_or names number []
 
 -- the names of an index
 
+-- the names of packages
 abbrev pub package_names : List Package → List Name
 package_names packages = map (λ p. p.name) packages
 
-abbrev pub declared_by : Body → List FlagDecl
-declared_by (Source description flat exposed) = description.flags
-declared_by (Installed record_of needs) = []
-
+-- the flags that the instances of a package declare
 abbrev pub flags_in : Package → List FlagDecl
 flags_in p = flat_map (λ e. declared_by e.body) p.entries
 
@@ -55,15 +56,16 @@ flag_names packages = map (λ f. f.name) (flat_map flags_in packages)
 
 -- `base`, then the local packages, then all others
 abbrev pub class_of : Package → ℕ
-class_of p = if is_text p.name (codes "base") then 0 else if p.local then 1 else 2
+class_of p = if same_text p.name (codes "base") then 0 else if p.local then 1 else 2
 
+-- the order of packages: by class, and then by name
 abbrev pub package_cmp : Package → Package → Ordering
 package_cmp p q = ordering_then (nat_cmp (class_of p) (class_of q)) (slice_cmp nat_cmp p.name q.name)
 
 -- packages stand in goal order, each name once
 pub record AreInGoalOrder (packages : List Package) : Type 0 where
   pub rising : IsStrictlySortedBy package_cmp packages
-  pub once : IsDistinct is_text (package_names packages)
+  pub once : IsDistinct same_text (package_names packages)
 
 -- A package has its place in the index as its number. Flags are numbered in byte order.
 pub record AreNumbers (packages : List Package) (names : NameTable) : Type 0 where
@@ -73,17 +75,20 @@ pub record AreNumbers (packages : List Package) (names : NameTable) : Type 0 whe
 
 -- the numbers of a variable are those of names
 
+-- the packages that a qualifier names have numbers
 abbrev pub HasQual : NameTable → Qual → Type 0
 HasQual names Top = ⊤
 HasQual names (Setup p) = p < length names.packages
 HasQual names (Exe p t) = (p < length names.packages) × (t < length names.packages)
 
+-- the flag that a part names has a number
 abbrev pub HasPart : NameTable → Part → Type 0
 HasPart names ThePackage = ⊤
 HasPart names (Flag f) = f < length names.flags
 HasPart names Tests = ⊤
 HasPart names Benches = ⊤
 
+-- all that a variable names has a number
 pub record HasNumbers (names : NameTable) (v : Var) : Type 0 where
   pub qual_is : HasQual names v.qual
   pub package_is : v.«package» < length names.packages
@@ -91,12 +96,11 @@ pub record HasNumbers (names : NameTable) (v : Var) : Type 0 where
 
 -- the goal order, by names
 
-abbrev pub no_package : Package
-no_package = record { name = []; local = false; extra = false; entries = [] }
-
+-- the order of the packages with these numbers
 abbrev pub by_package : List Package → ℕ → ℕ → Ordering
 by_package packages p q = package_cmp (get_or packages p no_package) (get_or packages q no_package)
 
+-- the order of the flags with these numbers
 abbrev pub by_flag : List Name → ℕ → ℕ → Ordering
 by_flag flags f g = slice_cmp nat_cmp (name_of flags f) (name_of flags g)
 

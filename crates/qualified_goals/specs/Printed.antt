@@ -20,5 +20,6 @@ part_text names (Flag f) = codes ":" ++ name_of names.flags f
 part_text names Tests = codes ":*test"
 part_text names Benches = codes ":*bench"
 
+-- the text of a variable: its qualifier, its package and its part
 abbrev pub var_text : NameTable → Var → Name
 var_text names v = qual_text names v.qual ++ name_of names.packages v.«package» ++ part_text names v.part

@@ -12,6 +12,7 @@ use Rattle.qualified_goals.specs.declared.variable.Part.{Part}
 use Rattle.qualified_goals.specs.declared.variable.Part.TheVariants.{Package, Flag, Tests, Benches}
 use Rattle.qualified_goals.specs.declared.variable.Var.{Var}
 use Rattle.qualified_goals.specs.Variable.{qual_cmp, part_cmp, var_cmp, is_equal, same_var}
+use Rattle.common_laws.specs.Small.{second-equal}
 
 pub is_equal-is : (o : Ordering) → is_equal o ≡ true → o ≡ Equal
 is_equal-is Less h = absurd (false≢true h)
@@ -23,11 +24,6 @@ then-first Less b h = h
 then-first Equal b h = refl
 then-first Greater b h = h
 
-then-second : (a b : Ordering) → ordering_then a b ≡ Equal → b ≡ Equal
-then-second Less b h = absurd (cc h)
-then-second Equal b h = h
-then-second Greater b h = absurd (cc h)
-
 pub qual-is : (q r : Qual) → qual_cmp q r ≡ Equal → q ≡ r
 qual-is Top Top h = refl
 qual-is Top (Setup q) h = absurd (cc h)
@@ -38,7 +34,7 @@ qual-is (Setup p) (Exe q u) h = absurd (cc h)
 qual-is (Exe p t) Top h = absurd (cc h)
 qual-is (Exe p t) (Setup q) h = absurd (cc h)
 qual-is (Exe p t) (Exe q u) h =
-    ap (λ x. Exe x t) (exact_unsigned p q (then-first (nat_cmp p q) (nat_cmp t u) h)) ∙ ap (Exe q) (exact_unsigned t u (then-second (nat_cmp p q) (nat_cmp t u) h))
+    ap (λ x. Exe x t) (exact_unsigned p q (then-first (nat_cmp p q) (nat_cmp t u) h)) ∙ ap (Exe q) (exact_unsigned t u (second-equal (nat_cmp p q) (nat_cmp t u) h))
 
 part-is : (q r : Part) → part_cmp q r ≡ Equal → q ≡ r
 part-is Package Package h = refl
@@ -62,9 +58,9 @@ pub same_var-is : (v w : Var) → same_var v w ≡ true → v ≡ w
 same_var-is v w h =
     let e = is_equal-is (var_cmp v w) h in
     let q = qual-is v.qual w.qual (then-first (qual_cmp v.qual w.qual) (ordering_then (nat_cmp v.«package» w.«package») (part_cmp v.part w.part)) e) in
-    let rest = then-second (qual_cmp v.qual w.qual) (ordering_then (nat_cmp v.«package» w.«package») (part_cmp v.part w.part)) e in
+    let rest = second-equal (qual_cmp v.qual w.qual) (ordering_then (nat_cmp v.«package» w.«package») (part_cmp v.part w.part)) e in
     let n = exact_unsigned v.«package» w.«package» (then-first (nat_cmp v.«package» w.«package») (part_cmp v.part w.part) rest) in
-    let r = part-is v.part w.part (then-second (nat_cmp v.«package» w.«package») (part_cmp v.part w.part) rest) in
+    let r = part-is v.part w.part (second-equal (nat_cmp v.«package» w.«package») (part_cmp v.part w.part) rest) in
     ap (λ x. record { qual = x; «package» = v.«package»; part = v.part }) q
     ∙ ap (λ x. record { qual = w.qual; «package» = x; part = v.part }) n
     ∙ ap (λ x. record { qual = w.qual; «package» = w.«package»; part = x }) r

@@ -40,6 +40,7 @@ part_cmp Benches q = Greater
 abbrev pub var_cmp : Var → Var → Ordering
 var_cmp v w = ordering_then (qual_cmp v.qual w.qual) (ordering_then (nat_cmp v.package w.package) (part_cmp v.part w.part))
 
+-- whether two things that were compared are equal
 abbrev pub is_equal : Ordering → Bool
 is_equal Less = false
 is_equal Equal = true

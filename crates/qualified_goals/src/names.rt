@@ -1,11 +1,14 @@
+// The numbers of packages and flags, and the names behind them.
 ghost use Rattle.std.specs.Prelude.{◌≡◌, ◌<◌, ◌++◌, [], ◌∷◌, List, ℕ, length, map, fold, flat_map, IfOk, IfSome, OnOk};
 ghost use Rattle.std.specs.List.{IsDistinct};
 ghost use Rattle.std.specs.List.Sorted.{IsStrictlySortedBy};
 ghost use Rattle.std.specs.Ordering.{nat_cmp};
 ghost use Rattle.std.specs.Cmp.Lexicographic.{slice_cmp};
 ghost use Rattle.indexmap.specs.IndexSet.{insert_key};
-ghost use Rattle.qualified_goals.specs.Names.{AreInGoalOrder, AreNumbers, IsGoalOrder, Name, declared_by, flag_names, flags_in, is_listed, is_text, name_of, number_of, package_names};
+ghost use Rattle.qualified_goals.specs.Names.{AreInGoalOrder, AreNumbers, IsGoalOrder, Name, flag_names, flags_in, is_listed, name_of, number_of, package_names};
 ghost use Rattle.qualified_goals.specs.Printed.{part_text, qual_text, var_text};
+ghost use Rattle.plan_types.specs.Bytes.{same_text};
+ghost use Rattle.plan_types.specs.Packages.{declared_by};
 
 use crate::{Part, Qual, Var};
 use indexmap::IndexSet;
@@ -119,7 +122,7 @@ fn name_in(names: &IndexSet<Text>, number: u64) -> &str
 }
 
 fn numbered_packages(alloc: Global, packages: &[Package]) -> Result<IndexSet<Text>, NoMemory>
-    requires { IsDistinct is_text (package_names packages.now) }
+    requires { IsDistinct same_text (package_names packages.now) }
     ensures { IfOk result (λ names. names.keys ≡ package_names packages.now) }
 {
     let mut names = IndexSet::new(alloc);
@@ -139,7 +142,7 @@ fn numbered_flags(alloc: Global, packages: &[Package]) -> Result<IndexSet<Text>,
 }
 
 fn declared_flags(alloc: Global, packages: &[Package]) -> Result<IndexSet<Text>, NoMemory>
-    ensures { IfOk result (λ names. names.keys ≡ fold (insert_key is_text) [] (flag_names packages.now)) }
+    ensures { IfOk result (λ names. names.keys ≡ fold (insert_key same_text) [] (flag_names packages.now)) }
 {
     let mut names = IndexSet::new(alloc);
     for package in packages {
@@ -149,25 +152,16 @@ fn declared_flags(alloc: Global, packages: &[Package]) -> Result<IndexSet<Text>,
 }
 
 fn add_package(names: &mut IndexSet<Text>, package: &Package) -> Result<(), NoMemory>
-    ensures { OnOk result (names.new.keys ≡ fold (insert_key is_text) names.old.keys (map (λ f. f.name) (flags_in «package».now))) }
+    ensures { OnOk result (names.new.keys ≡ fold (insert_key same_text) names.old.keys (map (λ f. f.name) (flags_in «package».now))) }
 {
     for entry in package.entries.as_slice() {
-        add_flags(names, declared_by(&entry.body))?;
+        add_flags(names, entry.body.declared_flags())?;
     }
     Ok(())
 }
 
-fn declared_by(body: &Body) -> &[FlagDecl]
-    ensures { result.now ≡ declared_by body.now }
-{
-    match body {
-        Body::Source { description, .. } => description.flags.as_slice(),
-        Body::Installed { .. } => &[],
-    }
-}
-
 fn add_flags(names: &mut IndexSet<Text>, flags: &[FlagDecl]) -> Result<(), NoMemory>
-    ensures { OnOk result (names.new.keys ≡ fold (insert_key is_text) names.old.keys (map (λ f. f.name) flags.now)) }
+    ensures { OnOk result (names.new.keys ≡ fold (insert_key same_text) names.old.keys (map (λ f. f.name) flags.now)) }
 {
     for flag in flags {
         names.insert(flag.name.copy()?)?;

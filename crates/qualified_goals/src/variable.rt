@@ -1,3 +1,4 @@
+// Variables, and their goal order.
 ghost use Rattle.std.specs.Prelude.{◌≡◌};
 ghost use Rattle.qualified_goals.specs.Variable.{same_var, is_before};
 

@@ -10,3 +10,6 @@ pub mod Steps
 pub mod Exactly
 pub mod TwoChains
 pub mod Letters
+pub mod Boundaries
+pub mod Cuts
+pub mod LastSaid

@@ -2,7 +2,7 @@
 use Rattle.std.proofs.Common.{◌≡◌, ◌≢◌, ℕ, false, List, [], ◌∷◌, ◌++◌, codes, Ok, Err, refl, ap}
 use Rattle.plan_types.specs.declared.refusal.Cause.{Cause}
 use Rattle.plan_types.specs.Bytes.{is_blank, Blanks, begins_with}
-use Rattle.text_grammar.specs.Parts.{Led, led, Behind, one, more, Term, Terms}
+use Rattle.text_grammar.specs.Parts.{Led, led, Behind, one, Term, Terms}
 use Rattle.text_grammar.specs.Reading.{skip_blanks, term_at, terms_at}
 use Rattle.text_grammar.proofs.TextKind.{Kind, miss}
 use Rattle.text_grammar.proofs.Fronts.{Reader, Apart, apart_longer, apart_shorter, some_append, Read, Fault}

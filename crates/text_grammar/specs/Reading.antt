@@ -5,7 +5,9 @@ use Rattle.plan_types.specs.declared.refusal.Cause.{Cause}
 use Rattle.plan_types.specs.declared.refusal.TextFault.{TextFault}
 use Rattle.plan_types.specs.Refusal.{Refuses}
 
+-- reading goes on with what was read
 infixl 10 ◌>>=◌
+-- what follows a reading that succeeds
 abbrev pub ◌>>=◌ : {A B : Type 0} → Result A Cause → (A → Result B Cause) → Result B Cause
 (Ok x) >>= f = f x
 (Err cause) >>= f = Err cause
@@ -14,6 +16,7 @@ abbrev pub ◌>>=◌ : {A B : Type 0} → Result A Cause → (A → Result B Cau
 abbrev pub Fails : {B : Type 0} → TextFault → Result B Cause → Type 0
 Fails fault read = Refuses (λ cause. read ≡ Err cause) fault
 
+-- what a call answered, seen so, is what reading gives
 abbrev pub Gives : {A B : Type 0} → (A → B) → Result A TextFault → Result B Cause → Type 0
 Gives view (Ok x) read = read ≡ Ok (view x)
 Gives view (Err fault) read = Fails fault read
@@ -33,6 +36,7 @@ unfoldable pub chain : {A B : Type 0} → (A → B → A) → (List ℕ → Resu
 chain join next zero left rest = Ok (left, rest)
 chain join next (suc n) left rest = next rest >>= λ found. elim found [ None ↦ Ok (left, rest) | Some p ↦ chain join next n (join left p.0) p.1 ]
 
+-- those that follow a first part
 abbrev pub chained : {A B : Type 0} → (A → B → A) → (List ℕ → Result (Option (B × List ℕ)) Cause) → A × List ℕ → Result (A × List ℕ) Cause
 chained join next first = chain join next (length first.1 + 1) first.0 first.1
 
@@ -48,9 +52,11 @@ behind_twice missing byte text = elim (byte_after byte (skip_blanks text)) [ Non
 abbrev pub next_at : {A : Type 0} → (List ℕ → Result (A × List ℕ) Cause) → (List ℕ → Cause) → ℕ → List ℕ → Result (Option (A × List ℕ)) Cause
 next_at operand missing byte text = behind_twice missing byte text >>= λ found. elim found [ None ↦ Ok None | Some rest ↦ operand rest >>= λ p. Ok (Some p) ]
 
+-- factors joined by `&&`
 abbrev pub term_at : {A : Type 0} → (A → A → A) → (List ℕ → Cause) → (List ℕ → Result (A × List ℕ) Cause) → List ℕ → Result (A × List ℕ) Cause
 term_at both missing factor text = factor (skip_blanks text) >>= chained both (next_at (λ t. factor (skip_blanks t)) missing 38)
 
+-- terms joined by `||`
 abbrev pub terms_at : {A : Type 0} → (A → A → A) → (A → A → A) → (List ℕ → Cause) → (List ℕ → Result (A × List ℕ) Cause) → List ℕ → Result (A × List ℕ) Cause
 terms_at both either missing factor text = term_at both missing factor text >>= chained either (next_at (term_at both missing factor) missing 124)
 
@@ -63,6 +69,7 @@ pass_after test (b ∷ bs) = if test b then Some bs else None
 abbrev pub is_letter : ℕ → ℕ → Bool
 is_letter letter b = to_ascii_lowercase b == letter
 
+-- what follows a letter in any case, where it is the first
 abbrev pub letter_after : ℕ → List ℕ → Option (List ℕ)
 letter_after letter = pass_after (is_letter letter)
 

@@ -2,7 +2,8 @@ ghost use Rattle.std.specs.Prelude.{◌≡◌, true, IfOk};
 ghost use Rattle.conditionals.specs.Value.{each_once};
 
 use crate::shared::{environment, shown, spec_of};
-use conditionals::{count_paths, eval, paths, read_cond};
+use condition_text::read_cond;
+use conditionals::{count_paths, eval, paths};
 use plan_types::{Cond, Env, FlagSet, List, NoMemory, Spec, Text, TextFault};
 use std::alloc::Global;
 use std::test::Fail;

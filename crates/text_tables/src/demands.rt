@@ -1,5 +1,5 @@
 use crate::shared::{environment, shown};
-use conditionals::read_cond;
+use condition_text::read_cond;
 use flatten::{demands_of, exposed};
 use plan_types::{
     Cause, CompKind, Component, Dep, DepKind, Description, Env, FlatDep, GuardedDep, LibName, List,

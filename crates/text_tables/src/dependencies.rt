@@ -1,5 +1,6 @@
 use crate::shared::shown;
-use depend_text::{read_constraints, read_depends, read_named, read_relax, read_tools};
+use constraint_text::{read_constraints, read_named, read_relax};
+use depend_text::{read_depends, read_tools};
 use plan_types::{DepKind, Spec};
 use std::alloc::Global;
 use std::test::Fail;

@@ -1,4 +1,3 @@
-pub mod Cuts
 pub mod Pushed
 pub mod Steps
 pub mod One

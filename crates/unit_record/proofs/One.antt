@@ -1,26 +1,18 @@
 -- A text is one record at most.
-use Rattle.std.proofs.Common.{◌≡◌, inl, inr, ℕ, List, [], ◌∷◌, Option, Some, None, Result, Err, refl, sym, subst, ap, ◌∙◌}
+use Rattle.std.proofs.Common.{◌≡◌, inl, inr, ℕ, List, [], ◌∷◌, Option, Result, Err, refl, sym, subst, ap, ◌∙◌}
 use Rattle.plan_types.specs.declared.index.UnitRecord.{UnitRecord}
-use Rattle.plan_types.specs.declared.version.Version.{Version}
 use Rattle.cabal_lexer.proofs.Exact as lexer
-use Rattle.version_range.proofs.Numbers.{one_version, version_from}
-use Rattle.unit_record.specs.Fields.{Field, FieldSays, IsVersion, Say, TopField, field_word, top_fields}
-use Rattle.unit_record.specs.Record.{IsRecord, outcome, told}
+use Rattle.version_range.proofs.Exact.{one_version_of}
+use Rattle.unit_record.specs.Fields.{Field, FieldSays, Say, TopField, field_word, top_fields}
+use Rattle.unit_record.specs.Record.{IsRecord, outcome, contents}
 use Rattle.unit_record.specs.declared.field.FieldWord.{FieldWord}
 use Rattle.unit_record.specs.declared.field.FieldWord.TheVariants as fields
 use Rattle.unit_record.specs.declared.field.Said.{Said}
 use Rattle.unit_record.specs.declared.field.Said.TheVariants as said
 
-one_parsed : (text : List ℕ) (v w : Option Version) → IsVersion text v → IsVersion text w → v ≡ w
-one_parsed text None None p q = refl
-one_parsed text None (Some w) p q = absurd (p w.parts q.0 q.1)
-one_parsed text (Some v) None p q = absurd (q v.parts p.0 p.1)
-one_parsed text (Some v) (Some w) p q =
-    ap (λ n. Some (record { parts = n })) (one_version v.parts w.parts (version_from v.parts p.0) (version_from w.parts q.0) (sym p.1 ∙ q.1))
-
 one_said : (word : FieldWord) (text : List ℕ) (a b : Said) → FieldSays word text a → FieldSays word text b → a ≡ b
 one_said fields.Name text a b p q = p ∙ sym q
-one_said fields.Version text a b p q = p.2 ∙ ap said.Version (one_parsed text p.0 q.0 p.1 q.1) ∙ sym q.2
+one_said fields.Version text a b p q = p.2 ∙ ap said.Version (one_version_of text p.0 q.0 p.1 q.1) ∙ sym q.2
 one_said fields.Id text a b p q = p ∙ sym q
 one_said fields.Depends text a b p q = p ∙ sym q
 one_said fields.LibName text a b p q = p ∙ sym q
@@ -43,4 +35,4 @@ one_record bytes a b (inl p) (inr q) = absurd (lexer.tree_or_fault bytes q.0 p.0
 one_record bytes a b (inr p) (inl q) = absurd (lexer.tree_or_fault bytes p.0 q.0 q.1 p.2 q.2)
 one_record bytes a b (inr p) (inr q) =
     let items = lexer.one_tree bytes p.0 q.0 p.2 q.2 in
-    p.4 ∙ ap (λ f. outcome (told f)) (one_say (top_fields q.0) p.1 q.1 (subst (λ i. Say (top_fields i) p.1) items p.3) q.3) ∙ sym q.4
+    p.4 ∙ ap (λ f. outcome (contents f)) (one_say (top_fields q.0) p.1 q.1 (subst (λ i. Say (top_fields i) p.1) items p.3) q.3) ∙ sym q.4

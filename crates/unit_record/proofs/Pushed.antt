@@ -1,14 +1,16 @@
 -- What fields tell together, one field further.
-use Rattle.std.proofs.Common.{◌≡◌, ℕ, Bool, true, false, ◌||◌, cond, List, [], ◌∷◌, ◌++◌, Option, Some, None, refl, sym, ap, ◌∙◌}
+use Rattle.std.proofs.Common.{◌≡◌, ℕ, Bool, true, false, ◌||◌, cond, List, [], ◌∷◌, ◌++◌, Option, Some, refl, sym, ap, ◌∙◌}
 use Rattle.std.specs.Prelude.{flat_map}
 use Rattle.std.specs.List.{list_any}
+use Rattle.std.specs.Option.{option_or}
+use Rattle.text_grammar.proofs.LastSaid.{last_push}
 use Rattle.std.proofs.lemmas.Grind.{flat_map-append}
 use Rattle.std.proofs.lemmas.List.{append-nil}
 use Rattle.unit_record.specs.Fields.{Field}
-use Rattle.unit_record.specs.Record.{is_lib_name, name_of, version_of, id_of, depends_of, is_bad, first_bad, or_else, last, told}
+use Rattle.unit_record.specs.Record.{is_lib_name, name_of, version_of, id_of, depends_of, is_bad, first_bad, contents}
 use Rattle.unit_record.specs.declared.field.Said.{Said}
 use Rattle.unit_record.specs.declared.field.Said.TheVariants.{Name, Version, Id, Depends, LibName, Unread}
-use Rattle.unit_record.specs.declared.told.Told.{Told}
+use Rattle.unit_record.specs.declared.contents.Contents.{Contents}
 
 or_swap : (a b r : Bool) → (a || (b || r)) ≡ (b || (a || r))
 or_swap true true r = refl
@@ -21,26 +23,14 @@ any_push f [] x = refl
 any_push f (y ∷ ys) x = ap (λ r. f y || r) (any_push f ys x) ∙ or_swap (f y) (f x) (list_any f ys)
 
 bad_push-cons : (t b : Bool) (at line : ℕ) (more : Option ℕ) →
-    cond t (Some at) (cond b (or_else more (Some line)) more) ≡ cond b (or_else (cond t (Some at) more) (Some line)) (cond t (Some at) more)
+    cond t (Some at) (cond b (option_or more (Some line)) more) ≡ cond b (option_or (cond t (Some at) more) (Some line)) (cond t (Some at) more)
 bad_push-cons true true at line more = refl
 bad_push-cons true false at line more = refl
 bad_push-cons false b at line more = refl
 
-bad_push : (fields : List Field) (x : Field) → first_bad (fields ++ x ∷ []) ≡ cond (is_bad x.said) (or_else (first_bad fields) (Some x.line)) (first_bad fields)
+bad_push : (fields : List Field) (x : Field) → first_bad (fields ++ x ∷ []) ≡ cond (is_bad x.said) (option_or (first_bad fields) (Some x.line)) (first_bad fields)
 bad_push [] x = refl
 bad_push (y ∷ ys) x = ap (λ r. cond (is_bad y.said) (Some y.line) r) (bad_push ys x) ∙ bad_push-cons (is_bad y.said) (is_bad x.said) y.line x.line (first_bad ys)
-
-or_none : {A : Type 0} (a : Option A) → a ≡ or_else a None
-or_none None = refl
-or_none (Some a) = refl
-
-or_assoc : {A : Type 0} (a b c : Option A) → or_else (or_else a b) c ≡ or_else a (or_else b c)
-or_assoc None b c = refl
-or_assoc (Some a) b c = refl
-
-last_push : {A : Type 0} (of : Said → Option A) (fields : List Field) (x : Field) → last of (fields ++ x ∷ []) ≡ or_else (of x.said) (last of fields)
-last_push of [] x = or_none (of x.said)
-last_push of (y ∷ ys) x = ap (λ r. or_else r (of y.said)) (last_push of ys x) ∙ or_assoc (of x.said) (last of ys) (of y.said)
 
 abbrev depends_after : Said → List (List ℕ) → List (List ℕ)
 depends_after (Name name) old = old
@@ -65,29 +55,29 @@ depends_push fields x =
     flat_map-append of fields (x ∷ []) ∙ ap (λ more. flat_map of fields ++ more) (append-nil (depends_of x.said)) ∙ after_said x.said (flat_map of fields)
 
 -- these told, and then this field
-abbrev pub pushed : Told → ℕ → Said → Told
+abbrev pub pushed : Contents → ℕ → Said → Contents
 pushed t line said =
     record {
       left_out = is_lib_name said || t.left_out;
-      bad = cond (is_bad said) (or_else t.bad (Some line)) t.bad;
-      name = or_else (name_of said) t.name;
-      version = or_else (version_of said) t.version;
-      id = or_else (id_of said) t.id;
+      bad = cond (is_bad said) (option_or t.bad (Some line)) t.bad;
+      name = option_or (name_of said) t.name;
+      version = option_or (version_of said) t.version;
+      id = option_or (id_of said) t.id;
       depends = depends_after said t.depends;
     }
 
-told_push : (fields : List Field) (line : ℕ) (said : Said) → pushed (told fields) line said ≡ told (fields ++ record { line = line; said = said } ∷ [])
+told_push : (fields : List Field) (line : ℕ) (said : Said) → pushed (contents fields) line said ≡ contents (fields ++ record { line = line; said = said } ∷ [])
 told_push fields line said =
     let x : Field = record { line = line; said = said } in
     sym (λ i. record {
       left_out = any_push (λ field. is_lib_name field.said) fields x i;
       bad = bad_push fields x i;
-      name = last_push name_of fields x i;
-      version = last_push version_of fields x i;
-      id = last_push id_of fields x i;
+      name = last_push (λ (field : Field). name_of field.said) fields x i;
+      version = last_push (λ (field : Field). version_of field.said) fields x i;
+      id = last_push (λ (field : Field). id_of field.said) fields x i;
       depends = depends_push fields x i;
     })
 
-pub goes : (t : Told) (line : ℕ) (said : Said) {given : Said} → given ≡ said → (fields : List Field) → t ≡ told fields → pushed t line said ≡ told (fields ++ record { line = line; said = given } ∷ [])
+pub goes : (t : Contents) (line : ℕ) (said : Said) {given : Said} → given ≡ said → (fields : List Field) → t ≡ contents fields → pushed t line said ≡ contents (fields ++ record { line = line; said = given } ∷ [])
 goes t line said is fields before =
-    ap (λ s. pushed s line said) before ∙ told_push fields line said ∙ ap (λ s. told (fields ++ record { line = line; said = s } ∷ [])) (sym is)
+    ap (λ s. pushed s line said) before ∙ told_push fields line said ∙ ap (λ s. contents (fields ++ record { line = line; said = s } ∷ [])) (sym is)

@@ -11,13 +11,15 @@ use Rattle.unit_record.proofs.Steps.{Tell}
 use Rattle.plan_types.specs.Name.{is_package_name}
 use Rattle.plan_types.specs.declared.index.UnitRecord.{UnitRecord}
 use Rattle.plan_types.specs.declared.version.Version.{Version}
-use Rattle.version_range.specs.Version.{is_version}
-use Rattle.unit_record.specs.Fields.{Field, FieldSays, IsVersion, Say, TopField, field_word, top_fields}
-use Rattle.unit_record.specs.Record.{IsRecord, complete, last, name_of, or_else, outcome, sound, told, version_of}
+use Rattle.version_range.specs.Version.{is_version, IsVersionOf}
+use Rattle.unit_record.specs.Fields.{Field, FieldSays, Say, TopField, field_word, top_fields}
+use Rattle.unit_record.specs.Record.{IsRecord, complete, name_of, outcome, sound, contents, version_of}
 use Rattle.unit_record.specs.declared.field.FieldWord.{FieldWord}
 use Rattle.unit_record.specs.declared.field.FieldWord.TheVariants as fields
 use Rattle.unit_record.specs.declared.field.Said.{Said}
-use Rattle.unit_record.specs.declared.told.Told.{Told}
+use Rattle.unit_record.specs.declared.contents.Contents.{Contents}
+use Rattle.std.specs.Option.{option_or}
+use Rattle.text_grammar.specs.Last.{last_said}
 
 abbrev pub IsName : List ℕ → Type 0
 IsName name = is_package_name name ≡ true
@@ -37,7 +39,7 @@ said_name fields.Depends text s says = subst (λ s. IfSome (name_of s) IsName) (
 said_name fields.LibName text s says = subst (λ s. IfSome (name_of s) IsName) (sym says) tt
 said_name fields.Unread text s says = subst (λ s. IfSome (name_of s) IsName) (sym says) tt
 
-version_if : (text : List ℕ) (version : Option Version) → IsVersion text version → IfSome version HasForm
+version_if : (text : List ℕ) (version : Option Version) → IsVersionOf text version → IfSome version HasForm
 version_if text None h = tt
 version_if text (Some version) h = h.0
 
@@ -49,16 +51,16 @@ said_version fields.Depends text s says = subst (λ s. IfSome (version_of s) Has
 said_version fields.LibName text s says = subst (λ s. IfSome (version_of s) HasForm) (sym says) tt
 said_version fields.Unread text s says = subst (λ s. IfSome (version_of s) HasForm) (sym says) tt
 
-if_else : {A : Type 0} (P : A → Type 0) (a b : Option A) → IfSome a P → IfSome b P → IfSome (or_else a b) P
+if_else : {A : Type 0} (P : A → Type 0) (a b : Option A) → IfSome a P → IfSome b P → IfSome (option_or a b) P
 if_else P None b p q = q
 if_else P (Some a) b p q = p
 
 module _ {A : Type 0} (P : A → Type 0) (of : Said → Option A) (each : (word : FieldWord) (text : List ℕ) (s : Said) → FieldSays word text s → IfSome (of s) P) where
-  last_if : (tops : List TopField) (all : List Field) → Say tops all → IfSome (last of all) P
+  last_if : (tops : List TopField) (all : List Field) → Say tops all → IfSome (last_said (λ (field : Field). of field.said) all) P
   last_if [] [] h = tt
   last_if [] (x ∷ xs) h = absurd h
   last_if (t ∷ ts) [] h = absurd h
-  last_if (t ∷ ts) (x ∷ xs) h = if_else P (last of xs) (of x.said) (last_if ts xs h.2) (each (field_word t.name) t.text x.said h.1)
+  last_if (t ∷ ts) (x ∷ xs) h = if_else P (last_said (λ (field : Field). of field.said) xs) (of x.said) (last_if ts xs h.2) (each (field_word t.name) t.text x.said h.1)
 
 module _ (P : UnitRecord → Type 0) where
   abbrev IfRecord : Result (Option UnitRecord) ℕ → Type 0
@@ -85,23 +87,23 @@ formed (Some name) None id depends h = tt
 formed (Some name) (Some version) None depends h = tt
 formed (Some name) (Some version) (Some id) depends h = h
 
-outcome_name : (tops : List TopField) (all : List Field) → Say tops all → IfRecord (λ r. IsName r.name) (outcome (told all))
+outcome_name : (tops : List TopField) (all : List Field) → Say tops all → IfRecord (λ r. IsName r.name) (outcome (contents all))
 outcome_name tops all h =
-    let t = told all in
+    let t = contents all in
     left_if (λ r. IsName r.name) t.left_out _ (sound_if (λ r. IsName r.name) t.bad _ (named t.name t.version t.id t.depends (last_if IsName name_of said_name tops all h)))
 
-outcome_version : (tops : List TopField) (all : List Field) → Say tops all → IfRecord (λ r. HasForm r.version) (outcome (told all))
+outcome_version : (tops : List TopField) (all : List Field) → Say tops all → IfRecord (λ r. HasForm r.version) (outcome (contents all))
 outcome_version tops all h =
-    let t = told all in
+    let t = contents all in
     left_if (λ r. HasForm r.version) t.left_out _ (sound_if (λ r. HasForm r.version) t.bad _ (formed t.name t.version t.id t.depends (last_if HasForm version_of said_version tops all h)))
 
-pub record_name : (tops : List TopField) (all : List Field) (found : Option UnitRecord) → Say tops all → outcome (told all) ≡ Ok found → IfSome found (λ r. IsName r.name)
+pub record_name : (tops : List TopField) (all : List Field) (found : Option UnitRecord) → Say tops all → outcome (contents all) ≡ Ok found → IfSome found (λ r. IsName r.name)
 record_name tops all found says is = subst (IfRecord (λ r. IsName r.name)) is (outcome_name tops all says)
 
-pub record_version : (tops : List TopField) (all : List Field) (found : Option UnitRecord) → Say tops all → outcome (told all) ≡ Ok found → IfSome found (λ r. HasForm r.version)
+pub record_version : (tops : List TopField) (all : List Field) (found : Option UnitRecord) → Say tops all → outcome (contents all) ≡ Ok found → IfSome found (λ r. HasForm r.version)
 record_version tops all found says is = subst (IfRecord (λ r. HasForm r.version)) is (outcome_version tops all says)
 
-module _ (bytes : List ℕ) (items : List Element) (all : Told) (tree : IsTree bytes items) (tell : Tell (top_fields items) all) where
+module _ (bytes : List ℕ) (items : List Element) (all : Contents) (tree : IsTree bytes items) (tell : Tell (top_fields items) all) where
   is : (r : Result (Option UnitRecord) ℕ) → outcome all ≡ r → IsRecord bytes r
   is r e = inr (items, tell.0, tree, tell.1, sym e ∙ ap outcome tell.2)
 

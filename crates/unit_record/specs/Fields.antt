@@ -1,13 +1,14 @@
 -- What the fields of a record say.
-use Rattle.std.specs.Prelude.{◌≡◌, ◌≢◌, ℕ, Bool, IsTrue, if◌then◌else◌, nat_eq, List, [], ◌∷◌, codes, flat_map, Option, Some, None}
-use Rattle.std.specs.Cmp.Lexicographic.{pointwise}
-use Rattle.plan_types.specs.Bytes.{joined_text}
+use Rattle.std.specs.Prelude.{◌≡◌, ℕ, if◌then◌else◌, List, [], ◌∷◌, codes, flat_map, Option, Some, None}
+use Rattle.plan_types.specs.Bytes.{joined_text, same_text}
 use Rattle.plan_types.specs.Name.{is_package_name}
 use Rattle.plan_types.specs.declared.element.Element.{Element, Element-F, fold-Element}
 use Rattle.plan_types.specs.declared.element.Element.TheOpen as element
 use Rattle.plan_types.specs.declared.version.Version.{Version}
-use Rattle.version_range.specs.Version.{is_version, version_text}
-use Rattle.unit_record.specs.Words.{is_unit_id, words}
+use Rattle.version_range.specs.Version.{IsVersionOf}
+use Rattle.text_grammar.specs.Words.{words}
+use Rattle.text_grammar.specs.declared.word.Between.TheVariants.{BlanksAndCommas}
+use Rattle.unit_record.specs.Words.{is_unit_id}
 use Rattle.unit_record.specs.declared.field.FieldWord.{FieldWord}
 use Rattle.unit_record.specs.declared.field.FieldWord.TheVariants as fields
 use Rattle.unit_record.specs.declared.field.Said.{Said}
@@ -19,43 +20,43 @@ pub record TopField : Type 0 where
   pub name : List ℕ
   pub text : List ℕ
 
+-- the fields beside the sections, in one layer of an element
 abbrev pub top_layer : Element-F (List TopField) → List TopField
 top_layer (element.Field line name values) = record { line = line; name = name; text = joined_text values } ∷ []
 top_layer (element.Section line name args items) = []
 
+-- the fields of an element that stand beside the sections
 abbrev pub fields_of : Element → List TopField
 fields_of = fold-Element (List TopField) top_layer
 
+-- those of all elements
 abbrev pub top_fields : List Element → List TopField
 top_fields items = flat_map fields_of items
 
-abbrev pub is : List ℕ → List ℕ → Bool
-is = pointwise nat_eq
-
+-- which field a name is
 abbrev pub field_word : List ℕ → FieldWord
 field_word name =
-    if is name (codes "name") then fields.Name
-    else if is name (codes "version") then fields.Version
-    else if is name (codes "id") then fields.Id
-    else if is name (codes "depends") then fields.Depends
-    else if is name (codes "lib-name") then fields.LibName
+    if same_text name (codes "name") then fields.Name
+    else if same_text name (codes "version") then fields.Version
+    else if same_text name (codes "id") then fields.Id
+    else if same_text name (codes "depends") then fields.Depends
+    else if same_text name (codes "lib-name") then fields.LibName
     else fields.Unread
 
+-- the name of a package, where a text is one
 abbrev pub package_name : List ℕ → Option (List ℕ)
 package_name text = if is_package_name text then Some text else None
 
+-- the id of a unit, where a text is one
 abbrev pub unit_id : List ℕ → Option (List ℕ)
 unit_id text = if is_unit_id text then Some text else None
 
-abbrev pub IsVersion : List ℕ → Option Version → Type 0
-IsVersion text None = (parts : List ℕ) → IsTrue (is_version parts) → text ≢ version_text parts
-IsVersion text (Some version) = IsTrue (is_version version.parts) × (text ≡ version_text version.parts)
-
+-- what a field with this text says
 abbrev pub FieldSays : FieldWord → List ℕ → Said → Type 0
 FieldSays fields.Name text found = found ≡ said.Name (package_name text)
-FieldSays fields.Version text found = (version : Option Version) × IsVersion text version × (found ≡ said.Version version)
+FieldSays fields.Version text found = (version : Option Version) × IsVersionOf text version × (found ≡ said.Version version)
 FieldSays fields.Id text found = found ≡ said.Id (unit_id text)
-FieldSays fields.Depends text found = found ≡ said.Depends (words text)
+FieldSays fields.Depends text found = found ≡ said.Depends (words BlanksAndCommas text)
 FieldSays fields.LibName text found = found ≡ said.LibName
 FieldSays fields.Unread text found = found ≡ said.Unread
 

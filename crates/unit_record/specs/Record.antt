@@ -1,16 +1,18 @@
 -- The record of an installed unit.
-use Rattle.std.specs.Prelude.{◌≡◌, ◌⊎◌, ℕ, Bool, true, false, if◌then◌else◌, List, [], ◌∷◌, flat_map, Option, Some, None, Result, Ok, Err}
+use Rattle.std.specs.Prelude.{◌≡◌, ◌⊎◌, ℕ, Bool, true, false, if◌then◌else◌, List, [], ◌∷◌, ◌++◌, flat_map, Option, Some, None, Result, Ok, Err}
 use Rattle.std.specs.List.{list_any}
 use Rattle.plan_types.specs.declared.element.Element.{Element}
 use Rattle.plan_types.specs.declared.index.UnitRecord.{UnitRecord}
 use Rattle.plan_types.specs.declared.refusal.Cause.{Cause}
 use Rattle.plan_types.specs.declared.version.Version.{Version}
+use Rattle.text_grammar.specs.Last.{last_said}
 use Rattle.cabal_lexer.specs.Fault.{IsTree, IsFault}
 use Rattle.unit_record.specs.Fields.{Field, Say, top_fields}
 use Rattle.unit_record.specs.declared.field.Said.{Said}
 use Rattle.unit_record.specs.declared.field.Said.TheVariants.{Name, Version as VersionOf, Id, Depends, LibName, Unread}
-use Rattle.unit_record.specs.declared.told.Told.{Told}
+use Rattle.unit_record.specs.declared.contents.Contents.{Contents}
 
+-- whether a field says that the unit is a sublibrary
 abbrev pub is_lib_name : Said → Bool
 is_lib_name (Name name) = false
 is_lib_name (VersionOf version) = false
@@ -19,6 +21,7 @@ is_lib_name (Depends ids) = false
 is_lib_name LibName = true
 is_lib_name Unread = false
 
+-- the name that a field says
 abbrev pub name_of : Said → Option (List ℕ)
 name_of (Name name) = name
 name_of (VersionOf version) = None
@@ -27,6 +30,7 @@ name_of (Depends ids) = None
 name_of LibName = None
 name_of Unread = None
 
+-- the version that a field says
 abbrev pub version_of : Said → Option Version
 version_of (Name name) = None
 version_of (VersionOf version) = version
@@ -35,6 +39,7 @@ version_of (Depends ids) = None
 version_of LibName = None
 version_of Unread = None
 
+-- the id that a field says
 abbrev pub id_of : Said → Option (List ℕ)
 id_of (Name name) = None
 id_of (VersionOf version) = None
@@ -43,6 +48,7 @@ id_of (Depends ids) = None
 id_of LibName = None
 id_of Unread = None
 
+-- the units that a field says are needed
 abbrev pub depends_of : Said → List (List ℕ)
 depends_of (Name name) = []
 depends_of (VersionOf version) = []
@@ -51,6 +57,7 @@ depends_of (Depends ids) = ids
 depends_of LibName = []
 depends_of Unread = []
 
+-- whether there is no value
 abbrev pub is_missing : {A : Type 0} → Option A → Bool
 is_missing None = true
 is_missing (Some a) = false
@@ -69,26 +76,21 @@ abbrev pub first_bad : List Field → Option ℕ
 first_bad [] = None
 first_bad (field ∷ fields) = if is_bad field.said then Some field.line else first_bad fields
 
-abbrev pub or_else : {A : Type 0} → Option A → Option A → Option A
-or_else None other = other
-or_else (Some a) other = Some a
-
--- what the last field that says such a thing says
-abbrev pub last : {A : Type 0} → (Said → Option A) → List Field → Option A
-last of [] = None
-last of (field ∷ fields) = or_else (last of fields) (of field.said)
-
--- what fields tell together
-abbrev pub told : List Field → Told
-told fields =
+-- what fields say together
+abbrev pub contents : List Field → Contents
+contents fields =
     record {
       left_out = list_any (λ field. is_lib_name field.said) fields;
       bad = first_bad fields;
-      name = last name_of fields;
-      version = last version_of fields;
-      id = last id_of fields;
+      name = last_said (λ field. name_of field.said) fields;
+      version = last_said (λ field. version_of field.said) fields;
+      id = last_said (λ field. id_of field.said) fields;
       depends = flat_map (λ field. depends_of field.said) fields;
     }
+
+-- the contents with one more field
+abbrev pub Adds : ℕ → Said → Contents → Contents → Type 0
+Adds line said old new = (fields : List Field) → old ≡ contents fields → new ≡ contents (fields ++ record { line = line; said = said } ∷ [])
 
 -- a record, where nothing is missing
 abbrev pub complete : Option (List ℕ) → Option Version → Option (List ℕ) → List (List ℕ) → Result (Option UnitRecord) ℕ
@@ -103,11 +105,11 @@ sound None found = found
 sound (Some line) found = Err line
 
 -- The record of a sublibrary is left out, whatever else stands in it.
-abbrev pub outcome : Told → Result (Option UnitRecord) ℕ
-outcome told = if told.left_out then Ok None else sound told.bad (complete told.name told.version told.id told.depends)
+abbrev pub outcome : Contents → Result (Option UnitRecord) ℕ
+outcome contents = if contents.left_out then Ok None else sound contents.bad (complete contents.name contents.version contents.id contents.depends)
 
 -- The bytes are this record, or none, or can't be read at a line: that of the fault of the layout, where there is no tree.
 abbrev pub IsRecord : List ℕ → Result (Option UnitRecord) ℕ → Type 0
 IsRecord bytes found =
     ((line : ℕ) × (cause : Cause) × IsFault bytes line cause × (found ≡ Err line))
-    ⊎ ((items : List Element) × (fields : List Field) × IsTree bytes items × Say (top_fields items) fields × (found ≡ outcome (told fields)))
+    ⊎ ((items : List Element) × (fields : List Field) × IsTree bytes items × Say (top_fields items) fields × (found ≡ outcome (contents fields)))

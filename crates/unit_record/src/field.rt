@@ -1,12 +1,13 @@
 // A field of a record, and what it says.
 ghost use Rattle.std.specs.Prelude.{◌≡◌, IfOk};
 ghost use Rattle.plan_types.specs.Bytes.{joined_text};
-ghost use Rattle.unit_record.specs.Fields.{FieldSays, IsVersion, field_word, package_name, unit_id};
+ghost use Rattle.unit_record.specs.Fields.{FieldSays, field_word, package_name, unit_id};
 
-use crate::words::{is_unit_id, words};
-use plan_types::{List, NoMemory, Text, TextFault, Version, is_package_name, joined_text};
+use crate::words::is_unit_id;
+use plan_types::{List, NoMemory, Text, Version, is_package_name, joined_text};
 use std::alloc::Global;
-use version_range::read_version;
+use text_grammar::{Between, words};
+use version_range::version_of;
 
 /// Fields that are read.
 #[derive(Clone, Copy, Debug, PartialEq, Eq)]
@@ -63,7 +64,7 @@ fn said_as(alloc: Global, word: FieldWord, values: &List<Text>) -> Result<Said, 
         }
         FieldWord::Version => {
             let text = joined_text(alloc, values.as_slice())?;
-            let version = version(alloc, &text)?;
+            let version = version_of(alloc, text.as_bytes())?;
             Ok(Said::Version(version))
         }
         FieldWord::Id => {
@@ -72,7 +73,7 @@ fn said_as(alloc: Global, word: FieldWord, values: &List<Text>) -> Result<Said, 
         }
         FieldWord::Depends => {
             let text = joined_text(alloc, values.as_slice())?;
-            let ids = words(alloc, text.as_str())?;
+            let ids = words(alloc, Between::BlanksAndCommas, text.as_str())?;
             Ok(Said::Depends(ids))
         }
         FieldWord::LibName => Ok(Said::LibName),
@@ -87,16 +88,6 @@ fn package_name(text: Text) -> Option<Text>
         Some(text)
     } else {
         None
-    }
-}
-
-fn version(alloc: Global, text: &Text) -> Result<Option<Version>, NoMemory>
-    ensures { IfOk result (IsVersion text.now) }
-{
-    match read_version(alloc, text.as_bytes()) {
-        Ok(version) => Ok(Some(version)),
-        Err(TextFault::Bad(_)) => Ok(None),
-        Err(TextFault::NoMemory) => Err(NoMemory),
     }
 }
 

@@ -2,10 +2,10 @@
 //! that it needs, or nothing where it is that of a sublibrary, or the line at which it can't be read.
 #![tactic(auto)]
 
+mod contents;
 mod field;
 mod laws;
 mod read;
-mod told;
 mod words;
 
 pub use laws::one_record;

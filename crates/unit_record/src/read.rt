@@ -1,3 +1,4 @@
+// A record, read from its bytes.
 ghost use Rattle.std.specs.Prelude.{◌≡◌, ◌≤◌, ◌++◌, [], ◌∷◌, ℕ, List, true, Ok, Err, length, IfOk, IfErr, IfSome, OnOk};
 ghost use Rattle.plan_types.specs.declared.refusal.Cause.{Cause};
 ghost use Rattle.plan_types.specs.declared.refusal.Cause.TheVariants.{BadRecord};
@@ -6,10 +7,10 @@ ghost use Rattle.plan_types.specs.Refusal.{RefusesAt};
 ghost use Rattle.cabal_lexer.specs.Fault.{IsTree, IsFault};
 ghost use Rattle.version_range.specs.Version.{is_version};
 ghost use Rattle.unit_record.specs.Fields.{Field, Say, fields_of, top_fields};
-ghost use Rattle.unit_record.specs.Record.{IsRecord, told};
+ghost use Rattle.unit_record.specs.Record.{IsRecord, contents};
 
+use crate::contents::Contents;
 use crate::field::said_by;
-use crate::told::Told;
 use cabal_lexer::read_elements;
 use plan_types::{Cause, Element, Fault, List, NoMemory, UnitRecord};
 use std::alloc::Global;
@@ -19,19 +20,21 @@ use std::alloc::Global;
 pub fn read_record(alloc: Global, bytes: &[u8]) -> Result<Option<UnitRecord>, Fault>
     requires { length bytes.now ≤ 1048576 }
     ensures record { IfOk result (λ found. IsRecord bytes.now (Ok found)) }
-    ensures fault { IfErr result (RefusesAt (λ line cause. (cause ≡ BadRecord) × IsRecord bytes.now (Err line))) }
+    ensures fault { IfErr result (RefusesAt
+        (λ line cause. (cause ≡ BadRecord) × IsRecord bytes.now (Err line))) }
     ensures name { IfOk result (λ found. IfSome found (λ r. is_package_name r.name ≡ true)) }
     ensures version { IfOk result (λ found. IfSome found (λ r. is_version r.version.parts ≡ true)) }
 {
     let items = tree_of(alloc, bytes)?;
-    let told = told_by(alloc, items.as_slice())?;
-    told.outcome()
+    let contents = contents_of(alloc, items.as_slice())?;
+    contents.outcome()
 }
 
 fn tree_of(alloc: Global, bytes: &[u8]) -> Result<List<Element>, Fault>
     requires { length bytes.now ≤ 1048576 }
     ensures tree { IfOk result (λ items. IsTree bytes.now items) }
-    ensures fault { IfErr result (RefusesAt (λ line cause. (cause ≡ BadRecord) × (why : Cause) × IsFault bytes.now line why)) }
+    ensures fault { IfErr result (RefusesAt
+        (λ line cause. (cause ≡ BadRecord) × (why : Cause) × IsFault bytes.now line why)) }
 {
     match read_elements(alloc, bytes) {
         Ok(items) => Ok(items),
@@ -44,19 +47,20 @@ fn tree_of(alloc: Global, bytes: &[u8]) -> Result<List<Element>, Fault>
 }
 
 // What the fields beside the sections tell together.
-fn told_by(alloc: Global, items: &[Element]) -> Result<Told, NoMemory>
-    ensures { IfOk result (λ found. (fields : List Field) × Say (top_fields items.now) fields × (found ≡ told fields)) }
+fn contents_of(alloc: Global, items: &[Element]) -> Result<Contents, NoMemory>
+    ensures { IfOk result (λ found. (fields : List Field) × Say (top_fields items.now) fields
+        × (found ≡ contents fields)) }
 {
-    let mut told = Told::new(alloc);
+    let mut contents = Contents::new(alloc);
     for item in items {
-        take_element(alloc, item, &mut told)?;
+        take_element(alloc, item, &mut contents)?;
     }
-    Ok(told)
+    Ok(contents)
 }
 
-fn take_element(alloc: Global, item: &Element, all: &mut Told) -> Result<(), NoMemory>
-    ensures { OnOk result ((before : List Field) → all.old ≡ told before →
-        (found : List Field) × Say (fields_of item.now) found × (all.new ≡ told (before ++ found))) }
+fn take_element(alloc: Global, item: &Element, all: &mut Contents) -> Result<(), NoMemory>
+    ensures { OnOk result ((before : List Field) → all.old ≡ contents before →
+        (found : List Field) × Say (fields_of item.now) found × (all.new ≡ contents (before ++ found))) }
 {
     match item {
         Element::Field { line, name, values } => {

@@ -6,14 +6,11 @@ use Rattle.qualified_goals.specs.Variable.{same_var}
 use Rattle.qualified_goals.specs.SameVariable.{same_var-is}
 use Rattle.choice_problem.specs.ConflictSet.{has}
 use Rattle.choice_problem.proofs.Sets.{has-append}
-use Rattle.validation.specs.declared.chain.Mention.{Mention}
+use Rattle.validation.specs.declared.mentions.Mention.{Mention}
 use Rattle.validation.specs.Table.{entry}
-use Rattle.validation.specs.Chain.{last_from, last_of}
+use Rattle.validation.specs.Mentions.{last_from, last_of}
 use Rattle.validation.specs.Stack.{vars_at, AreOpen}
-
-or-true : (b : Bool) → b || true ≡ true
-or-true true = refl
-or-true false = refl
+use Rattle.std.proofs.Math.Bool.{or-true, and-false}
 
 last-from-has : (n : ℕ) (best : Option ℕ) (v : Var) (ms : List Mention) → is_some (last_from n best v ms) ≡ is_some best || has (vars_at ms) v
 last-from-has n best v [] = elim (is_some best) as (λ b. b ≡ b || false) [ true ↦ refl | false ↦ refl ]
@@ -37,10 +34,6 @@ some-none (Some n) b h = ap not h
 other : (a n : Bool) → (a || (false || false)) && n ≡ a && n
 other true n = refl
 other false n = refl
-
-and-false : (a : Bool) → a && false ≡ false
-and-false true = refl
-and-false false = refl
 
 -- one active demand less whose target has a value
 pub less-valued : (front : List Mention) (m : Mention) (table : List (Var × ℕ)) (vars : List Var) → AreOpen (front ++ m ∷ []) table vars

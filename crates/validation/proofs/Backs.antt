@@ -1,7 +1,7 @@
 -- What a trail stands for with its last choice taken back.
 use Rattle.std.proofs.Common.{◌≡◌, ℕ, zero, suc, ◌≤◌, arith, length, take, Bool, true, false, cond, ◌&&◌, ◌||◌, List, [], ◌∷◌, ◌++◌, filter, refl, sym, ap, ◌∙◌, subst, length-append}
 use Rattle.std.specs.List.{Contains, All, list_any}
-use Rattle.std.proofs.lemmas.Bool.{false≢true}
+use Rattle.std.proofs.lemmas.Bool.{false≢true, and_parts, and_from}
 use Rattle.std.proofs.lemmas.Grind.{flat_map-append}
 use Rattle.std.proofs.Math.Seq.{take-append_seam}
 use Rattle.qualified_goals.specs.declared.variable.Var.{Var}
@@ -12,14 +12,14 @@ use Rattle.choice_problem.specs.Problem.{Problem, IsChoice}
 use Rattle.choice_problem.specs.Trail.{demands_after}
 use Rattle.choice_problem.specs.Active.{active, made_active}
 use Rattle.choice_problem.specs.Conflict.{Edge, edges_by, edges_of, leads, lies_on_cycle, circular}
-use Rattle.choice_problem.specs.Lists.{contains-head, contains-tail, contains-left, and-left, and-right, and-both, filter-none}
+use Rattle.common_laws.specs.Lists.{contains-head, contains-tail, contains-left, filter-none}
 use Rattle.choice_problem.proofs.Active.{active-push}
-use Rattle.validation.specs.Standing.{Standing, Stands, AreNew, listed_counts, counts_before, standing}
-use Rattle.validation.specs.Standing.AreNew.{none, on}
+use Rattle.validation.specs.View.{View, Represents, AreNew, listed_counts, counts_before, view_of}
+use Rattle.validation.specs.View.AreNew.{none, on}
 use Rattle.validation.specs.Stack.{undone, front_of, last_number}
-use Rattle.validation.proofs.Chains.{snoc-none, snoc-same}
+use Rattle.validation.proofs.MentionLinks.{snoc-none, snoc-same}
 use Rattle.validation.proofs.Stacks.{front-of, last-number}
-use Rattle.validation.proofs.Standings.{after-push, counts-push, listed-push, all-front}
+use Rattle.validation.proofs.Views.{after-push, counts-push, listed-push, all-front}
 use Rattle.validation.proofs.Verdicts.{shown-same}
 
 -- fewer demands have no more cycles
@@ -41,8 +41,8 @@ leads-more (suc n) (suc m) edges more v w h k =
     → b || list_any (λ e. same_var e.from v && leads m (edges ++ more) e.to w) (edges ++ more) ≡ true) [
       | true ↦ λ l. refl
       | false ↦ λ l. any-more (λ e. same_var e.from v && leads n edges e.to w) (λ e. same_var e.from v && leads m (edges ++ more) e.to w)
-          (λ e s. and-both (same_var e.from v) (leads m (edges ++ more) e.to w) (and-left (same_var e.from v) (leads n edges e.to w) s)
-          (leads-more n m edges more e.to w (omega (arith, h)) (and-right (same_var e.from v) (leads n edges e.to w) s)))
+          (λ e s. and_from (same_var e.from v) (leads m (edges ++ more) e.to w) ((and_parts (same_var e.from v) (leads n edges e.to w) s).0)
+          (leads-more n m edges more e.to w (omega (arith, h)) ((and_parts (same_var e.from v) (leads n edges e.to w) s).1)))
           edges more l
     ] k
 
@@ -84,34 +84,34 @@ pub new-split : {trail : List Choice} → AreNew trail → (trail ≡ [] → ⊥
 new-split none some = absurd (some refl)
 new-split (on {before = before} new d free is) some = (before, d, is)
 
-pub stands-undone : (p : Problem) (x y : Standing) → Stands p x → (x.trail ≡ [] → ⊥) → y ≡ undone x → Stands p y
+pub stands-undone : (p : Problem) (x y : View) → Represents p x → (x.trail ≡ [] → ⊥) → y ≡ undone x → Represents p y
 stands-undone p x y h some e =
     let split = new-split h.new some in
     let front = split.0 in
     let c = split.1 in
-    let was : x ≡ standing p (front ++ c ∷ []) = h.same ∙ ap (standing p) split.2 in
-    let trail : y.trail ≡ front = ap (λ (s : Standing). s.trail) e ∙ ap front_of split.2 ∙ front-of front c in
-    let listed_marks : x.listed_before ≡ listed_counts p [] front ++ length (demands_after p front) ∷ [] = ap (λ (s : Standing). s.listed_before) was ∙ listed-push p front c in
-    let active_marks : x.active_before ≡ counts_before p [] front ++ length (active p front) ∷ [] = ap (λ (s : Standing). s.active_before) was ∙ counts-push p front c in
-    let all_listed : x.listed ≡ demands_after p front ++ p.demands c = ap (λ (s : Standing). s.listed) was ∙ after-push p front c in
-    let all_active : x.active ≡ active p front ++ made_active p front c = ap (λ (s : Standing). s.active) was ∙ active-push p front c in
+    let was : x ≡ view_of p (front ++ c ∷ []) = h.same ∙ ap (view_of p) split.2 in
+    let trail : y.trail ≡ front = ap (λ (s : View). s.trail) e ∙ ap front_of split.2 ∙ front-of front c in
+    let listed_marks : x.listed_before ≡ listed_counts p [] front ++ length (demands_after p front) ∷ [] = ap (λ (s : View). s.listed_before) was ∙ listed-push p front c in
+    let active_marks : x.active_before ≡ counts_before p [] front ++ length (active p front) ∷ [] = ap (λ (s : View). s.active_before) was ∙ counts-push p front c in
+    let all_listed : x.listed ≡ demands_after p front ++ p.demands c = ap (λ (s : View). s.listed) was ∙ after-push p front c in
+    let all_active : x.active ≡ active p front ++ made_active p front c = ap (λ (s : View). s.active) was ∙ active-push p front c in
     let listed : y.listed ≡ demands_after p front =
-    ap (λ (s : Standing). s.listed) e ∙ ap (λ n. take n x.listed) (ap last_number listed_marks ∙ last-number (listed_counts p [] front) (length (demands_after p front)))
+    ap (λ (s : View). s.listed) e ∙ ap (λ n. take n x.listed) (ap last_number listed_marks ∙ last-number (listed_counts p [] front) (length (demands_after p front)))
     ∙ ap (take (length (demands_after p front))) all_listed ∙ take-append_seam (demands_after p front) (p.demands c) in
     let acts : y.active ≡ active p front =
-    ap (λ (s : Standing). s.active) e ∙ ap (λ n. take n x.active) (ap last_number active_marks ∙ last-number (counts_before p [] front) (length (active p front)))
+    ap (λ (s : View). s.active) e ∙ ap (λ n. take n x.active) (ap last_number active_marks ∙ last-number (counts_before p [] front) (length (active p front)))
     ∙ ap (take (length (active p front))) all_active ∙ take-append_seam (active p front) (made_active p front c) in
     let were : y.listed_before ≡ listed_counts p [] front =
-    ap (λ (s : Standing). s.listed_before) e ∙ ap front_of listed_marks ∙ front-of (listed_counts p [] front) (length (demands_after p front)) in
+    ap (λ (s : View). s.listed_before) e ∙ ap front_of listed_marks ∙ front-of (listed_counts p [] front) (length (demands_after p front)) in
     let counts : y.active_before ≡ counts_before p [] front =
-    ap (λ (s : Standing). s.active_before) e ∙ ap front_of active_marks ∙ front-of (counts_before p [] front) (length (active p front)) in
-    let same : y ≡ standing p front =
+    ap (λ (s : View). s.active_before) e ∙ ap front_of active_marks ∙ front-of (counts_before p [] front) (length (active p front)) in
+    let same : y ≡ view_of p front =
     shown-same y.trail front y.listed (demands_after p front) y.active (active p front) y.listed_before (listed_counts p [] front) y.active_before
     (counts_before p [] front) trail listed acts were counts in
     record {
       choices = subst (λ (t : List Choice). All (IsChoice p) t) (sym trail)
           (all-front p (IsChoice p) front (c ∷ []) (subst (λ (t : List Choice). All (IsChoice p) t) split.2 h.choices));
       new = subst (λ (t : List Choice). AreNew t) (sym trail) (new-front h.new front c split.2);
-      same = same ∙ ap (standing p) (sym trail);
+      same = same ∙ ap (view_of p) (sym trail);
       acyclic = ap circular acts ∙ acyclic-front (active p front) (made_active p front c) (ap circular (sym all_active) ∙ h.acyclic);
     }

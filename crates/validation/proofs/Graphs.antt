@@ -11,25 +11,15 @@ use Rattle.qualified_goals.specs.SameVariable.{same_var-is, same_var-refl}
 use Rattle.choice_problem.specs.Active.{asks_for}
 use Rattle.choice_problem.specs.Conflict.{Edge, edges_from, edges_by, edges_of}
 use Rattle.choice_problem.specs.ConflictSet.{has}
-use Rattle.choice_problem.specs.Lists.{contains-head, contains-tail, contains-none, contains-cases, contains-filter, contains-flat_map, flat_map-contains}
+use Rattle.common_laws.specs.Lists.{contains-head, contains-tail, contains-none, contains-cases, contains-filter, contains-flat_map, flat_map-contains, filter-contains}
 use Rattle.choice_problem.proofs.Sets.{has-append}
-use Rattle.validation.specs.declared.chain.Mention.{Mention}
-use Rattle.validation.specs.Chain.{places_on, last_of}
+use Rattle.validation.specs.declared.mentions.Mention.{Mention}
+use Rattle.validation.specs.Mentions.{places_on, last_of}
 use Rattle.validation.specs.Cycles.{HasEdge, first_of_condition, owner_of}
-use Rattle.validation.specs.Stack.{demand_at, demands_at, places_of, vars_at, mention_of, are_naming, names, waits_by, waits_from, owners_of, AreTargets}
+use Rattle.validation.specs.Stack.{demand_at, demands_at, places_of, vars_at, mention_of, are_naming, names, watchers_by, watchers_from, owners_of, AreTargets}
 use Rattle.validation.proofs.Asked.{last-has}
 use Rattle.validation.proofs.Stacks.{targets-tail}
-
-filter-contains : {X : Type 0} (test : X → Bool) (xs : List X) (x : X) → Contains xs x → test x ≡ true → Contains (filter test xs) x
-filter-contains test [] x h k = absurd (contains-none x h)
-filter-contains test (y ∷ xs) x h k =
-    elim (contains-cases y xs x h) [
-      | inl e ↦ subst (λ b. Contains (cond b (y ∷ filter test xs) (filter test xs)) x) (sym (ap test e ∙ k)) (subst (λ z. Contains (y ∷ filter test xs) z) e (contains-head y (filter test xs)))
-      | inr r ↦ elim (test y) as (λ b. Contains (cond b (y ∷ filter test xs) (filter test xs)) x) [
-        | true ↦ contains-tail y (filter test xs) x (filter-contains test xs x r k)
-        | false ↦ filter-contains test xs x r k
-      ]
-    ]
+use Rattle.std.proofs.Math.Bool.{or-true}
 
 -- the demands at the places on a variable are those whose target it is
 demands-on : (listed : List Demand) (v : Var) (ms : List Mention) → AreTargets listed ms → demands_at listed (places_on v ms) ≡ filter (asks_for v) (demands_at listed (places_of ms))
@@ -90,10 +80,10 @@ edge-sources listed ms to v h (e, within, from, target) =
 
 -- what listed demands wait for
 
-naming-has : (n : ℕ) (v : Var) (when : List Choice) → has (vars_at (waits_by n when)) v ≡ are_naming v when
+naming-has : (n : ℕ) (v : Var) (when : List Choice) → has (vars_at (watchers_by n when)) v ≡ are_naming v when
 naming-has n v [] = refl
 naming-has n v (c ∷ rest) =
-    elim (are_naming c.var rest) as (λ b. are_naming c.var rest ≡ b → has (vars_at (cond b (waits_by n rest) (mention_of c.var n ∷ waits_by n rest))) v ≡ same_var c.var v || are_naming v rest) [
+    elim (are_naming c.var rest) as (λ b. are_naming c.var rest ≡ b → has (vars_at (cond b (watchers_by n rest) (mention_of c.var n ∷ watchers_by n rest))) v ≡ same_var c.var v || are_naming v rest) [
       | true ↦ λ e.
           naming-has n v rest
           ∙ elim (same_var c.var v) as (λ b. same_var c.var v ≡ b → are_naming v rest ≡ b || are_naming v rest) [
@@ -103,16 +93,12 @@ naming-has n v (c ∷ rest) =
       | false ↦ λ e. ap (λ b. same_var c.var v || b) (naming-has n v rest)
     ] refl
 
-waits-has : (n : ℕ) (v : Var) (demands : List Demand) → has (vars_at (waits_from n demands)) v ≡ list_any (names v) demands
+waits-has : (n : ℕ) (v : Var) (demands : List Demand) → has (vars_at (watchers_from n demands)) v ≡ list_any (names v) demands
 waits-has n v [] = refl
 waits-has n v (d ∷ demands) =
-    ap (λ vs. has vs v) (map-append (λ m. m.var) (waits_by n d.when) (waits_from (suc n) demands))
-    ∙ has-append (vars_at (waits_by n d.when)) (vars_at (waits_from (suc n) demands)) v
-    ∙ ap (λ b. b || has (vars_at (waits_from (suc n) demands)) v) (naming-has n v d.when) ∙ ap (λ b. names v d || b) (waits-has (suc n) v demands)
-
-or-true : (b : Bool) → b || true ≡ true
-or-true true = refl
-or-true false = refl
+    ap (λ vs. has vs v) (map-append (λ m. m.var) (watchers_by n d.when) (watchers_from (suc n) demands))
+    ∙ has-append (vars_at (watchers_by n d.when)) (vars_at (watchers_from (suc n) demands)) v
+    ∙ ap (λ b. b || has (vars_at (watchers_from (suc n) demands)) v) (naming-has n v d.when) ∙ ap (λ b. names v d || b) (waits-has (suc n) v demands)
 
 any-contains : (test : Demand → Bool) (ds : List Demand) (d : Demand) → Contains ds d → test d ≡ true → list_any test ds ≡ true
 any-contains test [] d h k = absurd (contains-none d h)
@@ -135,14 +121,14 @@ active-listed listed (m ∷ ms) d h k =
       | inr r ↦ active-listed listed ms d (targets-tail listed m ms h) r
     ]
 
-pub edge-chosen : (listed : List Demand) (ms waits : List Mention) (v w : Var) → AreTargets listed ms → waits ≡ waits_from 0 listed
-    → HasEdge (edges_of (demands_at listed (places_of ms))) v w → is_some (last_of v waits) ≡ true
-edge-chosen listed ms waits v w h waiting (e, within, from, target) =
+pub edge-chosen : (listed : List Demand) (ms watchers : List Mention) (v w : Var) → AreTargets listed ms → watchers ≡ watchers_from 0 listed
+    → HasEdge (edges_of (demands_at listed (places_of ms))) v w → is_some (last_of v watchers) ≡ true
+edge-chosen listed ms watchers v w h waiting (e, within, from, target) =
     let all = demands_at listed (places_of ms) in
     let found = contains-flat_map edges_by all e within in
     let owns = owner-of-edge found.0.when found.0 e refl found.2 in
     let named : names v found.0 ≡ true = ap (are_naming v) owns.condition ∙ ap (λ b. b || are_naming v owns.others) (ap (λ u. same_var u v) (owns.from ∙ from) ∙ same_var-refl v) in
-    last-has v waits ∙ ap (λ ws. has (vars_at ws) v) waiting ∙ waits-has 0 v listed ∙ any-contains (names v) listed found.0 (active-listed listed ms found.0 h found.1) named
+    last-has v watchers ∙ ap (λ ws. has (vars_at ws) v) waiting ∙ waits-has 0 v listed ∙ any-contains (names v) listed found.0 (active-listed listed ms found.0 h found.1) named
 
 pub active-at : (listed : List Demand) (ms : List Mention) (k : ℕ) (m : Mention) → k < length ms → m ≡ get_or ms k m → slice_get (demands_at listed (places_of ms)) k ≡ Some (demand_at listed m.place)
 active-at listed [] k m h e = absurd (omega (arith, h))

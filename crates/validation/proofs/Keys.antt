@@ -5,7 +5,7 @@ use Rattle.std.specs.Prelude.{if◌then◌else◌}
 use Rattle.std.specs.Ordering.{is_eq}
 use Rattle.std.specs.declared.cmp.Ordering.{Ordering}
 use Rattle.std.specs.declared.cmp.Ordering.TheVariants.{Less, Equal, Greater}
-use Rattle.std.proofs.lemmas.Bool.{false≢true}
+use Rattle.std.proofs.lemmas.Bool.{false≢true, or_left, or_right, and_parts, and_from}
 use Rattle.indexmap.specs.IndexSet.{insert_key}
 use Rattle.qualified_goals.specs.contracts.variable.VarPartialEq.TheImpl.{eq-value}
 use Rattle.qualified_goals.specs.contracts.variable.VarOrd.TheImpl.{cmp-value}
@@ -14,10 +14,11 @@ use Rattle.qualified_goals.specs.declared.variable.Var.{Var}
 use Rattle.qualified_goals.specs.Variable.{var_cmp, is_equal, same_var}
 use Rattle.choice_problem.specs.ConflictSet.{has}
 use Rattle.qualified_goals.specs.SameVariable.{same_var-is, same_var-refl}
-use Rattle.choice_problem.specs.Lists.{and-left, and-right, and-both, without}
+use Rattle.common_laws.specs.Lists.{without}
 use Rattle.choice_problem.proofs.Sets.{has-append}
-use Rattle.choice_problem.proofs.Paths.{or-left, or-right}
 use Rattle.validation.specs.Cycles.{with_key, with_keys}
+use Rattle.std.proofs.Math.Bool.{or-false}
+use Rattle.common_laws.specs.Small.{both-ways, or-assoc}
 
 -- no key stands twice
 abbrev pub are_once : List Var → Bool
@@ -27,7 +28,7 @@ are_once (v ∷ keys) = not (has keys v) && are_once keys
 one-more : (keys : List Var) (v : Var) → are_once keys ≡ true → has keys v ≡ false → are_once (keys ++ v ∷ []) ≡ true
 one-more [] v h k = refl
 one-more (w ∷ keys) v h k =
-    let rest = and-right (not (has keys w)) (are_once keys) h in
+    let rest = (and_parts (not (has keys w)) (are_once keys) h).1 in
     let apart : same_var w v ≡ false = elim (same_var w v) as (λ b. b || has keys v ≡ false → b ≡ false) [ true ↦ λ e. e | false ↦ λ e. refl ] k in
     let left : has keys v ≡ false = elim (same_var w v) as (λ b. b || has keys v ≡ false → has keys v ≡ false) [ true ↦ λ e. absurd (false≢true (sym e)) | false ↦ λ e. e ] k in
     let none : same_var v w ≡ false = elim (same_var v w) as (λ b. same_var v w ≡ b → b ≡ false) [
@@ -35,9 +36,9 @@ one-more (w ∷ keys) v h k =
       | false ↦ λ e. refl
     ] refl in
     let one : has (v ∷ []) w ≡ false = ap (λ b. b || false) none in
-    let early : not (has keys w) ≡ true = and-left (not (has keys w)) (are_once keys) h in
+    let early : not (has keys w) ≡ true = (and_parts (not (has keys w)) (are_once keys) h).0 in
     let both : not (has (keys ++ v ∷ []) w) ≡ true = ap not (has-append keys (v ∷ []) w ∙ ap (λ b. has keys w || b) one) ∙ elim (has keys w) as (λ b. not b ≡ true → not (b || false) ≡ true) [ true ↦ λ e. e | false ↦ λ e. e ] early in
-    and-both (not (has (keys ++ v ∷ []) w)) (are_once (keys ++ v ∷ [])) both (one-more keys v rest left)
+    and_from (not (has (keys ++ v ∷ []) w)) (are_once (keys ++ v ∷ [])) both (one-more keys v rest left)
 
 with_key-once : (keys : List Var) (v : Var) → are_once keys ≡ true → are_once (with_key keys v) ≡ true
 with_key-once keys v h = elim (has keys v) as (λ b. has keys v ≡ b → are_once (cond b keys (keys ++ v ∷ [])) ≡ true) [ true ↦ λ e. h | false ↦ λ e. one-more keys v h e ] refl
@@ -46,18 +47,10 @@ pub with_keys-once : (keys vars : List Var) → are_once keys ≡ true → are_o
 with_keys-once keys [] h = h
 with_keys-once keys (v ∷ vars) h = with_keys-once (with_key keys v) vars (with_key-once keys v h)
 
-or-false : (b : Bool) → b || false ≡ b
-or-false true = refl
-or-false false = refl
-
 or-again : (a b : Bool) → (b ≡ true → a ≡ true) → a ≡ a || b
 or-again true b h = refl
 or-again false true h = h refl
 or-again false false h = refl
-
-or-assoc : (a b c : Bool) → (a || b) || c ≡ a || (b || c)
-or-assoc true b c = refl
-or-assoc false b c = refl
 
 has-with_key : (keys : List Var) (v u : Var) → has (with_key keys v) u ≡ has keys u || same_var v u
 has-with_key keys v u =
@@ -87,10 +80,10 @@ with_keys-front keys (v ∷ vars) =
 pub once-within : (keys vars : List Var) → are_once keys ≡ true → ((v : Var) → has keys v ≡ true → Contains vars v) → length keys ≤ length vars
 once-within [] vars h all = omega arith
 once-within (v ∷ keys) vars h all =
-    let rest = without vars v (all v (or-left (same_var v v) (has keys v) (same_var-refl v))) in
-    let apart : not (has keys v) ≡ true = and-left (not (has keys v)) (are_once keys) h in
-    let less = once-within keys rest.0 (and-right (not (has keys v)) (are_once keys) h) (λ u k.
-    rest.2 u (all u (or-right (same_var v u) (has keys u) k)) (λ e. false≢true (sym (ap not (ap (has keys) e ∙ k)) ∙ apart))) in
+    let rest = without vars v (all v (or_left (same_var v v) (has keys v) (same_var-refl v))) in
+    let apart : not (has keys v) ≡ true = (and_parts (not (has keys v)) (are_once keys) h).0 in
+    let less = once-within keys rest.0 ((and_parts (not (has keys v)) (are_once keys) h).1) (λ u k.
+    rest.2 u (all u (or_right (same_var v u) (has keys u) k)) (λ e. false≢true (sym (ap not (ap (has keys) e ∙ k)) ∙ apart))) in
     omega (arith, less, rest.1)
 
 -- the derived equality of variables is their order's
@@ -99,11 +92,6 @@ equal-is : (o : Ordering) → is_eq o ≡ is_equal o
 equal-is Less = refl
 equal-is Equal = refl
 equal-is Greater = refl
-
-pub two-ways : (a b : Bool) → (a ≡ true → b ≡ true) → (b ≡ true → a ≡ true) → a ≡ b
-two-ways true b h k = sym (h refl)
-two-ways false true h k = k refl
-two-ways false false h k = refl
 
 same-turned : (v w : Var) → same_var v w ≡ true → same_var w v ≡ true
 same-turned v w e = ap (same_var w) (same_var-is v w e) ∙ same_var-refl w
@@ -114,7 +102,7 @@ derived v w = search rules
 eq-same : (v w : Var) → eq-value.it v w ≡ same_var w v
 eq-same v w =
     let by_order : eq-value.it v w ≡ is_eq (cmp-value.it v w) = matches_eq-law v w in
-    by_order ∙ ap is_eq (derived v w) ∙ equal-is (var_cmp v w) ∙ two-ways (same_var v w) (same_var w v) (same-turned v w) (same-turned w v)
+    by_order ∙ ap is_eq (derived v w) ∙ equal-is (var_cmp v w) ∙ both-ways (same_var v w) (same_var w v) (same-turned v w) (same-turned w v)
 
 pub found-has : (keys : List Var) (v : Var) → list_any (eq-value.it v) keys ≡ has keys v
 found-has [] v = refl

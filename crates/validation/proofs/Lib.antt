@@ -1,5 +1,5 @@
 pub mod Tables
-pub mod Chains
+pub mod MentionLinks
 pub mod Walks
 pub mod Opens
 pub mod Stacks
@@ -11,6 +11,6 @@ pub mod Keys
 pub mod Reached
 pub mod Rings
 pub mod Graphs
-pub mod Standings
+pub mod Views
 pub mod Verdicts
 pub mod Backs

@@ -1,18 +1,19 @@
 -- A search against the edges: what is found, and that all is in the end.
 use Rattle.std.proofs.Common.{◌≡◌, ℕ, zero, suc, ◌+◌, ◌<◌, ◌≤◌, ◌↔◌, true, false, List, [], ◌∷◌, ◌++◌, Some, length, take, map, slice_get, refl, sym, ap, ◌∙◌, subst, inl, inr, ◌⊎◌, arith, length-append}
 use Rattle.std.specs.List.{Contains}
-use Rattle.std.proofs.lemmas.Bool.{false≢true}
+use Rattle.std.proofs.lemmas.Bool.{false≢true, or_cases, or_left, or_right}
 use Rattle.std.proofs.lemmas.List.{take-append-le, length-map}
 use Rattle.qualified_goals.specs.declared.variable.Var.{Var}
 use Rattle.qualified_goals.specs.Variable.{same_var}
 use Rattle.choice_problem.specs.ConflictSet.{has}
 use Rattle.choice_problem.specs.Conflict.{Edge, leads}
 use Rattle.qualified_goals.specs.SameVariable.{same_var-is}
-use Rattle.choice_problem.specs.Lists.{contains-head, contains-tail, contains-left, contains-right, map-contains}
+use Rattle.common_laws.specs.Lists.{contains-head, contains-tail, contains-left, contains-right, map-contains, any-from, any-at}
 use Rattle.choice_problem.proofs.Sets.{has-contains, contains-has}
-use Rattle.choice_problem.proofs.Paths.{Way, start, step, or-cases, or-left, or-right, any-at, any-found, leads-way, way-leads}
+use Rattle.choice_problem.proofs.Paths.{Way, start, step, leads-way, way-leads}
 use Rattle.validation.specs.Cycles.{HasEdge, AreAncestors, leads_to_any, with_keys}
-use Rattle.validation.proofs.Keys.{are_once, with_keys-once, has-with_keys, with_keys-front, once-within, two-ways}
+use Rattle.validation.proofs.Keys.{are_once, with_keys-once, has-with_keys, with_keys-front, once-within}
+use Rattle.common_laws.specs.Small.{both-ways}
 
 -- all keys lead to goals, all goals are keys, and what edges to the keys before a place leave are keys
 pub record IsPartReached (edges : List Edge) (goals keys : List Var) (place : ℕ) : Type 0 where
@@ -23,11 +24,11 @@ pub record IsPartReached (edges : List Edge) (goals keys : List Var) (place : �
   pub closed : (w u : Var) → has (take place keys) w ≡ true → HasEdge edges u w → has keys u ≡ true
 
 leads-goal : (edges : List Edge) (goals : List Var) (v w : Var) → Contains goals w → Way edges v w → leads_to_any edges goals v ≡ true
-leads-goal edges goals v w h way = any-at (λ (w : Var). leads (length edges) edges v w) goals w h (way-leads edges v w way)
+leads-goal edges goals v w h way = any-from (λ (w : Var). leads (length edges) edges v w) goals w h (way-leads edges v w way)
 
 goal-of : (edges : List Edge) (goals : List Var) (v : Var) → leads_to_any edges goals v ≡ true → (w : Var) × Contains goals w × Way edges v w
 goal-of edges goals v h =
-    let found = any-found (λ (w : Var). leads (length edges) edges v w) goals h in
+    let found = any-at (λ (w : Var). leads (length edges) edges v w) goals h in
     (found.0, found.1, leads-way (length edges) edges v found.0 found.2)
 
 pub reached-none : (edges : List Edge) (goals : List Var) → IsPartReached edges goals (with_keys [] goals) 0
@@ -43,11 +44,11 @@ reached-none edges goals = record {
 front-cases : (keys : List Var) (place : ℕ) (v w : Var) → slice_get keys place ≡ Some v → has (take (suc place) keys) w ≡ true → (has (take place keys) w ≡ true) ⊎ (v ≡ w)
 front-cases [] place v w e h = absurd (false≢true h)
 front-cases (x ∷ keys) zero v w e h =
-    elim (or-cases (same_var x w) false h) [ inl same ↦ inr (sym (cc e) ∙ same_var-is x w same) | inr none ↦ absurd (false≢true none) ]
+    elim (or_cases (same_var x w) false h) [ inl same ↦ inr (sym (cc e) ∙ same_var-is x w same) | inr none ↦ absurd (false≢true none) ]
 front-cases (x ∷ keys) (suc place) v w e h =
-    elim (or-cases (same_var x w) (has (take (suc place) keys) w) h) [
-      | inl same ↦ inl (or-left (same_var x w) (has (take place keys) w) same)
-      | inr rest ↦ elim (front-cases keys place v w e rest) [ inl k ↦ inl (or-right (same_var x w) (has (take place keys) w) k) | inr k ↦ inr k ]
+    elim (or_cases (same_var x w) (has (take (suc place) keys) w) h) [
+      | inl same ↦ inl (or_left (same_var x w) (has (take place keys) w) same)
+      | inr rest ↦ elim (front-cases keys place v w e rest) [ inl k ↦ inl (or_right (same_var x w) (has (take place keys) w) k) | inr k ↦ inr k ]
     ]
 
 get-within : {X : Type 0} (xs : List X) (place : ℕ) (x : X) → slice_get xs place ≡ Some x → place < length xs
@@ -68,11 +69,11 @@ reached-more edges goals keys place v sources part e all =
     let one : place + 1 ≡ suc place = omega arith in
     let same : take (place + 1) (with_keys keys sources) ≡ take (suc place) keys =
     ap (λ n. take n (with_keys keys sources)) one ∙ ap (take (suc place)) front.1 ∙ take-append-le (suc place) keys front.0 (omega (arith, inside)) in
-    let more : (u : Var) → has keys u ≡ true → has (with_keys keys sources) u ≡ true = λ u h. has-with_keys keys sources u ∙ or-left (has keys u) (has sources u) h in
+    let more : (u : Var) → has keys u ≡ true → has (with_keys keys sources) u ≡ true = λ u h. has-with_keys keys sources u ∙ or_left (has keys u) (has sources u) h in
     record {
       within = omega (arith, inside, ap length front.1, length-append keys front.0);
       once = with_keys-once keys sources part.once;
-      sound = λ u h. elim (or-cases (has keys u) (has sources u) (sym (has-with_keys keys sources u) ∙ h)) [
+      sound = λ u h. elim (or_cases (has keys u) (has sources u) (sym (has-with_keys keys sources u) ∙ h)) [
         | inl k ↦ part.sound u k
         | inr k ↦
             let edge = (all u).0 (has-contains sources u k) in
@@ -82,7 +83,7 @@ reached-more edges goals keys place v sources part e all =
       begun = λ u h. more u (part.begun u h);
       closed = λ w u h edge. elim (front-cases keys place v w e (sym (ap (λ l. has l w) same) ∙ h)) [
         | inl k ↦ more u (part.closed w u k edge)
-        | inr k ↦ has-with_keys keys sources u ∙ or-right (has keys u) (has sources u) (contains-has sources u ((all u).1 (subst (λ x. HasEdge edges u x) (sym k) edge)))
+        | inr k ↦ has-with_keys keys sources u ∙ or_right (has keys u) (has sources u) (contains-has sources u ((all u).1 (subst (λ x. HasEdge edges u x) (sym k) edge)))
       ];
     }
 
@@ -101,7 +102,7 @@ pub reached-all : (edges : List Edge) (goals keys : List Var) (place : ℕ) → 
 reached-all edges goals keys place part done v =
     let whole = take-whole place keys done in
     let closed : (w u : Var) → has keys w ≡ true → HasEdge edges u w → has keys u ≡ true = λ w u h edge. part.closed w u (ap (λ l. has l w) whole ∙ h) edge in
-    two-ways (has keys v) (leads_to_any edges goals v) (part.sound v) (λ h.
+    both-ways (has keys v) (leads_to_any edges goals v) (part.sound v) (λ h.
     let on = goal-of edges goals v h in
     closed-way edges keys closed v on.0 on.2 (part.begun on.0 (contains-has goals on.0 on.1)))
 

@@ -2,7 +2,7 @@
 use Rattle.std.proofs.Common.{◌≡◌, ◌↔◌, ℕ, zero, suc, ◌+◌, ◌≤◌, Bool, true, false, cond, List, [], ◌∷◌, ◌++◌, Some, None, length, take, drop, slice_get, refl, sym, ap, ◌∙◌, subst, inl, inr, ◌⊎◌, arith, append_assoc, append-nil, add-one}
 use Rattle.std.specs.Prelude.{option_to_list, flat_map, filter}
 use Rattle.std.specs.List.{Contains, list_any}
-use Rattle.std.proofs.lemmas.Bool.{false≢true}
+use Rattle.std.proofs.lemmas.Bool.{false≢true, false_from_ne_true}
 use Rattle.qualified_goals.specs.declared.variable.Var.{Var}
 use Rattle.choice_problem.specs.declared.problem.Choice.{Choice}
 use Rattle.choice_problem.specs.declared.problem.Demand.{Demand}
@@ -10,8 +10,8 @@ use Rattle.choice_problem.specs.ConflictSet.{has, set_of}
 use Rattle.choice_problem.specs.Conflict.{Edge, leads, edges_from, edges_by, edges_of, named_by, lies_on_cycle, circular, set_of_all}
 use Rattle.qualified_goals.specs.Variable.{same_var}
 use Rattle.qualified_goals.specs.SameVariable.{same_var-is, same_var-refl}
-use Rattle.choice_problem.specs.Lists.{contains-head, contains-none, contains-cases, contains-append, contains-right, contains-flat_map, flat_map-contains, contains-filter, filter-none}
-use Rattle.choice_problem.proofs.Paths.{Way, start, step, way-join, way-edge, any-at, any-found, filter-contains, leads-way, way-leads}
+use Rattle.common_laws.specs.Lists.{contains-head, contains-none, contains-cases, contains-append, contains-right, contains-flat_map, flat_map-contains, contains-filter, filter-none, filter-contains, any-from, any-at}
+use Rattle.choice_problem.proofs.Paths.{Way, start, step, way-join, way-edge, leads-way, way-leads}
 use Rattle.validation.specs.Cycles.{HasEdge, AreAncestors, leads_to_any, first_of_condition, owner_of, owners_on_cycles}
 
 -- the edge of a condition and a target
@@ -73,15 +73,11 @@ record Ring (edges : List Edge) (d : Demand) : Type 0 where
 
 ring-of : (edges : List Edge) (d : Demand) → lies_on_cycle edges d ≡ true → Ring edges d
 ring-of edges d h =
-    let found = any-found (λ (e : Edge). leads (length edges) edges e.to e.from) (edges_by d) h in
+    let found = any-at (λ (e : Edge). leads (length edges) edges e.to e.from) (edges_by d) h in
     record { edge = found.0; by = found.1; back = leads-way (length edges) edges found.0.to found.0.from found.2 }
 
 ring-lies : (edges : List Edge) (d : Demand) → Ring edges d → lies_on_cycle edges d ≡ true
-ring-lies edges d ring = any-at (λ (e : Edge). leads (length edges) edges e.to e.from) (edges_by d) ring.edge ring.by (way-leads edges ring.edge.to ring.edge.from ring.back)
-
-false-by : (b : Bool) → (b ≡ true → ⊥) → b ≡ false
-false-by true h = absurd (h refl)
-false-by false h = refl
+ring-lies edges d ring = any-from (λ (e : Edge). leads (length edges) edges e.to e.from) (edges_by d) ring.edge ring.by (way-leads edges ring.edge.to ring.edge.from ring.back)
 
 listed-edge : (demands : List Demand) (d : Demand) (e : Edge) → Contains demands d → Contains (edges_by d) e → Contains (edges_of demands) e
 listed-edge demands d e h k = flat_map-contains edges_by demands d e h k
@@ -92,7 +88,7 @@ leaves-end edges v w (step e h k way) = inr (e.to, (e, h, k, refl))
 
 -- where no edge leaves the target there is no cycle
 pub lies-ended : (demands : List Demand) (d : Demand) → Contains demands d → ((w : Var) → HasEdge (edges_of demands) d.target w → ⊥) → lies_on_cycle (edges_of demands) d ≡ false
-lies-ended demands d h ends = false-by (lies_on_cycle (edges_of demands) d) (λ lies.
+lies-ended demands d h ends = false_from_ne_true (lies_on_cycle (edges_of demands) d) (λ lies.
     let ring = ring-of (edges_of demands) d lies in
     let to = edge-to d.when d.target ring.edge ring.by in
     elim (leaves-end (edges_of demands) ring.edge.to ring.edge.from ring.back) [
@@ -175,13 +171,13 @@ pub around-all : (demands : List Demand) (n : ℕ) (keys : List Var) → circula
 around-all demands n keys none all d h =
     let hit = hit-of demands n d none h in
     let edges = edges_of demands in
-    all d.target ∙ any-at (λ (w : Var). leads (length edges) edges d.target w) (owners_on_cycles edges (drop n demands)) hit.owner hit.among (way-leads edges d.target hit.owner hit.way)
+    all d.target ∙ any-from (λ (w : Var). leads (length edges) edges d.target w) (owners_on_cycles edges (drop n demands)) hit.owner hit.among (way-leads edges d.target hit.owner hit.way)
 
 -- a demand on a target that isn't around lies on no cycle
 pub lies-around : (demands : List Demand) (keys : List Var) → ((d : Demand) → Contains (circular demands) d → has keys d.target ≡ true)
     → (d : Demand) → Contains demands d → has keys d.target ≡ false → lies_on_cycle (edges_of demands) d ≡ false
 unfolding circular
-lies-around demands keys all d h out = false-by (lies_on_cycle (edges_of demands) d) (λ lies.
+lies-around demands keys all d h out = false_from_ne_true (lies_on_cycle (edges_of demands) d) (λ lies.
     false≢true (sym out ∙ all d (filter-contains (lies_on_cycle (edges_of demands)) demands d h lies)))
 
 empty-by : {X : Type 0} (xs : List X) → ((x : X) → Contains xs x → ⊥) → xs ≡ []

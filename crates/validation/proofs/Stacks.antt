@@ -11,13 +11,13 @@ use Rattle.qualified_goals.specs.Variable.{same_var}
 use Rattle.qualified_goals.specs.SameVariable.{same_var-is}
 use Rattle.choice_problem.specs.Trail.{value_in}
 use Rattle.choice_problem.specs.ConflictSet.{has}
-use Rattle.validation.specs.declared.chain.Mention.{Mention}
+use Rattle.validation.specs.declared.mentions.Mention.{Mention}
 use Rattle.validation.specs.declared.stack.Mark.{Mark}
 use Rattle.validation.specs.Table.{entry, with_entry, without_entry}
-use Rattle.validation.specs.Standing.{Standing}
-use Rattle.validation.specs.Stack.{front_of, last_number, undone, with_listed, with_active, no_demand, demand_at, demands_at, places_of, vars_at, waits_by, waits_from, AreTargets, AreOpen, IsMark, AreMarks, AreParts}
+use Rattle.validation.specs.View.{View}
+use Rattle.validation.specs.Stack.{front_of, last_number, undone, with_listed, with_active, no_demand, demand_at, demands_at, places_of, vars_at, watchers_by, watchers_from, AreTargets, AreOpen, IsMark, AreMarks, AreParts}
 use Rattle.validation.specs.Stack.AreMarks.{none, on}
-use Rattle.validation.proofs.Chains.{snoc-split, snoc-none, snoc-same}
+use Rattle.validation.proofs.MentionLinks.{snoc-split, snoc-none, snoc-same}
 
 -- values
 
@@ -103,7 +103,7 @@ marks-grow {listed = listed} {active = active} more (on {front = front} {less = 
       asked = is.asked;
       listed_within = omega (arith, is.listed_within, length-append listed more);
       active_within = is.active_within;
-      waits = is.waits ∙ ap (λ (ds : List Demand). length (waits_from 0 ds)) same;
+      watchers = is.watchers ∙ ap (λ (ds : List Demand). length (watchers_from 0 ds)) same;
     })
     (targets-grow listed more active targets)
 
@@ -118,13 +118,13 @@ marks-push {listed = listed} {active = active} k (on {front = front} {less = les
       asked = ap (λ (ms : List Mention). has (vars_at ms) c.var) (sym same) ∙ is.asked;
       listed_within = is.listed_within;
       active_within = omega (arith, is.active_within, length-append active (k ∷ []));
-      waits = is.waits;
+      watchers = is.watchers;
     })
     targets
 
 pub marks-hold : {trail : List Choice} {marks : List Mark} {listed : List Demand} {active : List Mention} (c : Choice) (m : Mark)
     → AreMarks trail marks listed active → value_in trail c.var ≡ None → has (vars_at active) c.var ≡ true
-    → m.listed ≡ length listed → m.active ≡ length active → m.waits ≡ length (waits_from 0 listed) → AreMarks (trail ++ c ∷ []) (marks ++ m ∷ []) listed active
+    → m.listed ≡ length listed → m.active ≡ length active → m.watchers ≡ length (watchers_from 0 listed) → AreMarks (trail ++ c ∷ []) (marks ++ m ∷ []) listed active
 marks-hold {trail = trail} {marks = marks} {listed = listed} {active = active} c m levels new asked l a w =
     let all_listed : take m.listed listed ≡ listed = ap (λ n. take n listed) l ∙ take-length listed in
     let all_active : take m.active active ≡ active = ap (λ n. take n active) a ∙ take-length active in
@@ -137,7 +137,7 @@ marks-hold {trail = trail} {marks = marks} {listed = listed} {active = active} c
       asked = ap (λ (ms : List Mention). has (vars_at ms) c.var) all_active ∙ asked;
       listed_within = omega (arith, l);
       active_within = omega (arith, a);
-      waits = w ∙ ap (λ (ds : List Demand). length (waits_from 0 ds)) (sym all_listed);
+      watchers = w ∙ ap (λ (ds : List Demand). length (watchers_from 0 ds)) (sym all_listed);
     })
     (marks-targets levels)
 
@@ -152,17 +152,17 @@ open-hold active old new vars less c h updates less_is v =
     ]
     ∙ ap (λ o. has (vars_at active) v && is_none o) (sym (updates v))
 
-pub parts-open : (trail : List Choice) (marks : List Mark) (listed : List Demand) (active waits : List Mention) (table : List (Var × ℕ)) (vars : List Var) (held : ℕ) (v : Var)
-    → AreParts trail marks listed active waits table vars held → value_in trail v ≡ None → has (vars_at active) v ≡ true → has vars v ≡ true
-parts-open trail marks listed active waits table vars held v h free asked =
+pub parts-open : (trail : List Choice) (marks : List Mark) (listed : List Demand) (active watchers : List Mention) (table : List (Var × ℕ)) (vars : List Var) (held : ℕ) (v : Var)
+    → AreParts trail marks listed active watchers table vars held → value_in trail v ≡ None → has (vars_at active) v ≡ true → has vars v ≡ true
+parts-open trail marks listed active watchers table vars held v h free asked =
     h.opened v ∙ ap (λ b. b && is_none (entry table v)) asked ∙ ap is_none (h.values v ∙ free)
 
-pub parts-hold : (trail after : List Choice) (marks above : List Mark) (listed : List Demand) (active waits : List Mention) (old new : List (Var × ℕ)) (vars less : List Var) (held more : ℕ)
-    (c : Choice) (m : Mark) → AreParts trail marks listed active waits old vars held → value_in trail c.var ≡ None → has (vars_at active) c.var ≡ true
-    → m.listed ≡ length listed → m.active ≡ length active → m.waits ≡ length waits → after ≡ trail ++ c ∷ [] → above ≡ marks ++ m ∷ []
+pub parts-hold : (trail after : List Choice) (marks above : List Mark) (listed : List Demand) (active watchers : List Mention) (old new : List (Var × ℕ)) (vars less : List Var) (held more : ℕ)
+    (c : Choice) (m : Mark) → AreParts trail marks listed active watchers old vars held → value_in trail c.var ≡ None → has (vars_at active) c.var ≡ true
+    → m.listed ≡ length listed → m.active ≡ length active → m.watchers ≡ length watchers → after ≡ trail ++ c ∷ [] → above ≡ marks ++ m ∷ []
     → ((v : Var) → entry new v ≡ with_entry c.var c.val (entry old) v) → ((v : Var) → has less v ≡ (not (same_var c.var v) && has vars v)) → more ≡ held + 1
-    → AreParts after above listed active waits new less more
-parts-hold trail after marks above listed active waits old new vars less held more c m h free asked l a w after_is above_is updates less_is room = record {
+    → AreParts after above listed active watchers new less more
+parts-hold trail after marks above listed active watchers old new vars less held more c m h free asked l a w after_is above_is updates less_is room = record {
   levels =
       subst (λ (cs : List Choice). AreMarks cs above listed active) (sym after_is)
       (subst (λ (ms : List Mark). AreMarks (trail ++ c ∷ []) ms listed active) (sym above_is) (marks-hold c m h.levels free asked l a (w ∙ ap length h.waiting)));
@@ -172,47 +172,47 @@ parts-hold trail after marks above listed active waits old new vars less held mo
   room = omega (arith, room, h.room, ap length after_is, length-append trail (c ∷ []));
 }
 
-pub parts-none : (trail : List Choice) (marks : List Mark) (listed : List Demand) (active waits : List Mention) (table : List (Var × ℕ)) (vars : List Var) (held : ℕ)
-    → trail ≡ [] → marks ≡ [] → listed ≡ [] → active ≡ [] → waits ≡ [] → ((v : Var) → entry table v ≡ None) → vars ≡ [] → held ≡ 0
-    → AreParts trail marks listed active waits table vars held
-parts-none trail marks listed active waits table vars held t m l a w h v k = record {
+pub parts-none : (trail : List Choice) (marks : List Mark) (listed : List Demand) (active watchers : List Mention) (table : List (Var × ℕ)) (vars : List Var) (held : ℕ)
+    → trail ≡ [] → marks ≡ [] → listed ≡ [] → active ≡ [] → watchers ≡ [] → ((v : Var) → entry table v ≡ None) → vars ≡ [] → held ≡ 0
+    → AreParts trail marks listed active watchers table vars held
+parts-none trail marks listed active watchers table vars held t m l a w h v k = record {
   levels =
       subst (λ (cs : List Choice). AreMarks cs marks listed active) (sym t) (subst (λ (ms : List Mark). AreMarks [] ms listed active) (sym m) (none (record {
         within = λ front x rest e. absurd (snoc-none front x rest (sym a ∙ e));
         target = λ front x rest e. absurd (snoc-none front x rest (sym a ∙ e));
       })));
   values = λ x. h x ∙ ap (λ cs. value_in cs x) (sym t);
-  waiting = w ∙ ap (waits_from 0) (sym l);
+  waiting = w ∙ ap (watchers_from 0) (sym l);
   opened = λ x. ap (λ vs. has vs x) v ∙ sym (ap (λ ms. has (vars_at ms) x && is_none (entry table x)) a);
   room = k ∙ ap length (sym t);
 }
 
 -- demands that are listed, and what they wait for
 
-waits-append : (n : ℕ) (xs ys : List Demand) → waits_from n (xs ++ ys) ≡ waits_from n xs ++ waits_from (n + length xs) ys
-waits-append n [] ys = ap (λ k. waits_from k ys) (omega arith)
+waits-append : (n : ℕ) (xs ys : List Demand) → watchers_from n (xs ++ ys) ≡ watchers_from n xs ++ watchers_from (n + length xs) ys
+waits-append n [] ys = ap (λ k. watchers_from k ys) (omega arith)
 waits-append n (x ∷ xs) ys =
-    ap (λ ws. waits_by n x.when ++ ws) (waits-append (suc n) xs ys) ∙ sym (append_assoc (waits_by n x.when) (waits_from (suc n) xs) (waits_from (suc n + length xs) ys))
-    ∙ ap (λ k. (waits_by n x.when ++ waits_from (suc n) xs) ++ waits_from k ys) (omega arith)
+    ap (λ ws. watchers_by n x.when ++ ws) (waits-append (suc n) xs ys) ∙ sym (append_assoc (watchers_by n x.when) (watchers_from (suc n) xs) (watchers_from (suc n + length xs) ys))
+    ∙ ap (λ k. (watchers_by n x.when ++ watchers_from (suc n) xs) ++ watchers_from k ys) (omega arith)
 
-waits-push : (listed : List Demand) (d : Demand) → waits_from 0 (listed ++ d ∷ []) ≡ waits_from 0 listed ++ waits_by (length listed) d.when
+waits-push : (listed : List Demand) (d : Demand) → watchers_from 0 (listed ++ d ∷ []) ≡ watchers_from 0 listed ++ watchers_by (length listed) d.when
 waits-push listed d =
-    waits-append 0 listed (d ∷ []) ∙ ap (λ ws. waits_from 0 listed ++ ws) (append-nil (waits_by (0 + length listed) d.when))
-    ∙ ap (λ k. waits_from 0 listed ++ waits_by k d.when) (omega arith)
+    waits-append 0 listed (d ∷ []) ∙ ap (λ ws. watchers_from 0 listed ++ ws) (append-nil (watchers_by (0 + length listed) d.when))
+    ∙ ap (λ k. watchers_from 0 listed ++ watchers_by k d.when) (omega arith)
 
-waits-cut : (k : ℕ) (listed : List Demand) → take (length (waits_from 0 (take k listed))) (waits_from 0 listed) ≡ waits_from 0 (take k listed)
+waits-cut : (k : ℕ) (listed : List Demand) → take (length (watchers_from 0 (take k listed))) (watchers_from 0 listed) ≡ watchers_from 0 (take k listed)
 waits-cut k listed =
-    ap (λ ds. take (length (waits_from 0 (take k listed))) (waits_from 0 ds)) (sym (take-append-drop k listed))
-    ∙ ap (take (length (waits_from 0 (take k listed)))) (waits-append 0 (take k listed) (drop k listed))
-    ∙ take-append_seam (waits_from 0 (take k listed)) (waits_from (0 + length (take k listed)) (drop k listed))
+    ap (λ ds. take (length (watchers_from 0 (take k listed))) (watchers_from 0 ds)) (sym (take-append-drop k listed))
+    ∙ ap (take (length (watchers_from 0 (take k listed)))) (waits-append 0 (take k listed) (drop k listed))
+    ∙ take-append_seam (watchers_from 0 (take k listed)) (watchers_from (0 + length (take k listed)) (drop k listed))
 
-pub parts-list : (trail : List Choice) (marks : List Mark) (listed after : List Demand) (active waits more : List Mention) (table : List (Var × ℕ)) (vars : List Var) (held : ℕ) (d : Demand)
-    → AreParts trail marks listed active waits table vars held → after ≡ listed ++ d ∷ [] → more ≡ waits ++ waits_by (length listed) d.when
+pub parts-list : (trail : List Choice) (marks : List Mark) (listed after : List Demand) (active watchers more : List Mention) (table : List (Var × ℕ)) (vars : List Var) (held : ℕ) (d : Demand)
+    → AreParts trail marks listed active watchers table vars held → after ≡ listed ++ d ∷ [] → more ≡ watchers ++ watchers_by (length listed) d.when
     → AreParts trail marks after active more table vars held
-parts-list trail marks listed after active waits more table vars held d h after_is more_is = record {
+parts-list trail marks listed after active watchers more table vars held d h after_is more_is = record {
   levels = subst (λ (ds : List Demand). AreMarks trail marks ds active) (sym after_is) (marks-grow (d ∷ []) h.levels);
   values = h.values;
-  waiting = more_is ∙ ap (λ ws. ws ++ waits_by (length listed) d.when) h.waiting ∙ sym (waits-push listed d) ∙ ap (waits_from 0) (sym after_is);
+  waiting = more_is ∙ ap (λ ws. ws ++ watchers_by (length listed) d.when) h.waiting ∙ sym (waits-push listed d) ∙ ap (watchers_from 0) (sym after_is);
   opened = h.opened;
   room = h.room;
 }
@@ -225,17 +225,17 @@ demands-grow listed more (m ∷ ms) h =
 
 -- one active demand more
 
-pub parts-ask : {E : Type 0} (r : Result (Unit {0}) E) (trail : List Choice) (marks : List Mark) (listed : List Demand) (active after waits : List Mention) (table : List (Var × ℕ)) (vars more : List Var) (held same : ℕ) (m : Mention)
-    → AreParts trail marks listed active waits table vars held → m.place < length listed → m.var ≡ (demand_at listed m.place).target
-    → OnOk r (after ≡ active ++ m ∷ []) → OnErr r (after ≡ active) → AreOpen after table more → same ≡ held → AreParts trail marks listed after waits table more same
-parts-ask (Ok u) trail marks listed active after waits table vars more held same m h within target ok err opened room = record {
+pub parts-ask : {E : Type 0} (r : Result (Unit {0}) E) (trail : List Choice) (marks : List Mark) (listed : List Demand) (active after watchers : List Mention) (table : List (Var × ℕ)) (vars more : List Var) (held same : ℕ) (m : Mention)
+    → AreParts trail marks listed active watchers table vars held → m.place < length listed → m.var ≡ (demand_at listed m.place).target
+    → OnOk r (after ≡ active ++ m ∷ []) → OnErr r (after ≡ active) → AreOpen after table more → same ≡ held → AreParts trail marks listed after watchers table more same
+parts-ask (Ok u) trail marks listed active after watchers table vars more held same m h within target ok err opened room = record {
   levels = subst (λ (ms : List Mention). AreMarks trail marks listed ms) (sym ok) (marks-push m h.levels (targets-push listed active m (marks-targets h.levels) within target));
   values = h.values;
   waiting = h.waiting;
   opened = opened;
   room = room ∙ h.room;
 }
-parts-ask (Err e) trail marks listed active after waits table vars more held same m h within target ok err opened room = record {
+parts-ask (Err e) trail marks listed active after watchers table vars more held same m h within target ok err opened room = record {
   levels = subst (λ (ms : List Mention). AreMarks trail marks listed ms) (sym err) h.levels;
   values = h.values;
   waiting = h.waiting;
@@ -265,12 +265,12 @@ pub marks-some : {trail : List Choice} {marks : List Mark} {listed : List Demand
 marks-some front c (none targets) e = absurd (snoc-none front c [] e)
 marks-some front c (on {less = less} c' m levels e' f is targets) e = (less, m, f)
 
-pub parts-undo : (trail front : List Choice) (marks less : List Mark) (listed fewer : List Demand) (active asked waits left : List Mention) (table new : List (Var × ℕ)) (vars kept more : List Var) (held same one : ℕ)
-    (c : Choice) (m : Mark) → AreParts trail marks listed active waits table vars held → trail ≡ front ++ c ∷ [] → marks ≡ less ++ m ∷ []
-    → asked ≡ take m.active active → AreOpen asked table kept → same ≡ held → left ≡ take m.waits waits → fewer ≡ take m.listed listed
+pub parts-undo : (trail front : List Choice) (marks less : List Mark) (listed fewer : List Demand) (active asked watchers left : List Mention) (table new : List (Var × ℕ)) (vars kept more : List Var) (held same one : ℕ)
+    (c : Choice) (m : Mark) → AreParts trail marks listed active watchers table vars held → trail ≡ front ++ c ∷ [] → marks ≡ less ++ m ∷ []
+    → asked ≡ take m.active active → AreOpen asked table kept → same ≡ held → left ≡ take m.watchers watchers → fewer ≡ take m.listed listed
     → ((v : Var) → entry new v ≡ without_entry c.var (entry table) v) → ((v : Var) → has more v ≡ (same_var c.var v || has kept v)) → one + 1 ≡ same
     → AreParts front less fewer asked left new more one
-parts-undo trail front marks less listed fewer active asked waits left table new vars kept more held same one c m h e f asked_is opened same_is left_is fewer_is updates more_is room =
+parts-undo trail front marks less listed fewer active asked watchers left table new vars kept more held same one c m h e f asked_is opened same_is left_is fewer_is updates more_is room =
     let level = marks-undo front c less m h.levels e f in
     record {
       levels =
@@ -278,8 +278,8 @@ parts-undo trail front marks less listed fewer active asked waits left table new
           (subst (λ (ds : List Demand). AreMarks front less ds (take m.active active)) (sym fewer_is) level.0);
       values = λ v. updates v ∙ ap (λ o. cond (same_var c.var v) None o) (h.values v ∙ ap (λ cs. value_in cs v) e) ∙ value-pop front c v level.1.new;
       waiting =
-          left_is ∙ ap (take m.waits) h.waiting ∙ ap (λ n. take n (waits_from 0 listed)) level.1.waits ∙ waits-cut m.listed listed
-          ∙ ap (waits_from 0) (sym fewer_is);
+          left_is ∙ ap (take m.watchers) h.waiting ∙ ap (λ n. take n (watchers_from 0 listed)) level.1.watchers ∙ waits-cut m.listed listed
+          ∙ ap (watchers_from 0) (sym fewer_is);
       opened = λ v.
           more_is v ∙ ap (λ b. same_var c.var v || b) (opened v)
           ∙ elim (same_var c.var v) as (λ b. same_var c.var v ≡ b
@@ -295,7 +295,7 @@ parts-undo trail front marks less listed fewer active asked waits left table new
 
 -- what a stack is seen as
 
-abbrev seen : List Choice → List Demand → List Demand → List ℕ → List ℕ → Standing
+abbrev seen : List Choice → List Demand → List Demand → List ℕ → List ℕ → View
 seen trail listed active listed_before active_before =
     record { trail = trail; listed = listed; active = active; listed_before = listed_before; active_before = active_before }
 

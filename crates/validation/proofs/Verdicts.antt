@@ -12,10 +12,10 @@ use Rattle.choice_problem.specs.Active.{made_active, active, least_open}
 use Rattle.choice_problem.specs.Conflict.{barred_set, refuses, refused_set, is_broken, broken_set, circular, cycle_set, set_of_first, set_of_all, first_set, conflict}
 use Rattle.choice_problem.specs.ConflictSet.{has}
 use Rattle.choice_problem.proofs.Active.{active-push}
-use Rattle.validation.specs.Standing.{Standing, Stands, AreNew, listed_counts, counts_before, standing}
-use Rattle.validation.specs.Standing.AreNew.{none, on}
+use Rattle.validation.specs.View.{View, Represents, AreNew, listed_counts, counts_before, view_of}
+use Rattle.validation.specs.View.AreNew.{none, on}
 use Rattle.validation.specs.Stack.{made, turned}
-use Rattle.validation.proofs.Standings.{after-push, made-turned, counts-push, listed-push, least-known, roots-acyclic}
+use Rattle.validation.proofs.Views.{after-push, made-turned, counts-push, listed-push, least-known, roots-acyclic}
 
 -- the first of four sets is the first of two, or else of the other two
 
@@ -34,7 +34,7 @@ none-last None [] h = refl
 none-last None (d ∷ ds) h = absurd (cc h)
 none-last (Some s) ds h = absurd (cc h)
 
-abbrev pub shown : List Choice → List Demand → List Demand → List ℕ → List ℕ → Standing
+abbrev pub shown : List Choice → List Demand → List Demand → List ℕ → List ℕ → View
 shown trail listed active listed_before active_before =
     record { trail = trail; listed = listed; active = active; listed_before = listed_before; active_before = active_before }
 
@@ -43,20 +43,20 @@ shown-same t u l m a b n k i j e f g h o =
     ap (λ x. shown x l a n i) e ∙ ap (λ x. shown u x a n i) f ∙ ap (λ x. shown u m x n i) g ∙ ap (λ x. shown u m b x i) h ∙ ap (λ x. shown u m b k x) o
 
 -- a choice that a stack may try
-pub record Ready (p : Problem) (x : Standing) (c : Choice) : Type 0 where
-  pub stands : Stands p x
+pub record Ready (p : Problem) (x : View) (c : Choice) : Type 0 where
+  pub stands : Represents p x
   pub choice : IsChoice p c
   pub free : value_in x.trail c.var ≡ None
   pub asked : has (map (λ d. d.target) x.active) c.var ≡ true
 
-pub active-is : (p : Problem) (x : Standing) → Stands p x → x.active ≡ active p x.trail
-active-is p x h = ap (λ (s : Standing). s.active) h.same
+pub active-is : (p : Problem) (x : View) → Represents p x → x.active ≡ active p x.trail
+active-is p x h = ap (λ (s : View). s.active) h.same
 
-pub ready : (p : Problem) (x : Standing) (now : Standing) (c : Choice) → Lawful p → x ≡ now → Stands p now → least_open p now.trail ≡ Some c.var
+pub ready : (p : Problem) (x : View) (now : View) (c : Choice) → Lawful p → x ≡ now → Represents p now → least_open p now.trail ≡ Some c.var
     → c.val < p.domain c.var → Ready p x c
 ready p x now c lawful is stands least value =
-    let mine : Stands p x = subst (λ (s : Standing). Stands p s) (sym is) stands in
-    let first : least_open p x.trail ≡ Some c.var = ap (λ (s : Standing). least_open p s.trail) is ∙ least in
+    let mine : Represents p x = subst (λ (s : View). Represents p s) (sym is) stands in
+    let first : least_open p x.trail ≡ Some c.var = ap (λ (s : View). least_open p s.trail) is ∙ least in
     let found = least-known p x.trail c.var lawful mine.choices first in
     record {
       stands = mine;
@@ -65,58 +65,58 @@ ready p x now c lawful is stands least value =
       asked = ap (λ (ds : List Demand). has (map (λ d. d.target) ds) c.var) (active-is p x mine) ∙ found.asked;
     }
 
-made-active : (p : Problem) (x y : Standing) (c : Choice) (demands : List Demand) → Ready p x c → demands ≡ p.demands c → y ≡ made x c demands → y.active ≡ x.active ++ made_active p x.trail c
+made-active : (p : Problem) (x y : View) (c : Choice) (demands : List Demand) → Ready p x c → demands ≡ p.demands c → y ≡ made x c demands → y.active ≡ x.active ++ made_active p x.trail c
 made-active p x y c demands h d e =
-    let listed : x.listed ≡ demands_after p x.trail = ap (λ (s : Standing). s.listed) h.stands.same in
-    ap (λ (s : Standing). s.active) e
+    let listed : x.listed ≡ demands_after p x.trail = ap (λ (s : View). s.listed) h.stands.same in
+    ap (λ (s : View). s.active) e
     ∙ ap (λ l. x.active ++ turned (x.trail ++ c ∷ []) c.var l) (ap (λ l. l ++ demands) listed ∙ ap (λ l. demands_after p x.trail ++ l) d)
     ∙ ap (λ l. x.active ++ l) (sym (made-turned p x.trail c h.free))
 
-pub after-is : (p : Problem) (x y : Standing) (c : Choice) (demands : List Demand) → Ready p x c → demands ≡ p.demands c → y ≡ made x c demands → y.active ≡ active p (x.trail ++ c ∷ [])
+pub after-is : (p : Problem) (x y : View) (c : Choice) (demands : List Demand) → Ready p x c → demands ≡ p.demands c → y ≡ made x c demands → y.active ≡ active p (x.trail ++ c ∷ [])
 after-is p x y c demands h d e =
     made-active p x y c demands h d e ∙ ap (λ l. l ++ made_active p x.trail c) (active-is p x h.stands) ∙ sym (active-push p x.trail c)
 
-pub fresh-is : (p : Problem) (x y : Standing) (c : Choice) (demands : List Demand) (before : ℕ) → Ready p x c → demands ≡ p.demands c → y ≡ made x c demands → before ≡ length x.active
+pub fresh-is : (p : Problem) (x y : View) (c : Choice) (demands : List Demand) (before : ℕ) → Ready p x c → demands ≡ p.demands c → y ≡ made x c demands → before ≡ length x.active
     → drop before y.active ≡ made_active p x.trail c
 fresh-is p x y c demands before h d e count =
     ap (drop before) (made-active p x y c demands h d e) ∙ ap (λ n. drop n (x.active ++ made_active p x.trail c)) count ∙ drop-append_seam x.active (made_active p x.trail c)
 
-pub stands-made : (p : Problem) (x y : Standing) (c : Choice) (demands : List Demand) → Ready p x c → demands ≡ p.demands c → y ≡ made x c demands → circular y.active ≡ [] → Stands p y
+pub stands-made : (p : Problem) (x y : View) (c : Choice) (demands : List Demand) → Ready p x c → demands ≡ p.demands c → y ≡ made x c demands → circular y.active ≡ [] → Represents p y
 stands-made p x y c demands h d e acyclic =
-    let trail : y.trail ≡ x.trail ++ c ∷ [] = ap (λ (s : Standing). s.trail) e in
+    let trail : y.trail ≡ x.trail ++ c ∷ [] = ap (λ (s : View). s.trail) e in
     let listed : y.listed ≡ demands_after p (x.trail ++ c ∷ []) =
-    ap (λ (s : Standing). s.listed) e ∙ ap (λ l. l ++ demands) (ap (λ (s : Standing). s.listed) h.stands.same) ∙ ap (λ l. demands_after p x.trail ++ l) d
+    ap (λ (s : View). s.listed) e ∙ ap (λ l. l ++ demands) (ap (λ (s : View). s.listed) h.stands.same) ∙ ap (λ l. demands_after p x.trail ++ l) d
     ∙ sym (after-push p x.trail c) in
     let after : y.active ≡ active p (x.trail ++ c ∷ []) = after-is p x y c demands h d e in
     let counts : y.active_before ≡ counts_before p [] (x.trail ++ c ∷ []) =
-    ap (λ (s : Standing). s.active_before) e ∙ ap (λ l. l ++ length x.active ∷ []) (ap (λ (s : Standing). s.active_before) h.stands.same)
+    ap (λ (s : View). s.active_before) e ∙ ap (λ l. l ++ length x.active ∷ []) (ap (λ (s : View). s.active_before) h.stands.same)
     ∙ ap (λ l. counts_before p [] x.trail ++ length l ∷ []) (active-is p x h.stands) ∙ sym (counts-push p x.trail c) in
     let were : y.listed_before ≡ listed_counts p [] (x.trail ++ c ∷ []) =
-    ap (λ (s : Standing). s.listed_before) e ∙ ap (λ l. l ++ length x.listed ∷ []) (ap (λ (s : Standing). s.listed_before) h.stands.same)
-    ∙ ap (λ l. listed_counts p [] x.trail ++ length l ∷ []) (ap (λ (s : Standing). s.listed) h.stands.same) ∙ sym (listed-push p x.trail c) in
-    let same : y ≡ standing p (x.trail ++ c ∷ []) =
+    ap (λ (s : View). s.listed_before) e ∙ ap (λ l. l ++ length x.listed ∷ []) (ap (λ (s : View). s.listed_before) h.stands.same)
+    ∙ ap (λ l. listed_counts p [] x.trail ++ length l ∷ []) (ap (λ (s : View). s.listed) h.stands.same) ∙ sym (listed-push p x.trail c) in
+    let same : y ≡ view_of p (x.trail ++ c ∷ []) =
     shown-same y.trail (x.trail ++ c ∷ []) y.listed (demands_after p (x.trail ++ c ∷ [])) y.active (active p (x.trail ++ c ∷ [])) y.listed_before
     (listed_counts p [] (x.trail ++ c ∷ [])) y.active_before (counts_before p [] (x.trail ++ c ∷ [])) trail listed after were counts in
     record {
       choices = subst (λ (t : List Choice). All (IsChoice p) t) (sym trail) (All-push (IsChoice p) x.trail c h.stands.choices h.choice);
       new = on {before = x.trail} h.stands.new c h.free trail;
-      same = same ∙ ap (standing p) (sym trail);
+      same = same ∙ ap (view_of p) (sym trail);
       acyclic = acyclic;
     }
 
-pub conflict-early : (p : Problem) (x : Standing) (c : Choice) (set : List Var) → Ready p x c
+pub conflict-early : (p : Problem) (x : View) (c : Choice) (set : List Var) → Ready p x c
     → Some set ≡ first_set (barred_set p c ∷ set_of_first (find (refuses c) x.active) ∷ []) → conflict p x.trail c ≡ Some set
 unfolding conflict
 conflict-early p x c set h e =
     early-some (barred_set p c) (refused_set p x.trail c) (broken_set p x.trail c) (cycle_set p x.trail c) set
     (ap (λ (l : List Demand). first_set (barred_set p c ∷ set_of_first (find (refuses c) l) ∷ [])) (sym (active-is p x h.stands)) ∙ sym e)
 
-pub conflict-late : (p : Problem) (x y : Standing) (c : Choice) (demands : List Demand) (before : ℕ) (o : Option (List Var)) → Ready p x c → demands ≡ p.demands c → y ≡ made x c demands
+pub conflict-late : (p : Problem) (x y : View) (c : Choice) (demands : List Demand) (before : ℕ) (o : Option (List Var)) → Ready p x c → demands ≡ p.demands c → y ≡ made x c demands
     → before ≡ length x.active → None ≡ first_set (barred_set p c ∷ set_of_first (find (refuses c) x.active) ∷ [])
     → o ≡ first_set (set_of_first (find (is_broken y.trail) (drop before y.active)) ∷ set_of_all (circular y.active) ∷ []) → conflict p x.trail c ≡ o
 unfolding conflict
 conflict-late p x y c demands before o h d e count early late =
-    let trail : y.trail ≡ x.trail ++ c ∷ [] = ap (λ (s : Standing). s.trail) e in
+    let trail : y.trail ≡ x.trail ++ c ∷ [] = ap (λ (s : View). s.trail) e in
     early-none (barred_set p c) (refused_set p x.trail c) (broken_set p x.trail c) (cycle_set p x.trail c)
     (ap (λ (l : List Demand). first_set (barred_set p c ∷ set_of_first (find (refuses c) l) ∷ [])) (sym (active-is p x h.stands)) ∙ sym early)
     ∙ sym (late
@@ -129,22 +129,22 @@ none-circular a ds h = none-last a (circular ds) (sym h)
 
 -- before any choice
 
-pub stands-new : (p : Problem) (x : Standing) (roots : List Demand) → Lawful p → roots ≡ p.roots
-    → x ≡ record { trail = []; listed = roots; active = roots; listed_before = []; active_before = [] } → Stands p x
+pub stands-new : (p : Problem) (x : View) (roots : List Demand) → Lawful p → roots ≡ p.roots
+    → x ≡ record { trail = []; listed = roots; active = roots; listed_before = []; active_before = [] } → Represents p x
 unfolding active
 stands-new p x roots lawful is e =
-    let trail : x.trail ≡ [] = ap (λ (s : Standing). s.trail) e in
-    let listed : x.listed ≡ p.roots ++ [] = ap (λ (s : Standing). s.listed) e ∙ is ∙ sym (append-nil p.roots) in
-    let acts : x.active ≡ p.roots ++ [] = ap (λ (s : Standing). s.active) e ∙ is ∙ sym (append-nil p.roots) in
-    let counts : x.active_before ≡ [] = ap (λ (s : Standing). s.active_before) e in
-    let were : x.listed_before ≡ [] = ap (λ (s : Standing). s.listed_before) e in
-    let same : x ≡ standing p [] =
+    let trail : x.trail ≡ [] = ap (λ (s : View). s.trail) e in
+    let listed : x.listed ≡ p.roots ++ [] = ap (λ (s : View). s.listed) e ∙ is ∙ sym (append-nil p.roots) in
+    let acts : x.active ≡ p.roots ++ [] = ap (λ (s : View). s.active) e ∙ is ∙ sym (append-nil p.roots) in
+    let counts : x.active_before ≡ [] = ap (λ (s : View). s.active_before) e in
+    let were : x.listed_before ≡ [] = ap (λ (s : View). s.listed_before) e in
+    let same : x ≡ view_of p [] =
     shown-same x.trail [] x.listed (p.roots ++ []) x.active (p.roots ++ []) x.listed_before [] x.active_before [] trail listed acts were counts in
     record {
       choices = subst (λ (t : List Choice). All (IsChoice p) t) (sym trail) (All-nil (IsChoice p));
       new = subst (λ (t : List Choice). AreNew t) (sym trail) none;
-      same = same ∙ ap (standing p) (sym trail);
-      acyclic = ap circular (ap (λ (s : Standing). s.active) e ∙ is) ∙ roots-acyclic p lawful;
+      same = same ∙ ap (view_of p) (sym trail);
+      acyclic = ap circular (ap (λ (s : View). s.active) e ∙ is) ∙ roots-acyclic p lawful;
     }
 
 pub none-from : {X : Type 0} (o : Option X) → ((x : X) → o ≡ Some x → ⊥) → o ≡ None

@@ -6,9 +6,9 @@ use Rattle.std.proofs.Math.Seq.{get_or-append_seam}
 use Rattle.qualified_goals.specs.declared.variable.Var.{Var}
 use Rattle.qualified_goals.specs.Variable.{same_var}
 use Rattle.qualified_goals.specs.SameVariable.{same_var-is}
-use Rattle.validation.specs.declared.chain.Mention.{Mention}
-use Rattle.validation.specs.declared.chain.Link.{Link}
-use Rattle.validation.specs.Chain.{mentions, last_from, last_of, places_on, up_to, IsLinked}
+use Rattle.validation.specs.declared.mentions.Mention.{Mention}
+use Rattle.validation.specs.declared.mentions.Link.{Link}
+use Rattle.validation.specs.Mentions.{mentions, last_from, last_of, places_on, up_to, IsLinked}
 
 -- found has the places on a variable behind some first links, the last first
 pub record IsWalk (v : Var) (links : List Link) (next : Option ℕ) (found : List ℕ) : Type 0 where

@@ -1,7 +1,7 @@
-pub mod Standing
+pub mod View
 pub mod Verdict
 pub mod Table
-pub mod Chain
+pub mod Mentions
 pub mod Open
 pub mod Stack
 pub mod Checks

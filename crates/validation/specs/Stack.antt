@@ -1,5 +1,5 @@
 -- What a stack of choices stands for, and how what it holds hangs together.
-use Rattle.std.specs.Prelude.{◌≡◌, ℕ, suc, ◌-◌, ◌<◌, ◌≤◌, Bool, true, cond, ◌&&◌, List, [], ◌∷◌, ◌++◌, length, take, map, filter, Option, None, is_none, slice_index_or, option_to_list, flat_map}
+use Rattle.std.specs.Prelude.{◌≡◌, ℕ, suc, ◌-◌, ◌<◌, ◌≤◌, Bool, true, cond, ◌&&◌, List, [], ◌∷◌, ◌++◌, length, take, map, filter, Option, None, is_none, slice_index_or, option_to_list, flat_map, find}
 use Rattle.std.specs.List.{list_any}
 use Rattle.qualified_goals.specs.declared.variable.Var.{Var}
 use Rattle.qualified_goals.specs.declared.variable.Qual.TheVariants.{Top}
@@ -11,15 +11,18 @@ use Rattle.choice_problem.specs.Assignment.{is_yes}
 use Rattle.choice_problem.specs.Trail.{value_in, least_from}
 use Rattle.choice_problem.specs.Active.{is_waited_for}
 use Rattle.choice_problem.specs.ConflictSet.{has}
-use Rattle.validation.specs.declared.chain.Mention.{Mention}
+use Rattle.validation.specs.declared.mentions.Mention.{Mention}
 use Rattle.validation.specs.declared.stack.Mark.{Mark}
-use Rattle.validation.specs.Standing.{Standing}
+use Rattle.validation.specs.View.{View}
 use Rattle.validation.specs.Table.{entry}
+use Rattle.validation.specs.Checks.{is_broken_in}
 use Rattle.validation.specs.Cycles.{owner_of}
 
+-- what stands behind the last demand
 abbrev pub no_demand : Demand
 no_demand = record { when = []; target = record { qual = Top; «package» = 0; part = Package }; allowed = [] }
 
+-- the demand at a place
 abbrev pub demand_at : List Demand → ℕ → Demand
 demand_at listed place = slice_index_or listed place no_demand
 
@@ -27,12 +30,15 @@ demand_at listed place = slice_index_or listed place no_demand
 abbrev pub demands_at : List Demand → List ℕ → List Demand
 demands_at listed places = map (demand_at listed) places
 
+-- the places of the demands that are mentioned
 abbrev pub places_of : List Mention → List ℕ
 places_of ms = map (λ m. m.place) ms
 
+-- the variables that are mentioned
 abbrev pub vars_at : List Mention → List Var
 vars_at ms = map (λ m. m.var) ms
 
+-- a variable, mentioned by the demand at a place
 abbrev pub mention_of : Var → ℕ → Mention
 mention_of v n = record { var = v; place = n }
 
@@ -41,14 +47,14 @@ abbrev pub are_naming : Var → List Choice → Bool
 are_naming v choices = list_any (λ c. same_var c.var v) choices
 
 -- the variables that a demand waits for, each once
-abbrev pub waits_by : ℕ → List Choice → List Mention
-waits_by n [] = []
-waits_by n (c ∷ rest) = cond (are_naming c.var rest) (waits_by n rest) (mention_of c.var n ∷ waits_by n rest)
+abbrev pub watchers_by : ℕ → List Choice → List Mention
+watchers_by n [] = []
+watchers_by n (c ∷ rest) = cond (are_naming c.var rest) (watchers_by n rest) (mention_of c.var n ∷ watchers_by n rest)
 
 -- those of demands that stand from a place on
-abbrev pub waits_from : ℕ → List Demand → List Mention
-waits_from n [] = []
-waits_from n (d ∷ demands) = waits_by n d.when ++ waits_from (suc n) demands
+abbrev pub watchers_from : ℕ → List Demand → List Mention
+watchers_from n [] = []
+watchers_from n (d ∷ demands) = watchers_by n d.when ++ watchers_from (suc n) demands
 
 -- each mention is of the target of a demand that is listed
 pub record AreTargets (listed : List Demand) (active : List Mention) : Type 0 where
@@ -65,7 +71,7 @@ pub record IsMark (front : List Choice) (c : Choice) (m : Mark) (listed : List D
   pub asked : has (vars_at (take m.active active)) c.var ≡ true
   pub listed_within : m.listed ≤ length listed
   pub active_within : m.active ≤ length active
-  pub waits : m.waits ≡ length (waits_from 0 (take m.listed listed))
+  pub watchers : m.watchers ≡ length (watchers_from 0 (take m.listed listed))
 
 -- choices with their marks, above what was listed and active before each
 pub data AreMarks : List Choice → List Mark → List Demand → List Mention → Type 0 where
@@ -75,10 +81,10 @@ pub data AreMarks : List Choice → List Mark → List Demand → List Mention �
       → IsMark front c m listed active → AreTargets listed active → AreMarks trail marks listed active
 
 -- what the parts of a stack have to do with each other
-pub record AreParts (trail : List Choice) (marks : List Mark) (listed : List Demand) (active waits : List Mention) (table : List (Var × ℕ)) (vars : List Var) (held : ℕ) : Type 0 where
+pub record AreParts (trail : List Choice) (marks : List Mark) (listed : List Demand) (active watchers : List Mention) (table : List (Var × ℕ)) (vars : List Var) (held : ℕ) : Type 0 where
   pub levels : AreMarks trail marks listed active
   pub values : (v : Var) → entry table v ≡ value_in trail v
-  pub waiting : waits ≡ waits_from 0 listed
+  pub waiting : watchers ≡ watchers_from 0 listed
   pub opened : AreOpen active table vars
   pub room : held ≡ length trail
 
@@ -86,11 +92,12 @@ pub record AreParts (trail : List Choice) (marks : List Mark) (listed : List Dem
 abbrev pub front_of : {X : Type 0} → List X → List X
 front_of xs = take (length xs - 1) xs
 
+-- the last of some numbers
 abbrev pub last_number : List ℕ → ℕ
 last_number ns = slice_index_or ns (length ns - 1) 0
 
 -- the last choice taken back
-abbrev pub undone : Standing → Standing
+abbrev pub undone : View → View
 undone s = record {
   trail = front_of s.trail;
   listed = take (last_number s.listed_before) s.listed;
@@ -100,7 +107,7 @@ undone s = record {
 }
 
 -- one choice more
-abbrev pub held : Standing → Choice → Standing
+abbrev pub held : View → Choice → View
 held s c = record {
   trail = s.trail ++ c ∷ [];
   listed = s.listed;
@@ -109,21 +116,27 @@ held s c = record {
   active_before = s.active_before ++ length s.active ∷ [];
 }
 
-abbrev pub with_listed : Standing → List Demand → Standing
+-- more demands are listed
+abbrev pub with_listed : View → List Demand → View
 with_listed s more = record s { listed = s.listed ++ more }
 
-abbrev pub with_active : Standing → List Demand → Standing
+-- more demands are active
+abbrev pub with_active : View → List Demand → View
 with_active s more = record s { active = s.active ++ more }
 
-abbrev pub HasListed : Standing → Standing → Type 0
+-- some demands more are listed
+abbrev pub HasListed : View → View → Type 0
 HasListed old new = (more : List Demand) × (new ≡ with_listed old more)
 
-abbrev pub HasActivated : Standing → Standing → Type 0
+-- some demands more are active
+abbrev pub HasActivated : View → View → Type 0
 HasActivated old new = (more : List Demand) × (new ≡ with_active old more)
 
-abbrev pub HasGrown : Standing → Standing → Type 0
+-- some demands more are listed, and some active
+abbrev pub HasGrown : View → View → Type 0
 HasGrown old new = (more : List Demand) × (asked : List Demand) × (new ≡ with_active (with_listed old more) asked)
 
+-- each of these numbers is below n
 abbrev pub AllBelow : ℕ → List ℕ → Type 0
 AllBelow n [] = Unit {0}
 AllBelow n (x ∷ xs) = (x < n) × AllBelow n xs
@@ -136,8 +149,16 @@ names v d = are_naming v d.when
 abbrev pub turned : List Choice → Var → List Demand → List Demand
 turned trail v listed = filter (λ d. names v d && is_yes (value_in trail) d) listed
 
+-- the demands that a variable's choice owns are listed, and those active that turn Yes
+abbrev pub grown : View → Var → List Demand → View
+grown s v demands = with_active (with_listed s demands) (turned s.trail v (s.listed ++ demands))
+
+-- the first demand at some places that is broken, as far as some values are known
+abbrev pub first_broken : (Var → Option ℕ) → List Demand → List Mention → Option Demand
+first_broken values listed active = find (is_broken_in values) (demands_at listed (places_of active))
+
 -- a choice made, with the demands that it owns, and those active that turn Yes
-abbrev pub made : Standing → Choice → List Demand → Standing
+abbrev pub made : View → Choice → List Demand → View
 made s c demands = with_active (with_listed (held s c) demands) (turned (s.trail ++ c ∷ []) c.var (s.listed ++ demands))
 
 -- the least variable that has no value and is the target of one of these

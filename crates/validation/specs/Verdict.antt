@@ -1,17 +1,28 @@
 -- The verdict on a choice.
-use Rattle.std.specs.Prelude.{◌≡◌, List, [], ◌∷◌, ◌++◌, Option, Some, None}
+use Rattle.std.specs.Prelude.{◌≡◌, ℕ, List, [], ◌∷◌, ◌++◌, Option, Some, None, drop, find}
 use Rattle.qualified_goals.specs.declared.variable.Var.{Var}
 use Rattle.choice_problem.specs.declared.problem.Choice.{Choice}
+use Rattle.choice_problem.specs.declared.problem.Demand.{Demand}
 use Rattle.choice_problem.specs.Problem.{Problem}
+use Rattle.choice_problem.specs.Conflict.{barred_set, refuses, is_broken, circular, set_of_first, set_of_all, first_set}
 use Rattle.validation.specs.declared.verdict.Verdict.{Verdict}
 use Rattle.validation.specs.declared.verdict.Verdict.TheVariants.{Accepted, Conflict}
-use Rattle.validation.specs.Standing.{Standing, Stands}
+use Rattle.validation.specs.View.{View, Represents}
 
+-- a choice with a conflict set is refused with it, and any other accepted
 abbrev pub verdict_of : Option (List Var) → Verdict
 verdict_of None = Accepted
 verdict_of (Some set) = Conflict set
 
+-- the set of a value that is barred, or that an active demand refuses
+abbrev pub set_before : Problem → Choice → List Demand → Option (List Var)
+set_before p c active = first_set (barred_set p c ∷ set_of_first (find (refuses c) active) ∷ [])
+
+-- the set of the first demand that became active behind a place and is broken, or of those on a cycle
+abbrev pub set_after : List Choice → ℕ → List Demand → Option (List Var)
+set_after trail before active = first_set (set_of_first (find (is_broken trail) (drop before active)) ∷ set_of_all (circular active) ∷ [])
+
 -- what a verdict leaves: an accepted choice stands behind the others, and a conflict changes nothing
-abbrev pub Leaves : Problem → Standing → Standing → Choice → Verdict → Type 0
-Leaves p old new c Accepted = Stands p new × (new.trail ≡ old.trail ++ c ∷ [])
+abbrev pub Leaves : Problem → View → View → Choice → Verdict → Type 0
+Leaves p old new c Accepted = Represents p new × (new.trail ≡ old.trail ++ c ∷ [])
 Leaves p old new c (Conflict set) = new ≡ old

@@ -1,3 +1,4 @@
+// What is asked of demands under a table of values.
 ghost use Rattle.std.specs.Prelude.{◌≡◌, ◌<◌, Some, None, IfOk, IfSome, OnOk, List, ◌++◌, length, filter, find, slice_get, option_to_list};
 ghost use Rattle.std.specs.Option.{option_map};
 ghost use Rattle.choice_problem.specs.declared.problem.Demand.{Demand};

@@ -1,3 +1,4 @@
+// The cycles among demands.
 ghost use Rattle.std.specs.Prelude.{◌≡◌, ◌<◌, ◌↔◌, [], ◌∷◌, ◌++◌, true, Some, IfOk, OnOk, IfSome, List, length, take, drop, slice_get, option_to_list, flat_map};
 ghost use Rattle.std.specs.List.{Contains};
 ghost use Rattle.qualified_goals.specs.declared.variable.Var.{Var};

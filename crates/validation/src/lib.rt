@@ -2,9 +2,9 @@
 //! or answered with the set of its conflict, and the last accepted choice can be taken back.
 #![tactic(auto)]
 
-mod chain;
 mod checks;
 mod cycles;
+mod mentions;
 mod open;
 mod stack;
 mod state;

@@ -1,11 +1,12 @@
+// The open variables, in goal order.
 ghost use Rattle.std.specs.Prelude.{◌≡◌, ◌+◌, ◌<◌, ◌||◌, ◌&&◌, not, [], IsTrue, OnOk, OnErr, false, ◌≤◌, vec_len, vec_capacity};
 ghost use Rattle.qualified_goals.specs.declared.variable.Var.{Var};
 ghost use Rattle.qualified_goals.specs.Variable.{same_var, is_before};
 ghost use Rattle.choice_problem.specs.Trail.{least_from};
-ghost use Rattle.choice_problem.specs.ConflictSet.{is_rising, has, with_var, place_of};
-ghost use Rattle.validation.specs.Open.{Room, without};
+ghost use Rattle.choice_problem.specs.ConflictSet.{is_rising, has, with_var, place_of, without};
+ghost use Rattle.validation.specs.Open.{Room};
 
-use choice_problem::{Var, is_before, is_same};
+use choice_problem::{Var, place_of, stands_at};
 use plan_types::NoMemory;
 use std::alloc::Global;
 use std::marker::Model;
@@ -106,24 +107,5 @@ fn remove_rising(vars: &mut Vec<Var>, v: Var)
     let place = place_of(vars.as_slice(), v);
     if stands_at(vars.as_slice(), place, v) {
         vars.remove(place);
-    }
-}
-
-// The first place of a rising list whose variable isn't before this one.
-fn place_of(vars: &[Var], v: Var) -> usize
-    requires { IsTrue (is_rising vars.now) }
-    ensures { result ≡ place_of v vars.now }
-{
-    vars.partition_point(|w| is_before(*w, v))
-}
-
-fn stands_at(vars: &[Var], place: usize, v: Var) -> bool
-    requires rising { IsTrue (is_rising vars.now) }
-    requires place { place ≡ place_of v vars.now }
-    ensures { result ≡ has vars.now v }
-{
-    match vars.get(place) {
-        Some(w) => is_same(*w, v),
-        None => false,
     }
 }

@@ -1,3 +1,4 @@
+// What a state keeps of its choices, and how it is taken back.
 ghost use Rattle.std.specs.Prelude.{◌≡◌, ◌≢◌, ◌<◌, ◌++◌, [], ◌∷◌, None, IfOk, OnOk, OnErr, IsTrue, IfSome, List, length, take, drop, map, find};
 ghost use Rattle.std.specs.Option.{option_map};
 ghost use Rattle.choice_problem.specs.Trail.{value_in};
@@ -6,15 +7,15 @@ ghost use Rattle.choice_problem.specs.Active.{asks_for, vars_of_first};
 ghost use Rattle.choice_problem.specs.Conflict.{refuses, is_broken, set_of_first};
 ghost use Rattle.choice_problem.specs.ConflictSet.{has, set_of};
 ghost use Rattle.validation.specs.Checks.{is_broken_in};
-ghost use Rattle.validation.specs.declared.chain.Mention.{Mention};
-ghost use Rattle.validation.specs.Standing.{Standing};
-ghost use Rattle.validation.specs.Stack.{AreOpen, demand_at, are_naming, waits_by, undone, held, with_listed, with_active, HasListed, HasActivated, HasGrown, AllBelow, turned, made, demands_at, places_of, least_waiting};
+ghost use Rattle.validation.specs.declared.mentions.Mention.{Mention};
+ghost use Rattle.validation.specs.View.{View};
+ghost use Rattle.validation.specs.Stack.{AreOpen, demand_at, are_naming, watchers_by, undone, held, with_listed, with_active, HasListed, HasActivated, HasGrown, AllBelow, grown, first_broken, turned, made, demands_at, places_of, least_waiting};
 
-use crate::chain::{Chain, Mention};
 use crate::checks::{
     demand_in, first_refusing, is_broken_at, owners_at, reason_at, set_at, yes_among,
 };
 use crate::cycles::Graph;
+use crate::mentions::{Mention, Mentions};
 use crate::open::OpenVars;
 use crate::table::Table;
 use choice_problem::{Choice, ConflictSet, Demand, Var, is_same};
@@ -26,7 +27,7 @@ use std::marker::Model;
 #[derive(Clone, Copy, Debug, Drop)]
 pub(crate) struct Mark {
     pub(crate) listed: usize,
-    pub(crate) waits: usize,
+    pub(crate) watchers: usize,
     pub(crate) active: usize,
 }
 
@@ -37,19 +38,19 @@ pub(crate) struct Stack {
     marks: List<Mark>,
     listed: List<Demand>,
     // The mentions of the targets of active demands.
-    active: Chain,
+    active: Mentions,
     // The mentions of the variables of each listed demand's condition.
-    waits: Chain,
+    watchers: Mentions,
     values: Table,
     opens: OpenVars,
 }
 
 impl Model for Stack {
     ghost use Rattle.std.specs.Prelude.{map};
-    ghost use Rattle.validation.specs.Standing.{Standing};
+    ghost use Rattle.validation.specs.View.{View};
     ghost use Rattle.validation.specs.Stack.{AreParts, demands_at, places_of};
 
-    ghost Value = { Standing };
+    ghost Value = { View };
 
     ghost view = { λ s. record {
       trail = s.trail;
@@ -59,7 +60,7 @@ impl Model for Stack {
       active_before = map (λ m. m.active) s.marks;
     } };
 
-    ghost invariant = { λ s. AreParts s.trail s.marks s.listed s.active s.waits s.values s.opens.vars s.opens.held };
+    ghost invariant = { λ s. AreParts s.trail s.marks s.listed s.active s.watchers s.values s.opens.vars s.opens.held };
 }
 
 impl Stack {
@@ -70,8 +71,8 @@ impl Stack {
             trail: List::new(alloc),
             marks: List::new(alloc),
             listed: List::new(alloc),
-            active: Chain::new(alloc),
-            waits: Chain::new(alloc),
+            active: Mentions::new(alloc),
+            watchers: Mentions::new(alloc),
             values: Table::new(alloc),
             opens: OpenVars::new(alloc),
         }
@@ -98,7 +99,7 @@ impl Stack {
     {
         let mark = Mark {
             listed: self.listed.len(),
-            waits: self.waits.len(),
+            watchers: self.watchers.len(),
             active: self.active.len(),
         };
         add_level(&mut self.trail, &mut self.marks, c, mark)?;
@@ -121,7 +122,7 @@ impl Stack {
         let c = self.trail.pop().unwrap();
         let mark = self.marks.pop().unwrap();
         forget(&mut self.active, &mut self.opens, &self.values, mark.active);
-        self.waits.cut(mark.waits);
+        self.watchers.cut(mark.watchers);
         self.listed.truncate(mark.listed);
         self.values.remove(c.var);
         self.opens.put_back(c.var);
@@ -132,10 +133,10 @@ impl Stack {
         ensures err { OnErr result (self.new ≡ self.old) }
     {
         let place = self.listed.len();
-        let len = self.waits.len();
-        wait_for(&mut self.waits, place, d.when.as_slice())?;
+        let len = self.watchers.len();
+        watch(&mut self.watchers, place, d.when.as_slice())?;
         if self.listed.push(d).is_err() {
-            self.waits.cut(len);
+            self.watchers.cut(len);
             return Err(NoMemory);
         }
         Ok(())
@@ -183,7 +184,7 @@ impl Stack {
         ensures demands { IfOk result (λ found. demands_at self.now.listed found.items ≡ turned self.now.trail v self.now.listed) }
         ensures within { IfOk result (λ found. AllBelow (length self.now.listed) found.items) }
     {
-        let places = self.waits.places(alloc, v)?;
+        let places = self.watchers.places(alloc, v)?;
         let found = yes_among(
             alloc,
             self.listed.as_slice(),
@@ -226,7 +227,7 @@ impl Stack {
     }
 
     fn grow(&mut self, alloc: Global, v: Var, demands: List<Demand>) -> Result<(), NoMemory>
-        ensures ok { OnOk result (self.new ≡ with_active (with_listed self.old demands) (turned self.old.trail v (self.old.listed ++ demands))) }
+        ensures ok { OnOk result (self.new ≡ grown self.old v demands) }
         ensures err { OnErr result (HasGrown self.old self.new) }
     {
         self.list_all(demands)?;
@@ -293,13 +294,13 @@ impl Graph for Stack {
 
     // A variable that no listed demand waits for owns none.
     fn is_chosen(&self, v: Var) -> bool {
-        self.waits.last(v).is_some()
+        self.watchers.last(v).is_some()
     }
 }
 
-fn first_broken(active: &Chain, listed: &[Demand], values: &Table, from: usize) -> Option<usize>
+fn first_broken(active: &Mentions, listed: &[Demand], values: &Table, from: usize) -> Option<usize>
     requires { AllBelow (length listed.now) (places_of active.now) }
-    ensures found { find (is_broken_in (entry values.now)) (demands_at listed.now (places_of (drop from active.now))) ≡ option_map (demand_at listed.now) result }
+    ensures found { first_broken (entry values.now) listed.now (drop from active.now) ≡ option_map (demand_at listed.now) result }
     ensures within { IfSome result (λ place. place < length listed.now) }
 {
     let count = active.len();
@@ -313,7 +314,7 @@ fn first_broken(active: &Chain, listed: &[Demand], values: &Table, from: usize) 
 }
 
 // Cuts the mentions of active demands back, with what they opened.
-fn forget(active: &mut Chain, opens: &mut OpenVars, values: &Table, len: usize)
+fn forget(active: &mut Mentions, opens: &mut OpenVars, values: &Table, len: usize)
     requires { AreOpen active.old values.now opens.old.vars }
     ensures active { active.new ≡ take len active.old }
     ensures opened { AreOpen active.new values.now opens.new.vars }
@@ -324,7 +325,7 @@ fn forget(active: &mut Chain, opens: &mut OpenVars, values: &Table, len: usize)
     }
 }
 
-fn forget_last(active: &mut Chain, opens: &mut OpenVars, values: &Table)
+fn forget_last(active: &mut Mentions, opens: &mut OpenVars, values: &Table)
     requires { AreOpen active.old values.now opens.old.vars }
     ensures active { (front : List Mention) (m : Mention) → active.old ≡ front ++ m ∷ [] → active.new ≡ front }
     ensures opened { AreOpen active.new values.now opens.new.vars }
@@ -344,7 +345,7 @@ fn forget_last(active: &mut Chain, opens: &mut OpenVars, values: &Table)
 
 // Puts the mention of an active demand's target onto the others, and opens it where it has no value.
 fn ask(
-    active: &mut Chain,
+    active: &mut Mentions,
     opens: &mut OpenVars,
     values: &Table,
     mention: Mention,
@@ -368,26 +369,26 @@ fn ask(
 }
 
 // Waits for each variable of a condition once.
-fn wait_for(waits: &mut Chain, place: usize, when: &[Choice]) -> Result<(), NoMemory>
-    ensures ok { OnOk result (waits.new ≡ waits.old ++ waits_by place when.now) }
-    ensures err { OnErr result (waits.new ≡ waits.old) }
+fn watch(watchers: &mut Mentions, place: usize, when: &[Choice]) -> Result<(), NoMemory>
+    ensures ok { OnOk result (watchers.new ≡ watchers.old ++ watchers_by place when.now) }
+    ensures err { OnErr result (watchers.new ≡ watchers.old) }
 {
-    let len = waits.len();
-    if add_waits(waits, place, when).is_err() {
-        waits.cut(len);
+    let len = watchers.len();
+    if add_watchers(watchers, place, when).is_err() {
+        watchers.cut(len);
         return Err(NoMemory);
     }
     Ok(())
 }
 
-fn add_waits(waits: &mut Chain, place: usize, when: &[Choice]) -> Result<(), NoMemory>
-    ensures ok { OnOk result (waits.new ≡ waits.old ++ waits_by place when.now) }
-    ensures err { OnErr result (take (length waits.old) waits.new ≡ waits.old) }
+fn add_watchers(watchers: &mut Mentions, place: usize, when: &[Choice]) -> Result<(), NoMemory>
+    ensures ok { OnOk result (watchers.new ≡ watchers.old ++ watchers_by place when.now) }
+    ensures err { OnErr result (take (length watchers.old) watchers.new ≡ watchers.old) }
 {
     let mut rest = when;
     while let [c, tail @ ..] = rest {
         if !are_naming(tail, c.var) {
-            waits.push(Mention { var: c.var, place })?;
+            watchers.push(Mention { var: c.var, place })?;
         }
         rest = tail;
     }

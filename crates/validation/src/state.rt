@@ -1,11 +1,12 @@
+// The state of a search, and the verdict on one choice more.
 ghost use Rattle.std.specs.Prelude.{◌≡◌, ◌≢◌, ◌+◌, ◌<◌, List, ◌∷◌, [], ◌++◌, IfOk, OnErr, Some, None, take, drop, find};
 ghost use Rattle.choice_problem.specs.declared.problem.Choice.{Choice};
 ghost use Rattle.choice_problem.specs.Problem.{Problem, IsChoice, Lawful};
 ghost use Rattle.choice_problem.specs.Active.{least_open, reason};
 ghost use Rattle.choice_problem.specs.Conflict.{barred_set, refuses, is_broken, circular, set_of_first, set_of_all, first_set, conflict};
 ghost use Rattle.choice_problem.specs.ConflictSet.{set_of};
-ghost use Rattle.validation.specs.Standing.{Standing, Stands, standing};
-ghost use Rattle.validation.specs.Verdict.{verdict_of, Leaves};
+ghost use Rattle.validation.specs.View.{View, Represents, view_of};
+ghost use Rattle.validation.specs.Verdict.{verdict_of, Leaves, set_before, set_after};
 
 use crate::Verdict;
 use crate::cycles::{Graph, cycle_set_of};
@@ -23,9 +24,9 @@ pub struct State {
 }
 
 impl Model for State {
-    ghost use Rattle.validation.specs.Standing.{Standing};
+    ghost use Rattle.validation.specs.View.{View};
 
-    ghost Value = { Standing };
+    ghost Value = { View };
 
     ghost view = { λ s. s.stack };
 }
@@ -33,7 +34,7 @@ impl Model for State {
 impl State {
     /// The state before any choice, with the roots active.
     pub fn new<C: Choices>(alloc: Global, choices: &C) -> Result<State, NoMemory>
-        ensures { IfOk result (λ state. Stands (C.problem choices.now) state × (state.trail ≡ [])) }
+        ensures { IfOk result (λ state. Represents (C.problem choices.now) state × (state.trail ≡ [])) }
     {
         let roots = choices.roots(alloc)?;
         let mut stack = Stack::new(alloc);
@@ -44,14 +45,14 @@ impl State {
 
     /// The least open variable.
     pub fn least(&self) -> Option<Var>
-        ensures { (p : Problem) → Lawful p → Stands p self.now → result ≡ least_open p self.now.trail }
+        ensures { (p : Problem) → Lawful p → Represents p self.now → result ≡ least_open p self.now.trail }
     {
         self.stack.least()
     }
 
     /// Why an open variable is so: the variables of the condition of the first demand on it that became active.
     pub fn reason(&self, alloc: Global, v: Var) -> Result<ConflictSet, NoMemory>
-        ensures { (p : Problem) → Stands p self.now → IfOk result (λ set. set ≡ set_of (reason p self.now.trail v)) }
+        ensures { (p : Problem) → Represents p self.now → IfOk result (λ set. set ≡ set_of (reason p self.now.trail v)) }
     {
         let set = self.stack.reason(alloc, v)?;
         Ok(set)
@@ -78,7 +79,7 @@ impl State {
         c: Choice,
         steps: &mut Steps<L>,
     ) -> Result<Verdict, NoMemory>
-        requires stands { Stands (C.problem choices.now) self.old }
+        requires stands { Represents (C.problem choices.now) self.old }
         requires open { least_open (C.problem choices.now) self.old.trail ≡ Some c.var }
         requires value { c.val < (C.problem choices.now).domain c.var }
         ensures ticks { steps.new ≡ steps.old + 1 }
@@ -109,7 +110,7 @@ impl State {
     /// Takes the last accepted choice back. It takes no memory.
     pub fn undo(&mut self)
         requires { self.old.trail ≢ [] }
-        ensures stands { (p : Problem) → Stands p self.old → Stands p self.new }
+        ensures stands { (p : Problem) → Represents p self.old → Represents p self.new }
         ensures trail { (front : List Choice) (c : Choice) → self.old.trail ≡ front ++ c ∷ [] → self.new.trail ≡ front }
     {
         self.stack.undo();
@@ -124,7 +125,7 @@ fn fault_before<C: Choices>(
     c: Choice,
 ) -> Result<Option<ConflictSet>, NoMemory>
     requires { IsChoice (C.problem choices.now) c }
-    ensures { IfOk result (λ set. set ≡ first_set (barred_set (C.problem choices.now) c ∷ set_of_first (find (refuses c) stack.now.active) ∷ [])) }
+    ensures { IfOk result (λ set. set ≡ set_before (C.problem choices.now) c stack.now.active) }
 {
     if choices.barred(c) {
         let set = ConflictSet::of(alloc, &[c.var])?;
@@ -137,7 +138,7 @@ fn fault_before<C: Choices>(
 // The set of a demand that became active and is broken, or of those on a cycle.
 fn fault_after(alloc: Global, stack: &Stack, before: usize) -> Result<Option<ConflictSet>, NoMemory>
     requires { circular (take before stack.now.active) ≡ [] }
-    ensures { IfOk result (λ set. set ≡ first_set (set_of_first (find (is_broken stack.now.trail) (drop before stack.now.active)) ∷ set_of_all (circular stack.now.active) ∷ [])) }
+    ensures { IfOk result (λ set. set ≡ set_after stack.now.trail before stack.now.active) }
 {
     if let Some(set) = stack.broken(alloc, before)? {
         return Ok(Some(set));

@@ -1,3 +1,4 @@
+// A table of numbers by variable.
 ghost use Rattle.std.specs.Prelude.{◌≡◌, Some, None, OnOk, OnErr, is_some};
 ghost use Rattle.qualified_goals.specs.declared.variable.Var.{Var};
 ghost use Rattle.validation.specs.Table.{entry, with_entry, without_entry};

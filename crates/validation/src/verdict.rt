@@ -1,3 +1,4 @@
+// The verdict on a choice.
 use choice_problem::ConflictSet;
 
 /// What a state answers to a choice.

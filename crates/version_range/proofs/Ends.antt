@@ -14,6 +14,7 @@ use Rattle.plan_types.specs.declared.version.Version.{Version}
 use Rattle.plan_types.specs.Members.{order}
 use Rattle.version_range.specs.declared.merge.Joint.{Joint}
 use Rattle.version_range.specs.Cuts.{is_below, HasNumbers, inside, all_above, rises, are_ends, no_numbers, join, flip, not_same, pushed, Takes, IsStep}
+use Rattle.common_laws.specs.Small.{is-less}
 
 abbrev R : Version → Version → Ordering
 R v w = order v.parts w.parts
@@ -26,22 +27,17 @@ not_less Less e = absurd (true≢false e)
 not_less Equal e = inl refl
 not_less Greater e = inr refl
 
-less : (o : Ordering) → is_lt o ≡ true → o ≡ Less
-less Less e = refl
-less Equal e = absurd (false≢true e)
-less Greater e = absurd (false≢true e)
-
 pub not_itself : (v : Version) → is_below v v ≡ false
 not_itself v = ap is_lt (tied_itself total v)
 
 pub below_through : (a b c : Version) → is_below a b ≡ true → is_below b c ≡ true → is_below a c ≡ true
-below_through a b c p q = ap is_lt (total.trans a b c (less (R a b) p) (less (R b c) q))
+below_through a b c p q = ap is_lt (total.trans a b c (is-less (R a b) p) (is-less (R b c) q))
 
 -- a < b ≤ c
 pub below_up : (a b c : Version) → is_below a b ≡ true → is_below c b ≡ false → is_below a c ≡ true
 below_up a b c p q =
     ⊎_elim
-    (λ e. ap is_lt (alike_right total c b a e ∙ less (R a b) p))
+    (λ e. ap is_lt (alike_right total c b a e ∙ is-less (R a b) p))
     (λ g. below_through a b c p (ap is_lt (total.antisymm b c ∙ ap ordering_reverse g)))
     (not_less (R c b) q)
 
@@ -49,7 +45,7 @@ below_up a b c p q =
 pub below_down : (a b c : Version) → is_below b a ≡ false → is_below b c ≡ true → is_below a c ≡ true
 below_down a b c p q =
     ⊎_elim
-    (λ e. ap is_lt (sym (total.congr b a c e) ∙ less (R b c) q))
+    (λ e. ap is_lt (sym (total.congr b a c e) ∙ is-less (R b c) q))
     (λ g. below_through a b c (ap is_lt (total.antisymm a b ∙ ap ordering_reverse g)) q)
     (not_less (R b a) p)
 

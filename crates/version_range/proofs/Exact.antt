@@ -1,14 +1,16 @@
 -- A text stands for one range at most, has one first fault at most, and never both; and reading tells which.
-use Rattle.std.proofs.Common.{◌≡◌, ℕ, true, List, Result, Ok, Err, refl, sym, ◌∙◌}
+use Rattle.std.proofs.Common.{◌≡◌, ℕ, true, List, Option, Some, None, Result, Ok, Err, refl, sym, ap, ◌∙◌}
 use Rattle.std.specs.Result.{IfOk, IfErr, MatchResult}
 use Rattle.plan_types.specs.declared.range.Spec.{Spec}
+use Rattle.plan_types.specs.declared.version.Version.{Version}
 use Rattle.plan_types.specs.declared.range.Range.{Range}
 use Rattle.plan_types.specs.declared.refusal.Cause.{Cause}
 use Rattle.plan_types.specs.declared.refusal.TextFault.{TextFault}
 use Rattle.plan_types.specs.declared.refusal.TextFault.TheVariants.{NoMemory, Bad}
 use Rattle.version_range.specs.Read.{range_of}
 use Rattle.text_grammar.specs.Reading.{Gives}
-use Rattle.version_range.specs.Version.{has_versions}
+use Rattle.version_range.specs.Version.{IsVersionOf, has_versions}
+use Rattle.version_range.proofs.Numbers.{one_version, version_from}
 use Rattle.plan_types.specs.Refusal.{Refuses}
 use Rattle.text_grammar.proofs.Exactly.{value_or_fault, only_value}
 use Rattle.text_grammar.proofs.Exactly as exactly
@@ -68,3 +70,11 @@ module _ (spec : Spec) (text : List ℕ) where
   pub only_fault : (answer : Result Range TextFault) → IfOk answer (λ r. Stands spec 64 text r) → IfErr answer (Refuses (FirstFault spec 64 text))
       → (cause : Cause) → FirstFault spec 64 text cause → MatchResult answer (λ found. ⊥) (Refuses (λ why. why ≡ cause))
   only_fault = exactly.only_fault (Stands spec 64) (CauseAt spec 64) (λ front rest c d. one_cause spec 64 front rest {c = c} {d = d}) text (one_range spec 64 text)
+
+-- a text is one version at most
+pub one_version_of : (text : List ℕ) (v w : Option Version) → IsVersionOf text v → IsVersionOf text w → v ≡ w
+one_version_of text None None p q = refl
+one_version_of text None (Some w) p q = absurd (p w.parts q.0 q.1)
+one_version_of text (Some v) None p q = absurd (q v.parts p.0 p.1)
+one_version_of text (Some v) (Some w) p q =
+    ap (λ n. Some (record { parts = n })) (one_version v.parts w.parts (version_from v.parts p.0) (version_from w.parts q.0) (sym p.1 ∙ q.1))

@@ -8,8 +8,8 @@ use Rattle.plan_types.specs.declared.range.Range.TheOpen as layer
 use Rattle.plan_types.specs.declared.range.Range.TheFolds.{fold-roll-Range}
 use Rattle.plan_types.specs.declared.range.Range.TheVariants.{Both, Either, rolls-Both, rolls-Either}
 use Rattle.plan_types.specs.declared.range.Range.TheViews.{sized-Both, sized-Either}
-use Rattle.version_range.specs.declared.print.Place.{Place}
-use Rattle.version_range.specs.declared.print.Place.TheVariants.{Whole, Term, Factor}
+use Rattle.version_range.specs.declared.print.RangePlace.{RangePlace}
+use Rattle.version_range.specs.declared.print.RangePlace.TheVariants.{Whole, Term, Factor}
 use Rattle.version_range.specs.declared.print.Rest.{Rest}
 use Rattle.version_range.specs.declared.print.Rest.TheVariants.{Close}
 use Rattle.version_range.specs.Print.{text_in, text_step, as_term, as_whole, rest_text, rests_text, IsSmaller, Opens, enclosed}
@@ -42,11 +42,11 @@ opened text new rests new-rests e f body =
 pub smaller_push : (range : Range) (rests new : List Rest) (rest : Rest) → new ≡ rests ++ rest ∷ [] → IsSmaller range rest → All (IsSmaller range) rests → All (IsSmaller range) new
 smaller_push range rests new rest e s all = subst (All (IsSmaller range)) (sym e) (All-push (IsSmaller range) rests rest all s)
 
-pub text_Both : (s l r : Range) (place : Place) → s ≡ Both l r → text_in s place ≡ as_term place (text_in l Term ++ (codes " && " ++ text_in r Factor))
-text_Both s l r place e = ap (λ x. text_in x place) (e ∙ sym (rolls-Both l r)) ∙ ap (λ f. f place) (fold-roll-Range (Place → List ℕ) text_step (layer.Both l r)) ∙ ap (as_term place) (append_assoc (text_in l Term) (codes " && ") (text_in r Factor))
+pub text_Both : (s l r : Range) (place : RangePlace) → s ≡ Both l r → text_in s place ≡ as_term place (text_in l Term ++ (codes " && " ++ text_in r Factor))
+text_Both s l r place e = ap (λ x. text_in x place) (e ∙ sym (rolls-Both l r)) ∙ ap (λ f. f place) (fold-roll-Range (RangePlace → List ℕ) text_step (layer.Both l r)) ∙ ap (as_term place) (append_assoc (text_in l Term) (codes " && ") (text_in r Factor))
 
-pub text_Either : (s l r : Range) (place : Place) → s ≡ Either l r → text_in s place ≡ as_whole place (text_in l Whole ++ (codes " || " ++ text_in r Term))
-text_Either s l r place e = ap (λ x. text_in x place) (e ∙ sym (rolls-Either l r)) ∙ ap (λ f. f place) (fold-roll-Range (Place → List ℕ) text_step (layer.Either l r)) ∙ ap (as_whole place) (append_assoc (text_in l Whole) (codes " || ") (text_in r Term))
+pub text_Either : (s l r : Range) (place : RangePlace) → s ≡ Either l r → text_in s place ≡ as_whole place (text_in l Whole ++ (codes " || " ++ text_in r Term))
+text_Either s l r place e = ap (λ x. text_in x place) (e ∙ sym (rolls-Either l r)) ∙ ap (λ f. f place) (fold-roll-Range (RangePlace → List ℕ) text_step (layer.Either l r)) ∙ ap (as_whole place) (append_assoc (text_in l Whole) (codes " || ") (text_in r Term))
 
 -- the left side is next, once the right side is put aside
 pub then_left : (placed : List ℕ → List ℕ) (whole joined left text new : List ℕ) (rests mid new-rests : List Rest) (rest : Rest)

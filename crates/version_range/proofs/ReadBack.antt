@@ -10,8 +10,8 @@ use Rattle.plan_types.specs.declared.range.Range.{Range, roll-Range, map-Range}
 use Rattle.plan_types.specs.declared.range.Range.TheOpen as layer
 use Rattle.plan_types.specs.declared.range.Range.TheFolds.{fold-roll-Range, ind-Range}
 use Rattle.plan_types.specs.declared.range.Range.TheVariants.{Any, Nothing, Prefix, Both, Either, rolls-Any, rolls-Nothing, rolls-Equal, rolls-Prefix, rolls-AtLeast, rolls-Above, rolls-AtMost, rolls-Below, rolls-Major, rolls-Both, rolls-Either}
-use Rattle.version_range.specs.declared.print.Place.{Place}
-use Rattle.version_range.specs.declared.print.Place.TheVariants as places
+use Rattle.version_range.specs.declared.print.RangePlace.{RangePlace}
+use Rattle.version_range.specs.declared.print.RangePlace.TheVariants as places
 use Rattle.version_range.specs.declared.operator.Operator.{Operator}
 use Rattle.version_range.specs.declared.operator.Operator.TheVariants as operators
 use Rattle.version_range.specs.Version.{has_versions, versions_step, is_version, IsVersion, version_text}
@@ -23,7 +23,7 @@ use Rattle.version_range.proofs.Printed.{text_Both, text_Either}
 use Rattle.version_range.proofs.Numbers.{decimal_digits, digit_front, version_from}
 
 -- what stands at a place, where k more parentheses may be open
-abbrev At : Spec → ℕ → Place → List ℕ → Range → Type 0
+abbrev At : Spec → ℕ → RangePlace → List ℕ → Range → Type 0
 At spec k places.Whole text r = Terms spec (Inside spec k) text r
 At spec k places.Term text r = Term spec (Inside spec k) text r
 At spec k places.Factor text r = Factor spec (Inside spec k) text r
@@ -91,11 +91,11 @@ operator_balanced operators.Major n = refl
 module _ (spec : Spec) where
   -- n parentheses are open before the text
   record Reads (r : Range) : Type 0 where
-    balanced : (place : Place) → IsBalanced (text_in r place)
-    stands : (place : Place) (n k : ℕ) → most_open n (text_in r place) ≤ n + k → At spec k place (text_in r place) r
+    balanced : (place : RangePlace) → IsBalanced (text_in r place)
+    stands : (place : RangePlace) (n k : ℕ) → most_open n (text_in r place) ≤ n + k → At spec k place (text_in r place) r
 
   -- a factor may stand at each place
-  everywhere : (place : Place) (k : ℕ) (text : List ℕ) (r : Range) → Factor spec (Inside spec k) text r → At spec k place text r
+  everywhere : (place : RangePlace) (k : ℕ) (text : List ℕ) (r : Range) → Factor spec (Inside spec k) text r → At spec k place text r
   everywhere places.Whole k text r f = one (one (led [] refl f))
   everywhere places.Term k text r f = one (led [] refl f)
   everywhere places.Factor k text r f = f
@@ -108,12 +108,12 @@ module _ (spec : Spec) where
         let inner = reads (n + 1) k (omega (arith, le, most_append body (41 ∷ []) (n + 1))) in
         subst (λ t. Factor spec (Inside spec (suc k)) (40 ∷ (t ++ 41 ∷ [])) r) (append-nil body) (enclosed body [] inner refl)
 
-    whole_placed : ((n k : ℕ) → most_open n body ≤ n + k → Terms spec (Inside spec k) body r) → (place : Place) (n k : ℕ) → most_open n (as_whole place body) ≤ n + k → At spec k place (as_whole place body) r
+    whole_placed : ((n k : ℕ) → most_open n body ≤ n + k → Terms spec (Inside spec k) body r) → (place : RangePlace) (n k : ℕ) → most_open n (as_whole place body) ≤ n + k → At spec k place (as_whole place body) r
     whole_placed reads places.Whole n k le = reads n k le
     whole_placed reads places.Term n k le = one (led [] refl (in_parentheses reads n k le))
     whole_placed reads places.Factor n k le = in_parentheses reads n k le
 
-    term_placed : ((n k : ℕ) → most_open n body ≤ n + k → Term spec (Inside spec k) body r) → (place : Place) (n k : ℕ) → most_open n (as_term place body) ≤ n + k → At spec k place (as_term place body) r
+    term_placed : ((n k : ℕ) → most_open n body ≤ n + k → Term spec (Inside spec k) body r) → (place : RangePlace) (n k : ℕ) → most_open n (as_term place body) ≤ n + k → At spec k place (as_term place body) r
     term_placed reads places.Whole n k le = one (reads n k le)
     term_placed reads places.Term n k le = reads n k le
     term_placed reads places.Factor n k le = in_parentheses (λ m j h. one (reads m j h)) n k le
@@ -145,13 +145,13 @@ module _ (spec : Spec) where
       body : List ℕ
       body = left ++ (codes " && " ++ right)
 
-      is : (place : Place) → text_in (Both l r) place ≡ as_term place body
+      is : (place : RangePlace) → text_in (Both l r) place ≡ as_term place body
       is place = text_Both (Both l r) l r place refl
 
       body_balanced : IsBalanced body
       body_balanced = balanced_append left (codes " && " ++ right) (a.balanced places.Term) (b.balanced places.Factor)
 
-      term_balanced : (place : Place) → IsBalanced (as_term place body)
+      term_balanced : (place : RangePlace) → IsBalanced (as_term place body)
       term_balanced places.Whole = body_balanced
       term_balanced places.Term = body_balanced
       term_balanced places.Factor = enclosed_balanced body body_balanced
@@ -176,13 +176,13 @@ module _ (spec : Spec) where
       body : List ℕ
       body = left ++ (codes " || " ++ right)
 
-      is : (place : Place) → text_in (Either l r) place ≡ as_whole place body
+      is : (place : RangePlace) → text_in (Either l r) place ≡ as_whole place body
       is place = text_Either (Either l r) l r place refl
 
       body_balanced : IsBalanced body
       body_balanced = balanced_append left (codes " || " ++ right) (a.balanced places.Whole) (b.balanced places.Term)
 
-      whole_balanced : (place : Place) → IsBalanced (as_whole place body)
+      whole_balanced : (place : RangePlace) → IsBalanced (as_whole place body)
       whole_balanced places.Whole = body_balanced
       whole_balanced places.Term = enclosed_balanced body body_balanced
       whole_balanced places.Factor = enclosed_balanced body body_balanced
@@ -211,15 +211,15 @@ module _ (spec : Spec) where
       atom_reads r (codes "==" ++ version_text v.parts ++ codes ".*") is balanced is_atom
 
   step : (y : layer.Range-F ((r : Range) × Claim r)) → Claim (roll-Range (map-Range ((r : Range) × Claim r) Range (λ e. e.0) y))
-  step layer.Any = λ h. subst Reads (sym rolls-Any) (atom_reads Any (codes "-any") (ap text_in (sym rolls-Any) ∙ fold-roll-Range (Place → List ℕ) text_step layer.Any) (λ n. refl) any)
-  step layer.Nothing = λ h. subst Reads (sym rolls-Nothing) (atom_reads Nothing (codes "-none") (ap text_in (sym rolls-Nothing) ∙ fold-roll-Range (Place → List ℕ) text_step layer.Nothing) (λ n. refl) none)
-  step (layer.Equal v) = compared_reads operators.Equal v (roll-Range (layer.Equal v)) (rolls-Equal v) (fold-roll-Range Bool versions_step (layer.Equal v)) (fold-roll-Range (Place → List ℕ) text_step (layer.Equal v))
-  step (layer.Prefix v) = prefix_reads v (roll-Range (layer.Prefix v)) (rolls-Prefix v) (fold-roll-Range Bool versions_step (layer.Prefix v)) (fold-roll-Range (Place → List ℕ) text_step (layer.Prefix v))
-  step (layer.AtLeast v) = compared_reads operators.AtLeast v (roll-Range (layer.AtLeast v)) (rolls-AtLeast v) (fold-roll-Range Bool versions_step (layer.AtLeast v)) (fold-roll-Range (Place → List ℕ) text_step (layer.AtLeast v))
-  step (layer.Above v) = compared_reads operators.Above v (roll-Range (layer.Above v)) (rolls-Above v) (fold-roll-Range Bool versions_step (layer.Above v)) (fold-roll-Range (Place → List ℕ) text_step (layer.Above v))
-  step (layer.AtMost v) = compared_reads operators.AtMost v (roll-Range (layer.AtMost v)) (rolls-AtMost v) (fold-roll-Range Bool versions_step (layer.AtMost v)) (fold-roll-Range (Place → List ℕ) text_step (layer.AtMost v))
-  step (layer.Below v) = compared_reads operators.Below v (roll-Range (layer.Below v)) (rolls-Below v) (fold-roll-Range Bool versions_step (layer.Below v)) (fold-roll-Range (Place → List ℕ) text_step (layer.Below v))
-  step (layer.Major v) = compared_reads operators.Major v (roll-Range (layer.Major v)) (rolls-Major v) (fold-roll-Range Bool versions_step (layer.Major v)) (fold-roll-Range (Place → List ℕ) text_step (layer.Major v))
+  step layer.Any = λ h. subst Reads (sym rolls-Any) (atom_reads Any (codes "-any") (ap text_in (sym rolls-Any) ∙ fold-roll-Range (RangePlace → List ℕ) text_step layer.Any) (λ n. refl) any)
+  step layer.Nothing = λ h. subst Reads (sym rolls-Nothing) (atom_reads Nothing (codes "-none") (ap text_in (sym rolls-Nothing) ∙ fold-roll-Range (RangePlace → List ℕ) text_step layer.Nothing) (λ n. refl) none)
+  step (layer.Equal v) = compared_reads operators.Equal v (roll-Range (layer.Equal v)) (rolls-Equal v) (fold-roll-Range Bool versions_step (layer.Equal v)) (fold-roll-Range (RangePlace → List ℕ) text_step (layer.Equal v))
+  step (layer.Prefix v) = prefix_reads v (roll-Range (layer.Prefix v)) (rolls-Prefix v) (fold-roll-Range Bool versions_step (layer.Prefix v)) (fold-roll-Range (RangePlace → List ℕ) text_step (layer.Prefix v))
+  step (layer.AtLeast v) = compared_reads operators.AtLeast v (roll-Range (layer.AtLeast v)) (rolls-AtLeast v) (fold-roll-Range Bool versions_step (layer.AtLeast v)) (fold-roll-Range (RangePlace → List ℕ) text_step (layer.AtLeast v))
+  step (layer.Above v) = compared_reads operators.Above v (roll-Range (layer.Above v)) (rolls-Above v) (fold-roll-Range Bool versions_step (layer.Above v)) (fold-roll-Range (RangePlace → List ℕ) text_step (layer.Above v))
+  step (layer.AtMost v) = compared_reads operators.AtMost v (roll-Range (layer.AtMost v)) (rolls-AtMost v) (fold-roll-Range Bool versions_step (layer.AtMost v)) (fold-roll-Range (RangePlace → List ℕ) text_step (layer.AtMost v))
+  step (layer.Below v) = compared_reads operators.Below v (roll-Range (layer.Below v)) (rolls-Below v) (fold-roll-Range Bool versions_step (layer.Below v)) (fold-roll-Range (RangePlace → List ℕ) text_step (layer.Below v))
+  step (layer.Major v) = compared_reads operators.Major v (roll-Range (layer.Major v)) (rolls-Major v) (fold-roll-Range Bool versions_step (layer.Major v)) (fold-roll-Range (RangePlace → List ℕ) text_step (layer.Major v))
   step (layer.Both l r) = λ h.
       let p = and_parts (has_versions l.0) (has_versions r.0) (sym (fold-roll-Range Bool versions_step (layer.Both l.0 r.0)) ∙ h) in
       subst Reads (sym (rolls-Both l.0 r.0)) (both_reads l.0 r.0 (l.1 p.0) (r.1 p.1))

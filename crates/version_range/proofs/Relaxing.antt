@@ -2,7 +2,7 @@
 use Rattle.std.proofs.Common.{◌≡◌, ◌≢◌, ◌⊎◌, ◌||◌, inl, inr, ℕ, zero, suc, ◌%◌, ◌<◌, Bool, true, false, not, List, [], ◌∷◌, ◌++◌, length, set, get_or, cond, IsTrue, Option, Some, None, refl, sym, ap, ◌∙◌, subst, arith, length-append, ◌↔◌, IsSome}
 use Rattle.std.specs.Ordering.{is_lt}
 use Rattle.std.proofs.lemmas.Bool.Decides.{nat_tests}
-use Rattle.std.proofs.lemmas.Bool.{true≢false, false≢true, and_parts, and_from}
+use Rattle.std.proofs.lemmas.Bool.{true≢false, false≢true, and_parts, and_from, not-true}
 use Rattle.std.proofs.lemmas.List.{append-nil, nil_from_length}
 use Rattle.std.specs.Option.{option_to_list}
 use Rattle.plan_types.specs.declared.version.Version.{Version}
@@ -54,10 +54,6 @@ least z v e n = ap (λ ps. is_lt (order v.parts ps)) e ∙ least_numbers v.parts
 
 pub least_has : (z : Version) → z.parts ≡ 0 ∷ [] → is_below no_numbers z ≡ true
 least_has z e = ap (λ ps. is_lt (order [] ps)) e
-
-not_from : (b : Bool) → not b ≡ true → b ≡ false
-not_from true e = absurd (false≢true e)
-not_from false e = refl
 
 module _ (z f : Version) (rest : List Version) (is_least : z.parts ≡ 0 ∷ []) (are : are_ends (f ∷ rest) ≡ true) where
   outer : (is_below no_numbers f ≡ true) × (all_above f rest ≡ true) × (rises rest ≡ true) × (all_above no_numbers rest ≡ true)
@@ -195,7 +191,7 @@ module _ (xs : List Version) (e : Version) (are : are_ends (xs ++ e ∷ []) ≡ 
           whole = q ∙ s.2
 
           front_even : odd_many ys ≡ false
-          front_even = not_from (odd_many ys) (sym (odd_push ys p) ∙ ap odd_many (sym whole) ∙ odd)
+          front_even = not-true (odd_many ys) (sym (odd_push ys p) ∙ ap odd_many (sym whole) ∙ odd)
 
           front_rises : rises (ys ++ p ∷ []) ≡ true
           front_rises = ap rises (sym whole) ∙ rises_front xs (e ∷ []) above.1

@@ -11,6 +11,7 @@ use Rattle.version_range.specs.Version.{has_versions}
 use Rattle.version_range.specs.declared.merge.Joint.{Joint}
 use Rattle.version_range.specs.declared.merge.Joint.TheVariants.{Both, Either}
 
+-- whether a version comes before another
 abbrev pub is_below : Version → Version → Bool
 is_below v w = is_lt (order v.parts w.parts)
 
@@ -25,14 +26,17 @@ abbrev pub inside : List Version → Version → Bool
 inside [] v = false
 inside (e ∷ es) v = if is_below v e then inside es v else not (inside es v)
 
+-- whether all of these come after a version
 abbrev pub all_above : Version → List Version → Bool
 all_above e [] = true
 all_above e (x ∷ xs) = is_below e x && all_above e xs
 
+-- whether each of these comes before all behind it
 abbrev pub rises : List Version → Bool
 rises [] = true
 rises (x ∷ xs) = all_above x xs && rises xs
 
+-- the version before all others
 abbrev pub no_numbers : Version
 no_numbers = record { parts = [] }
 
@@ -40,14 +44,17 @@ no_numbers = record { parts = [] }
 abbrev pub are_ends : List Version → Bool
 are_ends ends = rises (no_numbers ∷ ends)
 
+-- both of two tests, or either
 abbrev pub join : Joint → Bool → Bool → Bool
 join Both a b = a && b
 join Either a b = a || b
 
+-- a test, negated where this is wanted
 abbrev pub flip : Bool → Bool → Bool
 flip true b = not b
 flip false b = b
 
+-- whether one of two is so and the other isn't
 abbrev pub not_same : Bool → Bool → Bool
 not_same a b = flip a b
 
@@ -113,6 +120,7 @@ pub record IsSplit (joint : Joint) (range left right : Range) : Type 0 where
 abbrev pub SomeBelow : (Version → Bool) → Version → Type 0
 SomeBelow has v = (w : Version) × HasNumbers w × IsTrue (has w) × IsTrue (is_below w v)
 
+-- a member stands above a version
 abbrev pub SomeAbove : (Version → Bool) → Version → Type 0
 SomeAbove has v = (w : Version) × HasNumbers w × IsTrue (has w) × IsTrue (is_below v w)
 

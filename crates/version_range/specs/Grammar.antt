@@ -17,6 +17,7 @@ use Rattle.version_range.specs.declared.operator.Operator.{Operator}
 use Rattle.version_range.specs.declared.operator.Operator.TheVariants.{Equal, AtLeast, Above, AtMost, Below, Major}
 use Rattle.version_range.specs.Version.{is_version, version_text, begins_with_digit}
 
+-- the text of an operator
 abbrev pub operator_text : Operator → List ℕ
 operator_text Equal = codes "=="
 operator_text AtLeast = codes ">="
@@ -64,9 +65,11 @@ pub data Factor (spec : Spec) (Inside : List ℕ → Range → Type 0) : List �
   atom : {text : List ℕ} {r : Range} → Atom spec text r → Factor spec Inside text r
   enclosed : (text after : List ℕ) {r : Range} → Inside text r → Blanks after → Factor spec Inside (codes "(" ++ text ++ after ++ codes ")") r
 
+-- factors joined by `&&`
 abbrev pub Term : Spec → (List ℕ → Range → Type 0) → List ℕ → Range → Type 0
 Term spec Inside = parts.Term Both (Factor spec Inside)
 
+-- terms joined by `||`
 abbrev pub Terms : Spec → (List ℕ → Range → Type 0) → List ℕ → Range → Type 0
 Terms spec Inside = parts.Terms Both Either (Factor spec Inside)
 
@@ -84,6 +87,7 @@ pub data Stands (spec : Spec) (deepest : ℕ) : List ℕ → Range → Type 0 wh
 abbrev pub Viable : Spec → ℕ → List ℕ → Type 0
 Viable spec deepest = first.Viable (Stands spec deepest)
 
+-- whether the last byte is a digit
 abbrev pub ends_with_digit : List ℕ → Bool
 ends_with_digit [] = false
 ends_with_digit (b ∷ []) = is_ascii_digit b

@@ -3,28 +3,30 @@ use Rattle.std.specs.Prelude.{◌≡◌, ℕ, ◌+◌, ◌-◌, ◌<◌, max, �
 use Rattle.plan_types.specs.declared.range.Range.{Range, size-Range}
 use Rattle.plan_types.specs.declared.range.Range.TheOpen.{Range-F, Any, Nothing, Equal, Prefix, AtLeast, Above, AtMost, Below, Major, Both, Either}
 use Rattle.plan_types.specs.declared.range.Range.TheFolds.{fold-Range}
-use Rattle.version_range.specs.declared.print.Place.{Place}
-use Rattle.version_range.specs.declared.print.Place.TheVariants.{Whole, Term, Factor}
+use Rattle.version_range.specs.declared.print.RangePlace.{RangePlace}
+use Rattle.version_range.specs.declared.print.RangePlace.TheVariants.{Whole, Term, Factor}
 use Rattle.version_range.specs.declared.print.Rest.{Rest}
 use Rattle.version_range.specs.declared.print.Rest.TheVariants.{Close, And, Or}
 use Rattle.version_range.specs.Version.{version_text}
 
+-- a text in parentheses
 abbrev pub enclosed : List ℕ → List ℕ
 enclosed text = 40 ∷ (text ++ 41 ∷ [])
 
 -- What `&&` joins is a term, and what `||` joins is a whole range. Each is a factor in parentheses.
-abbrev pub as_term : Place → List ℕ → List ℕ
+abbrev pub as_term : RangePlace → List ℕ → List ℕ
 as_term Whole text = text
 as_term Term text = text
 as_term Factor text = enclosed text
 
-abbrev pub as_whole : Place → List ℕ → List ℕ
+-- a whole range, in parentheses beside `||` or `&&`
+abbrev pub as_whole : RangePlace → List ℕ → List ℕ
 as_whole Whole text = text
 as_whole Term text = enclosed text
 as_whole Factor text = enclosed text
 
 -- one layer of a range, with the texts that its parts have in each place
-abbrev pub text_step : Range-F (Place → List ℕ) → Place → List ℕ
+abbrev pub text_step : Range-F (RangePlace → List ℕ) → RangePlace → List ℕ
 text_step Any place = codes "-any"
 text_step Nothing place = codes "-none"
 text_step (Equal x) place = codes "==" ++ version_text x.parts
@@ -37,8 +39,9 @@ text_step (Major x) place = codes "^>=" ++ version_text x.parts
 text_step (Both left right) place = as_term place (left Term ++ codes " && " ++ right Factor)
 text_step (Either left right) place = as_whole place (left Whole ++ codes " || " ++ right Term)
 
-abbrev pub text_in : Range → Place → List ℕ
-text_in = fold-Range (Place → List ℕ) text_step
+-- the text of a range at a place
+abbrev pub text_in : Range → RangePlace → List ℕ
+text_in = fold-Range (RangePlace → List ℕ) text_step
 
 -- Chains group from the left, so a right side of its parent's kind stands in parentheses.
 abbrev pub range_text : Range → List ℕ
@@ -55,6 +58,7 @@ abbrev pub rests_text : List Rest → List ℕ
 rests_text [] = []
 rests_text (rest ∷ rests) = rests_text rests ++ rest_text rest
 
+-- what is put aside is smaller than the range
 abbrev pub IsSmaller : Range → Rest → Type 0
 IsSmaller range Close = Unit {0}
 IsSmaller range (And right) = size-Range right.now < size-Range range

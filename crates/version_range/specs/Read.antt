@@ -31,11 +31,13 @@ is_number [] = false
 is_number (b ∷ []) = true
 is_number (b ∷ c ∷ bs) = not (b == 48) && nat_le (length (b ∷ c ∷ bs)) 9
 
+-- the number at the front
 unfoldable pub number_at : Spec → List ℕ → Result (ℕ × List ℕ) Cause
 number_at spec text =
     if is_number (take (digits_in text) text) then Ok (number_after 0 (take (digits_in text) text), drop (digits_in text) text)
     else Err (cause_at spec BadVersion text)
 
+-- these numbers and one more
 abbrev pub followed : List ℕ → ℕ → List ℕ
 followed numbers number = numbers ++ number ∷ []
 
@@ -47,6 +49,7 @@ next_number star spec text =
       | Some more ↦ if star && begins_with 42 more then Ok None else number_at spec more >>= λ p. Ok (Some p)
     ]
 
+-- the version at the front
 unfoldable pub version_at : Bool → Spec → List ℕ → Result (Version × List ℕ) Cause
 version_at star spec text = do
   first ← number_at spec text
@@ -57,6 +60,7 @@ version_at star spec text = do
 abbrev pub missing : Spec → List ℕ → Cause
 missing spec = cause_at spec BadRange
 
+-- a byte that must stand here
 abbrev pub byte_due : Spec → ℕ → List ℕ → Result (List ℕ) Cause
 byte_due spec = reading.byte_due (missing spec)
 
@@ -64,6 +68,7 @@ byte_due spec = reading.byte_due (missing spec)
 abbrev pub either_at : Operator → Operator → List ℕ → Operator × List ℕ
 either_at long short text = elim (byte_after 61 text) [ None ↦ (short, text) | Some rest ↦ (long, rest) ]
 
+-- the operator at the front
 unfoldable pub operator_at : Spec → List ℕ → Result (Operator × List ℕ) Cause
 operator_at spec text =
     elim (byte_after 62 text) [
@@ -99,6 +104,7 @@ equal_at spec text = do
   v ← version_at true spec text
   elim (byte_after 46 v.1) [ None ↦ Ok (ranges.Equal v.0, v.1) | Some more ↦ byte_due spec 42 more >>= λ rest. Ok (ranges.Prefix v.0, rest) ]
 
+-- the version behind an operator
 unfoldable pub compared_at : Operator → Spec → List ℕ → Result (Range × List ℕ) Cause
 compared_at op spec text = version_at false spec text >>= λ v. Ok (of_version op v.0, v.1)
 
@@ -138,12 +144,15 @@ factor_at inside spec text =
 abbrev pub behind : Spec → ℕ → List ℕ → Result (Option (List ℕ)) Cause
 behind spec = reading.behind_twice (missing spec)
 
+-- an operand behind a byte twice
 abbrev pub next_at : (List ℕ → Result (Range × List ℕ) Cause) → Spec → ℕ → List ℕ → Result (Option (Range × List ℕ)) Cause
 next_at operand spec = reading.next_at operand (missing spec)
 
+-- factors joined by `&&`
 unfoldable pub term_at : (List ℕ → Result (Range × List ℕ) Cause) → Spec → List ℕ → Result (Range × List ℕ) Cause
 term_at inside spec text = factor_at inside spec (skip_blanks text) >>= chained ranges.Both (next_at (λ t. factor_at inside spec (skip_blanks t)) spec 38)
 
+-- terms joined by `||`
 unfoldable pub range_in : (List ℕ → Result (Range × List ℕ) Cause) → Spec → List ℕ → Result (Range × List ℕ) Cause
 range_in inside spec text = term_at inside spec text >>= chained ranges.Either (next_at (term_at inside spec) spec 124)
 

@@ -1,7 +1,8 @@
 -- The text of a version.
-use Rattle.std.specs.Prelude.{ℕ, ◌+◌, ◌-◌, ◌*◌, ◌^◌, ◌<◌, Bool, true, false, ◌&&◌, nat_lt, List, [], ◌∷◌, ◌++◌}
+use Rattle.std.specs.Prelude.{◌≡◌, ◌≢◌, IsTrue, Option, Some, None, ℕ, ◌+◌, ◌-◌, ◌*◌, ◌^◌, ◌<◌, Bool, true, false, ◌&&◌, nat_lt, List, [], ◌∷◌, ◌++◌}
 use Rattle.std.specs.Char.{is_ascii_digit}
 use Rattle.std.specs.Fmt.{decimal}
+use Rattle.plan_types.specs.declared.version.Version.{Version}
 use Rattle.plan_types.specs.declared.range.Range.{Range}
 use Rattle.plan_types.specs.declared.range.Range.TheOpen.{Range-F, Any, Nothing, Equal, Prefix, AtLeast, Above, AtMost, Below, Major, Both, Either}
 use Rattle.plan_types.specs.declared.range.Range.TheFolds.{fold-Range}
@@ -27,6 +28,7 @@ abbrev pub led_by_points : List ℕ → List ℕ
 led_by_points [] = []
 led_by_points (n ∷ ns) = 46 ∷ (decimal n ++ led_by_points ns)
 
+-- whether the first byte is a digit
 abbrev pub begins_with_digit : List ℕ → Bool
 begins_with_digit [] = false
 begins_with_digit (b ∷ bs) = is_ascii_digit b
@@ -59,3 +61,8 @@ versions_step (Either left right) = left && right
 -- each version that stands in the range can be read
 abbrev pub has_versions : Range → Bool
 has_versions = fold-Range Bool versions_step
+
+-- the version that a text is, or none where it is no version
+abbrev pub IsVersionOf : List ℕ → Option Version → Type 0
+IsVersionOf text None = (parts : List ℕ) → IsTrue (is_version parts) → text ≢ version_text parts
+IsVersionOf text (Some version) = IsTrue (is_version version.parts) × (text ≡ version_text version.parts)

@@ -1,3 +1,4 @@
+// Bytes that must stand at a place, and what is wrong where they don't.
 ghost use Rattle.std.specs.Prelude.{◌≡◌, ◌<◌, length, IfOk};
 ghost use Rattle.plan_types.specs.declared.refusal.TextFault.TheVariants.{Bad};
 ghost use Rattle.text_grammar.specs.Reading.{Gives};

@@ -1,3 +1,4 @@
+// A set of versions as sorted cuts: its least end, and each end at which it stops or goes on.
 ghost use Rattle.std.specs.Prelude.{◌≡◌, ◌<◌, ◌↔◌, IsTrue, IfOk, MatchOption, true, false, length};
 ghost use Rattle.plan_types.specs.declared.version.Version.{Version};
 ghost use Rattle.plan_types.specs.Members.{members};
@@ -146,7 +147,8 @@ fn chain(alloc: Global, left: &Range, right: &Range, joint: Joint) -> Result<Cut
 
 // The two sides of a range that is joined so.
 fn sides(range: &Range, joint: Joint) -> Option<(&Range, &Range)>
-    ensures { MatchOption result (is_joined joint range.now ≡ false) (λ p. IsSplit joint range.now p.0.now p.1.now) }
+    ensures { MatchOption result (is_joined joint range.now ≡ false)
+        (λ p. IsSplit joint range.now p.0.now p.1.now) }
 {
     match range {
         Range::Any => None,

@@ -1,3 +1,4 @@
+// The cuts of the simplest ranges.
 ghost use Rattle.std.specs.Prelude.{◌≡◌, ◌<◌, ◌&&◌, ◌++◌, ◌∷◌, [], IfOk, true, not, nat_eq};
 ghost use Rattle.std.specs.List.{starts_with};
 ghost use Rattle.std.specs.Ordering.{is_eq, is_ge, is_gt, is_le, is_lt};

@@ -1,3 +1,4 @@
+// The ends of two sets of cuts, in order.
 ghost use Rattle.std.specs.Prelude.{◌≡◌, [], IfOk, OnOk, IfSome, IfNone, true};
 ghost use Rattle.plan_types.specs.declared.version.Version.{Version};
 ghost use Rattle.version_range.specs.Cuts.{inside, are_ends, rises, join, flip, pushed, IsStep};
@@ -83,7 +84,8 @@ fn push_if(ends: &mut List<Version>, end: Version, wanted: bool) -> Result<(), N
 fn take_least(first: &mut VecDeque<Version>, second: &mut VecDeque<Version>) -> Option<Least>
     requires first_rises { rises first.old.items ≡ true }
     requires second_rises { rises second.old.items ≡ true }
-    ensures some { IfSome result (λ s. IsStep first.old.items second.old.items s.end s.from_first first.new.items s.from_second second.new.items) }
+    ensures some { IfSome result (λ s. IsStep first.old.items second.old.items s.end
+        s.from_first first.new.items s.from_second second.new.items) }
     ensures none { IfNone result ((first.old.items ≡ []) × (second.old.items ≡ [])) }
 {
     match (first.front(), second.front()) {

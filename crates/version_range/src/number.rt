@@ -1,7 +1,9 @@
-ghost use Rattle.std.specs.Prelude.{◌≡◌, ◌<◌, ◌≤◌, ◌++◌, ◌↔◌, ℕ, List, IsTrue, IfSome, IfNone, true, false, length, take, drop, slice_index};
+// Numbers of at most nine digits.
+ghost use Rattle.std.specs.Prelude.{◌≡◌, ◌<◌, ◌≤◌, ◌==◌, ◌&&◌, ◌++◌, ◌↔◌, not, nat_le, ℕ, List, IsTrue, IfSome, IfNone, true, false, length, take, drop, slice_index};
 ghost use Rattle.std.specs.Fmt.{decimal};
 ghost use Rattle.std.specs.Str.{all_ascii_digits};
 ghost use Rattle.version_range.specs.Version.{IsNumber, begins_with_digit, number_after};
+ghost use Rattle.version_range.specs.Number.{is_count};
 
 /// The number at the front, and what follows it. A number has one to nine digits and no leading zero
 /// unless it is `0`, and no digit follows it.
@@ -46,7 +48,32 @@ fn is_number(digits: &[u8]) -> bool
     }
 }
 
-fn number_of(digits: &[u8]) -> u32
+/// Whether a text is a number of at most nine digits, of which the first may be 0.
+pub fn is_count(text: &[u8]) -> bool
+    ensures { result ≡ is_count text.now }
+{
+    is_short(text.len()) && are_digits(text)
+}
+
+fn is_short(length: usize) -> bool
+    ensures { result ≡ (not (length == 0) && nat_le length 9) }
+{
+    length != 0 && length <= 9
+}
+
+fn are_digits(text: &[u8]) -> bool
+    ensures { result ≡ all_ascii_digits text.now }
+{
+    for byte in text {
+        if !byte.is_ascii_digit() {
+            return false;
+        }
+    }
+    true
+}
+
+/// The number that these digits make.
+pub fn number_of(digits: &[u8]) -> u32
     requires digits { all_ascii_digits digits.now ≡ true }
     requires short { length digits.now ≤ 9 }
     ensures { result ≡ number_after 0 digits.now }

@@ -1,3 +1,4 @@
+// The operators that stand before a version.
 ghost use Rattle.std.specs.Prelude.{◌≡◌};
 ghost use Rattle.version_range.specs.Grammar.{of_version, has_sets};
 

@@ -1,3 +1,4 @@
+// Ranges as texts.
 ghost use Rattle.std.specs.Prelude.{◌≡◌, ◌++◌, [], IfOk, OnOk, codes};
 ghost use Rattle.std.specs.List.{All};
 ghost use Rattle.plan_types.specs.declared.range.Range.{Range};
@@ -10,7 +11,7 @@ use std::alloc::Global;
 
 /// Where a range's text stands.
 #[derive(Clone, Copy)]
-pub enum Place {
+pub enum RangePlace {
     Whole,
     /// Beside `||`.
     Term,
@@ -31,11 +32,16 @@ pub fn print_range(alloc: Global, r: &Range) -> Result<Text, NoMemory>
     ensures { IfOk result (λ text. text ≡ range_text r.now) }
 {
     let mut text = Text::new(alloc);
-    push_range(alloc, &mut text, r, Place::Whole)?;
+    push_range(alloc, &mut text, r, RangePlace::Whole)?;
     Ok(text)
 }
 
-fn push_range(alloc: Global, text: &mut Text, range: &Range, place: Place) -> Result<(), NoMemory>
+fn push_range(
+    alloc: Global,
+    text: &mut Text,
+    range: &Range,
+    place: RangePlace,
+) -> Result<(), NoMemory>
     ensures { OnOk result (text.new ≡ text.old ++ text_in range.now place) }
 {
     let mut rests = Vec::new(alloc);
@@ -45,11 +51,11 @@ fn push_range(alloc: Global, text: &mut Text, range: &Range, place: Place) -> Re
             Rest::Close => text.push_str(")")?,
             Rest::And(right) => {
                 text.push_str(" && ")?;
-                push_range(alloc, text, right, Place::Factor)?;
+                push_range(alloc, text, right, RangePlace::Factor)?;
             }
             Rest::Or(right) => {
                 text.push_str(" || ")?;
-                push_range(alloc, text, right, Place::Term)?;
+                push_range(alloc, text, right, RangePlace::Term)?;
             }
         }
     }
@@ -63,7 +69,7 @@ fn push_left<'a>(
     text: &mut Text,
     rests: &mut Vec<Rest<'a>>,
     range: &'a Range,
-    place: Place,
+    place: RangePlace,
 ) -> Result<(), NoMemory>
     requires { rests.old.items ≡ [] }
     ensures text { OnOk result (text.new ++ rests_text rests.new.items ≡ text.old ++ text_in range.now place) }
@@ -86,39 +92,39 @@ fn push_left<'a>(
                 open_term(text, rests, at)?;
                 rests.push(Rest::And(r.get()))?;
                 left = l.get();
-                at = Place::Term;
+                at = RangePlace::Term;
             }
             Range::Either(l, r) => {
                 open_whole(text, rests, at)?;
                 rests.push(Rest::Or(r.get()))?;
                 left = l.get();
-                at = Place::Whole;
+                at = RangePlace::Whole;
             }
         }
     }
 }
 
-fn open_term(text: &mut Text, rests: &mut Vec<Rest>, place: Place) -> Result<(), NoMemory>
+fn open_term(text: &mut Text, rests: &mut Vec<Rest>, place: RangePlace) -> Result<(), NoMemory>
     ensures text { OnOk result (Opens (as_term place) text.old rests.old.items text.new rests.new.items) }
     ensures smaller { OnOk result ((range : Range) → All (IsSmaller range) rests.old.items
         → All (IsSmaller range) rests.new.items) }
 {
     match place {
-        Place::Whole => Ok(()),
-        Place::Term => Ok(()),
-        Place::Factor => open(text, rests),
+        RangePlace::Whole => Ok(()),
+        RangePlace::Term => Ok(()),
+        RangePlace::Factor => open(text, rests),
     }
 }
 
-fn open_whole(text: &mut Text, rests: &mut Vec<Rest>, place: Place) -> Result<(), NoMemory>
+fn open_whole(text: &mut Text, rests: &mut Vec<Rest>, place: RangePlace) -> Result<(), NoMemory>
     ensures text { OnOk result (Opens (as_whole place) text.old rests.old.items text.new rests.new.items) }
     ensures smaller { OnOk result ((range : Range) → All (IsSmaller range) rests.old.items
         → All (IsSmaller range) rests.new.items) }
 {
     match place {
-        Place::Whole => Ok(()),
-        Place::Term => open(text, rests),
-        Place::Factor => open(text, rests),
+        RangePlace::Whole => Ok(()),
+        RangePlace::Term => open(text, rests),
+        RangePlace::Factor => open(text, rests),
     }
 }
 

@@ -48,7 +48,8 @@ fn numbers_after<'a>(
     parts: &mut List<u32>,
     text: &'a [u8],
 ) -> Result<&'a [u8], TextFault>
-    ensures gives { Gives (λ rest. (parts.new, rest.now)) result (chained followed (next_number star spec) (parts.old, text.now)) }
+    ensures gives { Gives (λ rest. (parts.new, rest.now)) result
+        (chained followed (next_number star spec) (parts.old, text.now)) }
     ensures within { IfOk result (λ rest. length rest.now ≤ length text.now) }
 {
     let mut rest = text;
@@ -132,7 +133,8 @@ fn members_after(
     first: Range,
     text: &[u8],
 ) -> Result<(Range, &[u8]), TextFault>
-    ensures gives { Gives (λ p. (p.0, p.1.now)) result (chained Range.Either (next_member op spec) (first, text.now)) }
+    ensures gives { Gives (λ p. (p.0, p.1.now)) result
+        (chained Range.Either (next_member op spec) (first, text.now)) }
     ensures within { IfOk result (λ p. length p.1.now ≤ length text.now) }
 {
     let mut left = first;
@@ -290,7 +292,8 @@ fn next_factor(
     room: u32,
     text: &[u8],
 ) -> Result<Option<(Range, &[u8])>, TextFault>
-    ensures gives { Gives (option_map (λ p. (p.0, p.1.now))) result (next_at (λ t. factor_at (inside room spec) spec (skip_blanks t)) spec 38 text.now) }
+    ensures gives { Gives (option_map (λ p. (p.0, p.1.now))) result
+        (next_at (λ t. factor_at (inside room spec) spec (skip_blanks t)) spec 38 text.now) }
     ensures within { IfOk result (λ found. IfSome found (λ p. length p.1.now < length text.now)) }
 {
     match behind(spec, text, b'&')? {
@@ -307,7 +310,9 @@ fn factors_after(
     first: Range,
     text: &[u8],
 ) -> Result<(Range, &[u8]), TextFault>
-    ensures gives { Gives (λ p. (p.0, p.1.now)) result (chained Range.Both (next_at (λ t. factor_at (inside room spec) spec (skip_blanks t)) spec 38) (first, text.now)) }
+    ensures gives { Gives (λ p. (p.0, p.1.now)) result
+        (chained Range.Both (next_at (λ t. factor_at (inside room spec) spec (skip_blanks t)) spec 38)
+        (first, text.now)) }
     ensures within { IfOk result (λ p. length p.1.now ≤ length text.now) }
 {
     let mut left = first;
@@ -336,7 +341,8 @@ fn next_term(
     room: u32,
     text: &[u8],
 ) -> Result<Option<(Range, &[u8])>, TextFault>
-    ensures gives { Gives (option_map (λ p. (p.0, p.1.now))) result (next_at (term_at (inside room spec) spec) spec 124 text.now) }
+    ensures gives { Gives (option_map (λ p. (p.0, p.1.now))) result
+        (next_at (term_at (inside room spec) spec) spec 124 text.now) }
     ensures within { IfOk result (λ found. IfSome found (λ p. length p.1.now < length text.now)) }
 {
     match behind(spec, text, b'|')? {
@@ -353,7 +359,8 @@ fn terms_after(
     first: Range,
     text: &[u8],
 ) -> Result<(Range, &[u8]), TextFault>
-    ensures gives { Gives (λ p. (p.0, p.1.now)) result (chained Range.Either (next_at (term_at (inside room spec) spec) spec 124) (first, text.now)) }
+    ensures gives { Gives (λ p. (p.0, p.1.now)) result
+        (chained Range.Either (next_at (term_at (inside room spec) spec) spec 124) (first, text.now)) }
     ensures within { IfOk result (λ p. length p.1.now ≤ length text.now) }
 {
     let mut left = first;

@@ -1,7 +1,8 @@
+// Versions, from their texts and as texts.
 ghost use Rattle.std.specs.Prelude.{◌≡◌, ◌≢◌, ℕ, ◌++◌, List, IsTrue, IfOk, IfErr, OnOk};
 ghost use Rattle.std.specs.Fmt.{decimal};
 ghost use Rattle.plan_types.specs.declared.refusal.Cause.TheVariants.{BadVersion};
-ghost use Rattle.version_range.specs.Version.{is_version, version_text, led_by_points};
+ghost use Rattle.version_range.specs.Version.{IsVersionOf, is_version, version_text, led_by_points};
 ghost use Rattle.plan_types.specs.Refusal.{Refuses};
 
 use crate::number::number_at;
@@ -13,7 +14,8 @@ use text_grammar::byte_after;
 /// unless it is `0`. Nothing may stand around it.
 pub fn read_version(alloc: Global, text: &[u8]) -> Result<Version, TextFault>
     ensures found { IfOk result (λ v. IsTrue (is_version v.parts) × (text.now ≡ version_text v.parts)) }
-    ensures only { IfOk result (λ v. (ps : List ℕ) → IsTrue (is_version ps) → text.now ≡ version_text ps → v.parts ≡ ps) }
+    ensures only { IfOk result (λ v. (ps : List ℕ) → IsTrue (is_version ps) → text.now ≡ version_text ps
+        → v.parts ≡ ps) }
     ensures refused { IfErr result (Refuses (λ cause. (cause ≡ BadVersion)
         × ((ps : List ℕ) → IsTrue (is_version ps) → text.now ≢ version_text ps))) }
 {
@@ -30,6 +32,17 @@ pub fn read_version(alloc: Global, text: &[u8]) -> Result<Version, TextFault>
         rest = more;
     }
     Err(TextFault::Bad(Cause::BadVersion))
+}
+
+/// The version that a text is, where it is one.
+pub fn version_of(alloc: Global, text: &[u8]) -> Result<Option<Version>, NoMemory>
+    ensures { IfOk result (IsVersionOf text.now) }
+{
+    match read_version(alloc, text) {
+        Ok(version) => Ok(Some(version)),
+        Err(TextFault::Bad(_)) => Ok(None),
+        Err(TextFault::NoMemory) => Err(NoMemory),
+    }
 }
 
 /// The numbers in decimal, joined by points.

@@ -1,7 +1,7 @@
 use Rattle.std.proofs.Common.{◌≡◌, ◌≢◌, IfOk, None, subst, sym}
 use Rattle.plan_command.specs.Output.{IsUsage}
 use Rattle.plan_command.specs.declared.status.Status.TheVariants.{NoMemory}
-use Rattle.plan_words.specs.Reading.{reading}
+use Rattle.command_line.specs.Reading.{reading}
 use Rattle.cabal_plan.proofs.status_for.Goals as goal
 
 pub returns-in-Some-clause-no_reading : goal.returns-in-Some-clause-no_reading

@@ -50,6 +50,17 @@ choose main 1 local
 visited 1 exhausted 0
 
 $ cabal-plan plan
+main.cabal: cabal-version: 3.0;name: main;version: 1;common one;  build-depends: a;common two;  build-depends: b;library;  import: one,  two
+index/a/1/a.cabal a 1
+index/b/1/b.cabal b 1
+=> 0
+plan
+choose main 1 local
+choose a 1 source
+choose b 1 source
+visited 3 exhausted 0
+
+$ cabal-plan plan
 main.cabal: cabal-version: 3.4;name: main;version: 1;library util;library;  build-depends: util, main:util
 index/util/1/util.cabal util 1
 => 0

@@ -1,6 +1,6 @@
 -- the state stays one of the problem
-use Rattle.validation.specs.Standing.{Stands}
+use Rattle.validation.specs.View.{Represents}
 use Rattle.base_tables.proofs.states.moved.Given as goal
 
 abbrev pub invariant-loop-byte : goal.invariant-loop-byte
-invariant-loop-byte g l = Stands (g.C.Choices.problem l.choices) l.state
+invariant-loop-byte g l = Represents (g.C.Choices.problem l.choices) l.state

@@ -2,7 +2,8 @@ use Rattle.std.proofs.Common.{◌-◌, length, take, sym, ◌∙◌, ap, subst, 
 use Rattle.std.specs.Str.{IsCharBoundary}
 use Rattle.cabal_lexer.specs.Lines.{indent}
 use Rattle.plan_types.specs.Bytes.{is_blank}
-use Rattle.cabal_lexer.proofs.Texts.{boundary_end, is_blank-ascii, trailing-le, trim_end-take}
+use Rattle.cabal_lexer.proofs.Texts.{boundary_end, trailing-le, trim_end-take}
+use Rattle.text_grammar.proofs.Boundaries.{is_blank-ascii}
 use Rattle.cabal_lexer.proofs.lines.trim_end.Goals as goal
 
 pub overflow_sub-text : goal.overflow_sub-text

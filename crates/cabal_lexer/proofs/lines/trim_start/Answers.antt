@@ -2,7 +2,7 @@ use Rattle.std.proofs.Common.{drop, sym, ◌∙◌, ap, subst}
 use Rattle.std.specs.Str.{IsCharBoundary}
 use Rattle.cabal_lexer.specs.Lines.{indent, trim_start}
 use Rattle.plan_types.specs.Bytes.{is_blank}
-use Rattle.cabal_lexer.proofs.Texts.{boundary_front, is_blank-ascii}
+use Rattle.text_grammar.proofs.Boundaries.{boundary_front, is_blank-ascii}
 use Rattle.cabal_lexer.proofs.lines.trim_start.Goals as goal
 
 pub split_at-requires : goal.split_at-requires

@@ -1,7 +1,8 @@
 use Rattle.std.proofs.Common.{sym, ◌∙◌, ap, subst}
 use Rattle.std.specs.Str.{IsCharBoundary}
 use Rattle.cabal_lexer.specs.Opening.{is_name_byte, name_len}
-use Rattle.cabal_lexer.proofs.Texts.{boundary_front, is_name_byte-ascii}
+use Rattle.cabal_lexer.proofs.Texts.{is_name_byte-ascii}
+use Rattle.text_grammar.proofs.Boundaries.{boundary_front}
 use Rattle.cabal_lexer.proofs.opening.begun.Goals as goal
 
 pub split_at-requires : goal.split_at-requires

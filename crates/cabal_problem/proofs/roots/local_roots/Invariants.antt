@@ -1,8 +1,9 @@
 -- the local packages so far
 use Rattle.std.proofs.Common.{◌≡◌, map}
 use Rattle.std.specs.List.{filter}
-use Rattle.instance_tables.specs.Places.{rising, package_at}
+use Rattle.solver_index.specs.Places.{rising}
 use Rattle.cabal_problem.specs.ListedDemands.{local_root}
+use Rattle.plan_types.specs.Packages.{package_at}
 use Rattle.cabal_problem.proofs.roots.local_roots.Given as goal
 
 abbrev pub invariant-loop-place : goal.invariant-loop-place

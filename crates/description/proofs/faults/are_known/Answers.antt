@@ -1,8 +1,8 @@
 use Rattle.std.proofs.Common.{◌∙◌, ap, sym}
 use Rattle.std.proofs.lemmas.List.{drop_all}
 use Rattle.std.specs.List.{list_all}
-use Rattle.description.specs.Declarations.{is_known}
-use Rattle.description.proofs.NameList.{all-next, all-stops}
+use Rattle.package_declarations.specs.Declarations.{is_known}
+use Rattle.stanza_imports.proofs.NameList.{all-next, all-stops}
 use Rattle.description.proofs.faults.are_known.Goals as goal
 
 pub returns-then-not-is_known : goal.returns-then-not-is_known

@@ -1,8 +1,8 @@
 use Rattle.std.proofs.Common.{◌≡◌, drop}
 use Rattle.std.specs.List.{list_all}
-use Rattle.description_parts.specs.declared.part.File.{File}
-use Rattle.description.specs.Declarations.{is_known}
-use Rattle.description.specs.Tables.{Tells}
+use Rattle.section_syntax.specs.declared.part.File.{File}
+use Rattle.package_declarations.specs.Declarations.{is_known}
+use Rattle.package_declarations.specs.DeclaredNames.{Tells}
 use Rattle.description.proofs.faults.are_known.Given as goal
 
 abbrev pub invariant-loop-dep : goal.invariant-loop-dep

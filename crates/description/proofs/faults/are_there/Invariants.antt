@@ -1,6 +1,6 @@
 use Rattle.std.proofs.Common.{◌≡◌, drop}
 use Rattle.std.specs.List.{list_all}
-use Rattle.description.specs.Names.{has}
+use Rattle.stanza_imports.specs.Names.{has}
 use Rattle.description.proofs.faults.are_there.Given as goal
 
 abbrev pub invariant-loop-name : goal.invariant-loop-name

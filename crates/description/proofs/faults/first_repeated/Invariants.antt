@@ -1,8 +1,8 @@
 use Rattle.std.proofs.Common.{◌≡◌, [], drop}
-use Rattle.description.specs.Faults.{repeated}
-use Rattle.description.specs.First.{earlier, first}
+use Rattle.description.proofs.RepeatedNames.{repeated_from}
+use Rattle.description.specs.FaultOrder.{earlier, first}
 use Rattle.description.proofs.faults.first_repeated.Given as goal
 
 -- the first among what was passed and what is left is the first of all
 abbrev pub invariant-loop-section : goal.invariant-loop-section
-invariant-loop-section l = earlier l.found (first (repeated l.class l.before (drop l.section-index l.sections))) ≡ first (repeated l.class [] l.sections)
+invariant-loop-section l = earlier l.found (first (repeated_from l.class l.before (drop l.section-index l.sections))) ≡ first (repeated_from l.class [] l.sections)

@@ -1,6 +1,6 @@
 use Rattle.std.proofs.Common.{◌∙◌, ap, sym}
 use Rattle.description.specs.Faults.{at, of_said}
-use Rattle.description.specs.First.{first}
+use Rattle.description.specs.FaultOrder.{first}
 use Rattle.description.proofs.faults.in_part.Goals as goal
 
 pub returns-in-Branch : goal.returns-in-Branch

@@ -1,8 +1,8 @@
 use Rattle.std.proofs.Common.{◌≡◌, take, flat_map}
-use Rattle.description_parts.specs.declared.part.File.{File}
+use Rattle.section_syntax.specs.declared.part.File.{File}
 use Rattle.description.specs.Faults.{in_part}
-use Rattle.description.specs.First.{first}
-use Rattle.description.specs.Tables.{Tells}
+use Rattle.description.specs.FaultOrder.{first}
+use Rattle.package_declarations.specs.DeclaredNames.{Tells}
 use Rattle.description.proofs.faults.in_parts.Given as goal
 
 abbrev pub invariant-loop-part : goal.invariant-loop-part

@@ -1,8 +1,8 @@
 use Rattle.std.proofs.Common.{◌∙◌, ap, sym, flat_map}
-use Rattle.description.specs.Declarations.{own_name}
+use Rattle.package_declarations.specs.Declarations.{own_name}
 use Rattle.description.specs.Faults.{at, in_part, of_name}
-use Rattle.description.specs.First.{first}
-use Rattle.description.proofs.Firsts.{first-append, earlier-of}
+use Rattle.description.specs.FaultOrder.{first}
+use Rattle.description.proofs.FirstFaults.{first-append, earlier-of}
 use Rattle.description.proofs.faults.in_section.Goals as goal
 
 pub returns : goal.returns

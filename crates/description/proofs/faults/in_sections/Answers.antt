@@ -1,7 +1,7 @@
 use Rattle.std.proofs.Common.{◌∙◌, ap, take, flat_map}
 use Rattle.description.specs.Faults.{in_section}
-use Rattle.description.specs.First.{earlier, first}
-use Rattle.description.proofs.Firsts.{first-more}
+use Rattle.description.specs.FaultOrder.{earlier, first}
+use Rattle.description.proofs.FirstFaults.{first-more}
 use Rattle.description.proofs.faults.in_sections.Goals as goal
 
 pub loop-section-preserved : goal.loop-section-preserved

@@ -1,7 +1,7 @@
 use Rattle.std.proofs.Common.{◌∙◌, sym}
 use Rattle.plan_types.specs.declared.refusal.Cause.TheVariants as causes
 use Rattle.description.specs.Faults.{of_condition, unless}
-use Rattle.description.proofs.Firsts.{at-append, earlier-of}
+use Rattle.description.proofs.FirstFaults.{at-append, earlier-of}
 use Rattle.description.proofs.faults.of_branch.Goals as goal
 
 pub returns : goal.returns

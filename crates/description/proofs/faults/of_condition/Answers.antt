@@ -1,8 +1,8 @@
 use Rattle.std.proofs.Common.{◌∙◌, ap, sym}
 use Rattle.plan_types.specs.declared.refusal.Cause.TheVariants as causes
-use Rattle.description.specs.Declarations.{has_flags}
+use Rattle.package_declarations.specs.Declarations.{has_flags}
 use Rattle.description.specs.Faults.{at, of_condition, unless}
-use Rattle.description.specs.First.{first}
+use Rattle.description.specs.FaultOrder.{first}
 use Rattle.description.proofs.faults.of_condition.Goals as goal
 
 pub returns-in-Ok : goal.returns-in-Ok

@@ -1,9 +1,9 @@
 use Rattle.std.proofs.Common.{◌&&◌, not, ◌∙◌, ap, sym}
 use Rattle.plan_types.specs.declared.refusal.Cause.TheVariants as causes
-use Rattle.description.specs.Declarations.{is_library, is_own, own_name}
+use Rattle.package_declarations.specs.Declarations.{is_library, is_own, own_name}
 use Rattle.description.specs.Faults.{at, has_good_name, unless}
-use Rattle.description.specs.First.{first}
-use Rattle.description.proofs.Firsts.{at-append, earlier-of}
+use Rattle.description.specs.FaultOrder.{first}
+use Rattle.description.proofs.FirstFaults.{at-append, earlier-of}
 use Rattle.description.proofs.faults.of_name.Goals as goal
 
 pub returns : goal.returns

@@ -1,4 +1,4 @@
-use Rattle.description_parts.specs.Tree.{tree_of}
+use Rattle.cabal_lexer.specs.Tree.{tree_of}
 use Rattle.description.specs.Description.{cabal_version}
 use Rattle.description.proofs.OneOutcome.{one-outcome}
 use Rattle.description.proofs.laws.one_outcome.Goals as goal

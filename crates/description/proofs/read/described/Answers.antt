@@ -1,6 +1,6 @@
 use Rattle.std.proofs.Common.{subst}
-use Rattle.description.specs.Tables.{Stand}
-use Rattle.description.proofs.Told.{told-ok, told-err}
+use Rattle.description.proofs.TurnedOutcomes.{told-ok, told-err}
+use Rattle.stanza_imports.specs.Bodies.{Stand}
 use Rattle.description.proofs.read.described.Goals as goal
 
 pub returns-clause-description : goal.returns-clause-description

@@ -3,12 +3,14 @@ use Rattle.std.specs.declared.result.Result.TheVariants.{Err}
 use Rattle.plan_types.specs.Refusal.{RefusesAt}
 use Rattle.plan_types.specs.declared.refusal.Cause.{Cause}
 use Rattle.component_cycle.specs.Cycle.{IsFirstOnCycle}
-use Rattle.description.specs.Cycles.{needs}
-use Rattle.description.specs.Declarations.{own_name}
+use Rattle.package_declarations.specs.Cycles.{needs}
+use Rattle.package_declarations.specs.Declarations.{own_name}
 use Rattle.description.specs.Description.{Comes, version_of}
-use Rattle.description.specs.First.{is_at}
-use Rattle.description.specs.Tables.{Stand, Tells, shown, shown_version}
-use Rattle.description.proofs.Coming.{comes-circular}
+use Rattle.description.specs.FaultOrder.{is_at}
+use Rattle.description.proofs.CircularComponents.{comes-circular}
+use Rattle.stanza_imports.specs.Bodies.{Stand}
+use Rattle.package_declarations.specs.DeclaredNames.{shown, Tells}
+use Rattle.description.specs.ShownVersion.{shown_version}
 use Rattle.description.proofs.read.faultless.Goals as goal
 
 pub returns-in-Some-2-clause-fault : goal.returns-in-Some-2-clause-fault

@@ -1,8 +1,8 @@
 use Rattle.std.proofs.Common.{subst, sym, ◌∙◌}
 use Rattle.std.specs.declared.result.Result.TheVariants.{Ok, Err}
 use Rattle.description.specs.Description.{ComesTo}
-use Rattle.description.specs.First.{is_at}
-use Rattle.description.proofs.Told.{told-ok, told-err}
+use Rattle.description.specs.FaultOrder.{is_at}
+use Rattle.description.proofs.TurnedOutcomes.{told-ok, told-err}
 use Rattle.description.proofs.read.judged.Goals as goal
 
 pub returns-in-None-clause-description : goal.returns-in-None-clause-description

@@ -1,6 +1,6 @@
 use Rattle.std.proofs.Common.{◌≡◌, take}
 use Rattle.description.specs.Description.{version_of}
-use Rattle.description.specs.Tables.{shown_version}
+use Rattle.description.specs.ShownVersion.{shown_version}
 use Rattle.description.proofs.read.version_of.Given as goal
 
 abbrev pub invariant-loop-field : goal.invariant-loop-field

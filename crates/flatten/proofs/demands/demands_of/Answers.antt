@@ -1,6 +1,6 @@
 use Rattle.std.proofs.Common.{arith}
 use Rattle.std.proofs.lemmas.Grind.{common_steps}
-use Rattle.flatten.proofs.First.{none_among, some_among}
+use Rattle.flatten.proofs.FirstBeyond.{none_among, some_among}
 use Rattle.flatten.proofs.demands.demands_of.Goals as goal
 
 pub returns-in_err-push_component-clause-refused :

@@ -1,5 +1,5 @@
 use Rattle.std.proofs.Common.{sym, ◌∙◌}
-use Rattle.flatten.proofs.Joined.{nothing_beyond, nothing_asked}
+use Rattle.flatten.proofs.JoinedPaths.{nothing_beyond, nothing_asked}
 use Rattle.flatten.proofs.demands.push_component.Goals as goal
 
 pub returns-else-asks_others-clause-none_beyond : goal.returns-else-asks_others-clause-none_beyond

@@ -1,7 +1,7 @@
 use Rattle.std.proofs.Common.{rules, ◌≡◌, ◌++◌, map, refl, ap, ◌∙◌}
 use Rattle.std.specs.Vec.Iter.{into_iter_items}
 use Rattle.flatten.specs.Demands.{flat_of}
-use Rattle.flatten.proofs.Joined.{number_is, beyond, within, no_demands, joined_are}
+use Rattle.flatten.proofs.JoinedPaths.{number_is, beyond, within, no_demands, joined_are}
 use Rattle.flatten.proofs.demands.push_demands.Goals as goal
 
 pub returns-then-number-gt-MOST_PATHS-clause-refused :

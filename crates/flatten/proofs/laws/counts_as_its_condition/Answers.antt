@@ -1,6 +1,6 @@
 use Rattle.std.proofs.Common.{true, ap, ◌∙◌, ◌&&◌}
 use Rattle.conditionals.specs.Paths.{clean_paths}
-use Rattle.description.specs.WholeCondition.{whole_condition}
+use Rattle.flatten.specs.WholeCondition.{whole_condition}
 use Rattle.flatten.specs.Counting.{are_met, flags_of}
 use Rattle.flatten.specs.Demands.{paths_at, stanza_of}
 use Rattle.flatten.proofs.Counting.{any_is_met}

@@ -1,6 +1,6 @@
 use Rattle.std.proofs.Common.{true}
 use Rattle.conditionals.specs.Paths.{clean_paths}
-use Rattle.description.specs.WholeCondition.{whole_condition}
+use Rattle.flatten.specs.WholeCondition.{whole_condition}
 use Rattle.flatten.specs.Counting.{flags_of}
 use Rattle.flatten.specs.Demands.{paths_at}
 use Rattle.flatten.proofs.Counting.{from_path, holds_too}

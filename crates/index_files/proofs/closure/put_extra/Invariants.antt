@@ -1,7 +1,7 @@
 -- the names so far
 use Rattle.std.proofs.Common.{◌≡◌, map, take}
 use Rattle.plan_types.specs.declared.dependency.Named.{Named}
-use Rattle.index_files.proofs.Put.{put_all}
+use Rattle.index_files.specs.Names.{put_all}
 use Rattle.index_files.proofs.closure.put_extra.Given as goal
 
 abbrev pub invariant-loop-named : goal.invariant-loop-named

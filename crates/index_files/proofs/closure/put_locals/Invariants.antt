@@ -1,7 +1,7 @@
 -- the names of the packages so far
 use Rattle.std.proofs.Common.{◌≡◌, take}
 use Rattle.index_files.specs.Locals.{local_names}
-use Rattle.index_files.proofs.Put.{put_all}
+use Rattle.index_files.specs.Names.{put_all}
 use Rattle.index_files.proofs.closure.put_locals.Given as goal
 
 abbrev pub invariant-loop-local : goal.invariant-loop-local

@@ -3,20 +3,20 @@ use Rattle.std.specs.Option.{option_map}
 use Rattle.outside_folder.proofs.Leaving.{onward, still}
 use Rattle.plan_types.specs.declared.dependency.Named.{Named}
 use Rattle.index_files.specs.Closure.{roots}
-use Rattle.index_files.specs.Known.{ground_of}
+use Rattle.index_files.specs.Ground.{ground_of}
 use Rattle.index_files.specs.Locals.{local_names}
 use Rattle.index_files.specs.Steps.{AreKept, ArePartly, Finds, IsVisited, Visits, pair_up}
-use Rattle.index_files.specs.declared.closure.Found.{Found}
+use Rattle.index_files.specs.declared.closure.FoundName.{FoundName}
 use Rattle.index_files.proofs.Closing.{kept-first, partly-first}
 use Rattle.index_files.proofs.Finding.{beyond-here, kept-all, kept-on, pairs-on, partly-on, releases_in, whole-all, within-on}
-use Rattle.index_files.proofs.Lists.{if_some, some_at}
 use Rattle.index_files.proofs.Pairs.{pair_none}
-use Rattle.index_files.proofs.Put.{put_all}
+use Rattle.common_laws.specs.Small.{if_some, some_at}
+use Rattle.index_files.specs.Names.{put_all}
 use Rattle.index_files.proofs.closure.read_closure.Goals as goal
 
 pub loop-alloc-preserved : goal.loop-alloc-preserved
 loop-alloc-preserved g c =
-    let ground = ground_of c.args.known.now in
+    let ground = ground_of c.args.before.now in
     let names = c.loop-alloc.names.keys in
     let new = c.visit.new.names.keys in
     let found = c.loop-alloc.found in
@@ -36,11 +36,11 @@ loop-alloc-preserved g c =
       told = λ files t.
           let told = some_at _ _ files (c.loop-alloc.invariant.folder.same_files ∙ t) c.in_ok-visit.ensures.told in
           let visited : IsVisited ground files (get_or names c.len-in-loop-alloc-2.result []) c.loop-alloc.totals c.visit.new.totals c.in-Some.one.releases =
-          subst (λ o. Visits ground files (get_or names c.len-in-loop-alloc-2.result []) c.loop-alloc.totals c.visit.new.totals (option_map (λ (f : Found). f.releases) o)) c.in-Some.is told in
+          subst (λ o. Visits ground files (get_or names c.len-in-loop-alloc-2.result []) c.loop-alloc.totals c.visit.new.totals (option_map (λ (f : FoundName). f.releases) o)) c.in-Some.is told in
           subst (ArePartly ground files c.args.totals c.visit.new.totals new) (sym ok)
           (partly-on ground names new found within pairs c.in-Some.one f files c.args.totals c.loop-alloc.totals c.visit.new.totals (c.loop-alloc.invariant.told files t)
           (subst (λ n. IsVisited ground files (get_or names n []) c.loop-alloc.totals c.visit.new.totals c.in-Some.one.releases) place visited));
-      folder = onward _ _ _ _ _ _ (λ never. absurd never) c.loop-alloc.invariant.folder c.in_ok-visit.ensures.folder;
+      folder = onward _ _ _ _ _ (λ never. absurd never) c.loop-alloc.invariant.folder c.in_ok-visit.ensures.folder;
     }
 
 pub loop-alloc-smaller : goal.loop-alloc-smaller
@@ -55,23 +55,23 @@ loop-alloc-smaller g c =
 
 pub loop-alloc-init : goal.loop-alloc-init
 loop-alloc-init g c =
-    let ground = ground_of c.args.known.now in
+    let ground = ground_of c.args.before.now in
     let names = c.in_ok-names.names.keys in
     let none = c.new-found.ensures in
     let first : names ≡ put_all [] (roots ground) =
-    c.in_ok-names.ensures ∙ ap (λ (extra : List Named). put_all [] (local_names c.args.known.now.locals.now.list ++ map (λ named. named.name) extra)) c.as_slice.ensures in
+    c.in_ok-names.ensures ∙ ap (λ (extra : List Named). put_all [] (local_names c.args.before.now.locals.now.list ++ map (λ named. named.name) extra)) c.as_slice.ensures in
     record {
-      within = subst (λ (xs : List Found). length xs ≤ length names) (sym none) (omega arith);
+      within = subst (λ (xs : List FoundName). length xs ≤ length names) (sym none) (omega arith);
       pairs = subst (λ xs. xs ≡ pair_up names (releases_in xs)) (sym none) (sym (pair_none names));
       kept = subst (AreKept ground names) (sym none) (subst (AreKept ground names) (pair_none names) (kept-first ground names first));
       told = λ files t. subst (ArePartly ground files c.args.totals c.args.totals names) (sym none)
           (subst (ArePartly ground files c.args.totals c.args.totals names) (pair_none names) (partly-first ground files names c.args.totals first));
-      folder = still _ _ (λ never. never);
+      folder = still _ _ _ (λ never. never);
     }
 
 pub returns-in-None-clause-told : goal.returns-in-None-clause-told
 returns-in-None-clause-told g c = if_some _ _ (λ files t.
-    let ground = ground_of c.args.known.now in
+    let ground = ground_of c.args.before.now in
     let names = c.loop-alloc.names.keys in
     let found = c.loop-alloc.found in
     let place : c.len-in-loop-alloc-2.result ≡ length found = c.len-in-loop-alloc-2.ensures in
@@ -80,14 +80,14 @@ returns-in-None-clause-told g c = if_some _ _ (λ files t.
     let m = c.len-in-loop-alloc.ensures.len in
     let within : length found < length names = omega (arith, test, l, m) in
     let told = some_at _ _ files (c.loop-alloc.invariant.folder.same_files ∙ t) c.in_ok-visit.ensures.told in
-    let many : Visits ground files (get_or names c.len-in-loop-alloc-2.result []) c.loop-alloc.totals c.visit.new.totals (option_map (λ (f : Found). f.releases) None) =
-    subst (λ o. Visits ground files (get_or names c.len-in-loop-alloc-2.result []) c.loop-alloc.totals c.visit.new.totals (option_map (λ (f : Found). f.releases) o)) c.in-None.is told in
+    let many : Visits ground files (get_or names c.len-in-loop-alloc-2.result []) c.loop-alloc.totals c.visit.new.totals (option_map (λ (f : FoundName). f.releases) None) =
+    subst (λ o. Visits ground files (get_or names c.len-in-loop-alloc-2.result []) c.loop-alloc.totals c.visit.new.totals (option_map (λ (f : FoundName). f.releases) o)) c.in-None.is told in
     beyond-here ground names names found within c.loop-alloc.invariant.pairs files c.args.totals c.loop-alloc.totals c.loop-alloc.invariant.kept (c.loop-alloc.invariant.told files t)
-    (subst (λ n. Visits ground files (get_or names n []) c.loop-alloc.totals c.visit.new.totals (option_map (λ (f : Found). f.releases) None)) place many))
+    (subst (λ n. Visits ground files (get_or names n []) c.loop-alloc.totals c.visit.new.totals (option_map (λ (f : FoundName). f.releases) None)) place many))
 
 pub returns-clause-told : goal.returns-clause-told
 returns-clause-told g c = if_some _ _ (λ files t.
-    let ground = ground_of c.args.known.now in
+    let ground = ground_of c.args.before.now in
     let test = c.loop-alloc-test.false in
     let l = c.len.ensures in
     let m = c.len-in-loop-alloc.ensures.len in
@@ -98,4 +98,4 @@ returns-clause-kept g c =
     let test = c.loop-alloc-test.false in
     let l = c.len.ensures in
     let m = c.len-in-loop-alloc.ensures.len in
-    kept-all (ground_of c.args.known.now) c.loop-alloc.names.keys c.loop-alloc.found (omega (arith, test, l, m)) c.loop-alloc.invariant.pairs c.loop-alloc.invariant.kept
+    kept-all (ground_of c.args.before.now) c.loop-alloc.names.keys c.loop-alloc.found (omega (arith, test, l, m)) c.loop-alloc.invariant.pairs c.loop-alloc.invariant.kept

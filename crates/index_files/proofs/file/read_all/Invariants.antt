@@ -10,5 +10,5 @@ abbrev pub invariant-loop-path : goal.invariant-loop-path
 invariant-loop-path g l = record {
   told : (files : Files) → g.F.Folder.tells l.fn.folder ≡ Some files → l.read ≡ map (file_found true files) (take l.path-index l.paths);
   readable : AllByRecursion IsReadable l.read;
-  folder : Leaves (g.F.Folder.tells l.fn.folder) (g.F.Folder.faults l.fn.folder) (g.F.Folder.tells l.folder) (g.F.Folder.faults l.folder) ⊥;
+  folder : Leaves g.F.Folder.tells g.F.Folder.faults l.fn.folder l.folder ⊥;
 }

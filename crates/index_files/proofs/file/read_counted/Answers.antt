@@ -2,8 +2,10 @@ use Rattle.std.proofs.Common.{◌≡◌, ◌+◌, true, ◌∷◌, ◌++◌, [],
 use Rattle.std.proofs.lemmas.List.{take_all}
 use Rattle.index_files.specs.File.{file_found, fitting}
 use Rattle.index_files.specs.Totals.{is_too_many}
-use Rattle.index_files.proofs.Fitting.{beyond_where, fit_all, fit_ends}
-use Rattle.index_files.proofs.Lists.{if_some, map_split, some_at}
+use Rattle.index_files.proofs.Fitting.{fit_all, fit_ends}
+use Rattle.index_files.proofs.Lists.{map_split}
+use Rattle.std.proofs.lemmas.Bool.{not-false}
+use Rattle.common_laws.specs.Small.{if_some, some_at}
 use Rattle.index_files.proofs.file.read_counted.Goals as goal
 
 pub returns-then-not-count-clause-told : goal.returns-then-not-count-clause-told
@@ -12,7 +14,7 @@ returns-then-not-count-clause-told g c = if_some _ _ (λ files t.
     let told = c.loop-path.invariant.told files t in
     let found : c.in_ok-file.file ≡ f c.path-item.result = some_at _ _ files (c.loop-path.invariant.folder.same_files ∙ t) c.in_ok-file.ensures.told in
     let split = map_split f c.args.paths.now c.loop-path.path-index c.path-item.result c.loop-path-test.true c.path-item.is in
-    let beyond : is_too_many (c.loop-path.totals.files + c.count.result) (c.loop-path.totals.bytes + c.size.result) ≡ true = beyond_where _ (sym c.if-not-count.ensures.fits) in
+    let beyond : is_too_many (c.loop-path.totals.files + c.count.result) (c.loop-path.totals.bytes + c.size.result) ≡ true = not-false _ (sym c.if-not-count.ensures.fits) in
     let many = (λ i. is_too_many (c.loop-path.totals.files + sym c.count.ensures i) (c.loop-path.totals.bytes + sym c.size.ensures i)) ∙ beyond in
     sym (ap (fitting c.args.totals.now.files c.args.totals.now.bytes) (split.1 ∙ (λ i. (sym told i ++ sym found i ∷ []) ++ split.0))
     ∙ fit_ends _ _ c.loop-path.files c.loop-path.totals.files c.loop-path.totals.bytes c.in_ok-file.file split.0 c.loop-path.invariant.fit many))

@@ -14,5 +14,5 @@ invariant-loop-path g l = record {
   counts : Counts l.fn.totals l.totals l.files;
   length : length l.files ≡ l.path-index;
   readable : AllByRecursion IsReadable l.files;
-  folder : Leaves (g.F.Folder.tells l.fn.folder) (g.F.Folder.faults l.fn.folder) (g.F.Folder.tells l.folder) (g.F.Folder.faults l.folder) ⊥;
+  folder : Leaves g.F.Folder.tells g.F.Folder.faults l.fn.folder l.folder ⊥;
 }

@@ -1,22 +1,23 @@
 use Rattle.std.proofs.Common.{◌≡◌, List, map, Ok, Err, ◌∙◌, ap, subst, sym}
 use Rattle.std.proofs.lemmas.Result.{err_from_is_err_and}
 use Rattle.index_files.specs.Closure.{Ground}
-use Rattle.index_files.specs.InTurn.{Answers}
+use Rattle.index_files.specs.InTurn.{OnPart}
+use Rattle.plan_types.specs.Refusal.{Answers}
 use Rattle.index_files.specs.Locals.{ReadsLocals}
 use Rattle.index_files.specs.Readings.{AreFromFiles, AreIndexed, AreReadings}
 use Rattle.index_files.specs.Steps.{AreKept}
 use Rattle.index_files.specs.Units.{ReadsUnits, unit_ids}
 use Rattle.std.specs.List.{IsDistinct}
-use Rattle.conditionals.specs.Value.{same}
-use Rattle.index_files.specs.declared.closure.Found.{Found}
+use Rattle.index_files.specs.declared.closure.FoundName.{FoundName}
 use Rattle.index_files.specs.declared.local.Local.{Local}
 use Rattle.index_files.specs.declared.locals.Locals.{Locals}
 use Rattle.index_files.specs.declared.readings.Counted.{Counted}
 use Rattle.index_files.specs.declared.readings.Readings.{Readings}
 use Rattle.index_files.specs.declared.unit.Unit.{Unit}
 use Rattle.index_files.proofs.Ending.{locals-refused, then-indexed, then-refused}
-use Rattle.index_files.proofs.Lists.{if_some, some_at}
 use Rattle.index_files.proofs.Turns.{refused-as}
+use Rattle.plan_types.specs.Bytes.{same_text}
+use Rattle.common_laws.specs.Small.{if_some, some_at}
 use Rattle.index_files.proofs.readings.read_index_files.Goals as goal
 
 pub returns-in_err-locals-clause-told : goal.returns-in_err-locals-clause-told
@@ -25,8 +26,8 @@ returns-in_err-locals-clause-told g c = if_some _ _ (λ files t.
     let passed : c.from_residual.result ≡ Err c.in_err-locals.field-0.0 = p.1 ∙ ap Err p.2 in
     let Was = AreReadings c.args.env.now c.args.places.now c.args.extra.now c.args.paths.now files in
     let told = some_at _ _ files t c.in_err-locals.ensures.told in
-    subst (Answers (λ (r : Readings). r) Was) (sym passed)
-    (refused-as (λ (l : Locals). l.list) (ReadsLocals c.args.env.now files _) Was (λ (r : Readings). r) c.in_err-locals.field-0.0
+    subst (Answers Was) (sym passed)
+    (refused-as (OnPart (λ (l : Locals). l.list) (ReadsLocals c.args.env.now files _)) Was c.in_err-locals.field-0.0
     (λ r h. locals-refused c.args.env.now c.args.places.now c.args.extra.now c.args.paths.now files r (subst (λ ps. ReadsLocals c.args.env.now files ps (Err r)) c.as_slice.ensures h)) told))
 
 pub returns-in_err-read-clause-told : goal.returns-in_err-read-clause-told
@@ -36,8 +37,8 @@ returns-in_err-read-clause-told g c = if_some _ _ (λ files t.
     let Was = AreReadings c.args.env.now c.args.places.now c.args.extra.now c.args.paths.now files in
     let locals = subst (λ ps. ReadsLocals c.args.env.now files ps (Ok c.in_ok-locals.locals.list)) c.as_slice.ensures (some_at _ _ files t c.in_ok-locals.ensures.told) in
     let told = some_at _ _ files (c.in_ok-locals.ensures.folder.same_files ∙ t) c.in_err-read.ensures.told in
-    subst (Answers (λ (r : Readings). r) Was) (sym passed)
-    (refused-as (λ (n : Counted). n.units.list) (ReadsUnits c.args.places.now files) Was (λ (r : Readings). r) c.in_err-read.field-0.0
+    subst (Answers Was) (sym passed)
+    (refused-as (OnPart (λ (n : Counted). n.units.list) (ReadsUnits c.args.places.now files)) Was c.in_err-read.field-0.0
     (λ r h. then-refused c.args.env.now c.args.places.now c.args.extra.now c.args.paths.now files c.in_ok-locals.locals.list r locals h) told))
 
 pub returns-in_err-readings-clause-told : goal.returns-in_err-readings-clause-told
@@ -51,8 +52,8 @@ returns-in_err-readings-clause-told g c = if_some _ _ (λ files t.
     let counts = some_at _ _ files still c.in_ok-read.ensures.counts in
     let told = some_at _ _ files (c.in_ok-read.ensures.folder.same_files ∙ still) c.in_err-readings.ensures.told in
     let ground : Ground = record { env = c.args.env.now; places = c.args.places.now; locals = c.in_ok-locals.locals.list; units = c.in_ok-read.read.units.list; extra = c.args.extra.now } in
-    subst (Answers (λ (r : Readings). r) Was) (sym passed)
-    (refused-as (λ (r : Readings). r) (AreIndexed ground files c.in_ok-read.read.totals.files c.in_ok-read.read.totals.bytes) Was (λ (r : Readings). r) c.in_err-readings.field-0.0
+    subst (Answers Was) (sym passed)
+    (refused-as (AreIndexed ground files c.in_ok-read.read.totals.files c.in_ok-read.read.totals.bytes) Was c.in_err-readings.field-0.0
     (λ r h. then-indexed c.args.env.now c.args.places.now c.args.extra.now c.args.paths.now files c.in_ok-locals.locals.list c.in_ok-read.read.units.list c.in_ok-read.read.totals (Err r) locals units counts h) told))
 
 pub returns-clause-told : goal.returns-clause-told
@@ -70,9 +71,9 @@ returns-clause-form g c =
     let found = c.in_ok-readings.readings.found in
     record {
       locals = subst (AreFromFiles c.args.env.now) (sym of.locals) c.in_ok-locals.ensures.form;
-      units_once = subst (λ (us : List Unit). IsDistinct same (unit_ids us)) (sym of.units) c.in_ok-read.ensures.once;
+      units_once = subst (λ (us : List Unit). IsDistinct same_text (unit_ids us)) (sym of.units) c.in_ok-read.ensures.once;
       units_formed = of.units_formed;
       kept =
-          subst (λ (ls : List Local). AreKept (record { env = c.args.env.now; places = c.args.places.now; locals = ls; units = c.in_ok-readings.readings.units; extra = c.args.extra.now }) (map (λ (f : Found). f.name) found) found) (sym of.locals)
-          (subst (λ (us : List Unit). AreKept (record { env = c.args.env.now; places = c.args.places.now; locals = c.in_ok-locals.locals.list; units = us; extra = c.args.extra.now }) (map (λ (f : Found). f.name) found) found) (sym of.units) of.kept);
+          subst (λ (ls : List Local). AreKept (record { env = c.args.env.now; places = c.args.places.now; locals = ls; units = c.in_ok-readings.readings.units; extra = c.args.extra.now }) (map (λ (f : FoundName). f.name) found) found) (sym of.locals)
+          (subst (λ (us : List Unit). AreKept (record { env = c.args.env.now; places = c.args.places.now; locals = c.in_ok-locals.locals.list; units = us; extra = c.args.extra.now }) (map (λ (f : FoundName). f.name) found) found) (sym of.units) of.kept);
     }

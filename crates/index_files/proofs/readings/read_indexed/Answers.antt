@@ -3,12 +3,12 @@ use Rattle.std.proofs.lemmas.Result.{err_from_is_err_and}
 use Rattle.plan_types.specs.declared.refusal.Halt.{Halt}
 use Rattle.outside_folder.specs.Calls.{halt_of}
 use Rattle.index_files.specs.Closure.{Ground, Reaches}
-use Rattle.index_files.specs.InTurn.{Answers}
+use Rattle.plan_types.specs.Refusal.{Answers}
 use Rattle.index_files.specs.Readings.{AreIndexed, AreOf, AreRead}
 use Rattle.index_files.specs.declared.readings.Readings.{Readings}
 use Rattle.index_files.proofs.Forms.{all-formed}
-use Rattle.index_files.proofs.Lists.{if_some, some_at}
 use Rattle.index_files.proofs.Turns.{troubled}
+use Rattle.common_laws.specs.Small.{if_some, some_at}
 use Rattle.index_files.proofs.readings.read_indexed.Goals as goal
 
 pub returns-in_err-found-clause-told : goal.returns-in_err-found-clause-told
@@ -17,7 +17,7 @@ returns-in_err-found-clause-told g c = if_some _ _ (λ files t.
     let passed : c.from_residual-in_err-found.result ≡ Err (halt_of c.in_err-found.field-0.0) = p.1 ∙ ap Err p.2 in
     let ground : Ground = record { env = c.args.env.now; places = c.args.places.now; locals = c.args.locals.list; units = c.args.counted.units.list; extra = c.args.extra.now } in
     let Is = AreIndexed ground files c.args.counted.totals.files c.args.counted.totals.bytes in
-    subst (Answers (λ (r : Readings). r) Is) (sym passed) (troubled (λ (r : Readings). r) Is c.in_err-found.field-0.0))
+    subst (Answers Is) (sym passed) (troubled Is c.in_err-found.field-0.0))
 
 pub returns-in_ok-too_many-in-None-clause-told : goal.returns-in_ok-too_many-in-None-clause-told
 returns-in_ok-too_many-in-None-clause-told g c = if_some _ _ (λ files t.
@@ -26,7 +26,7 @@ returns-in_ok-too_many-in-None-clause-told g c = if_some _ _ (λ files t.
     let m = c.args.counted.totals.bytes in
     let told = some_at _ _ files t c.in_ok-found.ensures.told in
     let beyond = subst (Reaches ground files n m) c.in-None.is told in
-    subst (λ (h : Halt). Answers (λ (r : Readings). r) (AreIndexed ground files n m) (Err h)) (sym c.in_ok-too_many-in-None.ensures) (record { beyond = beyond; refusal_is = refl }))
+    subst (λ (h : Halt). Answers (AreIndexed ground files n m) (Err h)) (sym c.in_ok-too_many-in-None.ensures) (record { beyond = beyond; refusal_is = refl }))
 
 pub returns-in-Some-clause-told : goal.returns-in-Some-clause-told
 returns-in-Some-clause-told g c = if_some _ _ (λ files t.

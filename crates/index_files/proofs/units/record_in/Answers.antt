@@ -1,7 +1,7 @@
 use Rattle.std.proofs.Common.{List, ℕ, Some, Err, subst, sym}
 use Rattle.std.specs.Prelude.{IfErr}
 use Rattle.plan_types.specs.Refusal.{RefusesAt}
-use Rattle.description.specs.First.{is_at}
+use Rattle.description.specs.FaultOrder.{is_at}
 use Rattle.outside_folder.specs.declared.calls.Content.{Content}
 use Rattle.index_files.specs.Sources.{bytes_in}
 use Rattle.index_files.specs.Units.{OfRecord}

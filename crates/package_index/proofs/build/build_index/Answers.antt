@@ -1,7 +1,7 @@
 use Rattle.std.proofs.Common.{Ok, refl}
-use Rattle.gathered_index.specs.Folder.{IsFolderIndex}
-use Rattle.index_files.proofs.Lists.{if_some, some_at}
+use Rattle.index_assembly.specs.Folder.{IsFolderIndex}
 use Rattle.index_files.proofs.Turns.{quiet}
+use Rattle.common_laws.specs.Small.{if_some, some_at}
 use Rattle.package_index.proofs.build.build_index.Goals as goal
 
 pub returns-clause-told : goal.returns-clause-told

@@ -1,10 +1,10 @@
 use Rattle.std.proofs.Common.{Err, subst}
 use Rattle.plan_types.specs.declared.refusal.Halt.{Halt}
-use Rattle.project_paths.specs.Answers.{Answers}
 use Rattle.plan_command.specs.Task.{IsTask}
 use Rattle.plan_command.specs.declared.task.Task.{Task}
-use Rattle.index_files.proofs.Lists.{if_some, some_at}
 use Rattle.plan_command.proofs.Outcomes.{formed-refusal, formed-task, planned-output, refused-output}
+use Rattle.common_laws.specs.Small.{if_some, some_at}
+use Rattle.plan_types.specs.Refusal.{Answers}
 use Rattle.plan_command.proofs.command.output_of_plan.Goals as goal
 
 pub returns-in_ok-planned-in-Ok-clause-told : goal.returns-in_ok-planned-in-Ok-clause-told

@@ -1,5 +1,5 @@
 use Rattle.std.proofs.Common.{◌∙◌}
-use Rattle.gathered_index.proofs.Made.{if-ok}
+use Rattle.index_assembly.proofs.Made.{if-ok}
 use Rattle.plan_command.proofs.Planned.{planned-is}
 use Rattle.plan_command.proofs.plan.planned.Goals as goal
 

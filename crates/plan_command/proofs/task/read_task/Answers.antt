@@ -1,10 +1,10 @@
 use Rattle.std.proofs.Common.{◌≡◌, Ok, Err, ap, refl, subst, sym, ◌∙◌}
 use Rattle.std.proofs.lemmas.Result.{err_from_is_err_and}
-use Rattle.folder_project.specs.Project.{IsFolderProject}
-use Rattle.index_files.proofs.Lists.{if_some, some_at}
-use Rattle.project_paths.specs.Answers.{Answers}
+use Rattle.project_config.specs.Project.{IsFolderProject}
 use Rattle.plan_command.specs.Task.{IsTask, IsTaskOf}
 use Rattle.plan_command.proofs.Tasks.{answered, passed-on}
+use Rattle.common_laws.specs.Small.{if_some, some_at}
+use Rattle.plan_types.specs.Refusal.{Answers}
 use Rattle.plan_command.proofs.task.read_task.Goals as goal
 
 pub returns-in_err-found-clause-told : goal.returns-in_err-found-clause-told

@@ -1,7 +1,7 @@
 use Rattle.std.proofs.Common.{refl, subst}
 use Rattle.std.specs.Prelude.{Ok, Err}
 use Rattle.plan_types.specs.declared.range.Spec.TheVariants.{V3_0}
-use Rattle.conditionals.specs.Grammar.{Stands, FirstFault}
+use Rattle.condition_text.specs.Grammar.{Stands, FirstFault}
 use Rattle.project_file.proofs.branch.settled.Goals as goal
 
 pub returns-in-Ok : goal.returns-in-Ok

@@ -1,6 +1,6 @@
 use Rattle.std.proofs.Common.{refl, subst}
 use Rattle.std.specs.Prelude.{Ok, Err}
-use Rattle.depend_text.specs.Named.{NamedRanges, NamedFault}
+use Rattle.constraint_text.specs.Named.{NamedRanges, NamedFault}
 use Rattle.project_file.proofs.field.preferences.Goals as goal
 
 pub returns-in-Ok : goal.returns-in-Ok

@@ -1,5 +1,5 @@
 use Rattle.std.proofs.Common.{◌≡◌, ◌++◌, drop}
-use Rattle.description_parts.specs.Tree.{tree_of}
+use Rattle.cabal_lexer.specs.Tree.{tree_of}
 use Rattle.project_file.specs.Parts.{flag_parts}
 use Rattle.project_file.proofs.package.read_flags.Given as goal
 

@@ -2,7 +2,7 @@ use Rattle.std.proofs.Common.{◌≡◌, ◌++◌, [], sym, subst, ap, ◌∙◌
 use Rattle.std.specs.Prelude.{Some}
 use Rattle.std.proofs.lemmas.List.{append-nil, drop_all}
 use Rattle.plan_types.specs.declared.element.Element.TheVariants.{Section}
-use Rattle.description_parts.specs.Tree.{tree_of}
+use Rattle.cabal_lexer.specs.Tree.{tree_of}
 use Rattle.project_file.specs.Parts.{Says, placed}
 use Rattle.project_file.specs.Words.{section_word}
 use Rattle.project_file.specs.declared.part.Said.TheVariants.{Warning}

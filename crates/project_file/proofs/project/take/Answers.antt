@@ -15,29 +15,29 @@ returns-in-Entries c =
 pub returns-in-Extra : goal.returns-in-Extra
 returns-in-Extra c =
     let old = c.args.project.now in
-    on_ok_weaker c.append.result (λ e. goes c.args.path.now c.args.part.line old c.in-Extra.is (list_is (λ l. record old { extra = l }) old.extra c.in-Extra.found e)) c.append.ensures
+    on_ok_weaker c.append.result (λ e. goes c.args.path.now c.args.part.line old c.in-Extra.is (list_is (λ l. record old { extra = l }) old.extra c.in-Extra.found e)) c.append.ensures.ok
 
 pub returns-in-Constraints : goal.returns-in-Constraints
 returns-in-Constraints c =
     let old = c.args.project.now in
     on_ok_weaker c.append-in-Constraints.result
-    (λ e. goes c.args.path.now c.args.part.line old c.in-Constraints.is (list_is (λ l. record old { constraints = l }) old.constraints c.in-Constraints.found e)) c.append-in-Constraints.ensures
+    (λ e. goes c.args.path.now c.args.part.line old c.in-Constraints.is (list_is (λ l. record old { constraints = l }) old.constraints c.in-Constraints.found e)) c.append-in-Constraints.ensures.ok
 
 pub returns-in-Preferences : goal.returns-in-Preferences
 returns-in-Preferences c =
     let old = c.args.project.now in
     on_ok_weaker c.append-in-Preferences.result
-    (λ e. goes c.args.path.now c.args.part.line old c.in-Preferences.is (list_is (λ l. record old { preferences = l }) old.preferences c.in-Preferences.found e)) c.append-in-Preferences.ensures
+    (λ e. goes c.args.path.now c.args.part.line old c.in-Preferences.is (list_is (λ l. record old { preferences = l }) old.preferences c.in-Preferences.found e)) c.append-in-Preferences.ensures.ok
 
 pub returns-in-Newer : goal.returns-in-Newer
 returns-in-Newer c =
     let old = c.args.project.now in
-    on_ok_weaker c.append-in-Newer.result (λ e. goes c.args.path.now c.args.part.line old c.in-Newer.is (list_is (λ l. record old { newer = l }) old.newer c.in-Newer.found e)) c.append-in-Newer.ensures
+    on_ok_weaker c.append-in-Newer.result (λ e. goes c.args.path.now c.args.part.line old c.in-Newer.is (list_is (λ l. record old { newer = l }) old.newer c.in-Newer.found e)) c.append-in-Newer.ensures.ok
 
 pub returns-in-Older : goal.returns-in-Older
 returns-in-Older c =
     let old = c.args.project.now in
-    on_ok_weaker c.append-in-Older.result (λ e. goes c.args.path.now c.args.part.line old c.in-Older.is (list_is (λ l. record old { older = l }) old.older c.in-Older.found e)) c.append-in-Older.ensures
+    on_ok_weaker c.append-in-Older.result (λ e. goes c.args.path.now c.args.part.line old c.in-Older.is (list_is (λ l. record old { older = l }) old.older c.in-Older.found e)) c.append-in-Older.ensures.ok
 
 pub returns-in-Switch : goal.returns-in-Switch
 returns-in-Switch c =

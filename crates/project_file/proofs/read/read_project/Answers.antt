@@ -1,9 +1,9 @@
 use Rattle.std.proofs.Common.{◌≡◌, ◌<◌, ◌≤◌, Ok, Err, length, get_or, ap, subst, sym, ◌∙◌}
 use Rattle.std.proofs.lemmas.Result.{err_from_is_err_and}
-use Rattle.project_file.specs.Answers.{Settles}
 use Rattle.project_file.specs.Read.{IsProject}
 use Rattle.project_file.proofs.Extra.{project-named}
 use Rattle.project_file.proofs.Files.{all_told, more_told, refused_at}
+use Rattle.plan_types.specs.Refusal.{Settles}
 use Rattle.project_file.proofs.read.read_project.Goals as goal
 
 pub loop-text-preserved : goal.loop-text-preserved

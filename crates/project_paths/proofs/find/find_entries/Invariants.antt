@@ -8,5 +8,5 @@ use Rattle.project_paths.proofs.find.find_entries.Given as goal
 abbrev pub invariant-loop-entry : goal.invariant-loop-entry
 invariant-loop-entry g l = record {
   told : (files : Files) → g.F.Folder.tells l.fn.folder ≡ Some files → all_files files l.entries ≡ and_then (Ok l.found) (all_files files (drop l.entry-index l.entries));
-  folder : Leaves (g.F.Folder.tells l.fn.folder) (g.F.Folder.faults l.fn.folder) (g.F.Folder.tells l.folder) (g.F.Folder.faults l.folder) ⊥;
+  folder : Leaves g.F.Folder.tells g.F.Folder.faults l.fn.folder l.folder ⊥;
 }

@@ -1,9 +1,10 @@
 use Rattle.std.proofs.Common.{◌≡◌, Err, ◌∙◌, List, ap, subst, sym}
 use Rattle.std.proofs.lemmas.Result.{err_from_is_err_and}
 use Rattle.outside_folder.specs.Files.{Bytes}
-use Rattle.project_paths.specs.Answers.{Answers, Settles}
 use Rattle.project_paths.specs.Local.{all_files, finished, implied, local_files, sought}
-use Rattle.project_paths.proofs.Answered.{if_some, some_at, first-refused, all-found}
+use Rattle.project_paths.proofs.Answered.{first-refused, all-found}
+use Rattle.common_laws.specs.Small.{if_some, some_at}
+use Rattle.plan_types.specs.Refusal.{Answers, Settles}
 use Rattle.project_paths.proofs.find.find_packages.Goals as goal
 
 pub returns-in_err-found-clause-told : goal.returns-in_err-found-clause-told
@@ -21,6 +22,6 @@ returns-in_err-paths-clause-told g c = if_some _ _ (λ files t.
     let passed : c.from_residual-in_err-paths.result ≡ Err c.in_err-paths.field-0.0 = p.1 ∙ ap Err p.2 in
     let first = some_at _ _ files t c.in_ok-found.ensures.told ∙ ap (all_files files) (c.as_slice.ensures ∙ c.in_ok-implied.ensures) in
     let others = some_at _ _ files (c.in_ok-found.ensures.folder.same_files ∙ t) c.in_ok-others.ensures.told ∙ ap (all_files files) c.as_slice-2.ensures in
-    let settles = subst (λ l. Settles {A = List Bytes} (λ outcome. outcome ≡ finished l) (Err c.in_err-paths.field-0.0)) c.in_ok-append.ensures c.in_err-paths.ensures.outcome in
+    let settles = subst (λ l. Settles {A = List Bytes} (λ outcome. outcome ≡ finished l) (Err c.in_err-paths.field-0.0)) c.in_ok-append.ensures.ok c.in_err-paths.ensures.outcome in
     subst (Answers {A = List Bytes} (λ outcome. outcome ≡ local_files files (sought c.args.implicit c.args.project.now.entries))) (sym passed)
     (all-found files (implied c.args.implicit) c.args.project.now.entries c.in_ok-found.found c.in_ok-others.others first others (Err c.in_err-paths.field-0.0) settles))

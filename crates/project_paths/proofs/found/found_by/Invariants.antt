@@ -7,5 +7,5 @@ use Rattle.project_paths.proofs.found.found_by.Given as goal
 abbrev pub invariant-loop-place : goal.invariant-loop-place
 invariant-loop-place g l = record {
   told : (files : Files) → g.F.Folder.tells l.fn.folder ≡ Some files → l.all ≡ map (found_at files l.pattern.folders) (take l.place-index l.place-items);
-  folder : Leaves (g.F.Folder.tells l.fn.folder) (g.F.Folder.faults l.fn.folder) (g.F.Folder.tells l.folder) (g.F.Folder.faults l.folder) ⊥;
+  folder : Leaves g.F.Folder.tells g.F.Folder.faults l.fn.folder l.folder ⊥;
 }

@@ -8,5 +8,5 @@ use Rattle.project_paths.proofs.places.all_below.Given as goal
 abbrev pub invariant-loop-place : goal.invariant-loop-place
 invariant-loop-place g l = record {
   told : (files : Files) → g.F.Folder.tells l.fn.folder ≡ Some files → l.found ≡ flat_map (below files l.pattern) (take l.place-index l.places);
-  folder : Leaves (g.F.Folder.tells l.fn.folder) (g.F.Folder.faults l.fn.folder) (g.F.Folder.tells l.folder) (g.F.Folder.faults l.folder) ⊥;
+  folder : Leaves g.F.Folder.tells g.F.Folder.faults l.fn.folder l.folder ⊥;
 }

@@ -7,5 +7,5 @@ use Rattle.project_paths.proofs.places.places.Given as goal
 abbrev pub invariant-loop-name : goal.invariant-loop-name
 invariant-loop-name g l = record {
   told : (files : Files) → g.F.Folder.tells l.fn.folder ≡ Some files → l.found ≡ places files (take l.name-index l.names);
-  folder : Leaves (g.F.Folder.tells l.fn.folder) (g.F.Folder.faults l.fn.folder) (g.F.Folder.tells l.folder) (g.F.Folder.faults l.folder) ⊥;
+  folder : Leaves g.F.Folder.tells g.F.Folder.faults l.fn.folder l.folder ⊥;
 }

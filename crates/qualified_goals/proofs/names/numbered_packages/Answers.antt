@@ -2,13 +2,14 @@ use Rattle.std.proofs.Common.{◌≡◌, ◌∙◌, [], fold, arith}
 use Rattle.std.proofs.lemmas.Grind.{common_steps}
 use Rattle.indexmap.specs.IndexSet.{insert_key}
 use Rattle.plan_types.specs.declared.index.Package.{Package}
-use Rattle.qualified_goals.specs.Names.{is_text, package_names}
+use Rattle.qualified_goals.specs.Names.{package_names}
 use Rattle.qualified_goals.proofs.Numbers.{distinct-kept, put-one}
+use Rattle.plan_types.specs.Bytes.{same_text}
 use Rattle.qualified_goals.proofs.names.numbered_packages.Goals as goal
 
 pub returns : goal.returns
 returns c =
-    let all : c.loop-package.names.keys ≡ fold (insert_key is_text) [] (package_names c.args.packages.now) = grind (arith, common_steps) in
+    let all : c.loop-package.names.keys ≡ fold (insert_key same_text) [] (package_names c.args.packages.now) = grind (arith, common_steps) in
     all ∙ distinct-kept (package_names c.args.packages.now) c.requires
 
 pub loop-package-preserved : goal.loop-package-preserved

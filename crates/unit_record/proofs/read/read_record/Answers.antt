@@ -8,8 +8,8 @@ pub returns : goal.returns
 returns c =
     let bytes = c.args.bytes.now in
     let items = c.in_ok-items.items in
-    let all = c.in_ok-told.told in
-    let tell = subst (λ i. Tell (top_fields i) all) c.as_slice.ensures c.in_ok-told.ensures in
+    let all = c.in_ok-contents.contents in
+    let tell = subst (λ i. Tell (top_fields i) all) c.as_slice.ensures c.in_ok-contents.ensures in
     record {
       «record» = answer_record bytes items all c.in_ok-items.ensures.tree tell c.outcome.result c.outcome.ensures;
       fault = answer_fault bytes items all c.in_ok-items.ensures.tree tell c.outcome.result c.outcome.ensures;

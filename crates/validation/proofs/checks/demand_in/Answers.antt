@@ -1,6 +1,6 @@
 use Rattle.std.proofs.Common.{◌∙◌}
 use Rattle.validation.specs.Stack.{no_demand}
-use Rattle.validation.proofs.Chains.{get-any}
+use Rattle.common_laws.specs.Lists.{get-any}
 use Rattle.validation.proofs.checks.demand_in.Goals as goal
 
 pub returns : goal.returns

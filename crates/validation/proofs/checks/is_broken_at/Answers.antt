@@ -2,7 +2,7 @@ use Rattle.std.proofs.Common.{◌∙◌, ap}
 use Rattle.validation.specs.Table.{entry}
 use Rattle.validation.specs.Checks.{is_broken_in}
 use Rattle.validation.specs.Stack.{no_demand}
-use Rattle.validation.proofs.Chains.{get-any}
+use Rattle.common_laws.specs.Lists.{get-any}
 use Rattle.validation.proofs.checks.is_broken_at.Goals as goal
 
 pub returns : goal.returns

@@ -2,7 +2,7 @@ use Rattle.std.proofs.Common.{◌∙◌, ap}
 use Rattle.choice_problem.specs.Assignment.{is_yes}
 use Rattle.validation.specs.Table.{entry}
 use Rattle.validation.specs.Stack.{no_demand}
-use Rattle.validation.proofs.Chains.{get-any}
+use Rattle.common_laws.specs.Lists.{get-any}
 use Rattle.validation.proofs.checks.is_yes_at.Goals as goal
 
 pub returns : goal.returns

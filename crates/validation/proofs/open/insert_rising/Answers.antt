@@ -1,7 +1,7 @@
 use Rattle.std.proofs.Common.{◌≡◌, ◌∙◌, sym, ap, true, false, insert, arith}
 use Rattle.choice_problem.specs.ConflictSet.{has, place_of}
 use Rattle.choice_problem.proofs.Sets.{place-within}
-use Rattle.validation.proofs.Opens.{with-there, inserted}
+use Rattle.choice_problem.proofs.InOrder.{with-there, inserted}
 use Rattle.validation.proofs.open.insert_rising.Goals as goal
 
 pub returns-then-stands_at-clause-ok : goal.returns-then-stands_at-clause-ok

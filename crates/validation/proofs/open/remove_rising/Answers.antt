@@ -1,7 +1,7 @@
 use Rattle.std.proofs.Common.{◌≡◌, ◌∙◌, sym, ap, true, false, arith}
 use Rattle.std.specs.List.{remove}
 use Rattle.choice_problem.specs.ConflictSet.{has, place_of}
-use Rattle.validation.proofs.Opens.{there-within, removed, without-none}
+use Rattle.choice_problem.proofs.InOrder.{there-within, removed, without-none}
 use Rattle.validation.proofs.open.remove_rising.Goals as goal
 
 pub remove-requires : goal.remove-requires

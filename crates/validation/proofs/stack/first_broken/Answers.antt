@@ -1,5 +1,5 @@
 use Rattle.std.proofs.Common.{◌<◌, sym, subst, length, arith}
-use Rattle.validation.specs.declared.chain.Mention.{Mention}
+use Rattle.validation.specs.declared.mentions.Mention.{Mention}
 use Rattle.validation.proofs.Queries.{place-below}
 use Rattle.validation.proofs.stack.first_broken.Goals as goal
 

@@ -1,5 +1,5 @@
 use Rattle.std.proofs.Common.{List, ◌∙◌, sym, ap, subst, is_some}
-use Rattle.validation.specs.declared.chain.Mention.{Mention}
+use Rattle.validation.specs.declared.mentions.Mention.{Mention}
 use Rattle.validation.specs.Stack.{AreOpen}
 use Rattle.validation.proofs.Asked.{last-has, less-valued, less-again, less-open}
 use Rattle.validation.proofs.stack.forget_last.Goals as goal

@@ -1,6 +1,6 @@
 use Rattle.std.proofs.Common.{◌++◌, ap, ◌∙◌, append_assoc, codes, Some}
 use Rattle.std.proofs.lemmas.List.Elements.{All-pop}
-use Rattle.version_range.specs.declared.print.Place.TheVariants.{Term, Factor}
+use Rattle.version_range.specs.declared.print.RangePlace.TheVariants.{Term, Factor}
 use Rattle.version_range.specs.declared.print.Rest.TheVariants.{Close, And, Or}
 use Rattle.version_range.specs.Print.{text_in, IsSmaller}
 use Rattle.version_range.proofs.Printed.{taken_up, popped}

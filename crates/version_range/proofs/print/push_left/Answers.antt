@@ -1,6 +1,6 @@
 use Rattle.std.proofs.Common.{◌≡◌, arith, ◌∙◌, sym}
 use Rattle.plan_types.specs.declared.range.Range.TheVariants.{Both, Either}
-use Rattle.version_range.specs.declared.print.Place.TheVariants.{Whole, Term}
+use Rattle.version_range.specs.declared.print.RangePlace.TheVariants.{Whole, Term}
 use Rattle.version_range.specs.declared.print.Rest.TheVariants.{And, Or}
 use Rattle.version_range.specs.Print.{text_in, as_term, as_whole}
 use Rattle.version_range.proofs.Printed.{then_left, text_Both, text_Either, smaller_push, below_Both, below_Either}

@@ -6,15 +6,15 @@ use Rattle.backjump.proofs.walk.Walk.cut.Goals as goal
 
 pub returns-then-depth-eq0 : goal.returns-then-depth-eq0
 returns-then-depth-eq0 c p limit visited at =
-    cut-done p limit c.args.self.now visited c.args.set c.back.new.self c.pop.new.self c.back.ensures (sym c.depth.ensures ∙ c.if-depth-eq0.true) at
+    cut-done p limit c.args.self.now visited c.args.set c.back.new.self c.pop.new.self c.back.ensures (sym c.depth.ensures.count ∙ c.if-depth-eq0.true) at
 
 pub undo-requires : goal.undo-requires
 undo-requires c e =
     let at = c.requires in
     let tree_is = c.back.ensures (nodes_of at.outer) at.point.node at.held.nodes in
-    chain-some at.p at.outer at.point.prefix (suc at.point.fuel) at.chain (λ none. c.if-depth-eq0.false (c.depth.ensures ∙ ap length tree_is ∙ none)) (sym at.prefix_is ∙ e)
+    chain-some at.p at.outer at.point.prefix (suc at.point.fuel) at.chain (λ none. c.if-depth-eq0.false (c.depth.ensures.count ∙ ap length tree_is ∙ none)) (sym at.prefix_is ∙ e)
 
 pub returns : goal.returns
 returns c p limit visited at =
     cut-back p limit c.args.self.now visited c.args.set c.back.new.self c.pop.new.self c.undo.new.self c.pop.result c.back.ensures c.pop.ensures
-    (λ none. c.if-depth-eq0.false (c.depth.ensures ∙ none)) (c.undo.ensures.stands p) c.undo.ensures.trail at
+    (λ none. c.if-depth-eq0.false (c.depth.ensures.count ∙ none)) (c.undo.ensures.stands p) c.undo.ensures.trail at

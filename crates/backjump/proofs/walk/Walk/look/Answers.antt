@@ -1,6 +1,6 @@
 -- the least open variable gets a node, or there is none and the trail is whole
 use Rattle.std.proofs.Common.{◌++◌, ◌∷◌, [], ap, sym, ◌∙◌}
-use Rattle.validation.proofs.Standings.{least-known}
+use Rattle.validation.proofs.Views.{least-known}
 use Rattle.backjump.proofs.Moves.{chain-given, look-none, look-some}
 use Rattle.backjump.proofs.walk.Walk.look.Goals as goal
 

@@ -1,10 +1,10 @@
 use Rattle.std.proofs.Common.{◌≡◌, IfOk, List, map, ap, ◌∙◌, sym, subst}
 use Rattle.plan_types.specs.declared.index.FlatDep.{FlatDep}
 use Rattle.choice_problem.specs.declared.problem.Demand.{Demand}
-use Rattle.instance_tables.specs.declared.asked.Asked.{Asked}
-use Rattle.instance_tables.specs.declared.asked.Need.{Need}
-use Rattle.instance_tables.specs.Asked.{asked_of_body}
-use Rattle.instance_tables.specs.Lets.{lets_of}
+use Rattle.solver_index.specs.declared.dependencies.Dependencies.{Dependencies}
+use Rattle.solver_index.specs.declared.dependencies.Need.{Need}
+use Rattle.solver_index.specs.Dependencies.{body_dependencies}
+use Rattle.solver_index.specs.AllowedVersions.{allowed_versions}
 use Rattle.cabal_problem.specs.ListedDemands.{body_demands}
 use Rattle.cabal_problem.specs.Rows.{need_demand, source_rows}
 use Rattle.cabal_problem.proofs.RowDemands.{source-is, units-are}
@@ -16,15 +16,15 @@ returns-in-Source c =
     let project = c.args.self.now.settings.now.project in
     let names = c.args.self.now.names in
     let owner = c.args.owner in
-    let lets = lets_of project c.args.entry.now.instance in
+    let allows = allowed_versions project c.args.entry.now.instance in
     let d = c.in-Source.description in
     let flats = c.in-Source.flat in
-    let asked = c.requires ∙ ap (asked_of_body packages names lets) c.in-Source.is in
+    let dependencies = c.requires ∙ ap (body_dependencies packages names allows) c.in-Source.is in
     let same =
-    ap (λ (fs : List FlatDep). source_rows packages project names owner c.args.asked.now d fs) c.as_slice.ensures
-    ∙ ap (λ (a : Asked). source_rows packages project names owner a d flats) asked
-    ∙ source-is packages project names owner lets d flats c.in-Source.exposed
-    ∙ sym (ap (body_demands packages project names owner lets) c.in-Source.is) in
+    ap (λ (fs : List FlatDep). source_rows packages project names owner c.args.dependencies.now d fs) c.as_slice.ensures
+    ∙ ap (λ (a : Dependencies). source_rows packages project names owner a d flats) dependencies
+    ∙ source-is packages project names owner allows d flats c.in-Source.exposed
+    ∙ sym (ap (body_demands packages project names owner allows) c.in-Source.is) in
     subst (λ (ds : List Demand). IfOk c.source_demands.result (λ found. found ≡ ds)) same c.source_demands.ensures
 
 pub returns-in-Installed : goal.returns-in-Installed
@@ -33,10 +33,10 @@ returns-in-Installed c =
     let project = c.args.self.now.settings.now.project in
     let names = c.args.self.now.names in
     let owner = c.args.owner in
-    let lets = lets_of project c.args.entry.now.instance in
-    let asked = c.requires ∙ ap (asked_of_body packages names lets) c.in-Installed.is in
+    let allows = allowed_versions project c.args.entry.now.instance in
+    let dependencies = c.requires ∙ ap (body_dependencies packages names allows) c.in-Installed.is in
     let same =
-    ap (λ (needs : List Need). map (need_demand owner) needs) (c.as_slice-in-Installed.ensures ∙ ap (λ (a : Asked). a.needs) asked)
-    ∙ units-are packages project names owner lets c.in-Installed.record_of.depends c.in-Installed.needs
-    ∙ sym (ap (body_demands packages project names owner lets) c.in-Installed.is) in
+    ap (λ (needs : List Need). map (need_demand owner) needs) (c.as_slice-in-Installed.ensures ∙ ap (λ (a : Dependencies). a.needs) dependencies)
+    ∙ units-are packages project names owner allows c.in-Installed.record_of.depends c.in-Installed.needs
+    ∙ sym (ap (body_demands packages project names owner allows) c.in-Installed.is) in
     subst (λ (ds : List Demand). IfOk c.unit_demands.result (λ found. found ≡ ds)) same c.unit_demands.ensures

@@ -1,7 +1,7 @@
 use Rattle.std.proofs.Common.{◌≡◌, true, sym, subst}
-use Rattle.instance_tables.specs.Blocks.{AllAreInBlocks}
-use Rattle.instance_tables.specs.Orders.{AreOrders}
-use Rattle.instance_tables.specs.Versions.{packages_have_versions}
+use Rattle.solver_index.specs.Blocks.{AllAreInBlocks}
+use Rattle.solver_index.specs.Orders.{AreOrders}
+use Rattle.solver_index.specs.Versions.{packages_have_versions}
 use Rattle.cabal_problem.proofs.NewProblem.{made-lawful}
 use Rattle.cabal_problem.proofs.InBlocks.{all-in-blocks}
 use Rattle.cabal_problem.proofs.Findings.{all-versions}

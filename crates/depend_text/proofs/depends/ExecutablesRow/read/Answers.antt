@@ -1,7 +1,7 @@
 use Rattle.std.proofs.Common.{Err, ap, ◌∙◌, sym}
 use Rattle.std.proofs.lemmas.Result.{err_from_is_err_and}
-use Rattle.depend_text.proofs.Found.{err_so, refuses_so}
-use Rattle.depend_text.proofs.Fits.{range_so, bad_executable, bad_tool_range}
+use Rattle.entry_text.proofs.Found.{err_so, refuses_so}
+use Rattle.depend_text.proofs.Fits.{bad_executable, bad_tool_range}
 use Rattle.depend_text.proofs.depends.ExecutablesRow.read.Goals as goal
 
 pub returns-in_err-exe-clause-fault : goal.returns-in_err-exe-clause-fault
@@ -15,4 +15,4 @@ returns-in_err-range-clause-fault c =
     let p = err_from_is_err_and c.from_residual-in_err-range.result c.from_residual-in_err-range.ensures.1 in
     let bad = bad_tool_range c.args.self.now.spec c.args.part.now _ _ c.name_at.ensures.name c.name_at.ensures.rest (sym c.is_package_name.ensures ∙ c.if-not-is_package_name.false)
     c.in_ok-exe.exe c.in_ok-exe.range_text.now c.in_ok-exe.ensures.found in
-    err_so _ c.from_residual-in_err-range.result c.in_err-range.field-0.0 (p.1 ∙ ap Err p.2) (range_so c.in_err-range.field-0.0 bad c.in_err-range.ensures.fault)
+    err_so _ c.from_residual-in_err-range.result c.in_err-range.field-0.0 (p.1 ∙ ap Err p.2) (refuses_so c.in_err-range.field-0.0 bad c.in_err-range.ensures.fault)

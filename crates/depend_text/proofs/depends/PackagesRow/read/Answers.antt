@@ -1,7 +1,7 @@
 use Rattle.std.proofs.Common.{Err, ap, ◌∙◌, sym}
 use Rattle.std.proofs.lemmas.Result.{err_from_is_err_and}
-use Rattle.depend_text.proofs.Found.{err_so, refuses_so}
-use Rattle.depend_text.proofs.Fits.{range_so, bad_libraries, bad_range, library_entry}
+use Rattle.entry_text.proofs.Found.{err_so, refuses_so}
+use Rattle.depend_text.proofs.Fits.{bad_libraries, bad_range, library_entry}
 use Rattle.depend_text.proofs.depends.PackagesRow.read.Goals as goal
 
 pub returns-in_err-libs-clause-fault : goal.returns-in_err-libs-clause-fault
@@ -15,7 +15,7 @@ returns-in_err-range-clause-fault c =
     let p = err_from_is_err_and c.from_residual-in_err-range.result c.from_residual-in_err-range.ensures.1 in
     let bad = bad_range c.args.self.now.spec c.args.part.now _ _ c.name_at.ensures.name c.name_at.ensures.rest (sym c.is_package_name.ensures ∙ c.if-not-is_package_name.false)
     c.in_ok-libs.libs c.in_ok-libs.range_text.now c.in_ok-libs.ensures.found in
-    err_so _ c.from_residual-in_err-range.result c.in_err-range.field-0.0 (p.1 ∙ ap Err p.2) (range_so c.in_err-range.field-0.0 bad c.in_err-range.ensures.fault)
+    err_so _ c.from_residual-in_err-range.result c.in_err-range.field-0.0 (p.1 ∙ ap Err p.2) (refuses_so c.in_err-range.field-0.0 bad c.in_err-range.ensures.fault)
 
 pub returns-clause-found : goal.returns-clause-found
 returns-clause-found c =

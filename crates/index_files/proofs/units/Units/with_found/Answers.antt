@@ -1,7 +1,7 @@
 use Rattle.std.proofs.Common.{◌≡◌, ℕ, true, List}
 use Rattle.plan_types.specs.declared.index.UnitRecord.{UnitRecord}
 use Rattle.index_files.specs.Units.{is_formed}
-use Rattle.index_files.proofs.Lists.{some_at}
+use Rattle.common_laws.specs.Small.{some_at}
 use Rattle.index_files.proofs.units.Units.with_found.Goals as goal
 
 pub with_record-requires : goal.with_record-requires

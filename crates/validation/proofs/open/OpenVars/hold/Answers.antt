@@ -2,7 +2,7 @@ use Rattle.std.proofs.Common.{◌≡◌, ◌∙◌, ap, not, ◌&&◌, length, t
 use Rattle.qualified_goals.specs.Variable.{same_var}
 use Rattle.choice_problem.specs.ConflictSet.{is_rising, has}
 use Rattle.validation.specs.Open.{Room}
-use Rattle.validation.proofs.Opens.{rising-without, has-without, length-taken}
+use Rattle.choice_problem.proofs.InOrder.{rising-without, has-without, length-taken}
 use Rattle.validation.proofs.open.OpenVars.hold.Goals as goal
 
 pub invariant_of-self : goal.invariant_of-self

@@ -2,7 +2,7 @@ use Rattle.std.proofs.Common.{◌∙◌, ap, None}
 use Rattle.std.specs.List.{slice_get}
 use Rattle.choice_problem.specs.Trail.{least_from}
 use Rattle.validation.specs.Open.{Room}
-use Rattle.validation.proofs.Opens.{first-least}
+use Rattle.choice_problem.proofs.InOrder.{first-least}
 use Rattle.validation.proofs.open.OpenVars.least.Goals as goal
 
 pub returns : goal.returns

@@ -1,10 +1,10 @@
 use Rattle.std.proofs.Common.{◌≡◌, ◌<◌, ◌∙◌, sym, ap, subst, length, get_or, List}
 use Rattle.choice_problem.specs.declared.problem.Demand.{Demand}
-use Rattle.validation.specs.declared.chain.Mention.{Mention}
-use Rattle.validation.specs.Standing.{Standing}
+use Rattle.validation.specs.declared.mentions.Mention.{Mention}
+use Rattle.validation.specs.View.{View}
 use Rattle.validation.specs.Stack.{no_demand, demand_at}
-use Rattle.validation.proofs.Chains.{get-any}
 use Rattle.validation.proofs.Stacks.{parts-ask}
+use Rattle.common_laws.specs.Lists.{get-any}
 use Rattle.validation.proofs.stack.Stack.activate.Goals as goal
 
 pub invariant_of-self : goal.invariant_of-self
@@ -12,9 +12,9 @@ invariant_of-self c =
     let s = c.self.inside in
     let d = get_or c.as_slice.result.now c.args.place c.index-as_slice-place.result in
     let m : Mention = record { var = d.target; place = c.args.place } in
-    let within : c.args.place < length s.listed = subst (λ (x : Standing). c.args.place < length x.listed) (sym c.self.view_is) c.requires in
+    let within : c.args.place < length s.listed = subst (λ (x : View). c.args.place < length x.listed) (sym c.self.view_is) c.requires in
     let target : d.target ≡ (demand_at s.listed c.args.place).target =
     ap (λ (ds : List Demand). (get_or ds c.args.place c.index-as_slice-place.result).target) c.as_slice.ensures
     ∙ ap (λ (x : Demand). x.target) (get-any s.listed c.args.place c.index-as_slice-place.result no_demand within) in
-    parts-ask c.ask.result s.trail s.marks s.listed s.active c.ask.new.active s.waits s.values s.opens.vars c.ask.new.opens.vars s.opens.held c.ask.new.opens.held m
+    parts-ask c.ask.result s.trail s.marks s.listed s.active c.ask.new.active s.watchers s.values s.opens.vars c.ask.new.opens.vars s.opens.held c.ask.new.opens.held m
     c.self.invariant within target c.ask.ensures.ok c.ask.ensures.err c.ask.ensures.opened c.ask.ensures.held

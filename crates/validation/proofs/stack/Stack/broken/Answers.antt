@@ -4,7 +4,7 @@ use Rattle.choice_problem.specs.declared.problem.Demand.{Demand}
 use Rattle.choice_problem.specs.Conflict.{is_broken, set_of_first}
 use Rattle.validation.specs.Table.{entry}
 use Rattle.validation.specs.Checks.{is_broken_in}
-use Rattle.validation.specs.Standing.{Standing}
+use Rattle.validation.specs.View.{View}
 use Rattle.validation.specs.Stack.{AllBelow, demand_at, demands_at, places_of}
 use Rattle.validation.proofs.Stacks.{marks-targets}
 use Rattle.validation.proofs.Queries.{targets-below, find-broken}
@@ -25,4 +25,4 @@ returns c =
     ∙ ap set_of_first (sym c.first_broken-first.ensures.found)
     ∙ ap (λ (ds : List Demand). set_of_first (find (is_broken_in (entry s.values)) (demands_at ds (places_of (drop c.args.from s.active))))) c.as_slice.ensures
     ∙ ap set_of_first (sym (find-broken c.args.from s.listed s.active s.values s.trail c.self.invariant.values))
-    ∙ ap (λ (x : Standing). set_of_first (find (is_broken x.trail) (drop c.args.from x.active))) c.self.view_is
+    ∙ ap (λ (x : View). set_of_first (find (is_broken x.trail) (drop c.args.from x.active))) c.self.view_is

@@ -3,7 +3,7 @@ use Rattle.std.specs.List.{slice_get}
 use Rattle.choice_problem.specs.declared.problem.Demand.{Demand}
 use Rattle.choice_problem.specs.Active.{asks_for, vars_of_first}
 use Rattle.choice_problem.specs.ConflictSet.{set_of}
-use Rattle.validation.specs.Standing.{Standing}
+use Rattle.validation.specs.View.{View}
 use Rattle.validation.specs.Stack.{demands_at}
 use Rattle.validation.proofs.Stacks.{marks-targets}
 use Rattle.validation.proofs.Queries.{places-below, find-asks}
@@ -22,4 +22,4 @@ returns c =
     ∙ ap (λ (ds : List Demand). set_of (vars_of_first (slice_get (demands_at ds c.as_slice-2.result.now) 0))) c.as_slice.ensures
     ∙ ap (λ (ps : List ℕ). set_of (vars_of_first (slice_get (demands_at s.listed ps) 0))) (c.as_slice-2.ensures.value ∙ c.in_ok-places.ensures)
     ∙ ap (λ o. set_of (vars_of_first o)) (find-asks s.listed c.args.v s.active (marks-targets c.self.invariant.levels))
-    ∙ ap (λ (x : Standing). set_of (vars_of_first (find (asks_for c.args.v) x.active))) c.self.view_is
+    ∙ ap (λ (x : View). set_of (vars_of_first (find (asks_for c.args.v) x.active))) c.self.view_is

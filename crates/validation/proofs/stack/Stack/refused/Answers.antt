@@ -2,7 +2,7 @@ use Rattle.std.proofs.Common.{◌≡◌, ◌∙◌, ℕ, List, sym, ap, find}
 use Rattle.std.specs.Option.{option_map}
 use Rattle.choice_problem.specs.declared.problem.Demand.{Demand}
 use Rattle.choice_problem.specs.Conflict.{refuses, set_of_first}
-use Rattle.validation.specs.Standing.{Standing}
+use Rattle.validation.specs.View.{View}
 use Rattle.validation.specs.Stack.{demand_at, demands_at}
 use Rattle.validation.proofs.Stacks.{marks-targets}
 use Rattle.validation.proofs.Queries.{places-below, find-on, refuses-only}
@@ -24,4 +24,4 @@ returns c =
     ∙ ap (λ (ds : List Demand). set_of_first (find (refuses c.args.c) (demands_at ds c.as_slice-2.result.now))) c.as_slice.ensures
     ∙ ap (λ (ps : List ℕ). set_of_first (find (refuses c.args.c) (demands_at s.listed ps))) (c.as_slice-2.ensures.value ∙ c.in_ok-places.ensures)
     ∙ ap set_of_first (sym (find-on (refuses c.args.c) s.listed c.args.c.var s.active (marks-targets c.self.invariant.levels) (refuses-only c.args.c)))
-    ∙ ap (λ (x : Standing). set_of_first (find (refuses c.args.c) x.active)) c.self.view_is
+    ∙ ap (λ (x : View). set_of_first (find (refuses c.args.c) x.active)) c.self.view_is

@@ -1,7 +1,7 @@
 use Rattle.std.proofs.Common.{◌≡◌, ℕ, sym, ap, subst, length, filter}
 use Rattle.choice_problem.specs.Assignment.{is_yes}
 use Rattle.validation.specs.Table.{entry}
-use Rattle.validation.specs.Standing.{Standing}
+use Rattle.validation.specs.View.{View}
 use Rattle.validation.specs.Stack.{AllBelow, demand_at, demands_at, turned}
 use Rattle.validation.proofs.Below.{below-filter}
 use Rattle.validation.proofs.Turned.{turned-below, turned-seen}
@@ -9,13 +9,13 @@ use Rattle.validation.proofs.stack.Stack.turned.Goals as goal
 
 pub yes_among-requires : goal.yes_among-requires
 yes_among-requires c =
-    turned-below c.args.v c.self.inside.listed c.as_slice.result.now c.self.inside.waits c.in_ok-places.places.items c.as_slice-2.result.now
+    turned-below c.args.v c.self.inside.listed c.as_slice.result.now c.self.inside.watchers c.in_ok-places.places.items c.as_slice-2.result.now
     c.self.invariant.waiting c.in_ok-places.ensures c.as_slice.ensures c.as_slice-2.ensures.value
 
 pub returns-clause-demands : goal.returns-clause-demands
 returns-clause-demands c =
-    subst (λ (x : Standing). demands_at x.listed c.in_ok-found.found.items ≡ turned x.trail c.args.v x.listed) c.self.view_is
-    (turned-seen c.args.v c.self.inside.trail c.self.inside.listed c.as_slice.result.now c.self.inside.waits c.self.inside.values c.in_ok-places.places.items
+    subst (λ (x : View). demands_at x.listed c.in_ok-found.found.items ≡ turned x.trail c.args.v x.listed) c.self.view_is
+    (turned-seen c.args.v c.self.inside.trail c.self.inside.listed c.as_slice.result.now c.self.inside.watchers c.self.inside.values c.in_ok-places.places.items
     c.as_slice-2.result.now c.in_ok-found.found.items c.self.invariant.values c.self.invariant.waiting c.in_ok-places.ensures c.as_slice.ensures
     c.as_slice-2.ensures.value c.in_ok-found.ensures)
 
@@ -23,9 +23,9 @@ pub returns-clause-within : goal.returns-clause-within
 returns-clause-within c =
     let test = λ (k : ℕ). is_yes (entry c.self.inside.values) (demand_at c.as_slice.result.now k) in
     let below =
-    turned-below c.args.v c.self.inside.listed c.as_slice.result.now c.self.inside.waits c.in_ok-places.places.items c.as_slice-2.result.now
+    turned-below c.args.v c.self.inside.listed c.as_slice.result.now c.self.inside.watchers c.in_ok-places.places.items c.as_slice-2.result.now
     c.self.invariant.waiting c.in_ok-places.ensures c.as_slice.ensures c.as_slice-2.ensures.value in
     let found : c.in_ok-found.found.items ≡ filter test c.as_slice-2.result.now = c.in_ok-found.ensures in
-    subst (λ (x : Standing). AllBelow (length x.listed) c.in_ok-found.found.items) c.self.view_is
+    subst (λ (x : View). AllBelow (length x.listed) c.in_ok-found.found.items) c.self.view_is
     (subst (λ n. AllBelow n c.in_ok-found.found.items) (ap length c.as_slice.ensures)
     (subst (AllBelow (length c.as_slice.result.now)) (sym found) (below-filter (length c.as_slice.result.now) test c.as_slice-2.result.now below)))

@@ -1,6 +1,6 @@
 use Rattle.std.proofs.Common.{◌∙◌, ap}
 use Rattle.validation.specs.Stack.{undone}
-use Rattle.validation.proofs.Chains.{pop-is}
+use Rattle.validation.proofs.MentionLinks.{pop-is}
 use Rattle.validation.proofs.Stacks.{parts-undo, undone-seen}
 use Rattle.validation.proofs.stack.Stack.undo.Goals as goal
 
@@ -9,7 +9,7 @@ invariant_of-self c =
     let s = c.self.inside in
     let trail = pop-is s.trail c.pop.new.self c.pop.result c.unwrap-c.result c.pop.ensures c.unwrap-c.ensures in
     let marks = pop-is s.marks c.pop-2.new.self c.pop-2.result c.unwrap-mark.result c.pop-2.ensures c.unwrap-mark.ensures in
-    parts-undo s.trail c.pop.new.self s.marks c.pop-2.new.self s.listed c.truncate.new.self s.active c.forget.new.active s.waits c.cut.new.self s.values
+    parts-undo s.trail c.pop.new.self s.marks c.pop-2.new.self s.listed c.truncate.new.self s.active c.forget.new.active s.watchers c.cut.new.self s.values
     c.remove.new.self s.opens.vars c.forget.new.opens.vars c.put_back.new.self.vars s.opens.held c.forget.new.opens.held c.put_back.new.self.held
     c.unwrap-c.result c.unwrap-mark.result c.self.invariant trail marks c.forget.ensures.active c.forget.ensures.opened c.forget.ensures.held c.cut.ensures
     c.truncate.ensures c.remove.ensures c.put_back.ensures.vars c.put_back.ensures.held

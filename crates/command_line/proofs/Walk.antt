@@ -1,0 +1,435 @@
+-- What a parse makes of words that are the command and options.
+use Rattle.std.proofs.Common.{◌≡◌, ◌∙◌, ◌+◌, ◌≤◌, ◌&&◌, ◌||◌, ℕ, Bool, true, false, refl, sym, ap, ap₂, subst, arith, List, [], ◌∷◌, ◌++◌, map, Some, None, codes, append-nil, append_assoc, cond}
+use Rattle.std.specs.List.{count_by, find, fold, list_all, list_any}
+use Rattle.std.proofs.lemmas.List.Sums.{fold-append, sum_by-append, sum_by-cons}
+use Rattle.std.specs.Option.{option_map, option_map_or}
+use Rattle.std.specs.Prelude.{option_and_then, slice_get}
+use Rattle.std.specs.Str.{bytes_eq}
+use Rattle.clap.specs.Facts.{explicit_source}
+use Rattle.clap.specs.Walk.{Held, Row, Rule, Text, Walk, idle, at_row, has_row, more_values, walk, walked, walk_from, nothing_held, with_values, without, first_of, settled, finished, default_rows, with_default, is_empty, reading_by}
+use Rattle.clap.specs.Simple.{Shape, built}
+use Rattle.clap.specs.Takes.{walk_passes, turn_passes, takes, settle_passes, is_given, is_valid}
+use Rattle.clap.specs.declared.builder.value_parser.Reading.{Reading}
+use Rattle.clap.specs.declared.parser.matches.ValueSource.TheVariants.{CommandLine}
+use Rattle.clap.proofs.TakesLemmas.{leaf_takes}
+use Rattle.clap.proofs.SimpleLemmas.{is_nil}
+use Rattle.clap.proofs.WalkLemmas.{both}
+use Rattle.command_line.specs.declared.option_name.OptionName.{OptionName}
+use Rattle.command_line.specs.declared.option_name.OptionName.TheVariants.{Index, Installed, Os, Arch, Compiler, MaxBackjumps}
+use Rattle.command_line.specs.OptionName.{gives, name_of, prefix_of, value_in}
+use Rattle.command_line.specs.Words.{given}
+use Rattle.command_line.specs.Parser.{command_rule, parser}
+
+abbrev pub shape : Shape
+shape = (built parser).top
+
+abbrev pub rules : List Rule
+rules = shape.rules
+
+-- ---- rows
+
+abbrev pub row : Text → Text → Row
+row id value = record { id = id; values = value ∷ []; count = None; source = Some CommandLine; reading = reading_by command_rule }
+
+at_fresh : (id : Text) (change : Row → List Row) (missing : List Row) (rows : List Row) → has_row id rows ≡ false → at_row id change missing rows ≡ rows ++ missing
+at_fresh id change missing [] fresh = refl
+at_fresh id change missing (r ∷ rs) fresh = go (bytes_eq r.id id) fresh (at_fresh id change missing rs)
+  where
+    go : (b : Bool) → (b || has_row id rs) ≡ false → (has_row id rs ≡ false → at_row id change missing rs ≡ rs ++ missing)
+        → cond b (change r ++ rs) (r ∷ at_row id change missing rs) ≡ r ∷ (rs ++ missing)
+    go true e more = cc
+    go false e more = ap (λ xs. r ∷ xs) (more e)
+
+used_fresh : (id value : Text) (how : Reading) (rows : List Row) → has_row id rows ≡ false
+    → with_values id how CommandLine (value ∷ []) (without id rows) ≡ rows ++ record { id = id; values = value ∷ []; count = None; source = Some CommandLine; reading = how } ∷ []
+used_fresh id value how rows fresh = rw (at_fresh id (λ _. []) [] rows fresh, append-nil) (at_fresh id (more_values CommandLine (value ∷ [])) _ rows fresh)
+
+-- ---- the walk, between two words
+
+abbrev between : List Row → ℕ → Walk
+between rows position = record { held = record { rows = rows; pending = None; skip = 0 }; waiting = idle; position = position; is_trailing = false; stopped = None }
+
+-- behind the command, which is used at the next word
+abbrev behind : List Row → Walk
+behind rows = record { held = record { rows = rows; pending = Some (codes "command", codes "plan" ∷ []); skip = 0 }; waiting = idle; position = 2; is_trailing = false; stopped = None }
+
+option_walked : (option : OptionName) (v : Text) (rows : List Row) (p : ℕ)
+    → walked rules [] (between rows p) (prefix_of option ++ v) ≡ between (with_values (name_of option) (reading_by command_rule) CommandLine (v ∷ []) (without (name_of option) rows)) p
+unfolding walked
+option_walked Index v rows p = refl
+option_walked Installed v rows p = refl
+option_walked Os v rows p = refl
+option_walked Arch v rows p = refl
+option_walked Compiler v rows p = refl
+option_walked MaxBackjumps v rows p = refl
+
+option_passes : (option : OptionName) (v : Text) (rows : List Row) (p : ℕ) → has_row (name_of option) rows ≡ false
+    → turn_passes shape [] (between rows p) (prefix_of option ++ v) ≡ true
+option_passes Index v rows p fresh = rw fresh refl
+option_passes Installed v rows p fresh = rw fresh refl
+option_passes Os v rows p fresh = rw fresh refl
+option_passes Arch v rows p fresh = rw fresh refl
+option_passes Compiler v rows p fresh = rw fresh refl
+option_passes MaxBackjumps v rows p fresh = rw fresh refl
+
+plan_walked : (rows : List Row) → walked rules [] (between rows 1) (codes "plan") ≡ behind rows
+unfolding walked
+plan_walked rows = refl
+
+plan_passes : (rows : List Row) → turn_passes shape [] (between rows 1) (codes "plan") ≡ true
+plan_passes rows = refl
+
+behind_walked : (option : OptionName) (v : Text) (rows : List Row)
+    → walked rules [] (behind rows) (prefix_of option ++ v)
+    ≡ between (with_values (name_of option) (reading_by command_rule) CommandLine (v ∷ []) (without (name_of option)
+    (with_values (codes "command") (reading_by command_rule) CommandLine (codes "plan" ∷ []) (without (codes "command") rows)))) 2
+unfolding walked
+behind_walked Index v rows = refl
+behind_walked Installed v rows = refl
+behind_walked Os v rows = refl
+behind_walked Arch v rows = refl
+behind_walked Compiler v rows = refl
+behind_walked MaxBackjumps v rows = refl
+
+behind_passes : (option : OptionName) (v : Text) (rows : List Row) → has_row (codes "command") rows ≡ false
+    → has_row (name_of option) (with_values (codes "command") (reading_by command_rule) CommandLine (codes "plan" ∷ []) (without (codes "command") rows)) ≡ false
+    → turn_passes shape [] (behind rows) (prefix_of option ++ v) ≡ true
+behind_passes Index v rows fresh other = rw (fresh, other) refl
+behind_passes Installed v rows fresh other = rw (fresh, other) refl
+behind_passes Os v rows fresh other = rw (fresh, other) refl
+behind_passes Arch v rows fresh other = rw (fresh, other) refl
+behind_passes Compiler v rows fresh other = rw (fresh, other) refl
+behind_passes MaxBackjumps v rows fresh other = rw (fresh, other) refl
+
+-- ---- words as options with their values, around the command
+
+abbrev pub Given : Type 0
+Given = OptionName × Text
+
+abbrev pub word_of : Given → Text
+word_of g = prefix_of g.0 ++ g.1
+
+abbrev pub row_of : Given → Row
+row_of g = row (name_of g.0) g.1
+
+abbrev pub plan_row : Row
+plan_row = row (codes "command") (codes "plan")
+
+abbrev pub is_row : OptionName → Row → Bool
+is_row option r = bytes_eq r.id (name_of option)
+
+-- no option has two rows
+abbrev pub Once : List Row → Type 0
+Once rows = (option : OptionName) → count_by (is_row option) rows ≤ 1
+
+same_name : (option : OptionName) → bytes_eq (name_of option) (name_of option) ≡ true
+same_name Index = refl
+same_name Installed = refl
+same_name Os = refl
+same_name Arch = refl
+same_name Compiler = refl
+same_name MaxBackjumps = refl
+
+none_counted : {X : Type 0} (p : X → Bool) (xs : List X) → count_by p xs ≡ 0 → list_any p xs ≡ false
+none_counted p [] e = refl
+none_counted p (x ∷ xs) e = go (p x) (sym (sum_by-cons (λ y. cond (p y) 1 0) x xs) ∙ e) (none_counted p xs)
+  where
+    go : (b : Bool) → cond b 1 0 + count_by p xs ≡ 0 → (count_by p xs ≡ 0 → list_any p xs ≡ false) → (b || list_any p xs) ≡ false
+    go true f more = absurd (omega arith)
+    go false f more = more (omega arith)
+
+fresh_here : (g : Given) (rows rest : List Row) → Once (rows ++ row_of g ∷ rest) → has_row (name_of g.0) rows ≡ false
+fresh_here g rows rest once =
+    let p : Row → Bool = is_row g.0 in
+    let all : count_by p (rows ++ row_of g ∷ rest) ≡ count_by p rows + (cond (p (row_of g)) 1 0 + count_by p rest) =
+    sum_by-append (λ r. cond (p r) 1 0) rows (row_of g ∷ rest) ∙ ap (λ n. count_by p rows + n) (sum_by-cons (λ r. cond (p r) 1 0) (row_of g) rest) in
+    let one : cond {A = ℕ} (is_row g.0 (row_of g)) 1 0 ≡ 1 = ap (λ (b : Bool). cond {A = ℕ} b 1 0) (same_name g.0) in
+    let most = once g.0 in
+    none_counted p rows (omega arith)
+
+option_done : (g : Given) (rows : List Row) (p : ℕ) → has_row (name_of g.0) rows ≡ false
+    → walked rules [] (between rows p) (word_of g) ≡ between (rows ++ row_of g ∷ []) p
+option_done g rows p fresh = option_walked g.0 g.1 rows p ∙ ap (λ rs. between rs p) (used_fresh (name_of g.0) g.1 (reading_by command_rule) rows fresh)
+
+regroup : (rows rest : List Row) (r : Row) → rows ++ r ∷ rest ≡ (rows ++ r ∷ []) ++ rest
+regroup rows rest r = sym (append_assoc rows (r ∷ []) rest)
+
+options_walked : (gs : List Given) (rows : List Row) (p : ℕ) (rest : List Row) → Once (rows ++ (map row_of gs ++ rest))
+    → fold (walked rules []) (between rows p) (map word_of gs) ≡ between (rows ++ map row_of gs) p
+options_walked [] rows p rest once = ap (λ rs. between rs p) (sym (append-nil rows))
+options_walked (g ∷ gs) rows p rest once =
+    let fresh = fresh_here g rows (map row_of gs ++ rest) once in
+    ap (λ w. fold (walked rules []) w (map word_of gs)) (option_done g rows p fresh)
+    ∙ options_walked gs (rows ++ row_of g ∷ []) p rest (subst Once (regroup rows (map row_of gs ++ rest) (row_of g)) once)
+    ∙ ap (λ rs. between rs p) (append_assoc rows (row_of g ∷ []) (map row_of gs))
+
+options_pass : (gs : List Given) (rows : List Row) (p : ℕ) (rest : List Row) → Once (rows ++ (map row_of gs ++ rest))
+    → walk_passes shape [] (between rows p) (map word_of gs) ≡ true
+unfolding walk_passes
+options_pass [] rows p rest once = refl
+options_pass (g ∷ gs) rows p rest once =
+    let fresh = fresh_here g rows (map row_of gs ++ rest) once in
+    rw (option_passes g.0 g.1 rows p fresh, option_done g rows p fresh)
+    (options_pass gs (rows ++ row_of g ∷ []) p rest (subst Once (regroup rows (map row_of gs ++ rest) (row_of g)) once))
+
+and_more : (b s t u : Bool) → s ≡ (t && u) → (b && s) ≡ ((b && t) && u)
+and_more true s t u e = e
+and_more false s t u e = refl
+
+passes_append : (w : Walk) (xs ys : List Text) → walk_passes shape [] w (xs ++ ys) ≡ (walk_passes shape [] w xs && walk_passes shape [] (fold (walked rules []) w xs) ys)
+unfolding walk_passes
+passes_append w [] ys = refl
+passes_append w (x ∷ xs) ys = and_more (turn_passes shape [] w x) _ _ _ (passes_append (walked rules [] w x) xs ys)
+
+-- ---- behind the command
+
+not_command : (option : OptionName) → bytes_eq (name_of option) (codes "command") ≡ false
+not_command Index = refl
+not_command Installed = refl
+not_command Os = refl
+not_command Arch = refl
+not_command Compiler = refl
+not_command MaxBackjumps = refl
+
+command_not : (option : OptionName) → bytes_eq (codes "command") (name_of option) ≡ false
+command_not Index = refl
+command_not Installed = refl
+command_not Os = refl
+command_not Arch = refl
+command_not Compiler = refl
+command_not MaxBackjumps = refl
+
+no_plan_row : (gs : List Given) → has_row (codes "command") (map row_of gs) ≡ false
+no_plan_row [] = refl
+no_plan_row (g ∷ gs) = rw (not_command g.0) (no_plan_row gs)
+
+-- what is held at the end: the rows in the order of the words
+pub record Ends (rows : List Row) (end : Held) : Type 0 where
+  pub rows_are : (settled rules end).rows ≡ rows
+  pub passes : settle_passes rules false end ≡ true
+
+plan_used : (rows : List Row) → has_row (codes "command") rows ≡ false
+    → with_values (codes "command") (reading_by command_rule) CommandLine (codes "plan" ∷ []) (without (codes "command") rows) ≡ rows ++ plan_row ∷ []
+plan_used rows fresh = used_fresh (codes "command") (codes "plan") (reading_by command_rule) rows fresh
+
+after_plan : (gs : List Given) (rows : List Row) → has_row (codes "command") rows ≡ false → Once (rows ++ plan_row ∷ map row_of gs)
+    → Ends (rows ++ plan_row ∷ map row_of gs) (fold (walked rules []) (behind rows) (map word_of gs)).held
+    × (walk_passes shape [] (behind rows) (map word_of gs) ≡ true)
+unfolding walk_passes
+after_plan [] rows fresh once = (record { rows_are = plan_used rows fresh; passes = rw fresh refl }, refl)
+after_plan (g ∷ gs) rows fresh once =
+    let now : List Row = rows ++ plan_row ∷ [] in
+    let regrouped : rows ++ plan_row ∷ map row_of (g ∷ gs) ≡ now ++ row_of g ∷ map row_of gs = regroup rows (map row_of (g ∷ gs)) plan_row in
+    let once_now : Once (now ++ row_of g ∷ map row_of gs) = subst Once regrouped once in
+    let fresh_now : has_row (name_of g.0) now ≡ false = fresh_here g now (map row_of gs) once_now in
+    let used = plan_used rows fresh in
+    let step : walked rules [] (behind rows) (word_of g) ≡ between (now ++ row_of g ∷ []) 2 =
+    behind_walked g.0 g.1 rows
+    ∙ ap (λ rs. between (with_values (name_of g.0) (reading_by command_rule) CommandLine (g.1 ∷ []) (without (name_of g.0) rs)) 2) used
+    ∙ ap (λ rs. between rs 2) (used_fresh (name_of g.0) g.1 (reading_by command_rule) now fresh_now) in
+    let whole : now ++ row_of g ∷ map row_of gs ≡ (now ++ row_of g ∷ []) ++ map row_of gs = regroup now (map row_of gs) (row_of g) in
+    let once_rest : Once ((now ++ row_of g ∷ []) ++ (map row_of gs ++ [])) = subst Once (whole ∙ ap (λ rs. (now ++ row_of g ∷ []) ++ rs) (sym (append-nil (map row_of gs)))) once_now in
+    let ends : fold (walked rules []) (behind rows) (map word_of (g ∷ gs)) ≡ between ((now ++ row_of g ∷ []) ++ map row_of gs) 2 =
+    ap (λ w. fold (walked rules []) w (map word_of gs)) step ∙ options_walked gs (now ++ row_of g ∷ []) 2 [] once_rest in
+    let turn : turn_passes shape [] (behind rows) (word_of g) ≡ true = behind_passes g.0 g.1 rows fresh (ap (has_row (name_of g.0)) used ∙ fresh_now) in (
+      record {
+        rows_are = ap (λ w. (settled rules w.held).rows) ends ∙ sym (regrouped ∙ whole);
+        passes = ap (λ w. settle_passes rules false w.held) ends;
+      },
+      rw (turn, step) (options_pass gs (now ++ row_of g ∷ []) 2 [] once_rest),
+    )
+
+-- ---- the whole
+
+abbrev pub words_around : List Given → List Given → List Text
+words_around before after = map word_of before ++ codes "plan" ∷ map word_of after
+
+abbrev pub rows_around : List Given → List Given → List Row
+rows_around before after = map row_of before ++ plan_row ∷ map row_of after
+
+-- what a walk over the words comes to
+pub record Walks (before after : List Given) : Type 0 where
+  pub ends : Ends (rows_around before after) (walk rules [] nothing_held (words_around before after)).held
+  pub passes : walk_passes shape [] (walk_from nothing_held) (words_around before after) ≡ true
+
+pub walks : (before after : List Given) → Once (rows_around before after) → Walks before after
+unfolding walk_passes
+walks before after once =
+    let start : Walk = walk_from nothing_held in
+    let rest : List Text = codes "plan" ∷ map word_of after in
+    let to_plan : fold (walked rules []) start (map word_of before) ≡ between (map row_of before) 1 = options_walked before [] 1 (plan_row ∷ map row_of after) once in
+    let plan_met : walked rules [] (fold (walked rules []) start (map word_of before)) (codes "plan") ≡ behind (map row_of before) = ap (λ w. walked rules [] w (codes "plan")) to_plan ∙ plan_walked (map row_of before) in
+    let end = after_plan after (map row_of before) (no_plan_row before) once in
+    let parted : fold (walked rules []) start (words_around before after) ≡ fold (walked rules []) (behind (map row_of before)) (map word_of after) =
+    fold-append (walked rules []) start (map word_of before) rest ∙ ap (λ w. fold (walked rules []) w (map word_of after)) plan_met in
+    record {
+      ends = subst (λ w. Ends (rows_around before after) w.held) (sym parted) end.0;
+      passes = passes_append start (map word_of before) rest
+          ∙ ap₂ (λ a b. a && b) (options_pass before [] 1 (plan_row ∷ map row_of after) once)
+          (ap (λ w. turn_passes shape [] w (codes "plan") && walk_passes shape [] (walked rules [] w (codes "plan")) (map word_of after)) to_plan
+          ∙ ap₂ (λ a w. a && walk_passes shape [] w (map word_of after)) (plan_passes (map row_of before)) (plan_walked (map row_of before))
+          ∙ end.1);
+    }
+
+-- no argument has a default
+plain : (rows : List Row) (a : Rule) → a.defaults ≡ [] → with_default rows a ≡ rows
+plain rows a none = ap (λ ds. cond (has_row a.id rows) rows (default_rows a.id (reading_by a) ds rows)) none ∙ go (has_row a.id rows)
+  where
+    go : (b : Bool) → cond b rows rows ≡ rows
+    go true = refl
+    go false = refl
+
+plain_all : (others : List Rule) (rows : List Row) → list_all (λ a. is_empty a.defaults) others ≡ true → fold with_default rows others ≡ rows
+plain_all [] rows all = refl
+plain_all (a ∷ others) rows all =
+    let parts = both (is_empty a.defaults) (list_all (λ r. is_empty r.defaults) others) all in
+    ap (λ rs. fold with_default rs others) (plain rows a (is_nil a.defaults parts.0)) ∙ plain_all others rows parts.1
+
+pub finished_rows : (h : Held) → finished rules h ≡ (settled rules h).rows
+finished_rows h = plain_all rules (settled rules h).rows refl
+
+find_past : {X : Type 0} (p : X → Bool) (xs ys : List X) → list_any p xs ≡ false → find p (xs ++ ys) ≡ find p ys
+find_past p [] ys none = refl
+find_past p (x ∷ xs) ys none = go (p x) none (find_past p xs ys)
+  where
+    go : (b : Bool) → (b || list_any p xs) ≡ false → (list_any p xs ≡ false → find p (xs ++ ys) ≡ find p ys) → cond b (Some x) (find p (xs ++ ys)) ≡ find p ys
+    go true e more = cc
+    go false e more = more e
+
+plan_given : (before after : List Given) → is_given (codes "command") (rows_around before after) ≡ true
+plan_given before after =
+    ap (λ found. option_map_or (λ r. explicit_source r.source) found false) (find_past (λ r. bytes_eq r.id (codes "command")) (map row_of before) (plan_row ∷ map row_of after) (no_plan_row before))
+
+valid : (rows : List Row) → is_given (codes "command") rows ≡ true → is_valid shape rows false ≡ true
+valid rows given = rw given refl
+
+pub words_taken : (before after : List Given) → Once (rows_around before after) → takes parser (words_around before after) ≡ true
+words_taken before after once =
+    let whole = walks before after once in
+    let end = (walk rules [] nothing_held (words_around before after)).held in
+    let is_valid_here : is_valid shape (finished rules end) false ≡ true = valid (finished rules end) (ap (is_given (codes "command")) (finished_rows end ∙ whole.ends.rows_are) ∙ plan_given before after) in
+    leaf_takes (built parser) nothing_held (words_around before after) refl (rw (whole.passes, whole.ends.passes, is_valid_here) refl)
+
+-- ---- the values
+
+-- a word gives an option a value where the names are one
+same_test : (option other : OptionName) (v : Text) → gives option (prefix_of other ++ v) ≡ bytes_eq (name_of other) (name_of option)
+same_test Index Index v = refl
+same_test Index Installed v = refl
+same_test Index Os v = refl
+same_test Index Arch v = refl
+same_test Index Compiler v = refl
+same_test Index MaxBackjumps v = refl
+same_test Installed Index v = refl
+same_test Installed Installed v = refl
+same_test Installed Os v = refl
+same_test Installed Arch v = refl
+same_test Installed Compiler v = refl
+same_test Installed MaxBackjumps v = refl
+same_test Os Index v = refl
+same_test Os Installed v = refl
+same_test Os Os v = refl
+same_test Os Arch v = refl
+same_test Os Compiler v = refl
+same_test Os MaxBackjumps v = refl
+same_test Arch Index v = refl
+same_test Arch Installed v = refl
+same_test Arch Os v = refl
+same_test Arch Arch v = refl
+same_test Arch Compiler v = refl
+same_test Arch MaxBackjumps v = refl
+same_test Compiler Index v = refl
+same_test Compiler Installed v = refl
+same_test Compiler Os v = refl
+same_test Compiler Arch v = refl
+same_test Compiler Compiler v = refl
+same_test Compiler MaxBackjumps v = refl
+same_test MaxBackjumps Index v = refl
+same_test MaxBackjumps Installed v = refl
+same_test MaxBackjumps Os v = refl
+same_test MaxBackjumps Arch v = refl
+same_test MaxBackjumps Compiler v = refl
+same_test MaxBackjumps MaxBackjumps v = refl
+
+same_value : (option other : OptionName) (v : Text) → cond (bytes_eq (name_of other) (name_of option)) (value_in option (prefix_of other ++ v)) v ≡ v
+same_value Index Index v = refl
+same_value Index Installed v = refl
+same_value Index Os v = refl
+same_value Index Arch v = refl
+same_value Index Compiler v = refl
+same_value Index MaxBackjumps v = refl
+same_value Installed Index v = refl
+same_value Installed Installed v = refl
+same_value Installed Os v = refl
+same_value Installed Arch v = refl
+same_value Installed Compiler v = refl
+same_value Installed MaxBackjumps v = refl
+same_value Os Index v = refl
+same_value Os Installed v = refl
+same_value Os Os v = refl
+same_value Os Arch v = refl
+same_value Os Compiler v = refl
+same_value Os MaxBackjumps v = refl
+same_value Arch Index v = refl
+same_value Arch Installed v = refl
+same_value Arch Os v = refl
+same_value Arch Arch v = refl
+same_value Arch Compiler v = refl
+same_value Arch MaxBackjumps v = refl
+same_value Compiler Index v = refl
+same_value Compiler Installed v = refl
+same_value Compiler Os v = refl
+same_value Compiler Arch v = refl
+same_value Compiler Compiler v = refl
+same_value Compiler MaxBackjumps v = refl
+same_value MaxBackjumps Index v = refl
+same_value MaxBackjumps Installed v = refl
+same_value MaxBackjumps Os v = refl
+same_value MaxBackjumps Arch v = refl
+same_value MaxBackjumps Compiler v = refl
+same_value MaxBackjumps MaxBackjumps v = refl
+
+-- what a row of the option or a word for it says, in front of more
+value_found : (option : OptionName) (gs : List Given) (rows : List Row) (words : List Text) → first_of (name_of option) rows ≡ given option words
+    → first_of (name_of option) (map row_of gs ++ rows) ≡ given option (map word_of gs ++ words)
+value_found option [] rows words same = same
+value_found option (g ∷ gs) rows words same =
+    rw (same_test option g.0 g.1) (go (bytes_eq (name_of g.0) (name_of option)) (same_value option g.0 g.1) (value_found option gs rows words same))
+  where
+    go : (b : Bool) → cond b (value_in option (word_of g)) g.1 ≡ g.1 → first_of (name_of option) (map row_of gs ++ rows) ≡ given option (map word_of gs ++ words)
+        → option_and_then (λ r. slice_get r.values 0) (cond b (Some (row_of g)) (find (λ r. bytes_eq r.id (name_of option)) (map row_of gs ++ rows)))
+        ≡ option_map (value_in option) (cond b (Some (word_of g)) (find (gives option) (map word_of gs ++ words)))
+    go true e more = ap Some (sym e)
+    go false e more = more
+
+plan_gives_none : (option : OptionName) → gives option (codes "plan") ≡ false
+plan_gives_none Index = refl
+plan_gives_none Installed = refl
+plan_gives_none Os = refl
+plan_gives_none Arch = refl
+plan_gives_none Compiler = refl
+plan_gives_none MaxBackjumps = refl
+
+pub values_given : (option : OptionName) (before after : List Given) → first_of (name_of option) (rows_around before after) ≡ given option (words_around before after)
+values_given option before after =
+    let behind_all : first_of (name_of option) (map row_of after) ≡ given option (map word_of after) =
+    ap (first_of (name_of option)) (sym (append-nil (map row_of after))) ∙ value_found option after [] [] refl ∙ ap (given option) (append-nil (map word_of after)) in
+    value_found option before (plan_row ∷ map row_of after) (codes "plan" ∷ map word_of after) (rw (command_not option, plan_gives_none option) behind_all)
+
+-- each option has as many rows as words
+same_count : (option : OptionName) (gs : List Given) (rows : List Row) (words : List Text) → count_by (is_row option) rows ≡ count_by (gives option) words
+    → count_by (is_row option) (map row_of gs ++ rows) ≡ count_by (gives option) (map word_of gs ++ words)
+same_count option [] rows words same = same
+same_count option (g ∷ gs) rows words same =
+    sum_by-cons (λ r. cond (is_row option r) 1 0) (row_of g) (map row_of gs ++ rows)
+    ∙ ap₂ (λ b n. cond b 1 0 + n) (sym (same_test option g.0 g.1)) (same_count option gs rows words same)
+    ∙ sym (sum_by-cons (λ w. cond (gives option w) 1 0) (word_of g) (map word_of gs ++ words))
+
+pub counts_alike : (option : OptionName) (before after : List Given) → count_by (is_row option) (rows_around before after) ≡ count_by (gives option) (words_around before after)
+counts_alike option before after =
+    let behind_all : count_by (is_row option) (map row_of after) ≡ count_by (gives option) (map word_of after) =
+    ap (count_by (is_row option)) (sym (append-nil (map row_of after))) ∙ same_count option after [] [] refl ∙ ap (count_by (gives option)) (append-nil (map word_of after)) in
+    same_count option before (plan_row ∷ map row_of after) (codes "plan" ∷ map word_of after)
+    (sum_by-cons (λ r. cond (is_row option r) 1 0) plan_row (map row_of after)
+    ∙ ap₂ (λ b n. cond b 1 0 + n) (command_not option ∙ sym (plan_gives_none option)) behind_all
+    ∙ sym (sum_by-cons (λ w. cond (gives option w) 1 0) (codes "plan") (map word_of after)))

@@ -1,0 +1,64 @@
+-- What words mean, computed.
+use Rattle.std.specs.Prelude.{◌≡◌, refl, false, [], ◌∷◌, Some, None, codes}
+use Rattle.plan_types.specs.declared.limit.Limit.TheVariants.{Unlimited, At}
+use Rattle.command_line.specs.declared.option_name.OptionName.TheVariants.{Index}
+use Rattle.command_line.specs.declared.reading.Command.TheVariants.{Plan}
+use Rattle.command_line.specs.Form.{is_compiler, is_path, is_signed}
+use Rattle.command_line.specs.Words.{given, has_reading}
+use Rattle.command_line.specs.Reading.{reading}
+use Rattle.version_range.specs.Number.{limit_of}
+
+plain : reading (codes "plan" ∷ []) ≡ Some (Plan (record {
+  places = record { index = codes "index"; installed = codes "installed" };
+  env = record { os = codes "linux"; arch = codes "x86_64"; compiler = codes "ghc"; compiler_version = record { parts = 9 ∷ 4 ∷ 7 ∷ [] } };
+  limit = None;
+}))
+plain = refl
+
+told : reading (codes "--os=Win32" ∷ codes "plan" ∷ codes "--compiler=GHC-8.10" ∷ codes "--max-backjumps=7" ∷ codes "--index=a/b" ∷ []) ≡ Some (Plan (record {
+  places = record { index = codes "a/b"; installed = codes "installed" };
+  env = record { os = codes "windows"; arch = codes "x86_64"; compiler = codes "ghc"; compiler_version = record { parts = 8 ∷ 10 ∷ [] } };
+  limit = Some (At 7);
+}))
+told = refl
+
+-- the value is all that follows the first `=`
+all-behind : given Index (codes "plan" ∷ codes "--index=a=b" ∷ []) ≡ Some (codes "a=b")
+all-behind = refl
+
+no-command : reading [] ≡ None
+no-command = refl
+
+two-commands : reading (codes "plan" ∷ codes "plan" ∷ []) ≡ None
+two-commands = refl
+
+twice : reading (codes "plan" ∷ codes "--index=a" ∷ codes "--index=b" ∷ []) ≡ None
+twice = refl
+
+shortened : has_reading (codes "plan" ∷ codes "--ind=a" ∷ []) ≡ false
+shortened = refl
+
+up : is_path (codes "a/../b") ≡ false
+up = refl
+
+no-name : is_path (codes "a//b") ≡ false
+no-name = refl
+
+-- cut at the last `-`, so that the name has none
+dashed : is_compiler (codes "ghc-any-9.4") ≡ false
+dashed = refl
+
+leading-zero : is_compiler (codes "ghc-9.04") ≡ false
+leading-zero = refl
+
+leading-zeros : limit_of (codes "007") ≡ Some (At 7)
+leading-zeros = refl
+
+negative : limit_of (codes "-1") ≡ Some Unlimited
+negative = refl
+
+zero-is-a-limit : limit_of (codes "-0") ≡ Some (At 0)
+zero-is-a-limit = refl
+
+two-signs : is_signed (codes "--1") ≡ false
+two-signs = refl

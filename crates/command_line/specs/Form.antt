@@ -1,0 +1,56 @@
+-- The forms of the values of options, and what they stand for.
+use Rattle.std.specs.Prelude.{ℕ, Bool, ◌==◌, ◌&&◌, ◌||◌, not, List, length, map, codes, is_some}
+use Rattle.std.specs.List.{list_all, slice_split, before_last, after_last}
+use Rattle.std.specs.Str.{bytes_eq}
+use Rattle.plan_types.specs.Bytes.{begins_with}
+use Rattle.plan_types.specs.Name.{is_component_name}
+use Rattle.version_range.specs.Number.{is_count, limit_of}
+use Rattle.version_range.specs.Version.{number_after}
+use Rattle.condition_text.specs.Grammar.{is_compiler_name}
+use Rattle.command_line.specs.declared.option_name.OptionName.{OptionName}
+use Rattle.command_line.specs.declared.option_name.OptionName.TheVariants.{Index, Installed, Os, Arch, Compiler, MaxBackjumps}
+
+-- a name of a directory in a path, which leads down
+abbrev pub is_directory : List ℕ → Bool
+is_directory name = not (length name == 0) && (not (bytes_eq name (codes ".")) && not (bytes_eq name (codes "..")))
+
+-- names joined by `/`
+abbrev pub is_path : List ℕ → Bool
+is_path text = list_all is_directory (slice_split (λ b. b == 47) text)
+
+-- one to nine digits without a leading zero, unless it is `0`
+abbrev pub is_part : List ℕ → Bool
+is_part text = is_count text && (not (begins_with 48 text) || length text == 1)
+
+-- a version's text: numbers joined by points
+abbrev pub is_version_text : List ℕ → Bool
+is_version_text text = list_all is_part (slice_split (λ b. b == 46) text)
+
+-- the numbers of such a text
+abbrev pub parts_of : List ℕ → List ℕ
+parts_of text = map (number_after 0) (slice_split (λ b. b == 46) text)
+
+-- the name of a compiler: what stands before the last `-`
+abbrev pub compiler_name : List ℕ → List ℕ
+compiler_name text = before_last (λ b. b == 45) text
+
+-- the text of its version: what stands behind it
+abbrev pub compiler_digits : List ℕ → List ℕ
+compiler_digits text = after_last (λ b. b == 45) text
+
+-- whether a text is a compiler: a name and a version
+abbrev pub is_compiler : List ℕ → Bool
+is_compiler text = is_compiler_name (compiler_name text) && is_version_text (compiler_digits text)
+
+-- whether a text is a number, which a `-` may stand before
+abbrev pub is_signed : List ℕ → Bool
+is_signed text = is_some (limit_of text)
+
+-- whether a value has the form of its option
+abbrev pub has_form : OptionName → List ℕ → Bool
+has_form Index value = is_path value
+has_form Installed value = is_path value
+has_form Os value = is_component_name value
+has_form Arch value = is_component_name value
+has_form Compiler value = is_compiler value
+has_form MaxBackjumps value = is_signed value

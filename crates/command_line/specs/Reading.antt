@@ -1,0 +1,43 @@
+-- The command that words mean.
+use Rattle.std.specs.Prelude.{ℕ, List, Option, Some, None, unwrap_or, codes, if◌then◌else◌}
+use Rattle.std.specs.Str.{str_to_ascii_lowercase}
+use Rattle.plan_types.specs.declared.condition.Env.{Env}
+use Rattle.plan_types.specs.declared.index.Places.{Places}
+use Rattle.command_line.specs.declared.option_name.OptionName.TheVariants.{Index, Installed, Os, Arch, Compiler, MaxBackjumps}
+use Rattle.command_line.specs.declared.reading.Command.{Command}
+use Rattle.command_line.specs.declared.reading.Command.TheVariants.{Plan}
+use Rattle.command_line.specs.declared.reading.Options.{Options}
+use Rattle.command_line.specs.Form.{compiler_name, compiler_digits, parts_of}
+use Rattle.command_line.specs.Words.{given, has_reading}
+use Rattle.conditionals.specs.Environment.{system_of}
+use Rattle.version_range.specs.Number.{limit_of}
+use Rattle.std.specs.Option.{option_and_then}
+
+-- where index and installed packages are
+abbrev pub places_of : Option (List ℕ) → Option (List ℕ) → Places
+places_of index installed = record { index = unwrap_or index (codes "index"); installed = unwrap_or installed (codes "installed") }
+
+-- the compiler that is given, or the default
+abbrev pub compiler_or : Option (List ℕ) → List ℕ
+compiler_or compiler = unwrap_or compiler (codes "ghc-9.4.7")
+
+-- names are in lower case, and a system has the name by which conditions compare it
+abbrev pub env_of : Option (List ℕ) → Option (List ℕ) → Option (List ℕ) → Env
+env_of os arch compiler = record {
+  os = system_of (str_to_ascii_lowercase (unwrap_or os (codes "linux")));
+  arch = str_to_ascii_lowercase (unwrap_or arch (codes "x86_64"));
+  compiler = str_to_ascii_lowercase (compiler_name (compiler_or compiler));
+  compiler_version = record { parts = parts_of (compiler_digits (compiler_or compiler)) };
+}
+
+-- what the options of words say
+abbrev pub options_of : List (List ℕ) → Options
+options_of words = record {
+  places = places_of (given Index words) (given Installed words);
+  env = env_of (given Os words) (given Arch words) (given Compiler words);
+  limit = option_and_then limit_of (given MaxBackjumps words);
+}
+
+-- the command that words mean
+abbrev pub reading : List (List ℕ) → Option Command
+reading words = if has_reading words then Some (Plan (options_of words)) else None

@@ -1,0 +1,66 @@
+// The parser of words that have a reading.
+ghost use Rattle.std.specs.Prelude.{◌≡◌, true, IfOk, IfErr};
+ghost use Rattle.clap.specs.Words.{app_of, first_value, found_of, kind_of, with_rule};
+ghost use Rattle.command_line.specs.declared.option_name.OptionName.{OptionName as Named};
+ghost use Rattle.command_line.specs.OptionName.{name_of};
+ghost use Rattle.command_line.specs.Words.{given, has_reading};
+ghost use Rattle.command_line.specs.Parser.{bare, command_rule, parser, with_option};
+
+use crate::option_name::{OptionName, name_of};
+use clap::error::ErrorKind;
+use clap::{Arg, ArgAction, ArgMatches, Command, Error};
+use plan_types::Text;
+use std::alloc::{AllocError, Global};
+
+/// What the parser finds in words that have a reading: for each option its value, where it has one.
+pub fn parsed<'a>(alloc: Global, words: &'a [Text]) -> Result<ArgMatches<'a>, Error>
+    requires { has_reading words.now ≡ true }
+    ensures values { IfOk result (λ matches. (option : Named)
+        → first_value (found_of matches) (name_of option) ≡ given option words.entry.now) }
+    ensures no_memory { IfErr result (λ error. kind_of error ≡ ErrorKind.OutOfMemory) }
+{
+    let command = parser(alloc)?;
+    command.try_get_matches_from(words)
+}
+
+fn parser<'a>(alloc: Global) -> Result<Command<'a>, AllocError>
+    ensures { IfOk result (λ command. app_of command ≡ parser) }
+{
+    let command = with_command(alloc, bare(alloc))?;
+    let command = with_option(alloc, command, OptionName::Index)?;
+    let command = with_option(alloc, command, OptionName::Installed)?;
+    let command = with_option(alloc, command, OptionName::Os)?;
+    let command = with_option(alloc, command, OptionName::Arch)?;
+    let command = with_option(alloc, command, OptionName::Compiler)?;
+    with_option(alloc, command, OptionName::MaxBackjumps)
+}
+
+fn bare<'a>(alloc: Global) -> Command<'a>
+    ensures { app_of result ≡ bare }
+{
+    Command::new(alloc, "cabal-plan")
+        .no_binary_name(true)
+        .disable_help_flag(true)
+        .disable_version_flag(true)
+}
+
+fn with_command<'a>(alloc: Global, command: Command<'a>) -> Result<Command<'a>, AllocError>
+    ensures { IfOk result (λ more. app_of more ≡ with_rule (app_of command.entry) command_rule) }
+{
+    let arg = Arg::new(alloc, "command")
+        .required(true)
+        .action(ArgAction::Set);
+    command.arg(arg)
+}
+
+fn with_option<'a>(
+    alloc: Global,
+    command: Command<'a>,
+    option: OptionName,
+) -> Result<Command<'a>, AllocError>
+    ensures { IfOk result (λ more. app_of more ≡ with_option (app_of command.entry) option) }
+{
+    let name = name_of(option);
+    let arg = Arg::new(alloc, name).long(name).action(ArgAction::Set);
+    command.arg(arg)
+}

@@ -1,0 +1,174 @@
+// What words come to: a command and its options.
+ghost use Rattle.std.specs.Prelude.{◌≡◌, IfOk, IfErr, IsErrOf, Some, None, true, unwrap_or};
+ghost use Rattle.std.specs.Option.{option_and_then, option_copied};
+ghost use Rattle.std.specs.Str.{str_to_ascii_lowercase};
+ghost use Rattle.clap.specs.Words.{first_value, found_of};
+ghost use Rattle.command_line.specs.declared.reading.WordsFault.TheVariants.{Usage, NoMemory as words_no_memory};
+ghost use Rattle.command_line.specs.OptionName.{name_of};
+ghost use Rattle.command_line.specs.Form.{compiler_digits, compiler_name, is_compiler, is_version_text, parts_of};
+ghost use Rattle.version_range.specs.Number.{limit_of};
+ghost use Rattle.command_line.specs.Words.{has_reading};
+ghost use Rattle.command_line.specs.Reading.{compiler_or, env_of, options_of, places_of, reading};
+
+use crate::form::cut_at_last_dash;
+use crate::option_name::{OptionName, name_of};
+use crate::parser::parsed;
+use crate::words::has_reading;
+use clap::ArgMatches;
+use conditionals::system_of;
+use plan_types::{Env, Limit, NoMemory, Places, Text, TextFault, Version};
+use std::alloc::Global;
+use thiserror::Error;
+use version_range::{limit_of, read_version};
+
+/// What a run is told besides the folder.
+#[derive(Debug, Drop)]
+pub struct Options {
+    pub places: Places,
+    pub env: Env,
+    /// Where the words set none, the project does.
+    pub limit: Option<Limit>,
+}
+
+/// What is to be done.
+#[derive(Debug, Drop)]
+pub enum Command {
+    Plan(Options),
+}
+
+/// Why words give no command.
+#[derive(Clone, Copy, Debug, PartialEq, Eq, Error)]
+pub enum WordsFault {
+    #[error("the words have no reading")]
+    Usage,
+    #[error("out of memory")]
+    NoMemory,
+}
+
+impl From<NoMemory> for WordsFault {
+    ghost from_gives = { λ _ fault. fault ≡ words_no_memory };
+
+    fn from(_: NoMemory) -> Self {
+        WordsFault::NoMemory
+    }
+}
+
+/// Reads the words behind the program's name.
+pub fn read_words(alloc: Global, words: &[Text]) -> Result<Command, WordsFault>
+    ensures command { IfOk result (λ command. reading words.now ≡ Some command) }
+    ensures usage { IfErr result (λ fault. fault ≡ Usage → reading words.now ≡ None) }
+    ensures no_reading { reading words.now ≡ None → IsErrOf result Usage }
+{
+    if !has_reading(words) {
+        return Err(WordsFault::Usage);
+    }
+    let options = options_of(alloc, words)?;
+    Ok(Command::Plan(options))
+}
+
+fn options_of(alloc: Global, words: &[Text]) -> Result<Options, NoMemory>
+    requires { has_reading words.now ≡ true }
+    ensures { IfOk result (λ options. options ≡ options_of words.now) }
+{
+    let matches = match parsed(alloc, words) {
+        Ok(matches) => matches,
+        Err(_) => return Err(NoMemory),
+    };
+    let index = value_of(&matches, OptionName::Index);
+    let installed = value_of(&matches, OptionName::Installed);
+    let os = value_of(&matches, OptionName::Os);
+    let arch = value_of(&matches, OptionName::Arch);
+    let compiler = value_of(&matches, OptionName::Compiler);
+    let limit = value_of(&matches, OptionName::MaxBackjumps);
+    let places = places_of(alloc, index, installed)?;
+    let env = env_of(alloc, os, arch, compiler)?;
+    let limit = limit_in(limit);
+    Ok(Options { places, env, limit })
+}
+
+fn value_of<'a>(matches: &ArgMatches<'a>, option: OptionName) -> Option<&'a str>
+    ensures { option_copied result ≡ first_value (found_of matches.now) (name_of option) }
+{
+    matches.get_str(name_of(option))
+}
+
+fn places_of(
+    alloc: Global,
+    index: Option<&str>,
+    installed: Option<&str>,
+) -> Result<Places, NoMemory>
+    ensures { IfOk result (λ places. places ≡ places_of (option_copied index.entry)
+        (option_copied installed.entry)) }
+{
+    let index = text_or(alloc, index, "index")?;
+    let installed = text_or(alloc, installed, "installed")?;
+    Ok(Places { index, installed })
+}
+
+fn text_or(alloc: Global, value: Option<&str>, otherwise: &str) -> Result<Text, NoMemory>
+    ensures { IfOk result (λ text. text ≡ unwrap_or (option_copied value.entry) otherwise.now) }
+{
+    match value {
+        Some(text) => Text::from_str(alloc, text),
+        None => Text::from_str(alloc, otherwise),
+    }
+}
+
+fn env_of(
+    alloc: Global,
+    os: Option<&str>,
+    arch: Option<&str>,
+    compiler: Option<&str>,
+) -> Result<Env, NoMemory>
+    requires { is_compiler (compiler_or (option_copied compiler)) ≡ true }
+    ensures { IfOk result (λ env. env ≡ env_of (option_copied os.entry) (option_copied arch.entry)
+        (option_copied compiler.entry)) }
+{
+    let text = text_or(alloc, compiler, "ghc-9.4.7")?;
+    let (compiler, compiler_version) = compiler_of(alloc, text.as_bytes())?;
+    let os = system_of(alloc, lowered(text_or(alloc, os, "linux")?))?;
+    let arch = lowered(text_or(alloc, arch, "x86_64")?);
+    Ok(Env {
+        os,
+        arch,
+        compiler,
+        compiler_version,
+    })
+}
+
+// The name, and the version behind the last dash.
+fn compiler_of(alloc: Global, text: &[u8]) -> Result<(Text, Version), NoMemory>
+    requires { is_compiler text.now ≡ true }
+    ensures name { IfOk result (λ p. p.0 ≡ str_to_ascii_lowercase (compiler_name text.now)) }
+    ensures version { IfOk result (λ p. p.1.parts ≡ parts_of (compiler_digits text.now)) }
+{
+    let (name, digits) = cut_at_last_dash(text);
+    let version = version_of(alloc, digits)?;
+    let name = lowered(Text::from_ascii(alloc, name)?);
+    Ok((name, version))
+}
+
+fn lowered(mut text: Text) -> Text
+    ensures { result ≡ str_to_ascii_lowercase text }
+{
+    text.make_ascii_lowercase();
+    text
+}
+
+fn version_of(alloc: Global, text: &[u8]) -> Result<Version, NoMemory>
+    requires { is_version_text text.now ≡ true }
+    ensures { IfOk result (λ version. version.parts ≡ parts_of text.now) }
+{
+    match read_version(alloc, text) {
+        Ok(version) => Ok(version),
+        Err(TextFault::NoMemory) => Err(NoMemory),
+        Err(TextFault::Bad(_)) => unreachable!(),
+    }
+}
+
+fn limit_in(value: Option<&str>) -> Option<Limit>
+    ensures { result ≡ option_and_then limit_of (option_copied value.entry) }
+{
+    let number = value?;
+    limit_of(number.as_bytes())
+}

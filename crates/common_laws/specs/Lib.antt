@@ -1,0 +1,4 @@
+pub mod Small
+pub mod Lists
+pub mod Each
+pub mod Passing

@@ -1,0 +1,71 @@
+-- Small laws of tests, orders, options and texts.
+use Rattle.std.proofs.Common.{◌≡◌, ℕ, Bool, true, false, not, ◌&&◌, ◌||◌, List, ◌∷◌, Option, Some, None, refl, sym, ap, ◌∙◌, subst}
+use Rattle.std.specs.Prelude.{IfSome}
+use Rattle.std.specs.declared.cmp.Ordering.{Ordering}
+use Rattle.std.specs.declared.cmp.Ordering.TheVariants.{Less, Equal, Greater}
+use Rattle.std.specs.Ordering.{is_lt, ordering_then}
+use Rattle.std.proofs.lemmas.Bool.{false≢true}
+use Rattle.std.proofs.lemmas.Slice.Eq.{bytes_eq-Decides}
+use Rattle.plan_types.specs.Bytes.{same_text}
+
+-- ---- tests
+
+-- two tests of which each follows from the other
+pub both-ways : (a b : Bool) → (a ≡ true → b ≡ true) → (b ≡ true → a ≡ true) → a ≡ b
+both-ways true b h k = sym (h refl)
+both-ways false true h k = k refl
+both-ways false false h k = refl
+
+pub not-from : (a : Bool) → (a ≡ true → ⊥) → not a ≡ true
+not-from true h = absurd (h refl)
+not-from false h = refl
+
+pub not-to : (a : Bool) → not a ≡ true → a ≡ true → ⊥
+not-to true h k = false≢true h
+not-to false h k = false≢true k
+
+pub or-assoc : (a b c : Bool) → (a || b) || c ≡ a || (b || c)
+or-assoc true b c = refl
+or-assoc false b c = refl
+
+pub or-last : (a b : Bool) → (a || (b || false)) ≡ (b || a)
+or-last true true = refl
+or-last true false = refl
+or-last false true = refl
+or-last false false = refl
+
+pub and-or : (a b c : Bool) → ((a && b) || (a && c)) ≡ (a && (b || c))
+and-or true b c = refl
+and-or false b c = refl
+
+-- ---- orders
+
+pub is-less : (o : Ordering) → is_lt o ≡ true → o ≡ Less
+is-less Less e = refl
+is-less Equal e = absurd (false≢true e)
+is-less Greater e = absurd (false≢true e)
+
+pub second-equal : (first second : Ordering) → ordering_then first second ≡ Equal → second ≡ Equal
+second-equal Less second e = absurd (cc e)
+second-equal Equal second e = e
+second-equal Greater second e = absurd (cc e)
+
+-- ---- options
+
+pub if_some : {X : Type 0} (P : X → Type 0) (o : Option X) → ((x : X) → o ≡ Some x → P x) → IfSome o P
+if_some P None f = tt
+if_some P (Some x) f = f x refl
+
+pub some_at : {X : Type 0} (P : X → Type 0) (o : Option X) (x : X) → o ≡ Some x → IfSome o P → P x
+some_at P o x e h = let Q : Option _ → Type 0 = λ o. IfSome o P in subst Q e h
+
+-- ---- texts
+
+pub same-is : (xs ys : List ℕ) → same_text xs ys ≡ true → xs ≡ ys
+same-is xs ys e = (bytes_eq-Decides xs ys).0 e
+
+pub head_same : {a b : ℕ} {as' bs : List ℕ} → a ∷ as' ≡ b ∷ bs → a ≡ b
+head_same e = cc
+
+pub tail_same : {a b : ℕ} {as' bs : List ℕ} → a ∷ as' ≡ b ∷ bs → as' ≡ bs
+tail_same e = cc

@@ -1,0 +1,175 @@
+-- How a condition is read from left to right. What a text stands for and which fault is the first is in Grammar.
+use Rattle.std.specs.Prelude.{ℕ, zero, suc, Bool, ◌&&◌, ◌==◌, not, if◌then◌else◌, List, [], ◌∷◌, codes, length, Some, None, Result, Ok, Err}
+use Rattle.std.specs.Str.{str_to_ascii_lowercase}
+use Rattle.plan_types.specs.Name.{is_letter_or_digit, is_component_byte}
+use Rattle.plan_types.specs.declared.condition.Cond.{Cond}
+use Rattle.plan_types.specs.declared.condition.Cond.TheVariants.{Always, Never, Flag, Os, Arch, Impl, Not, And, Or}
+use Rattle.plan_types.specs.declared.range.Range.{Range}
+use Rattle.plan_types.specs.declared.range.Range.TheVariants.{Any}
+use Rattle.plan_types.specs.declared.range.Spec.{Spec}
+use Rattle.plan_types.specs.declared.refusal.Cause.{Cause}
+use Rattle.plan_types.specs.declared.refusal.Cause.TheVariants.{NotUtf8, StrayBrace, UnclosedBrace, BadName, TooDeep, BadVersion, BadRange, NeedsVersion, BadCond, BadDepend, BadConstraint, MissingField, WrongCabalVersion, BadField, DuplicateName, UnknownStanza, UnknownFlag, ImportNotFirst, ElseWithoutIf, UnknownComponent, ComponentCycle, TooManyPaths, Unsupported, NoMatch, TwoCabalFiles, NoPackages, TooLarge, WrongPlace, BadRecord, DuplicateLocal, DuplicateUnit, TooMany, BadEvent}
+use Rattle.text_grammar.specs.Reading.{◌>>=◌, skip_blanks, byte_after, byte_due, letter_after, word_due, terms_at}
+use Rattle.version_range.specs.Read.{range_in, inside, missing}
+use Rattle.conditionals.specs.Environment.{system_of}
+
+-- where another byte is due
+abbrev pub bad : List ℕ → Cause
+bad rest = BadCond
+
+-- the bytes at the front that pass, and what follows them
+abbrev pub split : (ℕ → Bool) → List ℕ → List ℕ × List ℕ
+split test [] = ([], [])
+split test (b ∷ bs) = if test b then (b ∷ (split test bs).0, (split test bs).1) else ([], b ∷ bs)
+
+-- a name: a first byte, and the longest run of bytes that may stand in it
+unfoldable pub name_at : (ℕ → Bool) → (ℕ → Bool) → List ℕ → Result (List ℕ × List ℕ) Cause
+name_at first part [] = Err BadCond
+name_at first part (b ∷ bs) = if first b && part b then Ok (split part (b ∷ bs)) else Err BadCond
+
+-- blanks and a `)` behind what is read
+abbrev pub closed : {A : Type 0} → A × List ℕ → Result (A × List ℕ) Cause
+closed r = byte_due bad 41 (skip_blanks r.1) >>= λ rest. Ok (r.0, rest)
+
+-- blanks, a `(`, blanks, and what stands in the parenthesis
+abbrev pub argument : {A : Type 0} → (List ℕ → Result (A × List ℕ) Cause) → List ℕ → Result (A × List ℕ) Cause
+argument read text = elim (byte_after 40 (skip_blanks text)) [ None ↦ Err BadCond | Some rest ↦ read (skip_blanks rest) ]
+
+-- a name in parentheses
+abbrev pub named_at : (ℕ → Bool) → (ℕ → Bool) → List ℕ → Result (List ℕ × List ℕ) Cause
+named_at first part = argument (λ text. name_at first part text >>= closed)
+
+-- a byte that may begin the name of a flag
+abbrev pub begins_flag : ℕ → Bool
+begins_flag b = not (b == 45)
+
+-- what is refused of a range is refused of a condition
+abbrev pub cond_cause : Cause → Cause
+cond_cause NeedsVersion = NeedsVersion
+cond_cause TooDeep = TooDeep
+cond_cause NotUtf8 = BadCond
+cond_cause StrayBrace = BadCond
+cond_cause UnclosedBrace = BadCond
+cond_cause BadName = BadCond
+cond_cause BadVersion = BadCond
+cond_cause BadRange = BadCond
+cond_cause BadCond = BadCond
+cond_cause BadDepend = BadCond
+cond_cause BadConstraint = BadCond
+cond_cause MissingField = BadCond
+cond_cause WrongCabalVersion = BadCond
+cond_cause BadField = BadCond
+cond_cause DuplicateName = BadCond
+cond_cause UnknownStanza = BadCond
+cond_cause UnknownFlag = BadCond
+cond_cause ImportNotFirst = BadCond
+cond_cause ElseWithoutIf = BadCond
+cond_cause UnknownComponent = BadCond
+cond_cause ComponentCycle = BadCond
+cond_cause TooManyPaths = BadCond
+cond_cause Unsupported = BadCond
+cond_cause NoMatch = BadCond
+cond_cause TwoCabalFiles = BadCond
+cond_cause NoPackages = BadCond
+cond_cause TooLarge = BadCond
+cond_cause WrongPlace = BadCond
+cond_cause BadRecord = BadCond
+cond_cause DuplicateLocal = BadCond
+cond_cause DuplicateUnit = BadCond
+cond_cause TooMany = BadCond
+cond_cause BadEvent = BadCond
+
+-- what reading a range gives, as what reading a condition gives
+abbrev pub told : {A : Type 0} → Result A Cause → Result A Cause
+told (Ok x) = Ok x
+told (Err cause) = Err (cond_cause cause)
+
+-- an empty text, or a range; and then the parenthesis that ends the test
+abbrev pub tail_at : Spec → ℕ → List ℕ → Result (Range × List ℕ) Cause
+tail_at spec n text =
+    elim (byte_after 41 (skip_blanks text)) [
+      | Some rest ↦ Ok (Any, rest)
+      | None ↦ range_in (inside n spec) spec text >>= λ r. byte_due (missing spec) 41 (skip_blanks r.1) >>= λ rest. Ok (r.0, rest)
+    ]
+
+-- the same, with the causes of a condition
+abbrev pub cond_tail : Spec → ℕ → List ℕ → Result (Range × List ℕ) Cause
+cond_tail spec n text = told (tail_at spec n text)
+
+-- a compiler and its versions
+abbrev pub compiler_at : (List ℕ → Result (Range × List ℕ) Cause) → List ℕ → Result ((List ℕ × Range) × List ℕ) Cause
+compiler_at tail text = name_at is_letter_or_digit is_letter_or_digit text >>= λ p. tail p.1 >>= λ q. Ok ((str_to_ascii_lowercase p.0, q.0), q.1)
+
+-- what is read, as another value
+abbrev pub as_value : {A B : Type 0} → (A → B) → Result (A × List ℕ) Cause → Result (B × List ℕ) Cause
+as_value f (Ok p) = Ok (f p.0, p.1)
+as_value f (Err cause) = Err cause
+
+-- behind `flag`: the name of a flag
+abbrev pub flag_at : List ℕ → Result (Cond × List ℕ) Cause
+flag_at text = as_value (λ x. Flag (str_to_ascii_lowercase x)) (named_at begins_flag is_component_byte text)
+
+-- behind `os`: the name of a system
+abbrev pub os_at : List ℕ → Result (Cond × List ℕ) Cause
+os_at text = as_value (λ x. Os (system_of (str_to_ascii_lowercase x))) (named_at is_component_byte is_component_byte text)
+
+-- behind `arch`: the name of a processor
+abbrev pub arch_at : List ℕ → Result (Cond × List ℕ) Cause
+arch_at text = as_value (λ x. Arch (str_to_ascii_lowercase x)) (named_at is_component_byte is_component_byte text)
+
+-- behind `impl`: a compiler and its versions
+abbrev pub impl_at : (List ℕ → Result (Range × List ℕ) Cause) → List ℕ → Result (Cond × List ℕ) Cause
+impl_at tail text = as_value (λ c. Impl c.0 c.1) (argument (compiler_at tail) text)
+
+-- the letters of a word, and what stands behind it
+abbrev pub word_at : List ℕ → (List ℕ → Result (Cond × List ℕ) Cause) → List ℕ → Result (Cond × List ℕ) Cause
+word_at word read text = word_due bad word text >>= read
+
+-- `arch` or `impl`
+abbrev pub from_a : (List ℕ → Result (Range × List ℕ) Cause) → List ℕ → Result (Cond × List ℕ) Cause
+from_a tail text = elim (letter_after 97 text) [ None ↦ word_at (codes "impl") (impl_at tail) text | Some rest ↦ word_at (codes "rch") arch_at rest ]
+
+-- `os`, or what may stand behind it in this choice
+abbrev pub from_o : (List ℕ → Result (Range × List ℕ) Cause) → List ℕ → Result (Cond × List ℕ) Cause
+from_o tail text = elim (letter_after 111 text) [ None ↦ from_a tail text | Some rest ↦ word_at (codes "s") os_at rest ]
+
+-- behind the first letter of `false` or `flag`
+abbrev pub after_f : List ℕ → Result (Cond × List ℕ) Cause
+after_f text = elim (letter_after 97 text) [ None ↦ word_at (codes "lag") flag_at text | Some rest ↦ word_at (codes "lse") (λ t. Ok (Never, t)) rest ]
+
+-- `false` or `flag`, or what may stand behind them in this choice
+abbrev pub from_f : (List ℕ → Result (Range × List ℕ) Cause) → List ℕ → Result (Cond × List ℕ) Cause
+from_f tail text = elim (letter_after 102 text) [ None ↦ from_o tail text | Some rest ↦ after_f rest ]
+
+-- a factor in which nothing is opened
+unfoldable pub atom_at : (List ℕ → Result (Range × List ℕ) Cause) → List ℕ → Result (Cond × List ℕ) Cause
+atom_at tail text = elim (letter_after 116 text) [ None ↦ from_f tail text | Some rest ↦ word_at (codes "rue") (λ t. Ok (Always, t)) rest ]
+
+-- `!` and a factor, or a condition in parentheses, of which opened reads what they are made of; else an atom
+unfoldable pub factor_at : (List ℕ → Result (Range × List ℕ) Cause) → (List ℕ → Result (Cond × List ℕ) Cause) → List ℕ → Result (Cond × List ℕ) Cause
+factor_at tail opened text =
+    elim (byte_after 40 text) [
+      | Some rest ↦ terms_at And Or bad opened rest >>= closed
+      | None ↦ elim (byte_after 33 text) [ Some rest ↦ as_value Not (opened (skip_blanks rest)) | None ↦ atom_at tail text ]
+    ]
+
+-- where so many may still be opened
+unfoldable pub opened_at : (List ℕ → Result (Range × List ℕ) Cause) → ℕ → List ℕ → Result (Cond × List ℕ) Cause
+opened_at tail zero text = Err TooDeep
+opened_at tail (suc n) text = factor_at tail (opened_at tail n) text
+
+-- terms joined by `||`
+abbrev pub condition_at : (List ℕ → Result (Range × List ℕ) Cause) → ℕ → List ℕ → Result (Cond × List ℕ) Cause
+condition_at tail n = terms_at And Or bad (factor_at tail (opened_at tail n))
+
+-- what is read is the text where only blanks are left
+abbrev pub ended : Cond × List ℕ → Result Cond Cause
+ended r = if length (skip_blanks r.1) == 0 then Ok r.0 else Err BadCond
+
+-- a condition that is the whole text
+abbrev pub whole_at : (List ℕ → Result (Range × List ℕ) Cause) → ℕ → List ℕ → Result Cond Cause
+whole_at tail n text = condition_at tail n text >>= ended
+
+-- the condition of a text, or its first fault
+unfoldable pub cond_of : Spec → List ℕ → Result Cond Cause
+cond_of spec text = whole_at (cond_tail spec 64) 64 text

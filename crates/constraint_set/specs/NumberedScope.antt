@@ -1,0 +1,39 @@
+-- Scopes by numbers.
+use Rattle.std.specs.Prelude.{ℕ, Bool, true, false, Option, Some, None, nat_eq}
+use Rattle.plan_types.specs.declared.constraint.Scope.{Scope}
+use Rattle.plan_types.specs.declared.constraint.Scope.TheVariants.{Top as AtTop, Any, Setup as InSetups, SetupOf as InSetupOf}
+use Rattle.qualified_goals.specs.declared.variable.Qual.{Qual}
+use Rattle.qualified_goals.specs.declared.variable.Qual.TheVariants.{Top as TopLevel, Setup, Exe}
+use Rattle.qualified_goals.specs.Names.{NameTable, number_of}
+use Rattle.constraint_set.specs.declared.numbered_scope.NumberedScope.{NumberedScope}
+use Rattle.constraint_set.specs.declared.numbered_scope.NumberedScope.TheVariants.{Top, Everywhere, Setups, SetupOf, Nowhere}
+
+-- the setup of the package with a number
+abbrev pub setup_of : Option ℕ → NumberedScope
+setup_of None = Nowhere
+setup_of (Some p) = SetupOf p
+
+-- a scope with the number of its package
+abbrev pub numbered : NameTable → Scope → NumberedScope
+numbered names AtTop = Top
+numbered names Any = Everywhere
+numbered names InSetups = Setups
+numbered names (InSetupOf owner) = setup_of (number_of names.packages owner)
+
+-- whether it holds under a qualifier
+abbrev pub numbered_holds : NumberedScope → Qual → Bool
+numbered_holds Top TopLevel = true
+numbered_holds Top (Setup p) = false
+numbered_holds Top (Exe p t) = false
+numbered_holds Everywhere TopLevel = true
+numbered_holds Everywhere (Setup p) = true
+numbered_holds Everywhere (Exe p t) = true
+numbered_holds Setups TopLevel = false
+numbered_holds Setups (Setup p) = true
+numbered_holds Setups (Exe p t) = false
+numbered_holds (SetupOf owner) TopLevel = false
+numbered_holds (SetupOf owner) (Setup p) = nat_eq owner p
+numbered_holds (SetupOf owner) (Exe p t) = false
+numbered_holds Nowhere TopLevel = false
+numbered_holds Nowhere (Setup p) = false
+numbered_holds Nowhere (Exe p t) = false

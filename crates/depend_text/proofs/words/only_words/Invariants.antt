@@ -1,8 +1,0 @@
-use Rattle.std.proofs.Common.{◌≡◌, take}
-use Rattle.std.specs.Prelude.{filter}
-use Rattle.depend_text.specs.Words.{is_word}
-use Rattle.depend_text.proofs.Cuts.{texts}
-use Rattle.depend_text.proofs.words.only_words.Given as goal
-
-abbrev pub invariant-loop-part : goal.invariant-loop-part
-invariant-loop-part l = texts l.words.items ≡ filter is_word (texts (take l.part-index l.parts))

@@ -1,0 +1,17 @@
+-- An answer that comes is the only one where there is one outcome at most.
+use Rattle.std.proofs.Common.{◌≡◌, IfOk}
+use Rattle.std.specs.Prelude.{IfErr}
+use Rattle.std.specs.declared.result.Result.{Result}
+use Rattle.std.specs.declared.result.Result.TheVariants.{Ok, Err}
+use Rattle.plan_types.specs.Refusal.{RefusesAt}
+use Rattle.plan_types.specs.declared.refusal.Fault.{Fault}
+use Rattle.plan_types.specs.declared.refusal.Fault.TheVariants as fault
+use Rattle.description.specs.FaultOrder.{IsOnly, is_at}
+use Rattle.description.specs.declared.fault_order.At.{At}
+
+pub is-only : {A : Type 0} (Comes : Result A At → Type 0) → ((a b : Result A At) → Comes a → Comes b → a ≡ b) → (result : Result A Fault)
+    → IfOk result (λ x. Comes (Ok x)) → IfErr result (RefusesAt (λ line cause. Comes (Err (is_at line cause)))) → IsOnly Comes result
+unfolding IsOnly
+is-only Comes one (Ok found) is refused = λ outcome comes. one outcome (Ok found) comes is
+is-only Comes one (Err fault.NoMemory) is refused = tt
+is-only Comes one (Err (fault.At line cause)) is refused = λ outcome comes. one outcome (Err (is_at line cause)) comes refused

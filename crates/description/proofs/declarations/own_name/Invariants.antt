@@ -1,7 +1,0 @@
-use Rattle.std.proofs.Common.{◌≡◌, take}
-use Rattle.description.specs.Declarations.{own_name}
-use Rattle.description.specs.Tables.{shown}
-use Rattle.description.proofs.declarations.own_name.Given as goal
-
-abbrev pub invariant-loop-field : goal.invariant-loop-field
-invariant-loop-field l = shown l.name ≡ own_name (take l.field-index l.heads)

@@ -1,6 +1,0 @@
-use Rattle.std.proofs.Common.{◌≡◌, ◌++◌, drop}
-use Rattle.description.specs.Flags.{declared_flags}
-use Rattle.description.proofs.flags.declared.Given as goal
-
-abbrev pub invariant-loop-section : goal.invariant-loop-section
-invariant-loop-section l = l.flags.items ++ declared_flags (drop l.section-index l.sections) ≡ declared_flags l.sections

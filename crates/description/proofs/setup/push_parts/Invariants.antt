@@ -1,6 +1,0 @@
-use Rattle.std.proofs.Common.{◌≡◌, ◌++◌, drop, flat_map}
-use Rattle.description.specs.Components.{deps_said}
-use Rattle.description.proofs.setup.push_parts.Given as goal
-
-abbrev pub invariant-loop-part : goal.invariant-loop-part
-invariant-loop-part l = l.deps ++ flat_map (λ part. deps_said part.said) (drop l.part-index l.parts) ≡ l.fn.deps ++ flat_map (λ part. deps_said part.said) l.parts

@@ -1,7 +1,0 @@
-use Rattle.std.proofs.Common.{take}
-use Rattle.description.specs.Imports.{Stanzas, all_replaced}
-use Rattle.description.specs.Standing.{Knows, Means}
-use Rattle.description.proofs.stanzas.Stanzas.body.Given as goal
-
-abbrev pub invariant-loop-part : goal.invariant-loop-part
-invariant-loop-part l = (known : Stanzas) → Knows known l.self → Means l.self.bodies.items l.body (all_replaced known (take l.part-index l.parts))

@@ -1,6 +1,0 @@
-use Rattle.std.proofs.Common.{take}
-use Rattle.description.specs.Standing.{Standing}
-use Rattle.description.proofs.stanzas.bodies_of.Given as goal
-
-abbrev pub invariant-loop-section : goal.invariant-loop-section
-invariant-loop-section l = Standing (take l.section-index l.sections) l.bodies

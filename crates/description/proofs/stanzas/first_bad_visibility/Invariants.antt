@@ -1,6 +1,0 @@
-use Rattle.std.proofs.Common.{◌≡◌, take}
-use Rattle.description.proofs.Badly.{worst}
-use Rattle.description.proofs.stanzas.first_bad_visibility.Given as goal
-
-abbrev pub invariant-loop-one : goal.invariant-loop-one
-invariant-loop-one l = l.first ≡ worst (take l.one-index l.one-items)

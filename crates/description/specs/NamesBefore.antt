@@ -1,0 +1,32 @@
+-- The names of a class of sections, as they are kept while a file is gone through.
+use Rattle.std.specs.Prelude.{ℕ, not, if◌then◌else◌, List, []}
+use Rattle.std.specs.List.{list_all}
+use Rattle.plan_types.specs.declared.refusal.Cause.{Cause}
+use Rattle.plan_types.specs.declared.refusal.Cause.TheVariants as causes
+use Rattle.section_syntax.specs.declared.part.Said.{Said}
+use Rattle.section_syntax.specs.declared.part.Said.TheVariants as said
+use Rattle.section_syntax.specs.declared.part.Section.{Section}
+use Rattle.stanza_imports.specs.Names.{has, with_name}
+use Rattle.description.specs.Faults.{at, is_class, unless}
+use Rattle.description.specs.declared.fault_order.At.{At}
+use Rattle.description.specs.declared.faults.Class.{Class}
+
+-- the names of a class, behind a section
+abbrev pub names_behind : Class → List (List ℕ) → Section → List (List ℕ)
+names_behind class names section = if is_class class section.kind then with_name names section.name else names
+
+-- a section of a class has one of these names
+abbrev pub again : Class → List (List ℕ) → Section → List At
+again class names section = if is_class class section.kind then at section.line (unless (not (has names section.name)) causes.DuplicateName) else []
+
+-- an import names a common stanza that is none of these
+abbrev pub unknown_of : List (List ℕ) → Said → List Cause
+unknown_of known (said.Import names fits) = if fits then unless (list_all (has known) names) causes.UnknownStanza else []
+unknown_of known (said.Depends deps) = []
+unknown_of known (said.Buildable value) = []
+unknown_of known (said.Visibility value) = []
+unknown_of known (said.Default value) = []
+unknown_of known (said.Manual value) = []
+unknown_of known said.BuildTools = []
+unknown_of known (said.Branch condition fits) = []
+unknown_of known said.Misplaced = []

@@ -1,6 +1,0 @@
-use Rattle.std.proofs.Common.{◌≡◌, map, take}
-use Rattle.description_parts.specs.Branch.{condition}
-use Rattle.description_parts.proofs.branch.conditions.Given as goal
-
-abbrev pub invariant-loop-branch : goal.invariant-loop-branch
-invariant-loop-branch l = l.conds ≡ map condition (take l.branch-index l.branches)

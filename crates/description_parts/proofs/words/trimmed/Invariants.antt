@@ -1,6 +1,0 @@
-use Rattle.std.proofs.Common.{◌≡◌, map, take}
-use Rattle.cabal_lexer.specs.Lines.{trim}
-use Rattle.description_parts.proofs.words.trimmed.Given as goal
-
-abbrev pub invariant-loop-piece : goal.invariant-loop-piece
-invariant-loop-piece l = l.names ≡ map trim (map (λ piece. piece.now) (take l.piece-index l.pieces))

@@ -1,0 +1,12 @@
+use Rattle.std.proofs.Common.{List, ◌++◌, drop}
+use Rattle.plan_types.specs.declared.refusal.Cause.{Cause}
+use Rattle.entry_text.specs.Entries.{Each, First}
+use Rattle.entry_text.proofs.Cuts.{texts}
+use Rattle.entry_text.proofs.entries.read_each.Given as goal
+
+-- what is found so far goes on to the whole
+abbrev pub invariant-loop-part : goal.invariant-loop-part
+invariant-loop-part g l = record {
+  reads : (more : List g.row.R-Item.Denot) → Each (g.R.Row.stands l.row) (texts (drop l.part-index l.parts)) more → Each (g.R.Row.stands l.row) (texts l.parts) (l.found ++ more);
+  fails : (cause : Cause) → First (g.R.Row.stands l.row) (g.R.Row.fails l.row) (texts (drop l.part-index l.parts)) cause → First (g.R.Row.stands l.row) (g.R.Row.fails l.row) (texts l.parts) cause;
+}

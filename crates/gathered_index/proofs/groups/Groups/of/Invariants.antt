@@ -1,8 +1,0 @@
--- what the entries so far gave
-use Rattle.std.proofs.Common.{◌≡◌, ℕ, List}
-use Rattle.gathered_index.specs.Entries.{entries_named}
-use Rattle.gathered_index.specs.Groups.{held}
-use Rattle.gathered_index.proofs.groups.Groups.of.Given as goal
-
-abbrev pub invariant-loop-entry : goal.invariant-loop-entry
-invariant-loop-entry l = (name : List ℕ) → held l.groups name ≡ entries_named name l.yielded

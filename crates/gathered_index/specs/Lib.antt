@@ -1,9 +1,0 @@
-pub mod Order
-pub mod Entries
-pub mod Lacks
-pub mod Known
-pub mod Units
-pub mod Groups
-pub mod Index
-pub mod Packages
-pub mod Folder

@@ -1,0 +1,9 @@
+pub mod Order
+pub mod Entries
+pub mod Lacks
+pub mod UnitNames
+pub mod Units
+pub mod Groups
+pub mod Index
+pub mod Packages
+pub mod Folder

@@ -1,0 +1,115 @@
+// The units that have records, by their ids.
+ghost use Rattle.std.specs.Prelude.{◌≡◌, ◌++◌, List, IfOk, OnOk, map, position};
+ghost use Rattle.std.specs.List.{IsDistinct, list_any};
+ghost use Rattle.index_files.specs.Units.{known_name, needed_names, unit_ids, unit_name, place_of};
+ghost use Rattle.index_files.specs.declared.unit.Unit.{Unit};
+ghost use Rattle.index_assembly.specs.UnitNames.{Knows};
+ghost use Rattle.index_assembly.specs.Lacks.{is_none, needed_places, places_in};
+ghost use Rattle.plan_types.specs.Bytes.{same_text};
+
+use index_files::Unit;
+use indexmap::IndexSet;
+use plan_types::{List, NoMemory, Text};
+use std::alloc::Global;
+
+/// The ids of units, and the names of their packages by the places of the ids.
+#[derive(Debug, Drop)]
+pub(crate) struct UnitNames {
+    pub ids: IndexSet<Text>,
+    pub names: List<Text>,
+}
+
+impl UnitNames {
+    pub(crate) fn of(alloc: Global, units: &[Unit]) -> Result<UnitNames, NoMemory>
+        requires { IsDistinct same_text (unit_ids units.now) }
+        ensures { IfOk result (Knows units.now) }
+    {
+        let ids = ids_of(alloc, units)?;
+        let names = names_of(alloc, units)?;
+        Ok(UnitNames { ids, names })
+    }
+
+    /// The places of the units that a unit needs, as far as these have records.
+    pub(crate) fn places(&self, alloc: Global, unit: &Unit) -> Result<List<usize>, NoMemory>
+        ensures { (units : List Unit) → Knows units self.now → IfOk result (λ places. places ≡ needed_places units unit.now) }
+    {
+        let mut places = List::new(alloc);
+        for id in unit.record_of.depends.as_slice() {
+            self.push_place(&mut places, id)?;
+        }
+        Ok(places)
+    }
+
+    fn push_place(&self, places: &mut List<usize>, id: &Text) -> Result<(), NoMemory>
+        ensures { (units : List Unit) → Knows units self.now → OnOk result (places.new ≡ places.old ++ places_in (place_of units id.now)) }
+    {
+        match self.ids.get_index_of(id) {
+            None => Ok(()),
+            Some(place) => places.push(place),
+        }
+    }
+
+    /// Whether a unit that it needs has no record.
+    pub(crate) fn lacks_one(&self, unit: &Unit) -> bool
+        ensures { result ≡ list_any (λ id. is_none (position (same_text id) self.now.ids.keys)) unit.now.record_of.depends }
+    {
+        unit.record_of
+            .depends
+            .as_slice()
+            .iter()
+            .any(|id| self.is_missing(id))
+    }
+
+    fn is_missing(&self, id: &Text) -> bool
+        ensures { result ≡ is_none (position (same_text id.now) self.now.ids.keys) }
+    {
+        match self.ids.get_index_of(id) {
+            None => true,
+            Some(_) => false,
+        }
+    }
+
+    /// The names of the packages of the units that a unit needs, as far as these have records.
+    pub(crate) fn needs(&self, alloc: Global, unit: &Unit) -> Result<List<Text>, NoMemory>
+        ensures { (units : List Unit) → Knows units self.now → IfOk result (λ names. names ≡ needed_names units unit.now) }
+    {
+        let mut names = List::new(alloc);
+        for id in unit.record_of.depends.as_slice() {
+            self.push_name(&mut names, id)?;
+        }
+        Ok(names)
+    }
+
+    fn push_name(&self, names: &mut List<Text>, id: &Text) -> Result<(), NoMemory>
+        ensures { (units : List Unit) → Knows units self.now → OnOk result (names.new ≡ names.old ++ known_name units id.now) }
+    {
+        match self.ids.get_index_of(id) {
+            None => Ok(()),
+            Some(place) => match self.names.as_slice().get(place) {
+                None => Ok(()),
+                Some(name) => names.push(name.copy()?),
+            },
+        }
+    }
+}
+
+fn ids_of(alloc: Global, units: &[Unit]) -> Result<IndexSet<Text>, NoMemory>
+    requires { IsDistinct same_text (unit_ids units.now) }
+    ensures { IfOk result (λ ids. ids.keys ≡ unit_ids units.now) }
+{
+    let mut ids = IndexSet::new(alloc);
+    for unit in units {
+        ids.insert(unit.record_of.id.copy()?)?;
+    }
+    Ok(ids)
+}
+
+fn names_of(alloc: Global, units: &[Unit]) -> Result<List<Text>, NoMemory>
+    ensures { IfOk result (λ names. names ≡ map unit_name units.now) }
+{
+    let mut names = List::new(alloc);
+    for unit in units {
+        names.push(unit.record_of.name.copy()?)?;
+    }
+    Ok(names)
+}

@@ -1,8 +1,0 @@
--- the names of the releases so far
-use Rattle.std.proofs.Common.{◌≡◌, take}
-use Rattle.index_files.specs.Releases.{asked_in}
-use Rattle.index_files.proofs.Put.{put_all}
-use Rattle.index_files.proofs.mention.put_asked.Given as goal
-
-abbrev pub invariant-loop-release : goal.invariant-loop-release
-invariant-loop-release l = l.names.keys ≡ put_all l.fn.names.keys (asked_in (take l.release-index l.releases))

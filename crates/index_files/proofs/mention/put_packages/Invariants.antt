@@ -1,8 +1,0 @@
--- the packages of the dependencies so far
-use Rattle.std.proofs.Common.{◌≡◌, map, take}
-use Rattle.plan_types.specs.declared.dependency.Dep.{Dep}
-use Rattle.index_files.proofs.Put.{put_all}
-use Rattle.index_files.proofs.mention.put_packages.Given as goal
-
-abbrev pub invariant-loop-dep : goal.invariant-loop-dep
-invariant-loop-dep l = l.names.keys ≡ put_all l.fn.names.keys (map (λ (dep : Dep). dep.«package») (take l.dep-index l.deps))

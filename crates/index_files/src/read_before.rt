@@ -1,0 +1,21 @@
+// What is read before the index, and over which the closure is read.
+ghost use Rattle.index_files.specs.NeededNames.{needed_in};
+ghost use Rattle.index_files.specs.Units.{needed_by};
+ghost use Rattle.std.specs.Prelude.{◌≡◌, List, ℕ};
+
+use crate::locals::Locals;
+use crate::needed_names::Needed;
+use crate::units::Units;
+use plan_types::{Env, List, Named, Places};
+
+/// What stands before the index is read.
+#[derive(Debug, Drop)]
+pub(crate) struct ReadBefore<'a> {
+    pub env: &'a Env,
+    pub places: &'a Places,
+    pub locals: &'a Locals,
+    pub units: &'a Units,
+    pub extra: &'a List<Named>,
+    pub needed: &'a Needed,
+    ghost needs: { (name : List ℕ) → needed_in needed.now name ≡ needed_by units.now.list name },
+}

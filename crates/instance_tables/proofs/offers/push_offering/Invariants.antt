@@ -1,9 +1,0 @@
--- those of the places so far whose instances pass
-use Rattle.std.proofs.Common.{◌≡◌, ◌++◌, ◌≤◌, max}
-use Rattle.std.specs.List.{filter}
-use Rattle.instance_tables.specs.Allowed.{has_at}
-use Rattle.instance_tables.specs.Places.{between}
-use Rattle.instance_tables.proofs.offers.push_offering.Given as goal
-
-abbrev pub invariant-loop-place : goal.invariant-loop-place
-invariant-loop-place l = (l.allowed ≡ l.fn.allowed ++ filter (has_at l.kind l.dep l.entries) (between l.fn.run.from l.place)) × (l.place ≤ max l.fn.run.from l.fn.run.to)

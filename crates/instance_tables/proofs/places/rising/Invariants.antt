@@ -1,7 +1,0 @@
--- the numbers so far
-use Rattle.std.proofs.Common.{◌≡◌}
-use Rattle.instance_tables.specs.Places.{rising}
-use Rattle.instance_tables.proofs.places.rising.Given as goal
-
-abbrev pub invariant-loop-number : goal.invariant-loop-number
-invariant-loop-number l = l.numbers ≡ rising l.number

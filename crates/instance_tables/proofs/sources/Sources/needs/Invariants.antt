@@ -1,8 +1,0 @@
--- the needs so far
-use Rattle.std.proofs.Common.{◌≡◌, map}
-use Rattle.instance_tables.specs.Asked.{need_at}
-use Rattle.instance_tables.specs.Places.{rising}
-use Rattle.instance_tables.proofs.sources.Sources.needs.Given as goal
-
-abbrev pub invariant-loop-place : goal.invariant-loop-place
-invariant-loop-place l = l.needs ≡ map (need_at l.self.packages.now l.self.names.now l.ids l.names) (rising l.place)

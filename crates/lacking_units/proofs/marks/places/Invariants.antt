@@ -1,5 +1,0 @@
-use Rattle.lacking_units.proofs.Marked.{Places}
-use Rattle.lacking_units.proofs.marks.places.Given as goal
-
-abbrev pub invariant-loop-place : goal.invariant-loop-place
-invariant-loop-place l = Places l.marked l.found l.place

@@ -1,6 +1,0 @@
-use Rattle.std.proofs.Common.{take}
-use Rattle.lacking_units.proofs.Table.{With}
-use Rattle.lacking_units.proofs.users.add_user.Given as goal
-
-abbrev pub invariant-loop-node : goal.invariant-loop-node
-invariant-loop-node l = With l.fn.users.items l.user l.nodes l.users.items (take l.node-index l.nodes)

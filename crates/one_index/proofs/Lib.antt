@@ -1,9 +1,0 @@
-pub mod Taken
-pub mod Blocks
-pub mod Marks
-pub mod Paths
-pub mod Outcomes
-pub mod Visits
-pub mod Closures
-pub mod Entries
-pub mod Folder

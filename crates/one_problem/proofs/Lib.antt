@@ -1,3 +1,0 @@
-mod Names
-mod Orders
-mod Whole

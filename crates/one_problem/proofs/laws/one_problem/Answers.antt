@@ -1,5 +1,0 @@
-use Rattle.one_problem.proofs.Whole.{one_made}
-use Rattle.one_problem.proofs.laws.one_problem.Goals as goal
-
-pub returns : goal.returns
-returns c index project names others p q is also = one_made index project names others p q c.one_order.ensures is also

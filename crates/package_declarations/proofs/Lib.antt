@@ -1,0 +1,10 @@
+pub mod FlagOrder
+pub mod FlagFolds
+pub mod LastValues
+pub mod LastNames
+pub mod Numbering
+pub mod Positions
+pub mod PushLoops
+pub mod SetupParts
+pub mod ShownComponents
+pub mod StableSort

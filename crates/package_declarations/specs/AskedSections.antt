@@ -1,0 +1,12 @@
+-- The sections whose names are asked for.
+use Rattle.std.specs.Prelude.{Bool}
+use Rattle.package_declarations.specs.Declarations.{is_executable, is_flag, is_library}
+use Rattle.section_syntax.specs.declared.part.SectionKind.{SectionKind}
+use Rattle.package_declarations.specs.declared.declarations.Declares.{Declares}
+use Rattle.package_declarations.specs.declared.declarations.Declares.TheVariants.{Flag, Library, Executable}
+
+-- which sections are asked for
+abbrev pub is_of : Declares → SectionKind → Bool
+is_of Flag = is_flag
+is_of Library = is_library
+is_of Executable = is_executable

@@ -1,0 +1,87 @@
+-- The components of sections whose imports are replaced.
+use Rattle.std.specs.Prelude.{Bool, false, ◌&&◌, not, if◌then◌else◌, List, [], ◌∷◌, map, flat_map, Option, Some, None, unwrap_or}
+use Rattle.plan_types.specs.declared.condition.Cond.{Cond}
+use Rattle.plan_types.specs.declared.condition.Cond.TheVariants.{Not}
+use Rattle.plan_types.specs.declared.description.CompKind.{CompKind}
+use Rattle.plan_types.specs.declared.description.Component.{Component}
+use Rattle.plan_types.specs.declared.description.GuardedDep.{GuardedDep}
+use Rattle.section_syntax.specs.Branch.{all_of}
+use Rattle.section_syntax.specs.declared.part.File.{File}
+use Rattle.section_syntax.specs.declared.part.SectionPart.{SectionPart}
+use Rattle.section_syntax.specs.declared.part.Said.{Said}
+use Rattle.section_syntax.specs.declared.part.Said.TheVariants as said
+use Rattle.section_syntax.specs.declared.part.Section.{Section}
+use Rattle.section_syntax.specs.declared.part.SectionKind.TheVariants as kinds
+use Rattle.package_declarations.specs.Declarations.{meant}
+use Rattle.text_grammar.specs.Last.{last_said}
+use Rattle.stanza_imports.specs.Imports.{with_imports_replaced}
+use Rattle.stanza_imports.specs.Parts.{deps_said, is_named_library}
+
+-- a dependency counts where the branches in which it stands are taken
+abbrev pub guarded : File → SectionPart → List GuardedDep
+guarded file part = map (λ dep. record { when = all_of part.branches; dep = meant file dep }) (deps_said part.said)
+
+-- whether a part says that the component isn't buildable
+abbrev pub unbuildable_said : Said → Bool
+unbuildable_said (said.Import names fits) = false
+unbuildable_said (said.Depends deps) = false
+unbuildable_said (said.Buildable None) = false
+unbuildable_said (said.Buildable (Some value)) = not value
+unbuildable_said (said.Visibility value) = false
+unbuildable_said (said.Default value) = false
+unbuildable_said (said.Manual value) = false
+unbuildable_said said.BuildTools = false
+unbuildable_said (said.Branch condition fits) = false
+unbuildable_said said.Misplaced = false
+
+-- then the branches in which it stands aren't taken
+abbrev pub barrier : SectionPart → List Cond
+barrier part = if unbuildable_said part.said then Not (all_of part.branches) ∷ [] else []
+
+-- when a component is buildable
+abbrev pub buildable : List SectionPart → Cond
+buildable parts = all_of (flat_map barrier parts)
+
+-- what a part says of who may use a library
+abbrev pub visibility_said : Said → Option Bool
+visibility_said (said.Import names fits) = None
+visibility_said (said.Depends deps) = None
+visibility_said (said.Buildable value) = None
+visibility_said (said.Visibility value) = value
+visibility_said (said.Default value) = None
+visibility_said (said.Manual value) = None
+visibility_said said.BuildTools = None
+visibility_said (said.Branch condition fits) = None
+visibility_said said.Misplaced = None
+
+-- it counts outside of branches
+abbrev pub visibility_of : SectionPart → Option Bool
+visibility_of part = elim part.branches [ [] ↦ visibility_said part.said | branch ∷ branches ↦ None ]
+
+-- a library with a name of its own is private unless the last word says otherwise
+abbrev pub is_public : List SectionPart → Bool
+is_public parts = unwrap_or (last_said visibility_of parts) false
+
+-- a section as a component
+abbrev pub component : File → Section → CompKind → Component
+component file section kind = record {
+  line = section.line;
+  kind = kind;
+  name = section.name;
+  public = is_named_library kind section.name && is_public section.parts;
+  buildable = buildable section.parts;
+  deps = flat_map (guarded file) section.parts;
+}
+
+-- the component that a section is, where it is one
+abbrev pub component_in : File → Section → List Component
+component_in file section = elim section.kind [
+  | kinds.Component kind ↦ component file section kind ∷ []
+  | kinds.Common ↦ []
+  | kinds.Flag ↦ []
+  | kinds.Setup ↦ []
+]
+
+-- the components of a file, in file order
+abbrev pub components : File → List Component
+components file = flat_map (component_in file) (with_imports_replaced file.sections)

@@ -1,0 +1,146 @@
+-- What a package declares, and what its dependencies and conditions mean in it.
+use Rattle.std.specs.Prelude.{ℕ, Bool, true, false, ◌&&◌, if◌then◌else◌, List, [], ◌∷◌, Option, Some, None}
+use Rattle.std.specs.List.{list_all, list_any}
+use Rattle.plan_types.specs.Format.{has_bare_libraries}
+use Rattle.plan_types.specs.declared.condition.Cond.{Cond}
+use Rattle.plan_types.specs.declared.condition.Cond.TheOpen.{Cond-F, Always, Never, Flag, Os, Arch, Impl, Not, And, Or}
+use Rattle.plan_types.specs.declared.condition.Cond.TheFolds.{fold-Cond}
+use Rattle.plan_types.specs.declared.dependency.Dep.{Dep}
+use Rattle.plan_types.specs.declared.dependency.DepKind.{DepKind}
+use Rattle.plan_types.specs.declared.dependency.DepKind.TheVariants.{Library, Tool, Setup}
+use Rattle.plan_types.specs.declared.dependency.LibName.{LibName}
+use Rattle.plan_types.specs.declared.dependency.LibName.TheVariants as lib
+use Rattle.plan_types.specs.declared.description.CompKind.TheVariants as component
+use Rattle.plan_types.specs.declared.range.Spec.{Spec}
+use Rattle.section_syntax.specs.declared.part.File.{File}
+use Rattle.section_syntax.specs.declared.part.Head.{Head}
+use Rattle.section_syntax.specs.declared.part.Head.TheVariants as head
+use Rattle.section_syntax.specs.declared.part.HeadField.{HeadField}
+use Rattle.section_syntax.specs.declared.part.Section.{Section}
+use Rattle.section_syntax.specs.declared.part.SectionKind.{SectionKind}
+use Rattle.section_syntax.specs.declared.part.SectionKind.TheVariants as kinds
+use Rattle.package_declarations.specs.declared.declarations.Meaning.{Meaning}
+use Rattle.package_declarations.specs.declared.declarations.Meaning.TheVariants.{Other, Own, OwnLibrary}
+use Rattle.plan_types.specs.Bytes.{same_text}
+use Rattle.text_grammar.specs.Last.{last_said}
+use Rattle.plan_types.specs.Packages.{library_name, is_main}
+
+-- a section for a library
+abbrev pub is_library : SectionKind → Bool
+is_library (kinds.Component component.Library) = true
+is_library (kinds.Component component.Executable) = false
+is_library (kinds.Component component.Test) = false
+is_library (kinds.Component component.Bench) = false
+is_library (kinds.Component component.Foreign) = false
+is_library kinds.Common = false
+is_library kinds.Flag = false
+is_library kinds.Setup = false
+
+-- a section for an executable
+abbrev pub is_executable : SectionKind → Bool
+is_executable (kinds.Component component.Library) = false
+is_executable (kinds.Component component.Executable) = true
+is_executable (kinds.Component component.Test) = false
+is_executable (kinds.Component component.Bench) = false
+is_executable (kinds.Component component.Foreign) = false
+is_executable kinds.Common = false
+is_executable kinds.Flag = false
+is_executable kinds.Setup = false
+
+-- a section for a flag
+abbrev pub is_flag : SectionKind → Bool
+is_flag (kinds.Component kind) = false
+is_flag kinds.Common = false
+is_flag kinds.Flag = true
+is_flag kinds.Setup = false
+
+-- a section of such a kind has this name
+abbrev pub declares : (SectionKind → Bool) → List Section → List ℕ → Bool
+declares of_kind sections name = list_any (λ s. of_kind s.kind && same_text name s.name) sections
+
+-- the name of the package that a field states, or that it has none of its form
+abbrev pub name_said : Head → Option (Option (List ℕ))
+name_said (head.Name name) = Some name
+name_said (head.Version version) = None
+name_said (head.BuildType custom) = None
+
+-- what is there, as a list
+abbrev pub as_list : {A : Type 0} → Option A → List A
+as_list None = []
+as_list (Some x) = x ∷ []
+
+-- where there is nothing, there is nothing in it
+abbrev pub joined : {A : Type 0} → Option (Option A) → Option A
+joined None = None
+joined (Some x) = x
+
+-- that of the last field; where that one has no name of its form, the package has none
+abbrev pub own_name : List HeadField → Option (List ℕ)
+own_name heads = joined (last_said (λ field. name_said field.head) heads)
+
+-- the name of the package behind a field, with that of the fields before it
+abbrev pub name_behind : Option (List ℕ) → Head → Option (List ℕ)
+name_behind before (head.Name name) = name
+name_behind before (head.Version version) = before
+name_behind before (head.BuildType custom) = before
+
+-- whether this is the name of the package
+abbrev pub is_own : Option (List ℕ) → List ℕ → Bool
+is_own None name = false
+is_own (Some own) name = same_text own name
+
+-- no library with a name of its own is named, so that the name of the package may stand for a library of this one
+abbrev pub is_bare : Spec → List LibName → Bool
+is_bare spec libs = has_bare_libraries spec && list_all is_main libs
+
+-- what a dependency means that is on the own package, or names a library of it in place of a package
+abbrev pub meaning_by : DepKind → Bool → Bool → Meaning
+meaning_by Library own library = if own then Own else if library then OwnLibrary else Other
+meaning_by Tool own library = if own then Own else Other
+meaning_by Setup own library = Other
+
+-- what a dependency means in a package
+abbrev pub meaning : File → Dep → Meaning
+meaning file dep =
+    meaning_by dep.kind (is_own (own_name file.heads) dep.«package») (is_bare file.spec dep.libs && declares is_library file.sections dep.«package»)
+
+-- a dependency with this meaning
+abbrev pub meant_as : Meaning → Option (List ℕ) → Dep → Dep
+meant_as Other own dep = dep
+meant_as Own own dep = record dep { internal = true }
+meant_as OwnLibrary None dep = dep
+meant_as OwnLibrary (Some own) dep = record dep { «package» = own; libs = lib.Named dep.«package» ∷ []; internal = true }
+
+-- a dependency, as it is meant
+abbrev pub meant : File → Dep → Dep
+meant file dep = meant_as (meaning file dep) (own_name file.heads) dep
+
+-- whether what is meant of the own package is declared, its libraries or its executable
+abbrev pub known_by : Meaning → DepKind → Bool → Bool → Bool
+known_by Other kind libraries executable = true
+known_by OwnLibrary kind libraries executable = true
+known_by Own Library libraries executable = libraries
+known_by Own Tool libraries executable = executable
+known_by Own Setup libraries executable = true
+
+-- a dependency is on nothing of the package itself that isn't declared
+abbrev pub is_known : File → Dep → Bool
+is_known file dep =
+    known_by (meaning file dep) dep.kind (list_all (λ l. declares is_library file.sections (library_name l)) dep.libs)
+    (declares is_executable file.sections dep.exe)
+
+-- each flag that a condition names passes this
+abbrev pub flags_step : (List ℕ → Bool) → Cond-F Bool → Bool
+flags_step known Always = true
+flags_step known Never = true
+flags_step known (Flag name) = known name
+flags_step known (Os name) = true
+flags_step known (Arch name) = true
+flags_step known (Impl name range) = true
+flags_step known (Not inner) = inner
+flags_step known (And left right) = left && right
+flags_step known (Or left right) = left && right
+
+-- each flag that a condition names is declared
+abbrev pub has_flags : List Section → Cond → Bool
+has_flags sections = fold-Cond Bool (flags_step (declares is_flag sections))

@@ -1,0 +1,58 @@
+-- The flags that a package declares.
+use Rattle.std.specs.Prelude.{Bool, true, false, if◌then◌else◌, List, [], ◌∷◌, flat_map, Option, Some, None, unwrap_or}
+use Rattle.std.specs.Cmp.Lexicographic.{slice_cmp}
+use Rattle.std.specs.List.Sorted.{IsPermutation, IsSortedBy, IsStableBy}
+use Rattle.std.specs.Ordering.{nat_cmp, is_lt}
+use Rattle.plan_types.specs.declared.description.FlagDecl.{FlagDecl}
+use Rattle.section_syntax.specs.declared.part.Said.{Said}
+use Rattle.section_syntax.specs.declared.part.Said.TheVariants as said
+use Rattle.section_syntax.specs.declared.part.Section.{Section}
+use Rattle.package_declarations.specs.Declarations.{is_flag}
+use Rattle.text_grammar.specs.Last.{last_said}
+
+-- what a part says of the default of a flag
+abbrev pub default_said : Said → Option Bool
+default_said (said.Import names fits) = None
+default_said (said.Depends deps) = None
+default_said (said.Buildable value) = None
+default_said (said.Visibility value) = None
+default_said (said.Default value) = value
+default_said (said.Manual value) = None
+default_said said.BuildTools = None
+default_said (said.Branch condition fits) = None
+default_said said.Misplaced = None
+
+-- what a part says of whether a flag is manual
+abbrev pub manual_said : Said → Option Bool
+manual_said (said.Import names fits) = None
+manual_said (said.Depends deps) = None
+manual_said (said.Buildable value) = None
+manual_said (said.Visibility value) = None
+manual_said (said.Default value) = None
+manual_said (said.Manual value) = value
+manual_said said.BuildTools = None
+manual_said (said.Branch condition fits) = None
+manual_said said.Misplaced = None
+
+-- the flag that a section declares; what is said last counts
+abbrev pub flag_of : Section → FlagDecl
+flag_of section = record {
+  line = section.line;
+  name = section.name;
+  default = unwrap_or (last_said (λ part. default_said part.said) section.parts) true;
+  manual = unwrap_or (last_said (λ part. manual_said part.said) section.parts) false;
+}
+
+-- in file order
+abbrev pub declared_flags : List Section → List FlagDecl
+declared_flags sections = flat_map (λ section. if is_flag section.kind then flag_of section ∷ [] else []) sections
+
+-- the order of flags is that of their names
+abbrev pub name_before : FlagDecl → FlagDecl → Bool
+name_before one other = is_lt (slice_cmp nat_cmp one.name other.name)
+
+-- the declared flags in the order of their names; those of one name, which is a fault, stay in file order
+pub record AreFlags (sections : List Section) (flags : List FlagDecl) : Type 0 where
+  pub all : IsPermutation (declared_flags sections) flags
+  pub sorted : IsSortedBy name_before flags
+  pub stable : IsStableBy name_before (declared_flags sections) flags

@@ -1,0 +1,44 @@
+// The index of what was read is sound, in any folder, and a folder has one.
+ghost use Rattle.std.specs.Prelude.{◌≡◌, List, Result};
+ghost use Rattle.plan_types.specs.declared.condition.Env.{Env};
+ghost use Rattle.plan_types.specs.declared.dependency.Named.{Named};
+ghost use Rattle.plan_types.specs.declared.index.Index.{Index};
+ghost use Rattle.plan_types.specs.declared.index.Places.{Places};
+ghost use Rattle.plan_types.specs.declared.refusal.Refusal.{Refusal};
+ghost use Rattle.flatten.specs.Sound.{IsSound};
+ghost use Rattle.outside_folder.specs.Files.{Bytes, Files};
+ghost use Rattle.index_files.specs.Readings.{HaveForm};
+ghost use Rattle.index_files.specs.declared.readings.Readings.{Readings};
+ghost use Rattle.index_assembly.specs.Folder.{IsFolderIndex};
+ghost use Rattle.index_assembly.specs.Index.{IsIndexOf};
+ghost use Rattle.package_index.specs.Extra.{AreMarked, AreNamed, AreThere};
+
+use cabal_file::one_source;
+use sound_description::{what_is_described_has_forms, what_is_described_is_sound};
+use unit_record::one_record;
+
+/// The index of what was read is sound, in any folder.
+pub fn what_is_gathered_is_sound()
+    ensures { (env : Env) (places : Places) (extra : List Named) (readings : Readings) (index : Index)
+        → HaveForm env places extra readings → AreNamed extra → IsIndexOf extra readings index → IsSound env index }
+{
+    what_is_described_is_sound();
+    what_is_described_has_forms();
+}
+
+/// Each name that is asked for besides has a package, and a package says whether it is one.
+pub fn extras_are_there()
+    ensures has { (env : Env) (places : Places) (extra : List Named) (readings : Readings) (index : Index)
+        → HaveForm env places extra readings → IsIndexOf extra readings index → AreThere extra index }
+    ensures marked { (extra : List Named) (readings : Readings) (index : Index)
+        → IsIndexOf extra readings index → AreMarked extra index }
+{}
+
+/// A folder's files have one index, or one first refusal.
+pub fn one_folder_index()
+    ensures { (env : Env) (places : Places) (extra : List Named) (paths : List Bytes) (files : Files) (a b : Result Index Refusal)
+        → IsFolderIndex env places extra paths files a → IsFolderIndex env places extra paths files b → a ≡ b }
+{
+    one_source();
+    one_record();
+}

@@ -1,0 +1,91 @@
+-- The project of a folder.
+use Rattle.std.specs.Prelude.{◌≡◌, Bool, true, false, List, [], ◌∷◌, codes, Option, Some, None, Result, Ok, Err}
+use Rattle.plan_types.specs.declared.condition.Env.{Env}
+use Rattle.plan_types.specs.declared.project.Project.{Project}
+use Rattle.plan_types.specs.declared.refusal.Cause.TheVariants.{TooLarge as is_too_large}
+use Rattle.plan_types.specs.declared.refusal.Refusal.{Refusal}
+use Rattle.outside_folder.specs.Calls.{content_at}
+use Rattle.outside_folder.specs.Files.{Bytes, Files}
+use Rattle.outside_folder.specs.declared.calls.Content.{Content}
+use Rattle.outside_folder.specs.declared.calls.Content.TheVariants.{Missing, TooLarge, Bytes as Holds}
+use Rattle.project_file.specs.Read.{IsProject}
+use Rattle.project_file.specs.declared.read.ProjectText.{ProjectText}
+use Rattle.project_paths.specs.Local.{local_files, sought}
+use Rattle.project_config.specs.declared.project.FolderProject.{FolderProject}
+use Rattle.plan_types.specs.Bytes.{same_text}
+
+-- the project files, in reading order
+abbrev pub project_files : List Bytes
+project_files = codes "cabal.project" ∷ codes "cabal.project.freeze" ∷ codes "cabal.project.local" ∷ []
+
+-- ---- what is read
+
+-- no file says nothing, and behind one that is too large nothing is read
+abbrev pub with_text : Bytes → Content → List ProjectText → List ProjectText
+with_text path Missing behind = behind
+with_text path TooLarge behind = []
+with_text path (Holds bytes) behind = record { path = path; bytes = bytes } ∷ behind
+
+-- the files at these paths, in order, up to the first that is too large
+abbrev pub texts_among : Files → List Bytes → List ProjectText
+texts_among files [] = []
+texts_among files (path ∷ paths) = with_text path (content_at files path) (texts_among files paths)
+
+-- the path of a file that is too large, or of one behind it
+abbrev pub large_or : Bytes → Content → Option Bytes → Option Bytes
+large_or path Missing behind = behind
+large_or path TooLarge behind = Some path
+large_or path (Holds bytes) behind = behind
+
+-- the first of these paths at which a file is too large
+abbrev pub first_too_large : Files → List Bytes → Option Bytes
+first_too_large files [] = None
+first_too_large files (path ∷ paths) = large_or path (content_at files path) (first_too_large files paths)
+
+-- whether there is no file
+abbrev pub is_missing : Content → Bool
+is_missing Missing = true
+is_missing TooLarge = false
+is_missing (Holds bytes) = false
+
+-- whether the path is that of the main project file
+abbrev pub is_main : Bytes → Bool
+is_main path = same_text path (codes "cabal.project")
+
+-- there is no file `cabal.project`
+abbrev pub is_implicit : Files → Bool
+is_implicit files = is_missing (content_at files (codes "cabal.project"))
+
+-- ---- what it comes to
+
+-- the refusal of a file that is too large
+abbrev pub too_large : Bytes → Refusal
+too_large path = record { path = path; line = 0; cause = is_too_large; detail = [] }
+
+-- a refusal of what was read comes first
+abbrev pub unless_large : Option Bytes → Result Project Refusal → Result Project Refusal
+unless_large large (Err refusal) = Err refusal
+unless_large None (Ok project) = Ok project
+unless_large (Some path) (Ok project) = Err (too_large path)
+
+-- what these texts say, and a file behind them that is too large
+abbrev pub Say : Env → List ProjectText → Option Bytes → Result Project Refusal → Type 0
+Say env texts large said = (read : Result Project Refusal) × IsProject env texts read × (said ≡ unless_large large read)
+
+-- what the project files of a folder say together, or the first refusal among them
+abbrev pub FilesSay : Env → Files → Result Project Refusal → Type 0
+FilesSay env files said = Say env (texts_among files project_files) (first_too_large files project_files) said
+
+-- the project with its local packages
+abbrev pub with_locals : Project → Result (List Bytes) Refusal → Result FolderProject Refusal
+with_locals project (Ok locals) = Ok (record { project = project; locals = locals })
+with_locals project (Err refusal) = Err refusal
+
+-- where the project files are refused, its entries don't count
+abbrev pub located : Files → Result Project Refusal → Result FolderProject Refusal
+located files (Err refusal) = Err refusal
+located files (Ok project) = with_locals project (local_files files (sought (is_implicit files) project.entries))
+
+-- the project of a folder with its local files, or the first refusal
+abbrev pub IsFolderProject : Env → Files → Result FolderProject Refusal → Type 0
+IsFolderProject env files outcome = (said : Result Project Refusal) × FilesSay env files said × (outcome ≡ located files said)

@@ -1,0 +1,5 @@
+use Rattle.section_syntax.proofs.One as proof
+use Rattle.section_syntax.proofs.laws.one_file.Goals as goal
+
+pub returns : goal.returns
+returns c = proof.one_file

@@ -1,0 +1,108 @@
+-- Which parts the elements of a section are.
+use Rattle.std.specs.Prelude.{◌≡◌, ℕ, Bool, true, false, ◌&&◌, not, if◌then◌else◌, List, [], ◌∷◌, ◌++◌, Option, Some, None, is_some}
+use Rattle.std.specs.declared.result.Result.{Result}
+use Rattle.plan_types.specs.Bytes.{joined_text}
+use Rattle.plan_types.specs.declared.condition.Cond.{Cond}
+use Rattle.plan_types.specs.declared.dependency.Dep.{Dep}
+use Rattle.plan_types.specs.declared.dependency.DepKind.TheVariants.{Library, Setup}
+use Rattle.plan_types.specs.declared.range.Spec.{Spec}
+use Rattle.plan_types.specs.Format.{is_old}
+use Rattle.plan_types.specs.declared.refusal.Cause.{Cause}
+use Rattle.depend_text.specs.Depends as depend
+use Rattle.section_syntax.specs.Branch.{OwnCondition, condition, branch_of, chain_of}
+use Rattle.cabal_lexer.specs.Tree.{Tree, end, field, section}
+use Rattle.section_syntax.specs.Words.{visibility, between_commas, field_word, inner_word}
+use Rattle.section_syntax.specs.declared.part.SectionPart.{SectionPart}
+use Rattle.section_syntax.specs.declared.part.Said.{Said}
+use Rattle.section_syntax.specs.declared.part.Said.TheVariants as said
+use Rattle.section_syntax.specs.declared.part.SectionKind.{SectionKind}
+use Rattle.section_syntax.specs.declared.words.BranchWord.{BranchWord}
+use Rattle.section_syntax.specs.declared.words.BranchWord.TheVariants.{If, Elif, Else}
+use Rattle.section_syntax.specs.declared.words.FieldWord.{FieldWord}
+use Rattle.section_syntax.specs.declared.words.FieldWord.TheVariants as fields
+use Rattle.section_syntax.specs.declared.words.InnerWord.{InnerWord}
+use Rattle.text_grammar.specs.Words.{boolean}
+use Rattle.text_grammar.specs.Outcome.{Read}
+use Rattle.section_syntax.specs.declared.words.InnerWord.TheVariants as inner
+
+-- it is read from 3.0 on
+abbrev pub visible : Spec → List ℕ → Option Said
+visible spec text = if is_old spec then None else Some (said.Visibility (visibility text))
+
+-- What a field says with this text, where it is read. An import tells whether it stands where one may.
+abbrev pub FieldSays : Spec → FieldWord → ℕ → List ℕ → Bool → Option Said → Type 0
+FieldSays spec fields.Import line text fits found = found ≡ Some (said.Import (between_commas text) fits)
+FieldSays spec fields.Depends line text fits found =
+    (deps : Result (List Dep) Cause) × Read (depend.Depends spec Library line text) (depend.DependsFault spec Library line text) deps × (found ≡ Some (said.Depends deps))
+FieldSays spec fields.SetupDepends line text fits found =
+    (deps : Result (List Dep) Cause) × Read (depend.Depends spec Setup line text) (depend.DependsFault spec Setup line text) deps × (found ≡ Some (said.Depends deps))
+FieldSays spec fields.ToolDepends line text fits found =
+    (deps : Result (List Dep) Cause) × Read (depend.Tools spec line text) (depend.ToolsFault spec line text) deps × (found ≡ Some (said.Depends deps))
+FieldSays spec fields.Buildable line text fits found = found ≡ Some (said.Buildable (boolean text))
+FieldSays spec fields.Visibility line text fits found = found ≡ visible spec text
+FieldSays spec fields.Default line text fits found = found ≡ Some (said.Default (boolean text))
+FieldSays spec fields.Manual line text fits found = found ≡ Some (said.Manual (boolean text))
+FieldSays spec fields.BuildTools line text fits found = found ≡ Some said.BuildTools
+FieldSays spec fields.Unread line text fits found = found ≡ None
+
+-- whether a field is an import
+abbrev pub is_import : FieldWord → Bool
+is_import fields.Import = true
+is_import fields.Depends = false
+is_import fields.SetupDepends = false
+is_import fields.ToolDepends = false
+is_import fields.Buildable = false
+is_import fields.Visibility = false
+is_import fields.Default = false
+is_import fields.Manual = false
+is_import fields.BuildTools = false
+is_import fields.Unread = false
+
+-- what a field says as a part, where it is read
+abbrev pub placed : ℕ → List Cond → Option Said → List SectionPart
+placed line branches None = []
+placed line branches (Some found) = record { line = line; branches = branches; said = found } ∷ []
+
+-- an `if` stands anywhere, the others directly behind a branch that isn't an `else`
+abbrev pub branch_fits : BranchWord → Option Cond → Bool
+branch_fits If chain = true
+branch_fits Elif chain = is_some chain
+branch_fits Else chain = is_some chain
+
+-- imports stand in front in a section, and from 3.0 on in a branch
+abbrev pub imports_in_branches : Spec → Bool
+imports_in_branches spec = not (is_old spec)
+
+-- whether an import may stand in front in these branches
+abbrev pub imports_begin : {A : Type 0} → Spec → List A → Bool
+imports_begin spec [] = true
+imports_begin spec (branch ∷ branches) = imports_in_branches spec
+
+-- a branch, what stands in it, and what stands behind it
+pub record BranchSays (spec : Spec) (word : BranchWord) (line : ℕ) (args : List ℕ) (branches : List Cond) (chain : Option Cond)
+    (Within : List Cond → List SectionPart → Type 0) (Behind : Option Cond → List SectionPart → Type 0) (parts : List SectionPart) : Type 0 where
+  pub own : Result Cond Cause
+  pub within : List SectionPart
+  pub behind : List SectionPart
+  pub reads : OwnCondition spec word args own
+  pub inside : Within (branches ++ condition (branch_of word chain own) ∷ []) within
+  pub others : Behind (chain_of (branch_of word chain own)) behind
+  pub are : parts ≡ record { line = line; branches = branches; said = said.Branch own (branch_fits word chain) } ∷ within ++ behind
+
+-- a section, and what stands behind it
+abbrev pub SectionSays : Spec → InnerWord → ℕ → List ℕ → List Cond → Option Cond → (List Cond → List SectionPart → Type 0) → (Option Cond → List SectionPart → Type 0) → List SectionPart → Type 0
+SectionSays spec (inner.Branch word) line args branches chain Within Behind parts = BranchSays spec word line args branches chain Within Behind parts
+SectionSays spec inner.Misplaced line args branches chain Within Behind parts =
+    (behind : List SectionPart) × Behind None behind × (parts ≡ record { line = line; branches = branches; said = said.Misplaced } ∷ behind)
+SectionSays spec inner.Unread line args branches chain Within Behind parts = Behind None parts
+
+-- The elements are these parts, under these branches. An import may stand here or not, and the chain is that of a branch directly in front.
+unfoldable pub Items : Spec → SectionKind → Tree → List Cond → Bool → Option Cond → List SectionPart → Type 0
+Items spec kind end branches fits chain parts = parts ≡ []
+Items spec kind (field line name values behind) branches fits chain parts =
+    (found : Option Said) × (more : List SectionPart) × FieldSays spec (field_word kind name) line (joined_text values) fits found
+    × Items spec kind behind branches (fits && is_import (field_word kind name)) None more × (parts ≡ placed line branches found ++ more)
+Items spec kind (section line name args items behind) branches fits chain parts =
+    SectionSays spec (inner_word kind name) line args branches chain
+    (λ within found. Items spec kind items within (imports_in_branches spec) None found)
+    (λ left found. Items spec kind behind branches false left found) parts

@@ -1,0 +1,167 @@
+// Branches: the conditions under which what stands in them counts.
+
+ghost use Rattle.std.specs.Prelude.{◌≡◌, IfOk, map};
+ghost use Rattle.section_syntax.specs.Branch.{all_of, bare, branch_of, condition, last, or_never, tried, tried_behind, OwnCondition, IsOutcome};
+
+use crate::words::BranchWord;
+use condition_text::read_cond;
+use plan_types::{Cause, Cond, List, NoMemory, Shared, Spec, Text, TextFault};
+use std::alloc::Global;
+
+/// A branch: the condition of being in it, and that of not being in any branch of its chain so far. Nothing stands behind an `else`.
+#[derive(Drop)]
+pub struct Branch {
+    pub condition: Shared<Cond>,
+    pub chain: Option<Shared<Cond>>,
+}
+
+impl Branch {
+    /// A branch behind what was tried before it in its chain.
+    pub fn of(
+        alloc: Global,
+        word: BranchWord,
+        chain: Option<Shared<Cond>>,
+        own: &Result<Shared<Cond>, Cause>,
+    ) -> Result<Branch, NoMemory>
+        ensures { IfOk result (λ branch. branch ≡ branch_of word chain own.now) }
+    {
+        match word {
+            BranchWord::If => tried(alloc, None, own),
+            BranchWord::Elif => tried(alloc, chain, own),
+            BranchWord::Else => last(alloc, chain),
+        }
+    }
+}
+
+/// A branch with a condition of its own.
+fn tried(
+    alloc: Global,
+    chain: Option<Shared<Cond>>,
+    own: &Result<Shared<Cond>, Cause>,
+) -> Result<Branch, NoMemory>
+    ensures { IfOk result (λ branch. branch ≡ tried chain (or_never own.now)) }
+{
+    let own = or_never(alloc, own)?;
+    let other = Shared::new(alloc, Cond::Not(own.copy()?))?;
+    let condition = tried_behind(alloc, &chain, own)?;
+    let chain = tried_behind(alloc, &chain, other)?;
+    Ok(Branch {
+        condition,
+        chain: Some(chain),
+    })
+}
+
+/// An `else`.
+fn last(alloc: Global, chain: Option<Shared<Cond>>) -> Result<Branch, NoMemory>
+    ensures { IfOk result (λ branch. branch ≡ last chain) }
+{
+    let condition = match chain {
+        Some(tried) => tried,
+        None => Shared::new(alloc, Cond::Always)?,
+    };
+    Ok(Branch {
+        condition,
+        chain: None,
+    })
+}
+
+fn tried_behind(
+    alloc: Global,
+    chain: &Option<Shared<Cond>>,
+    cond: Shared<Cond>,
+) -> Result<Shared<Cond>, NoMemory>
+    ensures { IfOk result (λ found. found ≡ tried_behind chain.now cond) }
+{
+    match chain {
+        None => Ok(cond),
+        Some(tried) => {
+            let left = tried.copy()?;
+            Ok(Shared::new(alloc, Cond::And(left, cond))?)
+        }
+    }
+}
+
+/// The conditions of branches.
+pub fn conditions(alloc: Global, branches: &[Branch]) -> Result<List<Shared<Cond>>, NoMemory>
+    ensures { IfOk result (λ conds. conds ≡ map condition branches.now) }
+{
+    let mut conds = List::new(alloc);
+    for branch in branches {
+        conds.push(branch.condition.copy()?)?;
+    }
+    Ok(conds)
+}
+
+/// Conditions joined by `&&`, from the left; `true` where there is none.
+pub fn all_of(alloc: Global, conds: &[Shared<Cond>]) -> Result<Shared<Cond>, NoMemory>
+    ensures { IfOk result (λ all. all ≡ all_of conds.now) }
+{
+    let [first, rest @ ..] = conds else {
+        return Shared::new(alloc, Cond::Always);
+    };
+    let mut all = first.copy()?;
+    for cond in rest {
+        all = Shared::new(alloc, Cond::And(all, cond.copy()?))?;
+    }
+    Ok(all)
+}
+
+/// The condition of a branch itself.
+pub fn own_condition(
+    alloc: Global,
+    spec: Spec,
+    word: BranchWord,
+    args: &Text,
+) -> Result<Result<Shared<Cond>, Cause>, NoMemory>
+    ensures { IfOk result (OwnCondition spec word args.now) }
+{
+    let read = match word {
+        BranchWord::Else => bare(args.as_bytes()),
+        BranchWord::If | BranchWord::Elif => outcome(read_cond(alloc, args.as_bytes(), spec))?,
+    };
+    shared(alloc, read)
+}
+
+fn shared(alloc: Global, read: Result<Cond, Cause>) -> Result<Result<Shared<Cond>, Cause>, NoMemory>
+    ensures { IfOk result (λ found. found ≡ read) }
+{
+    match read {
+        Ok(cond) => Ok(Ok(Shared::new(alloc, cond)?)),
+        Err(cause) => Ok(Err(cause)),
+    }
+}
+
+// Nothing stands behind `else`.
+fn bare(args: &[u8]) -> Result<Cond, Cause>
+    ensures { result ≡ bare args.now }
+{
+    if args.is_empty() {
+        Ok(Cond::Always)
+    } else {
+        Err(Cause::BadField)
+    }
+}
+
+/// What was read, or why not.
+pub fn outcome<T: Drop>(read: Result<T, TextFault>) -> Result<Result<T, Cause>, NoMemory>
+    ensures { IfOk result (IsOutcome read) }
+{
+    match read {
+        Ok(found) => Ok(Ok(found)),
+        Err(TextFault::Bad(cause)) => Ok(Err(cause)),
+        Err(TextFault::NoMemory) => Err(NoMemory),
+    }
+}
+
+/// What stands for the condition where it can't be read.
+fn or_never(
+    alloc: Global,
+    condition: &Result<Shared<Cond>, Cause>,
+) -> Result<Shared<Cond>, NoMemory>
+    ensures { IfOk result (λ cond. cond ≡ or_never condition.now) }
+{
+    match condition {
+        Ok(cond) => cond.copy(),
+        Err(_) => Shared::new(alloc, Cond::Never),
+    }
+}

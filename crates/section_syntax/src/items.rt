@@ -1,0 +1,240 @@
+// The items of a section, gone through in file order, branches with what stands in them.
+
+ghost use Rattle.std.specs.Prelude.{◌≡◌, ◌++◌, ◌&&◌, [], ◌∷◌, List, true, false, None, Some, Option, map, IfOk, OnOk};
+ghost use Rattle.std.specs.declared.result.Result.{Result};
+ghost use Rattle.plan_types.specs.declared.condition.Cond.{Cond};
+ghost use Rattle.plan_types.specs.declared.refusal.Cause.{Cause};
+ghost use Rattle.section_syntax.specs.declared.branch.Branch.{Branch};
+ghost use Rattle.section_syntax.specs.declared.part.SectionPart.{SectionPart};
+ghost use Rattle.section_syntax.specs.Branch.{condition, branch_of, chain_of, OwnCondition};
+ghost use Rattle.section_syntax.specs.Items.{Items, SectionSays, branch_fits, imports_in_branches, imports_begin, is_import, placed};
+ghost use Rattle.cabal_lexer.specs.Tree.{Tree, in_front, tree_of};
+ghost use Rattle.section_syntax.specs.Readings.{OpensBranch, ReadsItem, ReadsItems, ReadsSection};
+
+use crate::branch::{Branch, conditions, own_condition};
+use crate::field::said_by;
+use crate::part::{Said, SectionKind, SectionPart};
+use crate::words::{BranchWord, FieldWord, InnerWord, field_word, inner_word};
+use plan_types::{Cond, Element, List, NoMemory, Shared, Spec, Text};
+use std::alloc::Global;
+
+/// What is known of a section while its items are gone through.
+#[derive(Clone, Copy)]
+pub struct Inside {
+    pub spec: Spec,
+    pub kind: SectionKind,
+}
+
+/// What stood before an item.
+#[derive(Drop)]
+struct Before {
+    /// Whether an import may stand here.
+    fits: bool,
+    /// The conditions of a chain of branches, where one of it stands directly before.
+    chain: Option<Shared<Cond>>,
+}
+
+/// The parts of a section.
+pub fn read_parts(
+    alloc: Global,
+    inside: Inside,
+    items: &[Element],
+) -> Result<List<SectionPart>, NoMemory>
+    ensures { IfOk result (Items inside.spec inside.kind (tree_of items.now) [] true None) }
+{
+    let mut branches = List::new(alloc);
+    let mut parts = List::new(alloc);
+    read_items(alloc, inside, items, &mut branches, &mut parts)?;
+    Ok(parts)
+}
+
+/// The branches in which the items stand are as before afterwards.
+#[cycle(items)]
+fn read_items(
+    alloc: Global,
+    inside: Inside,
+    items: &[Element],
+    branches: &mut List<Branch>,
+    parts: &mut List<SectionPart>,
+) -> Result<(), NoMemory>
+    ensures parts { OnOk result (ReadsItems inside (tree_of items.now) branches.old parts.old parts.new) }
+    ensures branches { OnOk result (branches.new ≡ branches.old) }
+{
+    let mut before = Before {
+        fits: imports_begin(inside.spec, branches.as_slice()),
+        chain: None,
+    };
+    for item in items {
+        before = read_item(alloc, inside, item, before, branches, parts)?;
+    }
+    Ok(())
+}
+
+#[cycle(items)]
+fn read_item(
+    alloc: Global,
+    inside: Inside,
+    item: &Element,
+    before: Before,
+    branches: &mut List<Branch>,
+    parts: &mut List<SectionPart>,
+) -> Result<Before, NoMemory>
+    ensures parts { IfOk result (λ after. ReadsItem inside item.now branches.old before after parts.old parts.new) }
+    ensures branches { IfOk result (λ _. branches.new ≡ branches.old) }
+{
+    match item {
+        Element::Field { line, name, values } => {
+            let word = field_word(inside.kind, name.as_str());
+            let said = said_by(alloc, inside.spec, word, *line, values, before.fits)?;
+            place_some(alloc, branches.as_slice(), *line, said, parts)?;
+            Ok(Before {
+                fits: imports_behind(before.fits, word),
+                chain: None,
+            })
+        }
+        Element::Section {
+            line,
+            name,
+            args,
+            items,
+        } => {
+            let word = inner_word(inside.kind, name.as_str());
+            let chain = read_section(
+                alloc,
+                inside,
+                word,
+                *line,
+                args,
+                items.as_slice(),
+                before.chain,
+                branches,
+                parts,
+            )?;
+            Ok(Before { fits: false, chain })
+        }
+    }
+}
+
+/// Imports stand in front in a section, and from 3.0 on in a branch.
+fn imports_begin(spec: Spec, branches: &[Branch]) -> bool
+    ensures { result ≡ imports_begin spec branches.now }
+{
+    branches.is_empty() || !spec.is_old()
+}
+
+fn imports_behind(fits: bool, word: FieldWord) -> bool
+    ensures { result ≡ (fits && is_import word) }
+{
+    fits && word == FieldWord::Import
+}
+
+fn place_some(
+    alloc: Global,
+    branches: &[Branch],
+    line: u32,
+    said: Option<Said>,
+    parts: &mut List<SectionPart>,
+) -> Result<(), NoMemory>
+    ensures { OnOk result (parts.new ≡ parts.old ++ placed line (map condition branches.now) said) }
+{
+    match said {
+        Some(said) => place(alloc, branches, line, said, parts),
+        None => Ok(()),
+    }
+}
+
+fn place(
+    alloc: Global,
+    branches: &[Branch],
+    line: u32,
+    said: Said,
+    parts: &mut List<SectionPart>,
+) -> Result<(), NoMemory>
+    ensures { OnOk result (parts.new ≡ parts.old ++ placed line (map condition branches.now) (Some said)) }
+{
+    let branches = conditions(alloc, branches)?;
+    parts.push(SectionPart {
+        line,
+        branches,
+        said,
+    })
+}
+
+/// What is left is the chain for the next item.
+#[cycle(items)]
+fn read_section(
+    alloc: Global,
+    inside: Inside,
+    word: InnerWord,
+    line: u32,
+    args: &Text,
+    items: &[Element],
+    chain: Option<Shared<Cond>>,
+    branches: &mut List<Branch>,
+    parts: &mut List<SectionPart>,
+) -> Result<Option<Shared<Cond>>, NoMemory>
+    ensures parts { IfOk result (λ left.
+        ReadsSection inside word line args.now (tree_of items.now) branches.old chain left parts.old parts.new) }
+    ensures branches { IfOk result (λ _. branches.new ≡ branches.old) }
+{
+    match word {
+        InnerWord::Unread => Ok(None),
+        InnerWord::Misplaced => {
+            place(alloc, branches.as_slice(), line, Said::Misplaced, parts)?;
+            Ok(None)
+        }
+        InnerWord::Branch(word) => {
+            let branch = open_branch(
+                alloc,
+                inside.spec,
+                word,
+                line,
+                args,
+                chain,
+                branches.as_slice(),
+                parts,
+            )?;
+            branches.push(branch)?;
+            read_items(alloc, inside, items, branches, parts)?;
+            let left = close_branch(branches);
+            Ok(left)
+        }
+    }
+}
+
+/// Places what a branch itself says.
+fn open_branch(
+    alloc: Global,
+    spec: Spec,
+    word: BranchWord,
+    line: u32,
+    args: &Text,
+    chain: Option<Shared<Cond>>,
+    branches: &[Branch],
+    parts: &mut List<SectionPart>,
+) -> Result<Branch, NoMemory>
+    ensures { IfOk result (λ branch. OpensBranch spec word line args.now chain branches.now branch parts.old parts.new) }
+{
+    let fits = word == BranchWord::If || chain.is_some();
+    let condition = own_condition(alloc, spec, word, args)?;
+    let branch = Branch::of(alloc, word, chain, &condition)?;
+    place(
+        alloc,
+        branches,
+        line,
+        Said::Branch { condition, fits },
+        parts,
+    )?;
+    Ok(branch)
+}
+
+/// The chain of the branch that ends here.
+fn close_branch(branches: &mut List<Branch>) -> Option<Shared<Cond>>
+    ensures { (outer : List Branch) (branch : Branch) → branches.old ≡ outer ++ branch ∷ []
+        → (result ≡ chain_of branch) × (branches.new ≡ outer) }
+{
+    match branches.pop() {
+        Some(branch) => branch.chain,
+        None => None,
+    }
+}

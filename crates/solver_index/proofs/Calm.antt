@@ -1,0 +1,179 @@
+-- Between the turns of a range it is calm, and what its relaxed range lets in follows it.
+use Rattle.std.proofs.Common.{◌≡◌, ℕ, ◌<◌, ◌≤◌, Bool, true, false, List, [], ◌∷◌, ◌++◌, refl, sym, ap, ◌∙◌, inl, inr, arith, append_assoc}
+use Rattle.std.specs.List.{Contains}
+use Rattle.std.proofs.lemmas.Bool.{false≢true, cases_lt}
+use Rattle.std.proofs.lemmas.List.{append-nil}
+use Rattle.std.proofs.lemmas.List.Elements.{Contains-append_left, Contains-append_right, Contains-append_cases}
+use Rattle.plan_types.specs.declared.index.Entry.{Entry}
+use Rattle.plan_types.specs.declared.range.Range.{Range}
+use Rattle.plan_types.specs.declared.version.Version.{Version}
+use Rattle.plan_types.specs.Members.{members}
+use Rattle.version_range.specs.declared.merge.Joint.{Joint}
+use Rattle.version_range.specs.Cuts.{HasNumbers, IsRelaxed, IsSplit, Relaxes, SomeAbove, SomeBelow, is_below, join}
+use Rattle.version_range.proofs.Ends.{below_down, below_up, not_below_back, not_itself}
+use Rattle.solver_index.specs.Before.{before}
+use Rattle.solver_index.specs.Blocks.{IsBlock, version_at}
+use Rattle.solver_index.specs.TurningPlaces.{AreTurns, AreTurnsBut, Follows, IsCalm, IsFree, IsOperator}
+use Rattle.solver_index.proofs.ListLaws.{false-back}
+use Rattle.common_laws.specs.Lists.{contains-head, contains-tail, contains-none, contains-cases}
+
+-- ---- an operator
+
+-- two places of which both lie in front of the members, among them or behind them
+module _ (r : Range) (is : IsOperator r) (entries : List Entry) (from to first last : ℕ) (block : IsBlock entries from to)
+    (low : from ≤ first) (middle : first ≤ last) (high : last ≤ to)
+    (front : (k : ℕ) → from ≤ k → k < first → before r (version_at entries k) ≡ true) (reached : (k : ℕ) → first ≤ k → k < to → before r (version_at entries k) ≡ false)
+    (inner : (k : ℕ) → first ≤ k → k < last → members r (version_at entries k) ≡ true) (left : (k : ℕ) → last ≤ k → k < to → members r (version_at entries k) ≡ false) where
+  abbrev v : ℕ → Version
+  v k = version_at entries k
+
+  -- nothing between two places that lie in front of the members is one
+  in-front : (a b : ℕ) → from ≤ a → a ≤ b → b < first → IsCalm (members r) (v a) (v b)
+  in-front a b la ab bf u n behind le =
+      let nb = block.numbers b (omega (arith, la, ab)) (omega (arith, bf, middle, high)) in
+      let na = block.numbers a la (omega (arith, ab, bf, middle, high)) in
+      is.outside u n (is.front u (v b) n nb le (front b (omega (arith, la, ab)) bf)) ∙ sym (is.outside (v a) na (front a la (omega (arith, ab, bf))))
+
+  among : (a b : ℕ) → first ≤ a → a ≤ b → b < last → IsCalm (members r) (v a) (v b)
+  among a b fa ab bl u n behind le =
+      let na = block.numbers a (omega (arith, low, fa)) (omega (arith, ab, bl, high)) in
+      let nb = block.numbers b (omega (arith, low, fa, ab)) (omega (arith, bl, high)) in
+      -- u isn't in front: else the first of the two were
+      let there : before r u ≡ false = false-back (before r u) (before r (v a)) (λ h. is.front (v a) u na n behind h) (reached a fa (omega (arith, ab, bl, high))) in
+      is.down u (v b) n nb there le (inner b (omega (arith, fa, ab)) bl) ∙ sym (inner a fa (omega (arith, ab, bl)))
+
+  beyond : (a b : ℕ) → last ≤ a → a ≤ b → b < to → IsCalm (members r) (v a) (v b)
+  beyond a b la ab bt u n behind le =
+      let na = block.numbers a (omega (arith, low, middle, la)) (omega (arith, ab, bt)) in
+      let none = left a la (omega (arith, ab, bt)) in
+      false-back (members r u) (members r (v a)) (λ h. is.down (v a) u na n (reached a (omega (arith, middle, la)) (omega (arith, ab, bt))) behind h) none ∙ sym none
+
+  pub operator-calm : (a b : ℕ) → from ≤ a → a ≤ b → b < to → IsFree (first ∷ last ∷ []) a b → IsCalm (members r) (v a) (v b)
+  operator-calm a b la ab bt free =
+      elim (cases_lt a first) [
+        | inl before_first ↦
+            let both : b < first = free first (contains-head first (last ∷ [])) before_first in
+            in-front a b la ab both
+        | inr behind_first ↦ elim (cases_lt a last) [
+          | inl before_last ↦
+              let both : b < last = free last (contains-tail first (last ∷ []) last (contains-head last [])) before_last in
+              among a b (omega (arith, behind_first)) ab both
+          | inr behind_last ↦ beyond a b (omega (arith, behind_last)) ab bt
+        ]
+      ]
+
+  operator-within : (t : ℕ) → Contains (first ∷ last ∷ []) t → (from ≤ t) × (t ≤ to)
+  operator-within t h =
+      elim (contains-cases first (last ∷ []) t h) [
+        | inl e ↦ (omega (arith, e, low), omega (arith, e, middle, high))
+        | inr k ↦ elim (contains-cases last [] t k) [ inl e ↦ (omega (arith, e, low, middle), omega (arith, e, high)) | inr none ↦ absurd (contains-none t none) ]
+      ]
+
+  pub operator-turns : (old one new : List ℕ) → one ≡ old ++ first ∷ [] → new ≡ one ++ last ∷ [] → AreTurns (members r) entries from to old new
+  operator-turns old one new e f = record {
+    more = first ∷ last ∷ [];
+    extends = f ∙ ap (λ l. l ++ last ∷ []) e ∙ append_assoc old (first ∷ []) (last ∷ []);
+    within = operator-within;
+    calm = operator-calm;
+  }
+
+-- ---- joined ranges
+
+free-left : (xs ys : List ℕ) (a b : ℕ) → IsFree (xs ++ ys) a b → IsFree xs a b
+free-left xs ys a b free t h = free t (Contains-append_left xs ys t h)
+
+free-right : (xs ys : List ℕ) (a b : ℕ) → IsFree (xs ++ ys) a b → IsFree ys a b
+free-right xs ys a b free t h = free t (Contains-append_right xs ys t h)
+
+join-calm : (joint : Joint) (range left right : Range) → IsSplit joint range left right → (v w : Version) → IsCalm (members left) v w → IsCalm (members right) v w → IsCalm (members range) v w
+join-calm joint range left right split v w l r u n behind le =
+    split.members_are u ∙ (λ i. join joint (l u n behind le i) (r u n behind le i)) ∙ sym (split.members_are v)
+
+module _ (has : Version → Bool) (entries : List Entry) (from to : ℕ) where
+  pub turns-start : (old : List ℕ) → AreTurnsBut has has entries from to old old
+  turns-start old = record { more = []; extends = sym (append-nil old); within = λ t h. absurd (contains-none t h); calm = λ a b la ab bt free c. c }
+
+  both-within : (xs ys : List ℕ) → ((t : ℕ) → Contains xs t → (from ≤ t) × (t ≤ to)) → ((t : ℕ) → Contains ys t → (from ≤ t) × (t ≤ to)) → (t : ℕ) → Contains (xs ++ ys) t → (from ≤ t) × (t ≤ to)
+  both-within xs ys l r t h = elim (Contains-append_cases xs ys t h) [ inl a ↦ l t a | inr b ↦ r t b ]
+
+  pub turns-step : (joint : Joint) (range left right : Range) (old one new : List ℕ) → IsSplit joint range left right → AreTurnsBut has (members range) entries from to old one
+      → AreTurns (members right) entries from to one new → AreTurnsBut has (members left) entries from to old new
+  turns-step joint range left right old one new split was turned = record {
+    more = was.more ++ turned.more;
+    extends = turned.extends ∙ ap (λ l. l ++ turned.more) was.extends ∙ append_assoc old was.more turned.more;
+    within = both-within was.more turned.more was.within turned.within;
+    calm = λ a b la ab bt free c.
+        was.calm a b la ab bt (free-left was.more turned.more a b free)
+        (join-calm joint range left right split (version_at entries a) (version_at entries b) c (turned.calm a b la ab bt (free-right was.more turned.more a b free)));
+  }
+
+  pub turns-end : (rest : Version → Bool) (old one new : List ℕ) → AreTurnsBut has rest entries from to old one → AreTurns rest entries from to one new → AreTurns has entries from to old new
+  turns-end rest old one new was turned = record {
+    more = was.more ++ turned.more;
+    extends = turned.extends ∙ ap (λ l. l ++ turned.more) was.extends ∙ append_assoc old was.more turned.more;
+    within = both-within was.more turned.more was.within turned.within;
+    calm = λ a b la ab bt free.
+        was.calm a b la ab bt (free-left was.more turned.more a b free) (turned.calm a b la ab bt (free-right was.more turned.more a b free));
+  }
+
+-- ---- relaxed ranges follow
+
+module _ (newer older : Bool) (has f : Version → Bool) (relaxes : Relaxes newer older has f) (v w : Version) (nv : HasNumbers v) (nw : HasNumbers w) (le : is_below w v ≡ false) (calm : IsCalm has v w) where
+  same : has w ≡ has v
+  same = calm w nw le (not_itself w)
+
+  -- where neither is a member, none between them is
+  none-between : has v ≡ false → (u : Version) → HasNumbers u → has u ≡ true → is_below u v ≡ false → is_below w u ≡ false → ⊥
+  none-between none u n m behind below = false≢true (sym (calm u n behind below ∙ none) ∙ m)
+
+  under : has v ≡ false → SomeBelow has w → SomeBelow has v
+  under none (u, n, m, h) =
+      elim (is_below u v) as (λ t. is_below u v ≡ t → SomeBelow has v) [
+        | true ↦ λ e. (u, n, m, e)
+        | false ↦ λ e. absurd (none-between none u n m e (not_below_back u w h))
+      ] refl
+
+  under-up : SomeBelow has v → SomeBelow has w
+  under-up (u, n, m, h) = (u, n, m, below_up u v w h le)
+
+  over : has v ≡ false → SomeAbove has v → SomeAbove has w
+  over none (u, n, m, h) =
+      elim (is_below w u) as (λ t. is_below w u ≡ t → SomeAbove has w) [
+        | true ↦ λ e. (u, n, m, e)
+        | false ↦ λ e. absurd (none-between none u n m (not_below_back v u h) e)
+      ] refl
+
+  over-down : SomeAbove has w → SomeAbove has v
+  over-down (u, n, m, h) = (u, n, m, below_down v w u le h)
+
+  up : has v ≡ false → IsRelaxed newer older has v → IsRelaxed newer older has w
+  up none (inl m) = absurd (false≢true (sym none ∙ m))
+  up none (inr (inl n)) = inr (inl (n.0, (under-up n.1.0, λ s. n.1.1 (over-down s))))
+  up none (inr (inr o)) = inr (inr (o.0, (over none o.1.0, λ s. o.1.1 (under none s))))
+
+  down : has v ≡ false → IsRelaxed newer older has w → IsRelaxed newer older has v
+  down none (inl m) = absurd (false≢true (sym (same ∙ none) ∙ m))
+  down none (inr (inl n)) = inr (inl (n.0, (under none n.1.0, λ s. n.1.1 (over none s))))
+  down none (inr (inr o)) = inr (inr (o.0, (over-down o.1.0, λ s. o.1.1 (under-up s))))
+
+  both-ways : (a b : Bool) → (a ≡ true → b ≡ true) → (b ≡ true → a ≡ true) → a ≡ b
+  both-ways true b h k = sym (h refl)
+  both-ways false true h k = k refl
+  both-ways false false h k = refl
+
+  pub relaxed-same : f v ≡ f w
+  relaxed-same =
+      elim (has v) as (λ t. has v ≡ t → f v ≡ f w) [
+        | true ↦ λ e. (relaxes v nv).1 (inl e) ∙ sym ((relaxes w nw).1 (inl (same ∙ e)))
+        | false ↦ λ e. both-ways (f v) (f w) (λ h. (relaxes w nw).1 (up e ((relaxes v nv).0 h))) (λ h. (relaxes v nv).1 (down e ((relaxes w nw).0 h)))
+      ] refl
+
+pub relaxed-follows : (newer older : Bool) (has f : Version → Bool) → Relaxes newer older has f → Follows has f
+relaxed-follows newer older has f relaxes v w nv nw le calm = relaxed-same newer older has f relaxes v w nv nw le calm
+
+pub itself-follows : (has : Version → Bool) → Follows has has
+itself-follows has v w nv nw le calm = sym (calm w nw le (not_itself w))
+
+-- and what is the same on versions with numbers
+pub same-follows : (has f g : Version → Bool) → ((v : Version) → HasNumbers v → g v ≡ f v) → Follows has f → Follows has g
+same-follows has f g is h v w nv nw le calm = is v nv ∙ h v w nv nw le calm ∙ sym (is w nw)

@@ -1,0 +1,99 @@
+-- What each instance depends on, by numbers and places.
+use Rattle.std.specs.Prelude.{ℕ, Bool, true, false, List, [], length, map, slice_index_or}
+use Rattle.plan_types.specs.declared.dependency.Dep.{Dep}
+use Rattle.plan_types.specs.declared.dependency.DepKind.{DepKind}
+use Rattle.plan_types.specs.declared.dependency.DepKind.TheVariants as kind
+use Rattle.plan_types.specs.declared.index.Body.{Body}
+use Rattle.plan_types.specs.declared.index.Body.TheVariants.{Source, Installed}
+use Rattle.plan_types.specs.declared.index.Entry.{Entry}
+use Rattle.plan_types.specs.declared.index.FlatDep.{FlatDep}
+use Rattle.plan_types.specs.declared.index.Literal.{Literal}
+use Rattle.plan_types.specs.declared.index.Package.{Package}
+use Rattle.plan_types.specs.declared.index.PartName.{PartName}
+use Rattle.plan_types.specs.declared.index.PartName.TheVariants as literal
+use Rattle.plan_types.specs.declared.project.Project.{Project}
+use Rattle.plan_types.specs.declared.version.Version.{Version}
+use Rattle.qualified_goals.specs.declared.variable.Part.{Part}
+use Rattle.qualified_goals.specs.declared.variable.Part.TheVariants.{Flag, Tests, Benches}
+use Rattle.qualified_goals.specs.Names.{Name, NameTable}
+use Rattle.solver_index.specs.declared.dependencies.Dependencies.{Dependencies}
+use Rattle.solver_index.specs.declared.dependencies.ConditionalDep.{ConditionalDep}
+use Rattle.solver_index.specs.declared.dependencies.Need.{Need}
+use Rattle.solver_index.specs.declared.dependencies.Setting.{Setting}
+use Rattle.solver_index.specs.declared.dependencies.Target.{Target}
+use Rattle.solver_index.specs.Allowed.{allowed_unit, allowed_for}
+use Rattle.solver_index.specs.AllowedVersions.{allowed_versions}
+use Rattle.solver_index.specs.Places.{rising, places, number, flag_number}
+use Rattle.plan_types.specs.Packages.{entries_of, package_at}
+use Rattle.plan_types.specs.declared.description.Description.{Description}
+
+-- the number of a value
+abbrev pub bit : Bool → ℕ
+bit true = 1
+bit false = 0
+
+-- a part of a package, with the number of its flag
+abbrev pub part_of : NameTable → PartName → Part
+part_of names (literal.Flag name) = Flag (flag_number names name)
+part_of names literal.Tests = Tests
+part_of names literal.Benches = Benches
+
+-- a setting that a dependency waits for
+abbrev pub setting_of : NameTable → Literal → Setting
+setting_of names l = record { part = part_of names l.part; val = bit l.on }
+
+-- the package of this name, and the places of the versions that are let in
+abbrev pub target_of : List Package → NameTable → (Version → Bool) → Name → Target
+target_of packages names allows name = record {
+  «package» = number packages names name;
+  inside = places (λ e. allows e.instance.version) (entries_of packages (number packages names name));
+}
+
+-- the target of a dependency
+abbrev pub dep_target : List Package → NameTable → (Dep → Version → Bool) → DepKind → Dep → Target
+dep_target packages names allows kind dep = target_of packages names (allowed_for kind (allows dep) dep.range) dep.«package»
+
+-- a dependency and what has to be set for it to count
+abbrev pub conditional_dep : List Package → NameTable → (Dep → Version → Bool) → FlatDep → ConditionalDep
+conditional_dep packages names allows flat = record {
+  when = map (setting_of names) flat.when;
+  target = dep_target packages names allows flat.dep.kind flat.dep;
+}
+
+-- the unit with an id, of a package of this name
+abbrev pub need_of : List Package → NameTable → Name → Name → Need
+need_of packages names id name = record {
+  «package» = number packages names name;
+  allowed = allowed_unit id (package_at packages (number packages names name));
+}
+
+-- the unit that a record needs at a place
+abbrev pub need_at : List Package → NameTable → List Name → List Name → ℕ → Need
+need_at packages names ids needs k = need_of packages names (slice_index_or ids k []) (slice_index_or needs k [])
+
+-- what a source instance depends on
+abbrev pub source_dependencies : List Package → NameTable → (Dep → Version → Bool) → Description → List FlatDep → Dependencies
+source_dependencies packages names allows d flats = record {
+  flags = map (λ decl. flag_number names decl.name) d.flags;
+  deps = map (conditional_dep packages names allows) flats;
+  setup = map (dep_target packages names allows kind.Setup) d.setup;
+  needs = [];
+}
+
+-- what an instance with this body depends on
+abbrev pub body_dependencies : List Package → NameTable → (Dep → Version → Bool) → Body → Dependencies
+body_dependencies packages names allows (Source d flats exposed) = source_dependencies packages names allows d flats
+body_dependencies packages names allows (Installed record_of needs) = record {
+  flags = [];
+  deps = [];
+  setup = [];
+  needs = map (need_at packages names record_of.depends needs) (rising (length needs));
+}
+
+-- what the instance of an entry depends on
+abbrev pub entry_dependencies : List Package → Project → NameTable → Entry → Dependencies
+entry_dependencies packages project names e = body_dependencies packages names (allowed_versions project e.instance) e.body
+
+-- by package and instance
+abbrev pub all_dependencies : List Package → Project → NameTable → List (List Dependencies)
+all_dependencies packages project names = map (λ p. map (entry_dependencies packages project names) p.entries) packages

@@ -1,0 +1,12 @@
+pub mod Places
+pub mod PlaceRuns
+pub mod Orders
+pub mod Allowed
+pub mod AllowedVersions
+pub mod Dependencies
+pub mod Units
+pub mod Versions
+pub mod Sources
+pub mod Before
+pub mod Blocks
+pub mod TurningPlaces

@@ -1,0 +1,42 @@
+// What an instance depends on, by numbers and places.
+use crate::place_runs::PlaceRuns;
+use plan_types::List;
+use qualified_goals::Part;
+
+/// A flag or a stanza, and its value.
+#[derive(Clone, Copy, Debug, Drop)]
+pub struct Setting {
+    pub part: Part,
+    pub val: u64,
+}
+
+/// The package of a dependency, and the places of its instances whose versions are let in.
+#[derive(Debug, Drop)]
+pub struct Target {
+    pub package: u64,
+    pub inside: PlaceRuns,
+}
+
+/// A dependency, and what has to be set for it to count.
+#[derive(Debug, Drop)]
+pub struct ConditionalDep {
+    pub when: List<Setting>,
+    pub target: Target,
+}
+
+/// The package of a unit that another one needs, and the place of that unit.
+#[derive(Debug, Drop)]
+pub struct Need {
+    pub package: u64,
+    pub allowed: List<u64>,
+}
+
+/// What an instance asks for. Each list is in the order of that of which it is made.
+#[derive(Debug, Drop)]
+pub struct Dependencies {
+    /// The numbers of its flags.
+    pub flags: List<u64>,
+    pub deps: List<ConditionalDep>,
+    pub setup: List<Target>,
+    pub needs: List<Need>,
+}

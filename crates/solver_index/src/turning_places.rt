@@ -1,0 +1,67 @@
+// Places at which instances pass into a range or out of it.
+ghost use Rattle.std.specs.Prelude.{◌≡◌, OnOk, MatchOption, true};
+ghost use Rattle.plan_types.specs.Members.{members};
+ghost use Rattle.version_range.specs.Version.{has_versions};
+ghost use Rattle.solver_index.specs.Before.{IsJoin, is_operator};
+ghost use Rattle.solver_index.specs.Blocks.{IsBlock};
+ghost use Rattle.solver_index.specs.TurningPlaces.{AreTurns};
+
+use crate::blocks::{Test, first_without};
+use plan_types::{Entry, List, NoMemory, Range};
+
+/// The places in a block at which instances may pass into a range or out of it.
+pub(crate) fn push_turns(
+    turns: &mut List<u64>,
+    range: &Range,
+    entries: &[Entry],
+    from: usize,
+    to: usize,
+) -> Result<(), NoMemory>
+    requires block { IsBlock entries.now from to }
+    requires versions { has_versions range.now ≡ true }
+    ensures { OnOk result (AreTurns (members range.now) entries.now from to turns.old turns.new) }
+{
+    // Chains group from the left, so the right sides come first.
+    let mut rest = range;
+    while let Some((left, right)) = sides(rest) {
+        push_turns(turns, right, entries, from, to)?;
+        rest = left;
+    }
+    push_operator(turns, rest, entries, from, to)
+}
+
+fn push_operator(
+    turns: &mut List<u64>,
+    range: &Range,
+    entries: &[Entry],
+    from: usize,
+    to: usize,
+) -> Result<(), NoMemory>
+    requires block { IsBlock entries.now from to }
+    requires versions { has_versions range.now ≡ true }
+    requires operator { is_operator range.now ≡ true }
+    ensures { OnOk result (AreTurns (members range.now) entries.now from to turns.old turns.new) }
+{
+    let first = first_without(Test::IsBefore, range, entries, from, to);
+    let last = first_without(Test::IsMember, range, entries, first, to);
+    turns.push(first as u64)?;
+    turns.push(last as u64)
+}
+
+fn sides(range: &Range) -> Option<(&Range, &Range)>
+    ensures { MatchOption result (is_operator range.now ≡ true) (λ p. IsJoin range.now p.0.now p.1.now) }
+{
+    match range {
+        Range::Any => None,
+        Range::Nothing => None,
+        Range::Equal(_) => None,
+        Range::Prefix(_) => None,
+        Range::AtLeast(_) => None,
+        Range::Above(_) => None,
+        Range::AtMost(_) => None,
+        Range::Below(_) => None,
+        Range::Major(_) => None,
+        Range::Both(left, right) => Some((left.get(), right.get())),
+        Range::Either(left, right) => Some((left.get(), right.get())),
+    }
+}

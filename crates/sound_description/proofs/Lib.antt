@@ -1,0 +1,16 @@
+pub mod Faultless
+pub mod Names
+pub mod FlagsRise
+pub mod FlagNames
+pub mod Asking
+pub mod ReadDeps
+pub mod Branches
+pub mod Said
+pub mod Imported
+pub mod OwnComponents
+pub mod Kept
+pub mod Apart
+pub mod SetupDeps
+pub mod NoCycle
+pub mod Described
+pub mod Sound

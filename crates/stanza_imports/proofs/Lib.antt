@@ -1,0 +1,10 @@
+pub mod Additions
+pub mod BadVisibilities
+pub mod FirstLines
+pub mod StanzaLookups
+pub mod BodyMeanings
+pub mod NameList
+pub mod PushedParts
+pub mod BodyTurns
+pub mod WalkSteps
+pub mod Weights

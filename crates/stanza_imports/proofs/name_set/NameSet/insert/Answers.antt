@@ -1,0 +1,12 @@
+use Rattle.std.proofs.Common.{ap, ◌∙◌, map, not}
+use Rattle.stanza_imports.specs.Names.{has, with_name}
+use Rattle.stanza_imports.proofs.NameList.{any-shown, with-shown}
+use Rattle.plan_types.specs.Bytes.{same_text}
+use Rattle.stanza_imports.proofs.name_set.NameSet.insert.Goals as goal
+
+pub returns-clause-new : goal.returns-clause-new
+returns-clause-new c = c.in_ok-new.ensures.added ∙ ap not (any-shown (λ k. k.now) (same_text c.args.name.now) c.self.inside.set.keys ∙ ap (λ n. has n c.args.name.now) c.self.view_is)
+
+pub returns-clause-names : goal.returns-clause-names
+returns-clause-names c =
+    ap (map (λ k. k.now)) c.in_ok-new.ensures.keys ∙ with-shown (λ k. k.now) c.args.name c.self.inside.set.keys ∙ ap (λ n. with_name n c.args.name.now) c.self.view_is

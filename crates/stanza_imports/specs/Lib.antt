@@ -1,0 +1,7 @@
+pub mod Names
+pub mod Parts
+pub mod Imports
+pub mod Lines
+pub mod Bodies
+pub mod Standing
+pub mod Walk

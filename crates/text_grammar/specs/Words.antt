@@ -1,0 +1,30 @@
+-- The words of a text, and words that stand as values.
+use Rattle.std.specs.Prelude.{ℕ, Bool, true, false, ◌||◌, ◌==◌, if◌then◌else◌, List, [], ◌∷◌, map, codes, filter, Option, Some, None}
+use Rattle.std.specs.Char.{to_ascii_lowercase}
+use Rattle.std.specs.List.{slice_split}
+use Rattle.plan_types.specs.Bytes.{is_blank, same_text}
+use Rattle.text_grammar.specs.declared.word.Between.{Between}
+use Rattle.text_grammar.specs.declared.word.Between.TheVariants.{Spaces, SpacesAndCommas, BlanksAndCommas}
+
+-- whether a byte stands between words; where spaces alone separate, a tab stands in a word
+abbrev pub is_between : Between → ℕ → Bool
+is_between Spaces b = b == 32
+is_between SpacesAndCommas b = b == 32 || b == 44
+is_between BlanksAndCommas b = is_blank b || b == 44
+
+-- whether a text has a byte
+abbrev pub is_filled : List ℕ → Bool
+is_filled [] = false
+is_filled (b ∷ bs) = true
+
+-- what stands between the separators of a text
+abbrev pub words : Between → List ℕ → List (List ℕ)
+words between text = filter is_filled (slice_split (is_between between) text)
+
+-- whether a text is this word, in any case
+abbrev pub is_word : List ℕ → List ℕ → Bool
+is_word text word = same_text (map to_ascii_lowercase text) word
+
+-- true or false, in any case
+abbrev pub boolean : List ℕ → Option Bool
+boolean text = if is_word text (codes "true") then Some true else if is_word text (codes "false") then Some false else None

@@ -1,0 +1,53 @@
+-- What a state stands for: choices of a problem, with the demands so far and those that are active.
+use Rattle.std.specs.Prelude.{◌≡◌, ℕ, List, [], ◌∷◌, ◌++◌, length, All, None}
+use Rattle.choice_problem.specs.declared.problem.Choice.{Choice}
+use Rattle.choice_problem.specs.declared.problem.Demand.{Demand}
+use Rattle.choice_problem.specs.Problem.{Problem, IsChoice}
+use Rattle.choice_problem.specs.Trail.{value_in, demands_after}
+use Rattle.choice_problem.specs.Active.{active}
+use Rattle.choice_problem.specs.Conflict.{circular}
+
+-- what contracts see of a state, and of its stack
+pub record View : Type 0 where
+  -- the choices, in the order in which they were made
+  pub trail : List Choice
+  -- the roots, and the demands that the choices own
+  pub listed : List Demand
+  -- those of them that are active, in the order in which they became so
+  pub active : List Demand
+  -- for each choice, how many were listed before it, and how many active
+  pub listed_before : List ℕ
+  pub active_before : List ℕ
+
+-- how many demands were listed before each of some choices, which come after others
+abbrev pub listed_counts : Problem → List Choice → List Choice → List ℕ
+listed_counts p before [] = []
+listed_counts p before (c ∷ rest) = length (demands_after p before) ∷ listed_counts p (before ++ c ∷ []) rest
+
+-- how many were active
+abbrev pub counts_before : Problem → List Choice → List Choice → List ℕ
+counts_before p before [] = []
+counts_before p before (c ∷ rest) = length (active p before) ∷ counts_before p (before ++ c ∷ []) rest
+
+-- what the choices of a trail make of a problem
+abbrev pub view_of : Problem → List Choice → View
+view_of p trail = record {
+  trail = trail;
+  listed = demands_after p trail;
+  active = active p trail;
+  listed_before = listed_counts p [] trail;
+  active_before = counts_before p [] trail;
+}
+
+-- each choice is of a variable that the choices before it leave open to choose
+pub data AreNew : List Choice → Type 0 where
+  none : AreNew []
+  on : {before : List Choice} {all : List Choice} → AreNew before → (c : Choice) → value_in before c.var ≡ None → all ≡ before ++ c ∷ [] → AreNew all
+
+-- the state is that of its choices, which are of different variables of the problem
+pub record Represents (p : Problem) (state : View) : Type 0 where
+  pub choices : All (IsChoice p) state.trail
+  pub new : AreNew state.trail
+  pub same : state ≡ view_of p state.trail
+  -- no choice was accepted that makes a cycle
+  pub acyclic : circular state.active ≡ []
