@@ -6,11 +6,9 @@ use Rattle.std.proofs.lemmas.Bool.{false≢true, and_parts, and_from}
 use Rattle.qualified_goals.specs.declared.variable.Var.{Var}
 use Rattle.qualified_goals.specs.Variable.{same_var, is_before}
 use Rattle.qualified_goals.specs.SameVariable.{same_var-is, same_var-refl}
-use Rattle.choice_problem.specs.Trail.{least_from}
 use Rattle.choice_problem.specs.ConflictSet.{is_rising, has, with_var, without, place_of}
 use Rattle.common_laws.specs.Lists.{contains-head, contains-cases}
 use Rattle.qualified_goals.proofs.Order.{before-itself, before-trans, before-back}
-use Rattle.choice_problem.proofs.Order.{least-one}
 use Rattle.choice_problem.proofs.Sets.{has-contains, rising-tail, rising-below, insert-place, same-not, before-not-same, same-back}
 use Rattle.std.proofs.Math.Bool.{or-false}
 
@@ -160,13 +158,6 @@ with-there v (w ∷ vars) h k =
         | false ↦ λ f. ap (λ l. w ∷ l) (with-there v vars (rising-tail w vars h) (sym (ap (λ b. b || has vars v) (same-back w v ∙ f)) ∙ k))
       ] refl
     ] refl
-
-pub first-least : (vars : List Var) → is_rising vars ≡ true → slice_get vars 0 ≡ least_from None vars
-first-least [] h = refl
-first-least (w ∷ vars) h = sym (least-one (w ∷ vars) w (contains-head w vars) (λ v k. elim (contains-cases w vars v k) [
-  | inl e ↦ subst (λ x. is_before x w ≡ false) e (before-itself w)
-  | inr r ↦ before-back w v (rising-below w vars v h r)
-]))
 
 get-some : (vars : List Var) (n : ℕ) (d : Var) → n < length vars → slice_get vars n ≡ Some (get_or vars n d)
 get-some [] n d h = absurd (omega (arith, h))

@@ -10,6 +10,8 @@ mod outcome;
 mod problem;
 mod rising;
 mod steps;
+mod table;
+mod trail;
 mod written;
 
 pub use conflict_set::ConflictSet;
@@ -23,4 +25,6 @@ pub use problem::{Choice, Choices, Demand};
 pub use qualified_goals::{Names, Part, Qual, Var, is_before, is_same};
 pub use rising::{place_of, stands_at};
 pub use steps::Steps;
+pub use table::Table;
+pub use trail::Trail;
 pub use written::{Written, WrittenVar};

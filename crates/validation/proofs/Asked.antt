@@ -7,7 +7,7 @@ use Rattle.qualified_goals.specs.SameVariable.{same_var-is}
 use Rattle.choice_problem.specs.ConflictSet.{has}
 use Rattle.choice_problem.proofs.Sets.{has-append}
 use Rattle.validation.specs.declared.mentions.Mention.{Mention}
-use Rattle.validation.specs.Table.{entry}
+use Rattle.choice_problem.specs.Table.{entry}
 use Rattle.validation.specs.Mentions.{last_from, last_of}
 use Rattle.validation.specs.Stack.{vars_at, AreOpen}
 use Rattle.std.proofs.Math.Bool.{or-true, and-false}

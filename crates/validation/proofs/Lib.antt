@@ -1,7 +1,5 @@
-pub mod Tables
 pub mod MentionLinks
 pub mod Walks
-pub mod Opens
 pub mod Stacks
 pub mod Asked
 pub mod Below

@@ -6,7 +6,7 @@ use Rattle.qualified_goals.specs.Variable.{same_var}
 use Rattle.qualified_goals.specs.SameVariable.{same_var-is, same_var-refl}
 use Rattle.validation.specs.declared.mentions.Mention.{Mention}
 use Rattle.validation.specs.declared.mentions.Link.{Link}
-use Rattle.validation.specs.Table.{entry, with_entry}
+use Rattle.choice_problem.specs.Table.{entry, with_entry}
 use Rattle.validation.specs.Mentions.{mentions, last_from, last_of, IsLinked}
 
 -- a list with one item more, split

@@ -14,7 +14,7 @@ use Rattle.choice_problem.specs.ConflictSet.{has}
 use Rattle.choice_problem.proofs.Order.{least-same}
 use Rattle.choice_problem.proofs.Sets.{has-contains, contains-has}
 use Rattle.validation.specs.declared.mentions.Mention.{Mention}
-use Rattle.validation.specs.Table.{entry}
+use Rattle.choice_problem.specs.Table.{entry}
 use Rattle.validation.specs.Mentions.{places_on}
 use Rattle.validation.specs.Checks.{is_broken_in}
 use Rattle.validation.specs.Stack.{demand_at, demands_at, places_of, vars_at, AllBelow, AreTargets, AreOpen, least_waiting}

@@ -13,7 +13,7 @@ use Rattle.choice_problem.specs.Trail.{value_in}
 use Rattle.choice_problem.specs.ConflictSet.{has}
 use Rattle.validation.specs.declared.mentions.Mention.{Mention}
 use Rattle.validation.specs.declared.stack.Mark.{Mark}
-use Rattle.validation.specs.Table.{entry, with_entry, without_entry}
+use Rattle.choice_problem.specs.Table.{entry, with_entry, without_entry}
 use Rattle.validation.specs.View.{View}
 use Rattle.validation.specs.Stack.{front_of, last_number, undone, with_listed, with_active, no_demand, demand_at, demands_at, places_of, vars_at, watchers_by, watchers_from, AreTargets, AreOpen, IsMark, AreMarks, AreParts}
 use Rattle.validation.specs.Stack.AreMarks.{none, on}

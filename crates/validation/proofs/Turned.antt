@@ -7,7 +7,7 @@ use Rattle.choice_problem.specs.Assignment.{Assignment, is_one_of, is_made, is_y
 use Rattle.choice_problem.specs.Trail.{value_in}
 use Rattle.std.specs.List.{list_all}
 use Rattle.validation.specs.declared.mentions.Mention.{Mention}
-use Rattle.validation.specs.Table.{entry}
+use Rattle.choice_problem.specs.Table.{entry}
 use Rattle.validation.specs.Mentions.{places_on}
 use Rattle.validation.specs.Stack.{demand_at, demands_at, names, watchers_from, AllBelow, turned}
 use Rattle.validation.proofs.Below.{waits-below, waits-demands}

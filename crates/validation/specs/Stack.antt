@@ -14,7 +14,7 @@ use Rattle.choice_problem.specs.ConflictSet.{has}
 use Rattle.validation.specs.declared.mentions.Mention.{Mention}
 use Rattle.validation.specs.declared.stack.Mark.{Mark}
 use Rattle.validation.specs.View.{View}
-use Rattle.validation.specs.Table.{entry}
+use Rattle.choice_problem.specs.Table.{entry}
 use Rattle.validation.specs.Checks.{is_broken_in}
 use Rattle.validation.specs.Cycles.{owner_of}
 

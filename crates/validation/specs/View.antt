@@ -3,7 +3,7 @@ use Rattle.std.specs.Prelude.{◌≡◌, ℕ, List, [], ◌∷◌, ◌++◌, len
 use Rattle.choice_problem.specs.declared.problem.Choice.{Choice}
 use Rattle.choice_problem.specs.declared.problem.Demand.{Demand}
 use Rattle.choice_problem.specs.Problem.{Problem, IsChoice}
-use Rattle.choice_problem.specs.Trail.{value_in, demands_after}
+use Rattle.choice_problem.specs.Trail.{AreNew, demands_after}
 use Rattle.choice_problem.specs.Active.{active}
 use Rattle.choice_problem.specs.Conflict.{circular}
 
@@ -38,11 +38,6 @@ view_of p trail = record {
   listed_before = listed_counts p [] trail;
   active_before = counts_before p [] trail;
 }
-
--- each choice is of a variable that the choices before it leave open to choose
-pub data AreNew : List Choice → Type 0 where
-  none : AreNew []
-  on : {before : List Choice} {all : List Choice} → AreNew before → (c : Choice) → value_in before c.var ≡ None → all ≡ before ++ c ∷ [] → AreNew all
 
 -- the state is that of its choices, which are of different variables of the problem
 pub record Represents (p : Problem) (state : View) : Type 0 where

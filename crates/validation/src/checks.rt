@@ -6,7 +6,7 @@ ghost use Rattle.choice_problem.specs.Assignment.{is_made, is_yes};
 ghost use Rattle.choice_problem.specs.Active.{vars_of, vars_of_first};
 ghost use Rattle.choice_problem.specs.Conflict.{named_by, refuses, set_of_first};
 ghost use Rattle.choice_problem.specs.ConflictSet.{set_of};
-ghost use Rattle.validation.specs.Table.{entry};
+ghost use Rattle.choice_problem.specs.Table.{entry};
 ghost use Rattle.validation.specs.Stack.{demand_at, demands_at, owners_of, AllBelow};
 ghost use Rattle.validation.specs.Checks.{is_broken_in};
 ghost use Rattle.validation.specs.Cycles.{owner_of};

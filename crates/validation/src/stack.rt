@@ -2,7 +2,7 @@
 ghost use Rattle.std.specs.Prelude.{◌≡◌, ◌≢◌, ◌<◌, ◌++◌, [], ◌∷◌, None, IfOk, OnOk, OnErr, IsTrue, IfSome, List, length, take, drop, map, find};
 ghost use Rattle.std.specs.Option.{option_map};
 ghost use Rattle.choice_problem.specs.Trail.{value_in};
-ghost use Rattle.validation.specs.Table.{entry};
+ghost use Rattle.choice_problem.specs.Table.{entry};
 ghost use Rattle.choice_problem.specs.Active.{asks_for, vars_of_first};
 ghost use Rattle.choice_problem.specs.Conflict.{refuses, is_broken, set_of_first};
 ghost use Rattle.choice_problem.specs.ConflictSet.{has, set_of};

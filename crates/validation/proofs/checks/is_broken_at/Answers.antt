@@ -1,5 +1,5 @@
 use Rattle.std.proofs.Common.{◌∙◌, ap}
-use Rattle.validation.specs.Table.{entry}
+use Rattle.choice_problem.specs.Table.{entry}
 use Rattle.validation.specs.Checks.{is_broken_in}
 use Rattle.validation.specs.Stack.{no_demand}
 use Rattle.common_laws.specs.Lists.{get-any}

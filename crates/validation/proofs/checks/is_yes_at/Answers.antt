@@ -1,6 +1,6 @@
 use Rattle.std.proofs.Common.{◌∙◌, ap}
 use Rattle.choice_problem.specs.Assignment.{is_yes}
-use Rattle.validation.specs.Table.{entry}
+use Rattle.choice_problem.specs.Table.{entry}
 use Rattle.validation.specs.Stack.{no_demand}
 use Rattle.common_laws.specs.Lists.{get-any}
 use Rattle.validation.proofs.checks.is_yes_at.Goals as goal

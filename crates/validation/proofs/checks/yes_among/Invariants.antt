@@ -1,6 +1,6 @@
 use Rattle.std.proofs.Common.{◌≡◌, take, filter}
 use Rattle.choice_problem.specs.Assignment.{is_yes}
-use Rattle.validation.specs.Table.{entry}
+use Rattle.choice_problem.specs.Table.{entry}
 use Rattle.validation.specs.Stack.{demand_at}
 use Rattle.validation.proofs.checks.yes_among.Given as goal
 

@@ -1,6 +1,6 @@
 use Rattle.std.proofs.Common.{◌∙◌, sym}
 use Rattle.validation.proofs.Asked.{more-valued, more-open}
-use Rattle.validation.proofs.Opens.{ok-where}
+use Rattle.choice_problem.proofs.Results.{ok-where}
 use Rattle.validation.proofs.stack.ask.Goals as goal
 
 pub returns-then-has-clause-opened : goal.returns-then-has-clause-opened

@@ -1,5 +1,5 @@
 use Rattle.std.proofs.Common.{◌≡◌, drop, find}
-use Rattle.validation.specs.Table.{entry}
+use Rattle.choice_problem.specs.Table.{entry}
 use Rattle.validation.specs.Checks.{is_broken_in}
 use Rattle.validation.specs.Stack.{demands_at, places_of}
 use Rattle.validation.proofs.stack.first_broken.Given as goal

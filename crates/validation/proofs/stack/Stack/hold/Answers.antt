@@ -4,7 +4,7 @@ use Rattle.choice_problem.specs.ConflictSet.{has}
 use Rattle.validation.specs.View.{View}
 use Rattle.validation.specs.Stack.{vars_at}
 use Rattle.validation.specs.declared.stack.Mark.{Mark}
-use Rattle.validation.proofs.Opens.{ok-where}
+use Rattle.choice_problem.proofs.Results.{ok-where}
 use Rattle.validation.proofs.Stacks.{targets-vars, marks-targets, parts-open, parts-hold}
 use Rattle.validation.proofs.stack.Stack.hold.Goals as goal
 

@@ -2,7 +2,7 @@ use Rattle.std.proofs.Common.{◌++◌, ◌∷◌, [], ◌∙◌, sym, ap, lengt
 use Rattle.validation.specs.declared.stack.Mark.{Mark}
 use Rattle.validation.specs.View.{View}
 use Rattle.validation.specs.Stack.{with_listed, watchers_by}
-use Rattle.validation.proofs.Opens.{ok-where}
+use Rattle.choice_problem.proofs.Results.{ok-where}
 use Rattle.validation.proofs.Stacks.{parts-list, listed-seen, marks-targets}
 use Rattle.validation.proofs.stack.Stack.list.Goals as goal
 

@@ -1,6 +1,6 @@
 use Rattle.std.proofs.Common.{◌≡◌, ℕ, sym, ap, subst, length, filter}
 use Rattle.choice_problem.specs.Assignment.{is_yes}
-use Rattle.validation.specs.Table.{entry}
+use Rattle.choice_problem.specs.Table.{entry}
 use Rattle.validation.specs.View.{View}
 use Rattle.validation.specs.Stack.{AllBelow, demand_at, demands_at, turned}
 use Rattle.validation.proofs.Below.{below-filter}

@@ -8,7 +8,7 @@ use Rattle.std.specs.declared.cmp.Ordering.TheVariants.{Less, Equal, Greater}
 use Rattle.qualified_goals.specs.declared.variable.Var.{Var}
 use Rattle.qualified_goals.specs.Variable.{var_cmp, same_var, is_equal}
 use Rattle.qualified_goals.specs.contracts.variable.VarOrd.TheImpl.{cmp-value}
-use Rattle.validation.specs.Table.{entry}
+use Rattle.choice_problem.specs.Table.{entry}
 
 equal-eq : (o : Ordering) → is_eq o ≡ is_equal o
 equal-eq Less = refl

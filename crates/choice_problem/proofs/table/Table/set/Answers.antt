@@ -1,7 +1,7 @@
 use Rattle.std.proofs.Common.{Some}
-use Rattle.validation.proofs.Tables.{updated}
-use Rattle.validation.proofs.table.Table.set.Goals as goal
-use Rattle.validation.proofs.table.Table.set.Goals.{in-Ok, in-Err}
+use Rattle.choice_problem.proofs.Tables.{updated}
+use Rattle.choice_problem.proofs.table.Table.set.Goals as goal
+use Rattle.choice_problem.proofs.table.Table.set.Goals.{in-Ok, in-Err}
 
 pub returns-clause-ok : goal.returns-clause-ok
 returns-clause-ok c =

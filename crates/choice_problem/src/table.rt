@@ -1,9 +1,9 @@
 // A table of numbers by variable.
 ghost use Rattle.std.specs.Prelude.{◌≡◌, Some, None, OnOk, OnErr, is_some};
 ghost use Rattle.qualified_goals.specs.declared.variable.Var.{Var};
-ghost use Rattle.validation.specs.Table.{entry, with_entry, without_entry};
+ghost use Rattle.choice_problem.specs.Table.{entry, with_entry, without_entry};
 
-use choice_problem::Var;
+use crate::Var;
 use plan_types::NoMemory;
 use std::alloc::Global;
 use std::collections::BTreeMap;
@@ -11,7 +11,7 @@ use std::marker::Model;
 
 /// A number for some variables, seen as its entries.
 #[derive(Drop)]
-pub(crate) struct Table {
+pub struct Table {
     entries: BTreeMap<Var, u64>,
 }
 
@@ -25,7 +25,7 @@ impl Model for Table {
 }
 
 impl Table {
-    pub(crate) fn new(alloc: Global) -> Table
+    pub fn new(alloc: Global) -> Table
         ensures { (v : Var) → entry result v ≡ None }
     {
         Table {
@@ -33,19 +33,19 @@ impl Table {
         }
     }
 
-    pub(crate) fn get(&self, v: Var) -> Option<u64>
+    pub fn get(&self, v: Var) -> Option<u64>
         ensures { result ≡ entry self.now v }
     {
         self.entries.get(&v).copied()
     }
 
-    pub(crate) fn has(&self, v: Var) -> bool
+    pub fn has(&self, v: Var) -> bool
         ensures { result ≡ is_some (entry self.now v) }
     {
         self.entries.contains_key(&v)
     }
 
-    pub(crate) fn set(&mut self, v: Var, n: u64) -> Result<(), NoMemory>
+    pub fn set(&mut self, v: Var, n: u64) -> Result<(), NoMemory>
         ensures ok { OnOk result ((w : Var) → entry self.new w ≡ with_entry v n (entry self.old) w) }
         ensures err { OnErr result (self.new ≡ self.old) }
         ensures absent { OnErr result (entry self.old v ≡ None) }
@@ -56,7 +56,7 @@ impl Table {
         }
     }
 
-    pub(crate) fn remove(&mut self, v: Var)
+    pub fn remove(&mut self, v: Var)
         ensures { (w : Var) → entry self.new w ≡ without_entry v (entry self.old) w }
     {
         let _ = self.entries.remove(&v);

@@ -1,6 +1,6 @@
 use Rattle.std.proofs.Common.{None}
-use Rattle.validation.proofs.Tables.{updated}
-use Rattle.validation.proofs.table.Table.remove.Goals as goal
+use Rattle.choice_problem.proofs.Tables.{updated}
+use Rattle.choice_problem.proofs.table.Table.remove.Goals as goal
 
 pub returns : goal.returns
 returns c w =
