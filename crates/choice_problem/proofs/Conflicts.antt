@@ -43,7 +43,7 @@ all-named (d ∷ ds) set h = (
   λ e v k named. set-has (flat_map named_by (d ∷ ds)) set v (cc h) (flat_map-contains named_by (d ∷ ds) e v k named),
 )
 
-none-named : (ds : List Demand) → set_of_all ds ≡ None → ds ≡ []
+pub none-named : (ds : List Demand) → set_of_all ds ≡ None → ds ≡ []
 none-named [] h = refl
 none-named (d ∷ ds) h = absurd (cc h)
 

@@ -1,5 +1,5 @@
 // The choices of a search, with their values by variable.
-ghost use Rattle.std.specs.Prelude.{◌≡◌, ◌++◌, ◌∷◌, [], None, OnOk, OnErr, MatchOption};
+ghost use Rattle.std.specs.Prelude.{◌≡◌, ◌++◌, ◌∷◌, [], None, is_some, OnOk, OnErr, MatchOption};
 ghost use Rattle.choice_problem.specs.Trail.{value_in};
 
 use crate::table::Table;
@@ -56,6 +56,13 @@ impl Trail {
         ensures { result ≡ value_in self.now v }
     {
         self.values.get(v)
+    }
+
+    /// Whether a value was chosen for a variable.
+    pub fn has(&self, v: Var) -> bool
+        ensures { result ≡ is_some (value_in self.now v) }
+    {
+        self.values.has(v)
     }
 
     /// Appends a choice of a variable that has no value yet.

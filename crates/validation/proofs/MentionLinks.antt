@@ -81,19 +81,6 @@ popped links front l table new h e updates = record {
       ] refl;
 }
 
-pub snoc-none : {A : Type 0} (front : List A) (x : A) (rest : List A) → [] ≡ front ++ x ∷ rest → ⊥
-snoc-none [] x rest h = cc h
-snoc-none (f ∷ front) x rest h = cc h
-
-pub snoc-same : {A : Type 0} (xs : List A) (x : A) (ys : List A) (y : A) → xs ++ x ∷ [] ≡ ys ++ y ∷ [] → (xs ≡ ys) × (x ≡ y)
-snoc-same [] x [] y h = (refl, cc)
-snoc-same [] x (z ∷ ys) y h = absurd (snoc-none ys y [] cc)
-snoc-same (w ∷ xs) x [] y h = absurd (snoc-none xs x [] cc)
-snoc-same (w ∷ xs) x (z ∷ ys) y h =
-    let e : w ≡ z = cc in
-    let more = snoc-same xs x ys y cc in
-    (ap (λ k. k ∷ xs) e ∙ ap (λ l. z ∷ l) more.0, more.1)
-
 pub last-split : {A : Type 0} (xs : List A) → 0 < length xs → (front : List A) × (x : A) × (xs ≡ front ++ x ∷ [])
 last-split [] h = absurd (omega (arith, h))
 last-split (x ∷ []) h = ([], x, refl)

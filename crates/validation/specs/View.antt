@@ -5,7 +5,7 @@ use Rattle.choice_problem.specs.declared.problem.Demand.{Demand}
 use Rattle.choice_problem.specs.Problem.{Problem, IsChoice}
 use Rattle.choice_problem.specs.Trail.{AreNew, demands_after}
 use Rattle.choice_problem.specs.Active.{active}
-use Rattle.choice_problem.specs.Conflict.{circular}
+use Rattle.choice_problem.specs.Conflict.{lasting_set}
 
 -- what contracts see of a state, and of its stack
 pub record View : Type 0 where
@@ -44,5 +44,5 @@ pub record Represents (p : Problem) (state : View) : Type 0 where
   pub choices : All (IsChoice p) state.trail
   pub new : AreNew state.trail
   pub same : state ≡ view_of p state.trail
-  -- no choice was accepted that makes a cycle
-  pub acyclic : circular state.active ≡ []
+  -- the lasting rules give no set so far
+  pub lasting : lasting_set state.trail state.active ≡ None

@@ -5,8 +5,7 @@ ghost use Rattle.qualified_goals.specs.Variable.{same_var};
 ghost use Rattle.choice_problem.specs.Table.{entry};
 ghost use Rattle.validation.specs.Mentions.{last_of, places_on};
 
-use crate::table::Table;
-use choice_problem::Var;
+use choice_problem::{Table, Var};
 use plan_types::NoMemory;
 use std::alloc::Global;
 use std::marker::Model;
