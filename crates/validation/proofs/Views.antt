@@ -13,10 +13,12 @@ use Rattle.qualified_goals.specs.SameVariable.{same_var-is, same_var-refl}
 use Rattle.choice_problem.specs.Problem.{Problem, IsChoice, IsDemand, IsRoot, IsOwned, Lawful}
 use Rattle.choice_problem.specs.Assignment.{is_one_of, is_made, is_yes}
 use Rattle.choice_problem.specs.Trail.{value_in, demands_after}
-use Rattle.choice_problem.specs.Active.{turns_yes, made_active, active, is_open}
+use Rattle.choice_problem.specs.Active.{turns_yes, made_active, active, is_open, least_open}
 use Rattle.choice_problem.specs.ConflictSet.{has}
 use Rattle.common_laws.specs.Lists.{map-contains, filter-alike}
+use Rattle.choice_problem.specs.General.{general}
 use Rattle.choice_problem.proofs.Active.{active-demand, open-plain}
+use Rattle.choice_problem.proofs.Trails.{next-open}
 use Rattle.choice_problem.proofs.Sets.{contains-has}
 use Rattle.validation.specs.View.{listed_counts, counts_before}
 use Rattle.validation.specs.Stack.{are_naming, names, turned}
@@ -113,3 +115,6 @@ module _ (p : Problem) where
             (subst (λ w. Contains (map (λ (d : Demand). d.target) (active p trail)) w) found.target
             (map-contains (λ (d : Demand). d.target) (active p trail) found.demand found.member));
       }
+
+  pub least-known : (trail : List Choice) (v : Var) → Lawful p → All (IsChoice p) trail → least_open p trail ≡ Some v → IsOpen trail v
+  least-known trail v lawful choices h = known-open trail v lawful choices (next-open (general p) trail v h)
