@@ -2,7 +2,9 @@ ghost use Rattle.std.specs.Prelude.{◌≡◌, ◌<◌};
 
 use crate::problems::{package, problem, push_name, push_names};
 use backjump::search;
-use choice_problem::{Choice, Choices, ConflictSet, Counts, Demand, Limit, Outcome, Steps, Var};
+use choice_problem::{
+    Choice, Choices, ConflictSet, Counts, Demand, Limit, Outcome, Steps, Trail, Var,
+};
 use plan_types::{List, NoMemory};
 use std::alloc::Global;
 use std::cell::Cell;
@@ -162,7 +164,7 @@ impl<C: Choices> Choices for Asked<C> {
         self.choices.roots(alloc)
     }
 
-    fn order(&self, alloc: Global, v: Var, trail: &List<Choice>) -> Result<List<u64>, NoMemory> {
+    fn order(&self, alloc: Global, v: Var, trail: &Trail) -> Result<List<u64>, NoMemory> {
         self.orders.set(self.orders.get().saturating_add(1));
         self.choices.order(alloc, v, trail)
     }

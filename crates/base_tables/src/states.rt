@@ -63,7 +63,7 @@ fn tried<C: Choices, L: Ledger>(
 fn undone(state: &mut State) -> &'static str
     ensures { (p : Problem) → Represents p state.old → Represents p state.new }
 {
-    if state.trail().is_empty() {
+    if state.trail().choices().is_empty() {
         return "none";
     }
     state.undo();
