@@ -6,10 +6,12 @@ ghost use Rattle.choice_problem.specs.Active.{least_open, reason};
 ghost use Rattle.choice_problem.specs.Conflict.{barred_set, refuses, is_broken, circular, set_of_first, set_of_all, first_set, conflict};
 ghost use Rattle.choice_problem.specs.ConflictSet.{set_of};
 ghost use Rattle.validation.specs.View.{View, Represents, view_of};
+ghost use Rattle.validation.specs.Stack.{IsSettled};
 ghost use Rattle.validation.specs.Verdict.{verdict_of, Leaves, set_before, set_after};
 
 use crate::Verdict;
-use crate::cycles::{Graph, cycle_set_of};
+use crate::cycles::cycle_set_of;
+use crate::settled::Settled;
 use crate::stack::Stack;
 use choice_problem::{Choice, Choices, ConflictSet, Steps, Var};
 use plan_types::{List, NoMemory};
@@ -137,12 +139,13 @@ fn fault_before<C: Choices>(
 
 // The set of a demand that became active and is broken, or of those on a cycle.
 fn fault_after(alloc: Global, stack: &Stack, before: usize) -> Result<Option<ConflictSet>, NoMemory>
-    requires { circular (take before stack.now.active) ≡ [] }
+    requires acyclic { circular (take before stack.now.active) ≡ [] }
+    requires settled { IsSettled stack.now }
     ensures { IfOk result (λ set. set ≡ set_after stack.now.trail before stack.now.active) }
 {
     if let Some(set) = stack.broken(alloc, before)? {
         return Ok(Some(set));
     }
-    let set = cycle_set_of(alloc, stack, before)?;
+    let set = cycle_set_of(alloc, &Settled::of(stack), before)?;
     Ok(set)
 }
