@@ -7,8 +7,10 @@ pub mod Turned
 pub mod Queries
 pub mod Keys
 pub mod Reached
+pub mod Sides
 pub mod Rings
 pub mod Graphs
 pub mod Views
 pub mod Verdicts
+pub mod Settles
 pub mod Backs

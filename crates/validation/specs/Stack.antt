@@ -1,6 +1,6 @@
 -- What a stack of choices stands for, and how what it holds hangs together.
-use Rattle.std.specs.Prelude.{◌≡◌, ℕ, suc, ◌-◌, ◌<◌, ◌≤◌, Bool, true, cond, ◌&&◌, List, [], ◌∷◌, ◌++◌, length, take, map, filter, Option, None, is_none, slice_index_or, option_to_list, flat_map, find}
-use Rattle.std.specs.List.{list_any}
+use Rattle.std.specs.Prelude.{◌≡◌, ◌↔◌, ℕ, suc, ◌-◌, ◌<◌, ◌≤◌, Bool, true, false, cond, ◌&&◌, List, [], ◌∷◌, ◌++◌, length, take, map, filter, Option, None, is_none, slice_index_or, option_to_list, flat_map, find}
+use Rattle.std.specs.List.{Contains, list_any}
 use Rattle.qualified_goals.specs.declared.variable.Var.{Var}
 use Rattle.qualified_goals.specs.declared.variable.Qual.TheVariants.{Top}
 use Rattle.qualified_goals.specs.declared.variable.Part.TheVariants.{Package}
@@ -161,3 +161,24 @@ made s c demands = with_active (with_listed (held s c) demands) (turned (s.trail
 -- the owners of some demands
 abbrev pub owners_of : List Demand → List Var
 owners_of demands = flat_map (λ d. option_to_list (owner_of d)) demands
+
+-- whether a variable is that of the first choice of a condition
+abbrev pub is_first : Var → List Choice → Bool
+is_first v [] = false
+is_first v (owner ∷ others) = same_var owner.var v
+
+-- whether a variable owns a demand
+abbrev pub is_owned_by : Var → Demand → Bool
+is_owned_by v d = is_first v d.when
+
+-- the target of a demand that the variable owns
+abbrev pub target_by : Var → Demand → List Var
+target_by v d = cond (is_owned_by v d) (d.target ∷ []) []
+
+-- the targets of those of some demands that the variable owns
+abbrev pub targets_by : Var → List Demand → List Var
+targets_by v demands = flat_map (target_by v) demands
+
+-- those listed demands are active that are Yes
+abbrev pub IsSettled : View → Type 0
+IsSettled s = (d : Demand) → (Contains s.active d) ↔ (Contains s.listed d × (is_yes (value_in s.trail) d ≡ true))

@@ -7,7 +7,7 @@ ghost use Rattle.choice_problem.specs.Active.{vars_of, vars_of_first};
 ghost use Rattle.choice_problem.specs.Conflict.{named_by, refuses, set_of_first};
 ghost use Rattle.choice_problem.specs.ConflictSet.{set_of};
 ghost use Rattle.choice_problem.specs.Trail.{value_in};
-ghost use Rattle.validation.specs.Stack.{demand_at, demands_at, owners_of, AllBelow};
+ghost use Rattle.validation.specs.Stack.{demand_at, demands_at, owners_of, is_owned_by, target_by, targets_by, AllBelow};
 ghost use Rattle.validation.specs.Checks.{is_broken_in};
 ghost use Rattle.validation.specs.Cycles.{owner_of};
 
@@ -173,6 +173,48 @@ fn push_owner_at(owners: &mut Vec<Var>, listed: &[Demand], place: usize) -> Resu
 {
     push_owner(owners, &listed[place])?;
     Ok(())
+}
+
+/// The targets of those of the demands at some places that a variable owns.
+pub(crate) fn targets_at(
+    alloc: Global,
+    listed: &[Demand],
+    places: &[usize],
+    owner: Var,
+) -> Result<Vec<Var>, NoMemory>
+    requires { AllBelow (length listed.now) places.now }
+    ensures { IfOk result (λ targets. targets.items ≡ targets_by owner (demands_at listed.now places.now)) }
+{
+    let mut targets = Vec::new(alloc);
+    for place in places {
+        push_target_at(&mut targets, listed, *place, owner)?;
+    }
+    Ok(targets)
+}
+
+fn push_target_at(
+    targets: &mut Vec<Var>,
+    listed: &[Demand],
+    place: usize,
+    owner: Var,
+) -> Result<(), NoMemory>
+    requires { place < length listed.now }
+    ensures { OnOk result (targets.new.items ≡ targets.old.items ++ target_by owner (demand_at listed.now place)) }
+{
+    let demand = &listed[place];
+    if is_owned_by(demand, owner) {
+        targets.push(demand.target)?;
+    }
+    Ok(())
+}
+
+fn is_owned_by(demand: &Demand, owner: Var) -> bool
+    ensures { result ≡ is_owned_by owner demand.now }
+{
+    match demand.when.as_slice() {
+        [first, ..] => is_same(first.var, owner),
+        [] => false,
+    }
 }
 
 pub(crate) fn demand_in(listed: &[Demand], place: usize) -> &Demand

@@ -6,6 +6,8 @@ mod checks;
 mod cycles;
 mod mentions;
 mod open;
+mod settled;
+mod side;
 mod stack;
 mod state;
 mod verdict;

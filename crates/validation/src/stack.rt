@@ -1,19 +1,21 @@
 // What a state keeps of its choices, and how it is taken back.
-ghost use Rattle.std.specs.Prelude.{◌≡◌, ◌≢◌, ◌<◌, ◌++◌, [], ◌∷◌, None, IfOk, OnOk, OnErr, IsTrue, IfSome, List, length, take, drop, map, find};
+ghost use Rattle.std.specs.Prelude.{◌≡◌, ◌≢◌, ◌<◌, ◌↔◌, ◌++◌, [], ◌∷◌, true, None, Some, IfOk, OnOk, OnErr, IsTrue, IfSome, List, length, take, drop, map, find, slice_get};
+ghost use Rattle.std.specs.List.{Contains};
 ghost use Rattle.std.specs.Option.{option_map};
+ghost use Rattle.qualified_goals.specs.declared.variable.Var.{Var};
 ghost use Rattle.choice_problem.specs.Trail.{value_in};
 ghost use Rattle.choice_problem.specs.Active.{asks_for, vars_of_first, waiting};
-ghost use Rattle.choice_problem.specs.Conflict.{refuses, is_broken, set_of_first};
+ghost use Rattle.choice_problem.specs.Conflict.{edges_of, refuses, is_broken, set_of_first};
 ghost use Rattle.choice_problem.specs.ConflictSet.{has, is_rising, set_of};
 ghost use Rattle.validation.specs.Checks.{is_broken_in};
+ghost use Rattle.validation.specs.Cycles.{HasEdge};
 ghost use Rattle.validation.specs.declared.mentions.Mention.{Mention};
 ghost use Rattle.validation.specs.View.{View};
-ghost use Rattle.validation.specs.Stack.{AreOpen, demand_at, are_naming, watchers_by, undone, held, with_listed, with_active, HasListed, HasActivated, HasGrown, AllBelow, grown, first_broken, turned, made, demands_at, places_of};
+ghost use Rattle.validation.specs.Stack.{AreOpen, IsSettled, demand_at, are_naming, watchers_by, undone, held, with_listed, with_active, HasListed, HasActivated, HasGrown, AllBelow, grown, first_broken, turned, made, demands_at, places_of};
 
 use crate::checks::{
-    demand_in, first_refusing, is_broken_at, owners_at, reason_at, set_at, yes_among,
+    demand_in, first_refusing, is_broken_at, owners_at, reason_at, set_at, targets_at, yes_among,
 };
-use crate::cycles::Graph;
 use crate::mentions::{Mention, Mentions};
 use crate::open::OpenVars;
 use choice_problem::{Choice, ConflictSet, Demand, Trail, Var, is_same};
@@ -265,26 +267,46 @@ impl Stack {
     }
 }
 
-impl Graph for Stack {
-    ghost demands = { λ s. s.active };
-
-    fn count(&self) -> usize {
+// The graph of the active demands, with an edge from the owner of each to its target.
+impl Stack {
+    /// How many demands are active.
+    pub(crate) fn count(&self) -> usize
+        ensures { result ≡ length self.now.active }
+    {
         self.active.len()
     }
 
-    fn demand(&self, place: usize) -> &Demand {
+    pub(crate) fn demand(&self, place: usize) -> &Demand
+        requires { place < length self.now.active }
+        ensures { slice_get self.now.active place ≡ Some result.now }
+    {
         let listed = self.active.at(place).place;
         demand_in(self.listed.as_slice(), listed)
     }
 
-    fn sources(&self, alloc: Global, to: Var) -> Result<List<Var>, NoMemory> {
+    /// The variables that edges to this one leave.
+    pub(crate) fn sources(&self, alloc: Global, to: Var) -> Result<List<Var>, NoMemory>
+        ensures { IfOk result (λ found. (v : Var) → (Contains found v) ↔ (HasEdge (edges_of self.now.active) v to)) }
+    {
         let places = self.active.places(alloc, to)?;
         let owners = owners_at(alloc, self.listed.as_slice(), places.as_slice())?;
         Ok(List::from_vec(owners))
     }
 
-    // A variable that no listed demand waits for owns none.
-    fn is_chosen(&self, v: Var) -> bool {
+    /// The variables that edges from this one enter.
+    pub(crate) fn targets(&self, alloc: Global, from: Var) -> Result<List<Var>, NoMemory>
+        requires { IsSettled self.now }
+        ensures { IfOk result (λ found. (v : Var) → (Contains found v) ↔ (HasEdge (edges_of self.now.active) from v)) }
+    {
+        let places = self.turned(alloc, from)?;
+        let targets = targets_at(alloc, self.listed.as_slice(), places.as_slice(), from)?;
+        Ok(List::from_vec(targets))
+    }
+
+    /// Whether a variable is chosen. Edges leave only those, since a variable that no listed demand waits for owns none.
+    pub(crate) fn is_chosen(&self, v: Var) -> bool
+        ensures { (w : Var) → HasEdge (edges_of self.now.active) v w → result ≡ true }
+    {
         self.watchers.last(v).is_some()
     }
 }

@@ -6,11 +6,12 @@ ghost use Rattle.choice_problem.specs.Active.{is_open, least_open, open_after, r
 ghost use Rattle.choice_problem.specs.Conflict.{lasting_set, conflict};
 ghost use Rattle.choice_problem.specs.ConflictSet.{first_behind, is_rising, set_of};
 ghost use Rattle.validation.specs.View.{View, Represents, view_of};
-ghost use Rattle.validation.specs.Stack.{front_of};
+ghost use Rattle.validation.specs.Stack.{front_of, IsSettled};
 ghost use Rattle.validation.specs.Verdict.{verdict_of, Leaves, set_before, set_after};
 
 use crate::Verdict;
-use crate::cycles::{Graph, cycle_set_of};
+use crate::cycles::cycle_set_of;
+use crate::settled::Settled;
 use crate::stack::Stack;
 use choice_problem::{Choice, Choices, ConflictSet, Steps, Trail, Var, place_behind};
 use plan_types::{List, NoMemory};
@@ -164,7 +165,8 @@ fn fault_before<C: Choices>(
 
 // The set of a demand that became active and is broken, or of the first lasting rule.
 fn fault_after(alloc: Global, stack: &Stack, before: usize) -> Result<Option<ConflictSet>, NoMemory>
-    requires { lasting_set (front_of stack.now.trail) (take before stack.now.active) ≡ None }
+    requires lasting { lasting_set (front_of stack.now.trail) (take before stack.now.active) ≡ None }
+    requires settled { IsSettled stack.now }
     ensures { IfOk result (λ set. set ≡ set_after stack.now.trail before stack.now.active) }
 {
     if let Some(set) = stack.broken(alloc, before)? {
@@ -180,10 +182,11 @@ fn lasting_fault(
     stack: &Stack,
     before: usize,
 ) -> Result<Option<ConflictSet>, NoMemory>
-    requires { lasting_set (front_of stack.now.trail) (take before stack.now.active) ≡ None }
+    requires lasting { lasting_set (front_of stack.now.trail) (take before stack.now.active) ≡ None }
+    requires settled { IsSettled stack.now }
     ensures { IfOk result (λ set. set ≡ lasting_set stack.now.trail stack.now.active) }
 {
-    let set = cycle_set_of(alloc, stack, before)?;
+    let set = cycle_set_of(alloc, &Settled::of(stack), before)?;
     Ok(set)
 }
 

@@ -3,6 +3,7 @@ use Rattle.choice_problem.specs.Conflict.{first_set, conflict}
 use Rattle.validation.specs.View.{View}
 use Rattle.validation.specs.Verdict.{verdict_of}
 use Rattle.validation.proofs.Verdicts.{ready, none-from, early, late, conflict-early, conflict-late, none-lasting, stands-made}
+use Rattle.validation.proofs.Settles.{settled-made}
 use Rattle.validation.proofs.state.State.choose_open.Goals as goal
 
 pub fault_before-requires : goal.fault_before-requires
@@ -31,6 +32,13 @@ pub make-requires-clause-asked : goal.make-requires-clause-asked
 make-requires-clause-asked g c =
     (ready (g.C.Choices.problem c.args.choices.now) c.self.inside.stack c.args.self.now c.args.c (g.met.C.Choices.lawful c.args.choices.now) c.self.view_is
     c.requires.stands c.requires.open c.requires.value).asked
+
+pub fault_after-requires-clause-settled : goal.fault_after-requires-clause-settled
+fault_after-requires-clause-settled g c =
+    let p = g.C.Choices.problem c.args.choices.now in
+    let lawful = g.met.C.Choices.lawful c.args.choices.now in
+    let mine = ready p c.self.inside.stack c.args.self.now c.args.c lawful c.self.view_is c.requires.stands c.requires.open c.requires.value in
+    settled-made p c.self.inside.stack c.make.new.self c.args.c c.in_ok-demands.demands lawful mine c.in_ok-demands.ensures c.in_ok-make.ensures.ok
 
 pub returns-in-Ok-None-clause-verdict : goal.returns-in-Ok-None-clause-verdict
 returns-in-Ok-None-clause-verdict g c =

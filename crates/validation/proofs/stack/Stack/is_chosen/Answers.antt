@@ -4,7 +4,7 @@ use Rattle.validation.specs.Cycles.{HasEdge}
 use Rattle.validation.specs.View.{View}
 use Rattle.validation.proofs.Stacks.{marks-targets}
 use Rattle.validation.proofs.Graphs.{edge-chosen}
-use Rattle.validation.proofs.stack.StackGraph.is_chosen.Goals as goal
+use Rattle.validation.proofs.stack.Stack.is_chosen.Goals as goal
 
 pub returns : goal.returns
 returns c w h =

@@ -10,7 +10,7 @@ use Rattle.validation.specs.Stack.{demands_at, owners_of}
 use Rattle.validation.proofs.Stacks.{marks-targets}
 use Rattle.validation.proofs.Queries.{places-below}
 use Rattle.validation.proofs.Graphs.{sources-edge, edge-sources}
-use Rattle.validation.proofs.stack.StackGraph.sources.Goals as goal
+use Rattle.validation.proofs.stack.Stack.sources.Goals as goal
 
 pub owners_at-requires : goal.owners_at-requires
 owners_at-requires c =

@@ -7,7 +7,7 @@ use Rattle.validation.specs.Stack.{demand_at}
 use Rattle.validation.proofs.Stacks.{marks-targets, length-active}
 use Rattle.validation.proofs.Queries.{targets-below, place-below}
 use Rattle.validation.proofs.Graphs.{active-at}
-use Rattle.validation.proofs.stack.StackGraph.demand.Goals as goal
+use Rattle.validation.proofs.stack.Stack.demand.Goals as goal
 
 pub at-listed-requires : goal.at-listed-requires
 at-listed-requires c =
