@@ -1,5 +1,5 @@
 -- The demands that are active after a trail: those that are Yes, in the order in which they became so.
-use Rattle.std.proofs.Common.{◌≡◌, ℕ, Bool, true, false, cond, not, List, [], ◌∷◌, ◌++◌, map, Some, None, refl, sym, ap, ◌∙◌, subst, inl, inr, ◌⊎◌, append_assoc}
+use Rattle.std.proofs.Common.{◌≡◌, ℕ, Bool, true, false, cond, not, List, [], ◌∷◌, ◌++◌, map, Option, Some, None, refl, sym, ap, ◌∙◌, subst, inl, inr, ◌⊎◌, append_assoc}
 use Rattle.std.specs.Prelude.{is_none, find}
 use Rattle.std.specs.List.{Contains, All, filter, flat_map, list_all}
 use Rattle.std.proofs.lemmas.Bool.{false≢true, and_parts, and_from}
@@ -8,7 +8,8 @@ use Rattle.std.proofs.lemmas.List.Elements.{All-contains}
 use Rattle.qualified_goals.specs.declared.variable.Var.{Var}
 use Rattle.choice_problem.specs.declared.problem.Choice.{Choice}
 use Rattle.choice_problem.specs.declared.problem.Demand.{Demand}
-use Rattle.qualified_goals.specs.Variable.{same_var}
+use Rattle.qualified_goals.specs.Variable.{same_var, is_before}
+use Rattle.choice_problem.specs.ConflictSet.{has, first_behind}
 use Rattle.choice_problem.specs.Problem.{Problem, IsChoice, IsDemand, IsRoot, IsOwned, Lawful}
 use Rattle.choice_problem.specs.Assignment.{Assignment, is_made, is_yes}
 use Rattle.choice_problem.specs.General.{Request, request_of, general}
@@ -16,7 +17,7 @@ use Rattle.choice_problem.specs.Trail.{value_in, demands_after, opens, open_vars
 use Rattle.choice_problem.specs.Active.{turns_yes, made_active, active_from, active, is_waited_for, open_in, is_open, least_open, waiting, vars_of, asks_for, vars_of_first, reason}
 use Rattle.qualified_goals.specs.SameVariable.{same_var-is, same_var-refl}
 use Rattle.common_laws.specs.Lists.{contains-head, contains-tail, contains-none, contains-cases, contains-left, contains-right, contains-append, contains-flat_map, flat_map-contains, contains-map, map-contains, contains-filter, all-at, all-from, filter-contains}
-use Rattle.choice_problem.proofs.Sets.{set-alike}
+use Rattle.choice_problem.proofs.Sets.{contains-has, first-has, set-alike}
 use Rattle.choice_problem.proofs.Trails.{value_in-made, value_in-kept, is_made-is, is_made-from, none-is, targets_open, open-is, next-open, demand-after, after-general, after-plain, owner-made}
 
 -- the first item that passes
@@ -44,6 +45,11 @@ find-some {X = X} test xs x h k =
       | None ↦ λ e. absurd (false≢true (sym (find-none test xs x e h) ∙ k))
       | Some y ↦ λ e. (y, refl)
     ] refl
+
+-- the first behind a variable is one of them
+pub behind-has : (v : Option Var) (vars : List Var) (w : Var) → first_behind v vars ≡ Some w → has vars w ≡ true
+behind-has None vars w h = first-has vars w h
+behind-has (Some v) vars w h = contains-has vars w (find-is (is_before v) vars w h).0
 
 -- a value that one choice more gives was there, or is that choice's
 pub value_in-last : (trail : List Choice) (c : Choice) (v : Var) (n : ℕ) → value_in (trail ++ c ∷ []) v ≡ Some n → (value_in trail v ≡ Some n) ⊎ ((c.var ≡ v) × (c.val ≡ n))
