@@ -1,3 +1,4 @@
+// Each run is written as a text: its words, its files, and what it answers.
 mod made;
 mod runs;
 

@@ -2,7 +2,8 @@ use Rattle.std.proofs.Common.{◌≡◌, ℕ, suc, ◌<◌, Bool, List, [], ◌�
 use Rattle.std.specs.Prelude.{nat_lt, ◌==◌}
 use Rattle.std.proofs.lemmas.Bool.Decides.{nat_tests}
 use Rattle.std.proofs.lemmas.Grind.{common_steps}
-use Rattle.stanza_imports.specs.Imports.{under, parts_of}
+use Rattle.stanza_imports.specs.Imports.{under}
+use Rattle.stanza_imports.specs.KnownStanzas.{parts_of}
 use Rattle.stanza_imports.specs.Names.{number_of}
 use Rattle.stanza_imports.specs.declared.stanzas.Step.{Step}
 use Rattle.stanza_imports.proofs.BodyMeanings.{means_same, not_there, there, empty_there, told_there}
