@@ -21,7 +21,8 @@ pub record IsGroup (r : Request) (group : List Demand) : Type 0 where
 -- demands are those that are listed for these, one group after another
 abbrev pub AreGroups : List Request → List Demand → Type 0
 AreGroups [] demands = demands ≡ []
-AreGroups (r ∷ requests) demands = (group : List Demand) × (rest : List Demand) × (demands ≡ group ++ rest) × IsGroup r group × AreGroups requests rest
+AreGroups (r ∷ requests) demands =
+    (group : List Demand) × (rest : List Demand) × (demands ≡ group ++ rest) × IsGroup r group × AreGroups requests rest
 
 -- roots and the demands of each choice are those that are listed for the roots and demands of a problem with whole conditions
 pub record IsInGroups (g : General) (p : Problem) : Type 0 where

@@ -26,7 +26,8 @@ pub fn listed_as_whole()
         → IsInGroups (whole_problem env index.packages project names orders) (problem_of index.packages project names orders) }
     ensures together { (env : Env) (index : Index) (project : Project) (names : NameTable) (orders : List (List ℕ))
         → IsSound env index → AreNumbers index.packages names
-        → AreYesTogether (whole_problem env index.packages project names orders) (general (problem_of index.packages project names orders)) }
+        → AreYesTogether (whole_problem env index.packages project names orders)
+        (general (problem_of index.packages project names orders)) }
 {
     counts_as_its_condition();
 }
