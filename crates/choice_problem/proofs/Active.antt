@@ -1,6 +1,6 @@
 -- The demands that are active after a trail: those that are Yes, in the order in which they became so.
 use Rattle.std.proofs.Common.{◌≡◌, ℕ, Bool, true, false, cond, not, List, [], ◌∷◌, ◌++◌, map, Option, Some, None, refl, sym, ap, ◌∙◌, subst, inl, inr, ◌⊎◌, append_assoc}
-use Rattle.std.specs.Prelude.{is_none, find}
+use Rattle.std.specs.Prelude.{is_none, find, IfSome}
 use Rattle.std.specs.List.{Contains, All, filter, flat_map, list_all}
 use Rattle.std.proofs.lemmas.Bool.{false≢true, and_parts, and_from}
 use Rattle.std.proofs.lemmas.List.{append-nil}
@@ -50,6 +50,10 @@ find-some {X = X} test xs x h k =
 pub behind-has : (v : Option Var) (vars : List Var) (w : Var) → first_behind v vars ≡ Some w → has vars w ≡ true
 behind-has None vars w h = first-has vars w h
 behind-has (Some v) vars w h = contains-has vars w (find-is (is_before v) vars w h).0
+
+pub some-behind : (v : Option Var) (vars : List Var) (o : Option Var) → o ≡ first_behind v vars → IfSome o (λ w. has vars w ≡ true)
+some-behind v vars None h = tt
+some-behind v vars (Some w) h = behind-has v vars w (sym h)
 
 -- a value that one choice more gives was there, or is that choice's
 pub value_in-last : (trail : List Choice) (c : Choice) (v : Var) (n : ℕ) → value_in (trail ++ c ∷ []) v ≡ Some n → (value_in trail v ≡ Some n) ⊎ ((c.var ≡ v) × (c.val ≡ n))

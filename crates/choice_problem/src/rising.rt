@@ -30,5 +30,9 @@ pub fn place_behind(vars: &[Var], v: Var) -> usize
     ensures { slice_get vars.now result ≡ first_behind (Some v) vars.now }
 {
     let place = place_of(vars, v);
-    if stands_at(vars, place, v) { place + 1 } else { place }
+    if stands_at(vars, place, v) {
+        place + 1
+    } else {
+        place
+    }
 }

@@ -214,6 +214,9 @@ fn many_packages(rt: HostRuntime) -> Result<(), Fail> {
     let out = MemSink::new(alloc, 100_000, 100_000, List::new(alloc))?;
     let found = answer(alloc, &words, folder, out)?;
     let summary = summary(alloc, found.as_str())?;
-    assert_eq!(rt; summary.as_str(), "801 choices, visited 40501 exhausted 100");
+    assert_eq!(rt;
+        summary.as_str(),
+        "801 choices, visited 40501 exhausted 100"
+    );
     Ok(())
 }
