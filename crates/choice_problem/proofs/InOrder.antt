@@ -1,5 +1,5 @@
 -- Rising lists of variables: what stands at a place, one variable less, and the least.
-use Rattle.std.proofs.Common.{◌≡◌, ℕ, zero, suc, ◌+◌, ◌<◌, ◌≤◌, arith, add-one, length, get_or, insert, Bool, true, false, not, cond, ◌&&◌, ◌||◌, List, [], ◌∷◌, Option, Some, None, refl, sym, ap, ◌∙◌, subst, inl, inr}
+use Rattle.std.proofs.Common.{◌≡◌, ℕ, zero, suc, ◌+◌, ◌<◌, ◌≤◌, arith, add-one, length, get_or, insert, Bool, true, false, not, cond, ◌&&◌, ◌||◌, List, [], ◌∷◌, Option, Some, None, refl, sym, ap, ◌∙◌}
 use Rattle.std.specs.Prelude.{find}
 use Rattle.std.specs.List.{slice_get, remove}
 use Rattle.std.specs.List.Sorted.{IsPartitionedBy}
@@ -8,9 +8,8 @@ use Rattle.qualified_goals.specs.declared.variable.Var.{Var}
 use Rattle.qualified_goals.specs.Variable.{same_var, is_before}
 use Rattle.qualified_goals.specs.SameVariable.{same_var-is, same_var-refl}
 use Rattle.choice_problem.specs.ConflictSet.{is_rising, has, with_var, without, place_of}
-use Rattle.common_laws.specs.Lists.{contains-head, contains-cases}
-use Rattle.qualified_goals.proofs.Order.{before-itself, before-trans, before-back, before-neither}
-use Rattle.choice_problem.proofs.Sets.{has-contains, rising-tail, rising-below, insert-place, same-not, before-not-same, same-back}
+use Rattle.qualified_goals.proofs.Order.{before-trans, before-back, before-neither}
+use Rattle.choice_problem.proofs.Sets.{has-contains, rising-tail, rising-below, insert-place, before-not-same, same-back}
 use Rattle.std.proofs.Math.Bool.{or-false}
 
 -- whether a variable is the one that may stand there

@@ -1,5 +1,5 @@
 -- The places of the demands that name a variable and are Yes, as a stack finds them.
-use Rattle.std.proofs.Common.{◌≡◌, ℕ, ◌&&◌, List, [], ◌∷◌, length, filter, refl, sym, ap, ◌∙◌, subst, arith}
+use Rattle.std.proofs.Common.{◌≡◌, ℕ, List, [], length, filter, refl, sym, ap, ◌∙◌, subst, arith}
 use Rattle.qualified_goals.specs.declared.variable.Var.{Var}
 use Rattle.choice_problem.specs.declared.problem.Choice.{Choice}
 use Rattle.choice_problem.specs.declared.problem.Demand.{Demand}
@@ -7,7 +7,7 @@ use Rattle.choice_problem.specs.Assignment.{is_yes}
 use Rattle.choice_problem.specs.Trail.{value_in}
 use Rattle.validation.specs.declared.mentions.Mention.{Mention}
 use Rattle.validation.specs.Mentions.{places_on}
-use Rattle.validation.specs.Stack.{demand_at, demands_at, names, watchers_from, AllBelow, turned}
+use Rattle.validation.specs.Stack.{demand_at, demands_at, watchers_from, AllBelow, turned}
 use Rattle.validation.proofs.Below.{waits-below, waits-demands}
 
 pub turned-below : (v : Var) (listed seen : List Demand) (watchers : List Mention) (places given : List ℕ) → watchers ≡ watchers_from 0 listed → places ≡ places_on v watchers

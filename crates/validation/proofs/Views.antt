@@ -1,6 +1,6 @@
 -- What a trail with one choice more stands for.
 use Rattle.std.proofs.Common.{◌≡◌, arith, length, Bool, true, false, not, cond, ◌&&◌, ◌||◌, IsTrue, List, [], ◌∷◌, ◌++◌, Some, None, map, filter, refl, sym, ap, ◌∙◌, subst, inl, inr, append_assoc, append-nil, length-append}
-use Rattle.std.specs.List.{Contains, All, flat_map, list_all, list_any}
+use Rattle.std.specs.List.{Contains, All, flat_map, list_all}
 use Rattle.std.proofs.lemmas.Bool.{false≢true, and_parts}
 use Rattle.std.proofs.Math.ListN.{get_or-append}
 use Rattle.std.proofs.lemmas.Grind.{flat_map-append}

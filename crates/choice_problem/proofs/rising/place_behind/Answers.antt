@@ -1,4 +1,4 @@
-use Rattle.std.proofs.Common.{◌≡◌, ◌∙◌, ◌+◌, sym, ap, cond, length, arith}
+use Rattle.std.proofs.Common.{◌∙◌, ◌+◌, sym, ap, cond, arith}
 use Rattle.std.specs.List.{slice_get}
 use Rattle.choice_problem.specs.ConflictSet.{place_of}
 use Rattle.choice_problem.proofs.Sets.{place-within}

@@ -1,4 +1,4 @@
-use Rattle.std.proofs.Common.{◌∙◌, sym, ap, subst, true, ◌≡◌}
+use Rattle.std.proofs.Common.{◌∙◌, sym, ap}
 use Rattle.choice_problem.specs.Active.{waiting}
 use Rattle.choice_problem.specs.ConflictSet.{is_rising}
 use Rattle.validation.specs.View.{View}
