@@ -6,3 +6,4 @@ pub mod Open
 pub mod Stack
 pub mod Checks
 pub mod Cycles
+pub mod Side
