@@ -16,7 +16,7 @@ use Rattle.choice_problem.specs.ConflictSet.{has}
 use Rattle.qualified_goals.specs.SameVariable.{same_var-is, same_var-refl}
 use Rattle.common_laws.specs.Lists.{without}
 use Rattle.choice_problem.proofs.Sets.{has-append}
-use Rattle.validation.specs.Cycles.{are_once, with_key, with_keys}
+use Rattle.validation.specs.Side.{are_once, with_key, with_keys}
 use Rattle.std.proofs.Math.Bool.{or-false}
 use Rattle.common_laws.specs.Small.{both-ways, or-assoc}
 

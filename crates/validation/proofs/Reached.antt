@@ -11,7 +11,8 @@ use Rattle.qualified_goals.specs.SameVariable.{same_var-is}
 use Rattle.common_laws.specs.Lists.{contains-head, contains-tail, contains-left, contains-right, map-contains, any-from, any-at}
 use Rattle.choice_problem.proofs.Sets.{has-contains, contains-has}
 use Rattle.choice_problem.proofs.Paths.{Way, start, step, leads-way, way-leads}
-use Rattle.validation.specs.Cycles.{HasEdge, AreAncestors, IsPartReached, leads_to_any, with_keys}
+use Rattle.validation.specs.Cycles.{HasEdge, AreAncestors, leads_to_any}
+use Rattle.validation.specs.Side.{IsPartReached, with_keys}
 use Rattle.validation.proofs.Keys.{with_keys-once, has-with_keys, with_keys-front, once-within}
 use Rattle.common_laws.specs.Small.{both-ways}
 

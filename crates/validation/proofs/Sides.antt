@@ -1,5 +1,5 @@
 -- Searches along the edges and against them, towards each other.
-use Rattle.std.proofs.Common.{◌≡◌, ℕ, ◌≤◌, ◌<◌, true, false, not, ◌&&◌, ◌||◌, List, [], ◌∷◌, length, refl, sym, ap, ◌∙◌, subst, inl, inr, ◌↔◌, ◌+◌, arith}
+use Rattle.std.proofs.Common.{◌≡◌, ℕ, ◌≤◌, ◌<◌, true, false, not, ◌&&◌, ◌||◌, List, [], ◌∷◌, Some, length, slice_get, refl, sym, ap, ◌∙◌, subst, inl, inr, ◌↔◌, ◌+◌, arith}
 use Rattle.std.specs.List.{Contains}
 use Rattle.std.specs.Prelude.{nat_lt}
 use Rattle.std.proofs.lemmas.Bool.{false≢true, and_cases, and_parts, or_cases, or_left, or_right, ltb-true, ltb-false}
@@ -10,8 +10,10 @@ use Rattle.choice_problem.specs.Conflict.{Edge}
 use Rattle.common_laws.specs.Lists.{contains-head, contains-none, contains-cases, contains-map, map-contains}
 use Rattle.common_laws.specs.Small.{both-ways}
 use Rattle.choice_problem.proofs.Paths.{Way, start, step, way-join}
-use Rattle.validation.specs.Cycles.{HasEdge, IsPartReached, leads_to_any, reversed_edge, reversed, with_keys}
-use Rattle.validation.proofs.Reached.{leads-goal, goal-of, reached-all, reached-short}
+use Rattle.validation.specs.Cycles.{HasEdge, leads_to_any}
+use Rattle.validation.specs.declared.side.Side.{Side}
+use Rattle.validation.specs.Side.{IsSide, IsPartReached, reversed_edge, reversed, with_keys}
+use Rattle.validation.proofs.Reached.{leads-goal, goal-of, reached-more, reached-all, reached-short}
 
 -- edges turned round
 
@@ -94,9 +96,11 @@ apart-more i j ahead back from end h =
 pub ahead-short : (edges : List Edge) (goal : Var) (keys : List Var) (place : ℕ) → IsPartReached (reversed edges) (goal ∷ []) keys place → length keys ≤ 1 + length edges
 ahead-short edges goal keys place part = omega (arith, reached-short (reversed edges) (goal ∷ []) keys place part, length-map edges reversed_edge)
 
--- a search that went on, by its parts
-pub side-at : (edges : List Edge) (end same : Var) (keys more : List Var) (place next : ℕ) (found : List Var) → same ≡ end → more ≡ with_keys keys found → next ≡ place + 1
-    → IsPartReached edges (end ∷ []) (with_keys keys found) (place + 1) → IsPartReached edges (same ∷ []) more next
-side-at edges end same keys more place next found e f g part =
-    subst (λ v. IsPartReached edges (v ∷ []) more next) (sym e)
-    (subst (λ l. IsPartReached edges (end ∷ []) l next) (sym f) (subst (λ n. IsPartReached edges (end ∷ []) (with_keys keys found) n) (sym g) part))
+-- a search that went on from its next variable is one
+pub gone-on : (edges : List Edge) (old new : Side) (next : Var) (found : List Var) → IsSide edges old → slice_get old.found.keys old.place ≡ Some next → new.end ≡ old.end
+    → new.found.keys ≡ with_keys old.found.keys found → new.place ≡ old.place + 1 → ((v : Var) → (Contains found v) ↔ (HasEdge edges v next)) → IsSide edges new
+gone-on edges old new next found part is e f g all =
+    let more = reached-more edges (old.end ∷ []) old.found.keys old.place next found part is all in
+    subst (λ v. IsPartReached edges (v ∷ []) new.found.keys new.place) (sym e)
+    (subst (λ l. IsPartReached edges (old.end ∷ []) l new.place) (sym f)
+    (subst (λ n. IsPartReached edges (old.end ∷ []) (with_keys old.found.keys found) n) (sym g) more))

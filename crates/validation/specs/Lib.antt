@@ -5,3 +5,4 @@ pub mod Open
 pub mod Stack
 pub mod Checks
 pub mod Cycles
+pub mod Side

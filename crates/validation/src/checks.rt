@@ -187,25 +187,12 @@ pub(crate) fn targets_at(
 {
     let mut targets = Vec::new(alloc);
     for place in places {
-        push_target_at(&mut targets, listed, *place, owner)?;
+        let demand = demand_in(listed, *place);
+        if is_owned_by(demand, owner) {
+            targets.push(demand.target)?;
+        }
     }
     Ok(targets)
-}
-
-fn push_target_at(
-    targets: &mut Vec<Var>,
-    listed: &[Demand],
-    place: usize,
-    owner: Var,
-) -> Result<(), NoMemory>
-    requires { place < length listed.now }
-    ensures { OnOk result (targets.new.items ≡ targets.old.items ++ target_by owner (demand_at listed.now place)) }
-{
-    let demand = &listed[place];
-    if is_owned_by(demand, owner) {
-        targets.push(demand.target)?;
-    }
-    Ok(())
 }
 
 fn is_owned_by(demand: &Demand, owner: Var) -> bool

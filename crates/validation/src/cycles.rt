@@ -5,7 +5,8 @@ ghost use Rattle.qualified_goals.specs.declared.variable.Var.{Var};
 ghost use Rattle.choice_problem.specs.declared.problem.Demand.{Demand};
 ghost use Rattle.choice_problem.specs.ConflictSet.{has};
 ghost use Rattle.choice_problem.specs.Conflict.{Edge, edges_of, named_by, lies_on_cycle, circular, set_of_all};
-ghost use Rattle.validation.specs.Cycles.{HasEdge, AreAncestors, IsSide, leads_to_any, owner_of, owners_on_cycles, reversed};
+ghost use Rattle.validation.specs.Cycles.{HasEdge, AreAncestors, leads_to_any, owner_of, owners_on_cycles};
+ghost use Rattle.validation.specs.Side.{IsSide, reversed};
 
 use crate::side::{Side, add_keys, are_apart, have_met, is_around};
 use choice_problem::{ConflictSet, Demand, Var, is_same};
@@ -125,7 +126,7 @@ fn owner_of(demand: &Demand) -> Option<Var>
     }
 }
 
-// Whether the edge of a demand lies on a cycle. The side of the owner before serves again where this demand has the same.
+// Whether the edge of a demand lies on a cycle. What was found against the edges serves again where the owner is the same.
 fn is_on_cycle<G: Graph>(
     alloc: Global,
     graph: &G,
@@ -159,8 +160,8 @@ fn side_of(alloc: Global, last: Option<Side>, end: Var) -> Result<Side, NoMemory
     }
 }
 
-// Whether edges lead from a variable to the end of a side, which goes on as far as it takes to tell. The other side goes
-// first, so that what leads to much and needs little costs little.
+// Whether edges lead from a variable to the end of a side, which goes on as far as it takes to tell. The search along the
+// edges goes first: much may lead to the owner of a demand whose target needs little.
 fn is_led_to<G: Graph>(
     alloc: Global,
     graph: &G,
@@ -173,38 +174,14 @@ fn is_led_to<G: Graph>(
 {
     let mut ahead = Side::new(alloc, from)?;
     while are_apart(&ahead, back) {
-        step_ahead(alloc, graph, &mut ahead)?;
+        let targets = graph.targets(alloc, ahead.next())?;
+        ahead.add(targets.as_slice())?;
         if are_apart(&ahead, back) {
-            step_back(alloc, graph, back)?;
+            let sources = graph.sources(alloc, back.next())?;
+            back.add(sources.as_slice())?;
         }
     }
     Ok(have_met(&ahead, back))
-}
-
-// Goes on along the edges.
-fn step_ahead<G: Graph>(alloc: Global, graph: &G, ahead: &mut Side) -> Result<(), NoMemory>
-    requires side { IsSide (reversed (edges_of (G.demands graph.now))) ahead.old }
-    requires more { ahead.old.place < length ahead.old.found.keys }
-    ensures side { OnOk result (IsSide (reversed (edges_of (G.demands graph.now))) ahead.new) }
-    ensures end { OnOk result (ahead.new.end ≡ ahead.old.end) }
-    ensures place { OnOk result (ahead.new.place ≡ ahead.old.place + 1) }
-{
-    let targets = graph.targets(alloc, ahead.next())?;
-    ahead.add(targets.as_slice())?;
-    Ok(())
-}
-
-// Goes on against the edges.
-fn step_back<G: Graph>(alloc: Global, graph: &G, back: &mut Side) -> Result<(), NoMemory>
-    requires side { IsSide (edges_of (G.demands graph.now)) back.old }
-    requires more { back.old.place < length back.old.found.keys }
-    ensures side { OnOk result (IsSide (edges_of (G.demands graph.now)) back.new) }
-    ensures end { OnOk result (back.new.end ≡ back.old.end) }
-    ensures place { OnOk result (back.new.place ≡ back.old.place + 1) }
-{
-    let sources = graph.sources(alloc, back.next())?;
-    back.add(sources.as_slice())?;
-    Ok(())
 }
 
 // The variables that lead to one of some goals: the goals, and again and again what edges to those found leave.

@@ -2,7 +2,7 @@
 ghost use Rattle.std.specs.Prelude.{◌≡◌, ◌+◌, ◌<◌, ◌||◌, List, Some, IfOk, OnOk, length, slice_get};
 ghost use Rattle.choice_problem.specs.ConflictSet.{has};
 ghost use Rattle.choice_problem.specs.Conflict.{Edge};
-ghost use Rattle.validation.specs.Cycles.{IsSide, are_apart, is_seeking, with_keys};
+ghost use Rattle.validation.specs.Side.{IsSide, are_apart, is_seeking, with_keys};
 
 use choice_problem::Var;
 use indexmap::IndexSet;

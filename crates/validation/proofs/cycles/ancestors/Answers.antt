@@ -1,6 +1,6 @@
 use Rattle.std.proofs.Common.{◌≡◌, ◌+◌, [], subst, sym, ap, ◌∙◌, arith}
 use Rattle.choice_problem.specs.Conflict.{edges_of}
-use Rattle.validation.specs.Cycles.{IsPartReached, with_keys}
+use Rattle.validation.specs.Side.{IsPartReached, with_keys}
 use Rattle.validation.proofs.Reached.{reached-none, reached-more, reached-all, reached-short}
 use Rattle.validation.proofs.cycles.ancestors.Goals as goal
 

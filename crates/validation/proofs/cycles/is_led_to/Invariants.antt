@@ -1,7 +1,7 @@
 -- both sides are searches, one from where it began, and the other to its end
 use Rattle.std.proofs.Common.{◌≡◌, ◌+◌, ◌-◌, length}
 use Rattle.choice_problem.specs.Conflict.{edges_of}
-use Rattle.validation.specs.Cycles.{IsSide, reversed}
+use Rattle.validation.specs.Side.{IsSide, reversed}
 use Rattle.validation.proofs.cycles.is_led_to.Given as goal
 
 abbrev pub invariant-loop-alloc : goal.invariant-loop-alloc

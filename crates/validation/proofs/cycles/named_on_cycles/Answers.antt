@@ -3,7 +3,7 @@ use Rattle.std.specs.Prelude.{flat_map, filter}
 use Rattle.choice_problem.specs.declared.problem.Demand.{Demand}
 use Rattle.choice_problem.specs.Conflict.{edges_of, named_by, lies_on_cycle, circular}
 use Rattle.validation.specs.declared.side.Side.{Side}
-use Rattle.validation.specs.Cycles.{IsSide}
+use Rattle.validation.specs.Side.{IsSide}
 use Rattle.validation.proofs.Reached.{get-contains}
 use Rattle.validation.proofs.Rings.{kept-one, left-one, kept-all, lies-around}
 use Rattle.validation.proofs.cycles.named_on_cycles.Goals as goal

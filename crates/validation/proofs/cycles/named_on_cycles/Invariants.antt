@@ -1,7 +1,7 @@
 use Rattle.std.proofs.Common.{◌≡◌, ◌++◌, drop, IfSome}
 use Rattle.std.specs.Prelude.{flat_map, filter}
 use Rattle.choice_problem.specs.Conflict.{edges_of, named_by, lies_on_cycle, circular}
-use Rattle.validation.specs.Cycles.{IsSide}
+use Rattle.validation.specs.Side.{IsSide}
 use Rattle.validation.proofs.cycles.named_on_cycles.Given as goal
 
 abbrev pub invariant-loop-place : goal.invariant-loop-place

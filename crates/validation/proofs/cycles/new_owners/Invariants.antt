@@ -1,6 +1,7 @@
 use Rattle.std.proofs.Common.{◌≡◌, ◌++◌, drop, IfSome}
 use Rattle.choice_problem.specs.Conflict.{edges_of}
-use Rattle.validation.specs.Cycles.{IsSide, owners_on_cycles}
+use Rattle.validation.specs.Cycles.{owners_on_cycles}
+use Rattle.validation.specs.Side.{IsSide}
 use Rattle.validation.proofs.cycles.new_owners.Given as goal
 
 abbrev pub invariant-loop-place : goal.invariant-loop-place

@@ -1,5 +1,5 @@
 use Rattle.std.proofs.Common.{◌≡◌, drop}
-use Rattle.validation.specs.Cycles.{with_keys}
+use Rattle.validation.specs.Side.{with_keys}
 use Rattle.validation.proofs.side.add_keys.Given as goal
 
 abbrev pub invariant-loop-v : goal.invariant-loop-v

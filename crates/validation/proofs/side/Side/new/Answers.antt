@@ -1,5 +1,5 @@
 use Rattle.std.proofs.Common.{◌≡◌, [], ◌∷◌, subst, sym, ap, ◌∙◌}
-use Rattle.validation.specs.Cycles.{IsPartReached, with_keys}
+use Rattle.validation.specs.Side.{IsPartReached, with_keys}
 use Rattle.validation.proofs.Reached.{reached-none}
 use Rattle.validation.proofs.side.Side.new.Goals as goal
 
