@@ -5,6 +5,7 @@ use Rattle.std.proofs.Math.Bool.{beq, and-false}
 use Rattle.std.specs.List.{list_all}
 use Rattle.std.specs.Ordering.{nat_cmp, is_eq}
 use Rattle.std.specs.Cmp.Lexicographic.{slice_cmp, bytes_decides}
+use Rattle.std.proofs.lemmas.Bool.{and_parts}
 use Rattle.std.proofs.lemmas.Map.Text.{is_eq-slice_cmp}
 use Rattle.std.proofs.lemmas.List.Elements.{filter-append}
 use Rattle.std.proofs.lemmas.List.Folds.{list_all-append}
@@ -16,10 +17,6 @@ use Rattle.common_laws.specs.Small.{same-is}
 
 pub is-same : (a b : List ℕ) → a ≡ b → same_text a b ≡ true
 is-same a b e = (bytes_decides a b).1 e
-
-pub is_both : {a b : Bool} → (a && b) ≡ true → (a ≡ true) × (b ≡ true)
-is_both {a = true} {b} e = (refl, e)
-is_both {a = false} {b} e = absurd (cc e)
 
 some_is : (a b : Bool) → Some a ≡ Some b → a ≡ b
 some_is a b e = cc e
@@ -106,7 +103,7 @@ flag_old (t ∷ path) s on q some = by (same_text t.name q) refl (same_text t.na
 
 agrees_same : (path : Path) (t s : FlagSet) → same_text t.name s.name ≡ true → is_same t.on s.on ≡ true → list_all (agree t) path ≡ true → list_all (λ u. agree u s) path ≡ true
 agrees_same [] t s e o all = refl
-agrees_same (u ∷ path) t s e o all = (λ i. first (same_text t.name u.name) refl (same_text u.name s.name) refl (is_both all).0 i && agrees_same path t s e o (is_both all).1 i)
+agrees_same (u ∷ path) t s e o all = (λ i. first (same_text t.name u.name) refl (same_text u.name s.name) refl (and_parts _ _ all).0 i && agrees_same path t s e o (and_parts _ _ all).1 i)
   where
     first : (b : Bool) → same_text t.name u.name ≡ b → (r : Bool) → same_text u.name s.name ≡ r → cond b (is_same t.on u.on) true ≡ true → cond r (is_same u.on s.on) true ≡ true
     first b f false g one = refl
@@ -115,12 +112,12 @@ agrees_same (u ∷ path) t s e o all = (λ i. first (same_text t.name u.name) re
 
 pub agrees_old : (path : Path) (s : FlagSet) (on : Bool) → flag_in path s.name ≡ Some on → is_same on s.on ≡ true → is_consistent path ≡ true → list_all (λ t. agree t s) path ≡ true
 agrees_old [] s on some is all = refl
-agrees_old (t ∷ path) s on some is all = by (same_text t.name s.name) refl some (λ n. agrees_old path s on n is (is_both all).1)
+agrees_old (t ∷ path) s on some is all = by (same_text t.name s.name) refl some (λ n. agrees_old path s on n is (and_parts _ _ all).1)
   where
     by : (b : Bool) → same_text t.name s.name ≡ b → cond b (Some t.on) (flag_in path s.name) ≡ Some on → (flag_in path s.name ≡ Some on → list_all (λ u. agree u s) path ≡ true) → (cond b (is_same t.on s.on) true && list_all (λ u. agree u s) path) ≡ true
     by true e n more =
         let here : is_same t.on s.on ≡ true = ap (λ o. is_same o s.on) (some_is t.on on n) ∙ is in
-        (λ i. here i && agrees_same path t s e here (is_both all).0 i)
+        (λ i. here i && agrees_same path t s e here (and_parts _ _ all).0 i)
     by false e n more = more n
 
 pub differs : (path rest : Path) (s : FlagSet) (on : Bool) → flag_in path s.name ≡ Some on → is_same on s.on ≡ false → is_consistent (path ++ s ∷ rest) ≡ false

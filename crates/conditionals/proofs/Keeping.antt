@@ -3,9 +3,10 @@ use Rattle.std.proofs.Common.{◌≡◌, Bool, true, false, not, ◌&&◌, cond,
 use Rattle.std.specs.Prelude.{filter}
 use Rattle.std.specs.List.{list_all}
 use Rattle.std.proofs.lemmas.List.Elements.{filter-append}
+use Rattle.std.proofs.lemmas.Bool.{and_parts}
 use Rattle.plan_types.specs.declared.condition.FlagSet.{FlagSet}
 use Rattle.conditionals.specs.Paths.{Path, is_same, agree, is_consistent, kept_once}
-use Rattle.conditionals.proofs.Cleaning.{is_both, unlike}
+use Rattle.conditionals.proofs.Cleaning.{unlike}
 use Rattle.plan_types.specs.Bytes.{same_text}
 use Rattle.common_laws.specs.Small.{same-is}
 
@@ -71,7 +72,7 @@ back_kept (s ∷ front) back = ap (λ l. s ∷ unlike s l) (back_kept front back
 filtered_all : (p q : FlagSet → Bool) (path : Path) → list_all p path ≡ true → list_all p (filter q path) ≡ true
 filtered_all p q [] all = refl
 filtered_all p q (s ∷ path) all =
-    let parts = is_both {a = p s} {b = list_all p path} all in
+    let parts = and_parts (p s) (list_all p path) all in
     by (q s) parts.0 (filtered_all p q path parts.1)
   where
     by : (b : Bool) → p s ≡ true → list_all p (filter q path) ≡ true → list_all p (cond b (s ∷ filter q path) (filter q path)) ≡ true
@@ -81,7 +82,7 @@ filtered_all p q (s ∷ path) all =
 kept_all : (p : FlagSet → Bool) (path : Path) → list_all p path ≡ true → list_all p (kept_once path) ≡ true
 kept_all p [] all = refl
 kept_all p (s ∷ path) all =
-    let parts = is_both {a = p s} {b = list_all p path} all in
+    let parts = and_parts (p s) (list_all p path) all in
     λ i. parts.0 i && filtered_all p (other s) (kept_once path) (kept_all p path parts.1) i
 
 same_answer : (a b : Bool) → is_same a b ≡ true → a ≡ b
@@ -106,7 +107,7 @@ module _ (p : FlagSet → Bool) where
 
   dropped : (s : FlagSet) (path : Path) → list_all (agree s) path ≡ true → (p s && list_all p (unlike s path)) ≡ (p s && list_all p path)
   dropped s [] all = refl
-  dropped s (t ∷ path) all = by (same_text s.name t.name) refl (is_both all).0 (dropped s path (is_both all).1)
+  dropped s (t ∷ path) all = by (same_text s.name t.name) refl (and_parts _ _ all).0 (dropped s path (and_parts _ _ all).1)
     where
       by : (b : Bool) → same_text s.name t.name ≡ b → cond b (is_same s.on t.on) true ≡ true → (p s && list_all p (unlike s path)) ≡ (p s && list_all p path)
           → (p s && list_all p (cond (not b) (t ∷ unlike s path) (unlike s path))) ≡ (p s && list_all p (t ∷ path))
@@ -115,13 +116,13 @@ module _ (p : FlagSet → Bool) where
 
   pub all_kept : (path : Path) → is_consistent path ≡ true → list_all p (kept_once path) ≡ list_all p path
   all_kept [] e = refl
-  all_kept (s ∷ path) e = dropped s (kept_once path) (kept_all (agree s) path (is_both e).0) ∙ ap (λ b. p s && b) (all_kept path (is_both e).1)
+  all_kept (s ∷ path) e = dropped s (kept_once path) (kept_all (agree s) path (and_parts _ _ e).0) ∙ ap (λ b. p s && b) (all_kept path (and_parts _ _ e).1)
 
 -- ---- that no flag is set both ways
 
 filtered_consistent : (q : FlagSet → Bool) (path : Path) → is_consistent path ≡ true → is_consistent (filter q path) ≡ true
 filtered_consistent q [] e = refl
-filtered_consistent q (s ∷ path) e = by (q s) (filtered_all (agree s) q path (is_both e).0) (filtered_consistent q path (is_both e).1)
+filtered_consistent q (s ∷ path) e = by (q s) (filtered_all (agree s) q path (and_parts _ _ e).0) (filtered_consistent q path (and_parts _ _ e).1)
   where
     by : (b : Bool) → list_all (agree s) (filter q path) ≡ true → is_consistent (filter q path) ≡ true → is_consistent (cond b (s ∷ filter q path) (filter q path)) ≡ true
     by true all more = λ i. all i && more i
@@ -130,6 +131,6 @@ filtered_consistent q (s ∷ path) e = by (q s) (filtered_all (agree s) q path (
 pub kept_consistent : (path : Path) → is_consistent path ≡ true → is_consistent (kept_once path) ≡ true
 kept_consistent [] e = refl
 kept_consistent (s ∷ path) e =
-    let all = filtered_all (agree s) (other s) (kept_once path) (kept_all (agree s) path (is_both e).0) in
-    let more = filtered_consistent (other s) (kept_once path) (kept_consistent path (is_both e).1) in
+    let all = filtered_all (agree s) (other s) (kept_once path) (kept_all (agree s) path (and_parts _ _ e).0) in
+    let more = filtered_consistent (other s) (kept_once path) (kept_consistent path (and_parts _ _ e).1) in
     λ i. all i && more i

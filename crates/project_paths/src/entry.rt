@@ -14,8 +14,8 @@ use std::alloc::Global;
 /// The paths of the local files of an entry, or its refusal.
 pub(crate) fn entry_files<F: Folder>(
     alloc: Global,
-    folder: &mut F,
     entry: &ProjectEntry,
+    folder: &mut F,
 ) -> Result<List<Text>, Halt>
     ensures told { IfSome (F.tells folder.old)
         (λ files. Answers (λ outcome. outcome ≡ entry_files files entry.now) result) }
@@ -24,7 +24,7 @@ pub(crate) fn entry_files<F: Folder>(
     match pattern_of(alloc, entry.text.as_str())? {
         None => Err(refused(entry, Cause::Unsupported, Text::new(alloc))?),
         Some(pattern) => {
-            let found = found_by(alloc, folder, &pattern)?;
+            let found = found_by(alloc, &pattern, folder)?;
             let files = judged(alloc, entry, found)?;
             Ok(files)
         }

@@ -29,8 +29,8 @@ pub fn find_packages<F: Folder>(
     ensures folder { Leaves F.tells F.faults folder.old folder.new (IsErrOf result Halt.Failed) }
 {
     let implied = implied(alloc, implicit)?;
-    let mut found = find_entries(alloc, folder, implied.as_slice())?;
-    let mut others = find_entries(alloc, folder, project.entries.as_slice())?;
+    let mut found = find_entries(alloc, implied.as_slice(), folder)?;
+    let mut others = find_entries(alloc, project.entries.as_slice(), folder)?;
     found.append(&mut others)?;
     let paths = finished(alloc, found)?;
     Ok(paths)
@@ -55,8 +55,8 @@ fn implied(alloc: Global, implicit: bool) -> Result<List<ProjectEntry>, NoMemory
 
 fn find_entries<F: Folder>(
     alloc: Global,
-    folder: &mut F,
     entries: &[ProjectEntry],
+    folder: &mut F,
 ) -> Result<List<Text>, Halt>
     ensures told { IfSome (F.tells folder.old)
         (λ files. Answers (λ outcome. outcome ≡ all_files files entries.now) result) }
@@ -64,7 +64,7 @@ fn find_entries<F: Folder>(
 {
     let mut found = List::new(alloc);
     for entry in entries {
-        let mut files = entry_files(alloc, folder, entry)?;
+        let mut files = entry_files(alloc, entry, folder)?;
         found.append(&mut files)?;
     }
     Ok(found)

@@ -19,17 +19,17 @@ pub(crate) struct FoundFiles {
 /// What is found by a pattern.
 pub(crate) fn found_by<F: Folder>(
     alloc: Global,
-    folder: &mut F,
     pattern: &Pattern,
+    folder: &mut F,
 ) -> Result<List<FoundFiles>, Trouble>
     ensures told { IfSome (F.tells folder.old)
         (λ files. IfOk result (λ all. all ≡ found_by files pattern.now)) }
     ensures folder { Leaves F.tells F.faults folder.old folder.new (IsErrOf result Trouble.Failed) }
 {
-    let places = places(alloc, folder, pattern.names.as_slice())?;
+    let places = places(alloc, pattern.names.as_slice(), folder)?;
     let mut all = List::new(alloc);
     for place in places.as_slice() {
-        let found = found_at(alloc, folder, pattern.folders, place)?;
+        let found = found_at(alloc, pattern.folders, place, folder)?;
         all.push(found)?;
     }
     Ok(all)
@@ -37,15 +37,15 @@ pub(crate) fn found_by<F: Folder>(
 
 fn found_at<F: Folder>(
     alloc: Global,
-    folder: &mut F,
     folders: bool,
     place: &FolderPlace,
+    folder: &mut F,
 ) -> Result<FoundFiles, Trouble>
     ensures told { IfSome (F.tells folder.old)
         (λ files. IfOk result (λ found. found ≡ found_at files folders place.now)) }
     ensures folder { Leaves F.tells F.faults folder.old folder.new (IsErrOf result Trouble.Failed) }
 {
-    let names = names_at(alloc, folder, place)?;
+    let names = names_at(alloc, place, folder)?;
     let files = files_of(alloc, folders, place, names.as_slice())?;
     let path = place.path.copy()?;
     Ok(FoundFiles { path, files })

@@ -18,8 +18,8 @@ pub(crate) struct FolderPlace {
 /// The places to which names lead from the root.
 pub(crate) fn places<F: Folder>(
     alloc: Global,
-    folder: &mut F,
     names: &[Text],
+    folder: &mut F,
 ) -> Result<List<FolderPlace>, Trouble>
     ensures told { IfSome (F.tells folder.old)
         (λ files. IfOk result (λ found. found ≡ places files names.now)) }
@@ -27,7 +27,7 @@ pub(crate) fn places<F: Folder>(
 {
     let mut found = root(alloc)?;
     for name in names {
-        found = all_below(alloc, folder, name, found.as_slice())?;
+        found = all_below(alloc, name, found.as_slice(), folder)?;
     }
     Ok(found)
 }
@@ -45,9 +45,9 @@ fn root(alloc: Global) -> Result<List<FolderPlace>, NoMemory>
 
 fn all_below<F: Folder>(
     alloc: Global,
-    folder: &mut F,
     pattern: &Text,
     places: &[FolderPlace],
+    folder: &mut F,
 ) -> Result<List<FolderPlace>, Trouble>
     ensures told { IfSome (F.tells folder.old)
         (λ files. IfOk result (λ found. found ≡ flat_map (below files pattern.now) places.now)) }
@@ -55,7 +55,7 @@ fn all_below<F: Folder>(
 {
     let mut found = List::new(alloc);
     for place in places {
-        let names = names_at(alloc, folder, place)?;
+        let names = names_at(alloc, place, folder)?;
         push_matched(alloc, pattern, place, names.as_slice(), &mut found)?;
     }
     Ok(found)
@@ -64,8 +64,8 @@ fn all_below<F: Folder>(
 /// The names in a directory; a file has none.
 pub(crate) fn names_at<F: Folder>(
     alloc: Global,
-    folder: &mut F,
     place: &FolderPlace,
+    folder: &mut F,
 ) -> Result<List<Name>, Trouble>
     ensures told { IfSome (F.tells folder.old)
         (λ files. IfOk result (λ names. names ≡ names_at files place.now)) }

@@ -20,10 +20,10 @@ use Rattle.stanza_imports.specs.declared.stanzas.Bodies.{Bodies}
 use Rattle.stanza_imports.specs.declared.stanzas.Built.{Built}
 use Rattle.stanza_imports.specs.declared.stanzas.Stanzas as tables
 use Rattle.stanza_imports.proofs.StanzaLookups.{has_already, found_already, found_too, has_too}
-use Rattle.stanza_imports.proofs.BodyMeanings.{both, steps_kept, steps_below}
+use Rattle.stanza_imports.proofs.BodyMeanings.{steps_kept, steps_below}
 use Rattle.stanza_imports.proofs.BodyTurns.{in_turn-append}
 use Rattle.stanza_imports.proofs.InOrder.{from-known}
-use Rattle.std.proofs.lemmas.Bool.{and_parts}
+use Rattle.std.proofs.lemmas.Bool.{and_from, and_parts}
 use Rattle.stanza_imports.specs.Bodies.{body_parts, table, summary, built_component, shown_in, Stand}
 
 -- an import
@@ -116,7 +116,7 @@ module _ (stanzas more : List Body) where
   within_kept [] e = refl
   within_kept (one ∷ built) e =
       let here = is_within (length stanzas) one.body in let rest = list_all (λ (b : Built). is_within (length stanzas) b.body) built in
-      both (steps_below stanzas more one.body.steps.items ((and_parts here rest e).0)) (within_kept built ((and_parts here rest e).1))
+      and_from _ _ (steps_below stanzas more one.body.steps.items ((and_parts here rest e).0)) (within_kept built ((and_parts here rest e).1))
 
 shown_one : (line : ℕ) (name : List ℕ) (parts : List SectionPart) (found : SectionKind) (kind : CompKind) → found ≡ kinds.Component kind →
     let one : Section = record { line = line; kind = found; name = name; parts = parts } in
@@ -160,7 +160,7 @@ module _ (sections : List Section) (section : Section) (old new : Bodies) (stand
     within =
         (λ i. list_all (λ (b : Built). is_within (length (stanzas i).bodies.items) b.body) (built i))
         ∙ list_all-append (λ (b : Built). is_within (length old.stanzas.bodies.items) b.body) old.built.items (one ∷ [])
-        ∙ both standing.within (both (ap (is_within (length old.stanzas.bodies.items)) its_body ∙ means.within) refl);
+        ∙ and_from _ _ standing.within (and_from _ _ (ap (is_within (length old.stanzas.bodies.items)) its_body ∙ means.within) refl);
     shown =
         (λ i. map (built_component (table (stanzas i).bodies.items)) (built i))
         ∙ map-append (built_component (table old.stanzas.bodies.items)) old.built.items (one ∷ [])

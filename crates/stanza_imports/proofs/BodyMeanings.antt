@@ -1,5 +1,5 @@
 -- What bodies stand for, as they grow and as stanzas are added behind those that they import.
-use Rattle.std.proofs.Common.{◌≡◌, ℕ, ◌+◌, ◌<◌, ◌≤◌, Bool, true, ◌&&◌, length, List, [], ◌∷◌, ◌++◌, map, flat_map, get_or, take, sym, ap, ◌∙◌, refl, arith, length-append}
+use Rattle.std.proofs.Common.{◌≡◌, ℕ, ◌+◌, ◌<◌, ◌≤◌, true, length, List, [], ◌∷◌, ◌++◌, map, flat_map, get_or, take, sym, ap, ◌∙◌, refl, arith, length-append}
 use Rattle.std.specs.Prelude.{None, Some, nat_lt, sum_by}
 use Rattle.std.specs.List.{list_all}
 use Rattle.std.proofs.lemmas.Bool.Decides.{nat_tests}
@@ -22,7 +22,7 @@ use Rattle.stanza_imports.specs.declared.stanzas.Step.TheVariants as step
 use Rattle.stanza_imports.proofs.FirstLines.{first_line-append}
 use Rattle.stanza_imports.proofs.StanzaLookups.{by_number, by_none}
 use Rattle.stanza_imports.proofs.BodyTurns.{told_at, in_front, length-in_turn, in_turn-append}
-use Rattle.std.proofs.lemmas.Bool.{and_parts}
+use Rattle.std.proofs.lemmas.Bool.{and_from, and_parts}
 use Rattle.stanza_imports.specs.Bodies.{step_parts, body_parts, table, first_bad, weight, capped, weight_of, summary}
 use Rattle.stanza_imports.specs.Parts.{bad_visibility}
 
@@ -63,9 +63,6 @@ summary-under [] parts = ap summary (under_none parts)
 summary-under (c ∷ branches) parts =
     λ i. record { bad_visibility = bad_inside c branches parts i; weight = capped (weight-under (c ∷ branches) parts i) }
 
-pub both : {a b : Bool} → a ≡ true → b ≡ true → (a && b) ≡ true
-both p q = λ i. p i && q i
-
 -- a step more
 pub means_more : (stanzas : List Body) (old new : Body) (said parts : List SectionPart) (one : Step) → new.steps.items ≡ old.steps.items ++ one ∷ [] →
     step_parts (table stanzas) one ≡ parts → is_below (length stanzas) one ≡ true → new.summary ≡ joined old.summary (summary parts) →
@@ -79,7 +76,7 @@ means_more stanzas old new said parts one steps is below told means = record {
   within =
       ap (list_all (is_below (length stanzas))) steps
       ∙ list_all-append (is_below (length stanzas)) old.steps.items (one ∷ [])
-      ∙ both means.within (both below refl);
+      ∙ and_from _ _ means.within (and_from _ _ below refl);
 }
 
 -- nothing more
@@ -140,7 +137,4 @@ module _ (stanzas more : List Body) where
   steps_below [] e = refl
   steps_below (one ∷ steps) e =
       let here = is_below (length stanzas) one in let rest = list_all (is_below (length stanzas)) steps in
-      both (step_below one ((and_parts here rest e).0)) (steps_below steps ((and_parts here rest e).1))
-
-pub below_is : (n m : ℕ) → n < m → nat_lt n m ≡ true
-below_is n m h = grind (arith, common_steps, nat_tests)
+      and_from _ _ (step_below one ((and_parts here rest e).0)) (steps_below steps ((and_parts here rest e).1))

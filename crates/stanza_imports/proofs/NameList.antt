@@ -4,6 +4,7 @@ use Rattle.std.specs.Prelude.{Some, None, nat_lt, position}
 use Rattle.std.specs.List.{list_all, list_any, position_or_len}
 use Rattle.std.specs.Cmp.Lexicographic.{nat_list_eq_equiv}
 use Rattle.std.proofs.lemmas.List.{map-append, length-map}
+use Rattle.std.proofs.lemmas.List.Folds.{list_any-append}
 use Rattle.stanza_imports.specs.Names.{has, with_name}
 use Rattle.plan_types.specs.Bytes.{same_text}
 use Rattle.std.proofs.Math.Bool.{or-false}
@@ -32,14 +33,6 @@ module _ {A : Type 0} (now : A → List ℕ) where
       ∙ ap (λ b. if b then map now keys else map now (keys ++ name ∷ [])) (any-shown (same_text (now name)) keys)
       ∙ ap (λ more. if has (map now keys) (now name) then map now keys else more) (map-append now keys (name ∷ []))
 
-pub any-append : (test : List ℕ → Bool) (xs ys : List (List ℕ)) → list_any test (xs ++ ys) ≡ (list_any test xs || list_any test ys)
-any-append test [] ys = refl
-any-append test (x ∷ xs) ys = ap (λ b. test x || b) (any-append test xs ys) ∙ or-assoc (test x) (list_any test xs) (list_any test ys)
-  where
-    or-assoc : (a b c : Bool) → (a || (b || c)) ≡ ((a || b) || c)
-    or-assoc true b c = refl
-    or-assoc false b c = refl
-
 same-listed : (other name : List ℕ) → same_text other name ≡ true → (names : List (List ℕ)) → has names other ≡ has names name
 same-listed other name is [] = refl
 same-listed other name is (n ∷ names) = ap (λ b. b || has names other) (nat_list_eq_equiv.congr other name n is) ∙ ap (λ b. same_text name n || b) (same-listed other name is names)
@@ -58,7 +51,7 @@ has-with names name other = by (has names name) refl
 
     by : (t : Bool) → has names name ≡ t → has (with_name names name) other ≡ (has names other || same_text other name)
     by true there = ap (λ b. has (if b then names else names ++ name ∷ []) other) there ∙ absorbed (has names other) (same_text other name) (kept there)
-    by false gone = ap (λ b. has (if b then names else names ++ name ∷ []) other) gone ∙ any-append (same_text other) names (name ∷ []) ∙ ap (λ b. has names other || b) (or-false (same_text other name))
+    by false gone = ap (λ b. has (if b then names else names ++ name ∷ []) other) gone ∙ list_any-append (same_text other) names (name ∷ []) ∙ ap (λ b. has names other || b) (or-false (same_text other name))
 
 -- a test that goes over a list
 module _ {A : Type 0} (test : A → Bool) (xs : List A) (n : ℕ) (x : A) (lt : n < length xs) (is : get_or xs n x ≡ x) where

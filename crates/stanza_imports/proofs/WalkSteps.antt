@@ -1,11 +1,9 @@
 -- The walk through a body, a step at a time.
-use Rattle.std.proofs.Common.{◌≡◌, ℕ, true, false, ◌+◌, ◌-◌, ◌<◌, ◌≤◌, length, List, [], ◌∷◌, ◌++◌, map, flat_map, get_or, take, drop, sym, ap, ◌∙◌, refl, arith, append_assoc}
-use Rattle.std.specs.Prelude.{Some, nat_lt}
+use Rattle.std.proofs.Common.{◌≡◌, ℕ, ◌+◌, ◌-◌, ◌<◌, ◌≤◌, length, List, [], ◌∷◌, ◌++◌, map, flat_map, get_or, take, drop, sym, ap, ◌∙◌, refl, arith, append_assoc}
+use Rattle.std.specs.Prelude.{Some}
 use Rattle.std.proofs.lemmas.List.{append-nil, map-append, get_or_past, take_all}
 use Rattle.std.specs.List.{slice_get}
 use Rattle.std.proofs.lemmas.List.Sums.{sum_by-cons}
-use Rattle.std.proofs.lemmas.Bool.Decides.{nat_tests}
-use Rattle.std.proofs.lemmas.Grind.{common_steps}
 use Rattle.std.proofs.lemmas.Option.{slice_get_read}
 use Rattle.plan_types.specs.declared.condition.Cond.{Cond}
 use Rattle.section_syntax.specs.declared.part.SectionPart.{SectionPart}
@@ -78,12 +76,6 @@ walked_import branches own inner stanzas steps rest one n frames is imports insi
     ∙ ap (λ v. v ++ frames) (sym (map-append (under branches) (map (under own) inside_it) (flat_map (step_parts (table stanzas)) rest)))
     ∙ ap (λ v. map (under branches) (v ++ flat_map (step_parts (table stanzas)) rest) ++ frames) (sym imports)
     ∙ ap (λ v. left_parts branches stanzas v ++ frames) (sym is)
-
-pub before_end : (n m : ℕ) → true ≡ nat_lt n m → n < m
-before_end n m e = grind (arith, common_steps, nat_tests)
-
-pub past_end : (n m : ℕ) → false ≡ nat_lt n m → m ≤ n
-past_end n m e = grind (arith, common_steps, nat_tests)
 
 pub first_step : (steps : List Step) (one : Step) → 1 ≤ length steps → one ≡ get_or steps 0 one → steps ≡ one ∷ take (length steps - 1) (drop 1 steps)
 first_step [] one h is = absurd (omega arith)
