@@ -1,0 +1,5 @@
+pub mod Paths
+pub mod Rings
+pub mod Nodes
+pub mod Rows
+pub mod Chained

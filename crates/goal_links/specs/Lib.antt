@@ -1,0 +1,4 @@
+pub mod Beside
+pub mod Ring
+pub mod Row
+pub mod Chains
