@@ -3,3 +3,6 @@ pub mod Rings
 pub mod Nodes
 pub mod Rows
 pub mod Chained
+pub mod Keys
+pub mod Mapped
+pub mod Entries

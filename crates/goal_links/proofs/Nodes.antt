@@ -88,3 +88,12 @@ in-back xs n ys k c = contains-right xs (n ∷ ys) k (contains-tail n ys k c)
 
 pub not-either : (xs : List ℕ) (n : ℕ) (ys : List ℕ) → (Contains xs n → ⊥) → (Contains ys n → ⊥) → Contains (xs ++ ys) n → ⊥
 not-either xs n ys h k c = elim (contains-append xs ys n c) [ inl a ↦ h a | inr b ↦ k b ]
+
+-- another node is left
+pub without-other : (ns : List ℕ) (n k : ℕ) → (k ≡ n → ⊥) → has_node (without_node n ns) k ≡ has_node ns k
+without-other [] n k h = refl
+without-other (m ∷ ns) n k h =
+    elim (eqb n m) as (λ b. eqb n m ≡ b → has_node (cond (not b) (m ∷ without_node n ns) (without_node n ns)) k ≡ eqb k m || has_node ns k) [
+      | true ↦ λ e. without-other ns n k h ∙ sym (ap (λ b. b || has_node ns k) (eqb-not k m (λ i. h (i ∙ sym (eqb-true n m e)))))
+      | false ↦ λ e. ap (λ b. eqb k m || b) (without-other ns n k h)
+    ] refl

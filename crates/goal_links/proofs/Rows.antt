@@ -1,15 +1,15 @@
 -- Rows: what stands beside a node, and a node that is taken out or put in.
-use Rattle.std.proofs.Common.{◌≡◌, ℕ, zero, suc, ◌+◌, ◌<◌, ◌≤◌, arith, length, eqb, eqb-true, eq-eqb, Bool, true, false, cond, List, [], ◌∷◌, ◌++◌, Option, Some, None, IsTrue, append_assoc, refl, sym, ap, ◌∙◌, subst, inl, inr, get_or, take, drop}
+use Rattle.std.proofs.Common.{◌≡◌, ℕ, zero, suc, ◌+◌, ◌-◌, ◌<◌, ◌≤◌, arith, length, eqb, eqb-true, eq-eqb, Bool, true, false, cond, List, [], ◌∷◌, ◌++◌, Option, Some, None, IsTrue, append_assoc, append-nil, refl, sym, ap, ◌∙◌, subst, inl, inr, get_or, take, drop}
 use Rattle.std.specs.List.{Contains, slice_get}
 use Rattle.std.proofs.Math.ListN.{set}
 use Rattle.std.proofs.Math.Seq.{ext_get_or, take-append_seam}
 use Rattle.std.proofs.lemmas.List.{length-set, get_or-set_same, get_or-set_other, get_or_append_left, length-append}
 use Rattle.std.proofs.lemmas.Bool.{false≢true}
-use Rattle.common_laws.specs.Lists.{contains-head, contains-left, contains-right}
+use Rattle.common_laws.specs.Lists.{contains-head, contains-tail, contains-left, contains-right}
 use Rattle.goal_links.specs.declared.ring.Node.{Node}
 use Rattle.goal_links.specs.Beside.{last_from, last_of, first_or, first_of, beside, behind_first, AreBeside}
 use Rattle.goal_links.specs.Ring.{IsPath, IsRing, no_node, nodes_from, ring_of, next_at, prev_at, with_place, same_place, IsWithin}
-use Rattle.goal_links.specs.Row.{Line, has_node, without_node, behind, StandsIn, kept_from, MayReturn}
+use Rattle.goal_links.specs.Row.{Line, with_node, has_node, without_node, behind, StandsIn, kept_from, MayReturn}
 use Rattle.goal_links.proofs.Paths.{AreOnce, parted, path-parts, path-last, path-first, path-stays, path-more, path-unlinked, path-linked, last-contains, place-other, not-last, not-first}
 use Rattle.goal_links.proofs.Rings.{has-contains, ring-once, ring-within, ring-is}
 use Rattle.goal_links.proofs.Nodes.{contains-has, hasn't, not-in, behind-parted, beside-parted, without-parted, has-other, has-itself, apart-front, apart-back, behind-front, in-front, in-back, not-either}
@@ -257,10 +257,14 @@ module _ (ends : Node) (nodes : List Node) (h : IsRing ends nodes (ring_of ends 
       let back = gap-within (part.0 ++ n ∷ []) part.1 whole in
       (subst (IsWithin (length nodes)) (sym part.3) front.0, subst (IsWithin (length nodes)) (sym part.4) back.1)
 
-  pub prev-stands : (n : ℕ) → has_node (ring_of ends nodes) n ≡ true → StandsIn (ring_of ends nodes) (prev_at ends nodes (Some n))
+  -- what stands before a node stands there without it too
+  pub prev-stands : (n : ℕ) → has_node (ring_of ends nodes) n ≡ true → StandsIn (without_node n (ring_of ends nodes)) (prev_at ends nodes (Some n))
   prev-stands n in' =
       let part = node-parted n in' in
-      subst (λ l. StandsIn l (prev_at ends nodes (Some n))) (sym part.2) (subst (StandsIn (part.0 ++ n ∷ part.1)) (sym part.3) (last-stands part.0 (n ∷ part.1)))
+      let once = ring-once ends nodes (part.0 ++ n ∷ part.1) (subst (λ l. IsRing ends nodes l) part.2 h) in
+      let left : without_node n (ring_of ends nodes) ≡ part.0 ++ part.1 =
+      ap (without_node n) part.2 ∙ without-parted part.0 n part.1 (apart-front part.0 n part.1 once) (apart-back part.0 n part.1 once) in
+      subst (λ l. StandsIn l (prev_at ends nodes (Some n))) (sym left) (subst (StandsIn (part.0 ++ part.1)) (sym part.3) (last-stands part.0 part.1))
     where
       last-stands : (xs ys : List ℕ) → StandsIn (xs ++ ys) (last_of xs)
       last-stands [] ys = tt
@@ -404,3 +408,89 @@ module _ (ends : Node) (nodes : List Node) (h : IsRing ends nodes (ring_of ends 
   returned-row ends2 new old len on back same all =
       let k = kept-is (ring_of ends nodes) nodes n (last_of xs, first_of ys) kept in
       linked-row ends ends2 nodes nodes mid new old len n xs ys e refl (λ k other. refl) h parts k.1 k.0 k.2 k.3 on back same all
+
+-- the next node, and what follows it
+pub behind-step : (ends : Node) (nodes : List Node) → IsRing ends nodes (ring_of ends nodes) → (place : Option ℕ) (n : ℕ) → StandsIn (ring_of ends nodes) place
+    → Some n ≡ first_of (behind place (ring_of ends nodes)) → (behind place (ring_of ends nodes) ≡ n ∷ behind (Some n) (ring_of ends nodes)) × (has_node (ring_of ends nodes) n ≡ true)
+behind-step ends nodes h place n stands-in e =
+    let ns = ring_of ends nodes in
+    let part = place-parted ns place stands-in in
+    let once = ring-once ends nodes (part.0 ++ part.1) (subst (λ l. IsRing ends nodes l) part.2 h) in
+    let rest : behind place ns ≡ part.1 = ap (behind place) part.2 ∙ ap (λ p. behind p (part.0 ++ part.1)) (sym part.3) ∙ behind-front part.0 part.1 once in
+    let go : (ys : List ℕ) → Some n ≡ first_of ys → ns ≡ part.0 ++ ys → AreOnce None (part.0 ++ ys) → (ys ≡ n ∷ behind (Some n) ns) × (has_node ns n ≡ true) =
+    λ ys. elim ys as (λ ys. Some n ≡ first_of ys → ns ≡ part.0 ++ ys → AreOnce None (part.0 ++ ys) → (ys ≡ n ∷ behind (Some n) ns) × (has_node ns n ≡ true)) [
+      | [] ↦ λ e i once. absurd (cc e)
+      | y ∷ ys ↦ λ e i once.
+          let same : n ≡ y = cc in
+          let is : ns ≡ part.0 ++ n ∷ ys = i ∙ ap (λ z. part.0 ++ z ∷ ys) (sym same) in
+          let once' : AreOnce None (part.0 ++ n ∷ ys) = subst (λ z. AreOnce None (part.0 ++ z ∷ ys)) (sym same) once in
+          let tail : behind_first (eqb n) ns ≡ ys = ap (behind_first (eqb n)) is ∙ behind-parted part.0 n ys (apart-front part.0 n ys once') in
+          (ap (λ z. z ∷ ys) (sym same) ∙ ap (λ l. n ∷ l) (sym tail), ap (λ (l : List ℕ). has_node l n) is ∙ has-itself part.0 n ys)
+    ] in
+    let found = go part.1 (e ∙ ap first_of rest) part.2 once in
+    (rest ∙ found.0, found.1)
+
+-- the last node goes
+path-less : (next prev : Option ℕ → Option ℕ) (count less : ℕ) (start : Option ℕ) (xs : List ℕ) (end : Option ℕ) → ((k : ℕ) → Contains xs k → k < less)
+    → IsPath next prev count start xs end → IsPath next prev less start xs end
+path-less next prev count less start [] end le h = h
+path-less next prev count less start (w ∷ xs) end le h =
+    (h.0, h.1, le w (contains-head w xs), path-less next prev count less (Some w) xs end (λ k c. le k (contains-tail w xs k c)) h.3)
+
+module _ (ends : Node) (nodes less : List Node) (m : Node) (e : nodes ≡ less ++ m ∷ []) (h : IsRing ends nodes (ring_of ends nodes))
+    (out : has_node (ring_of ends nodes) (length (kept_from (ring_of ends nodes) 0 nodes) - 1) ≡ false) where
+  last-out : (k : ℕ) → Contains (ring_of ends nodes) k → k < length less
+  last-out k c =
+      let within = ring-within ends nodes (ring_of ends nodes) h k c in
+      let len : length nodes ≡ length less + 1 = ap length e ∙ length-append less (m ∷ []) in
+      let count : length (kept_from (ring_of ends nodes) 0 nodes) - 1 ≡ length less = omega (arith, len, kept-length (ring_of ends nodes) 0 nodes) in
+      let not-last-node : k ≡ length less → ⊥ = λ i. hasn't (ring_of ends nodes) (length less) (ap (has_node (ring_of ends nodes)) (sym count) ∙ out) (subst (λ n. Contains (ring_of ends nodes) n) i c) in
+      omega (arith, within, len, not-last-node)
+
+  popped-ring : IsRing ends less (ring_of ends nodes)
+  popped-ring =
+      let ns = ring_of ends nodes in
+      path-less (next_at ends less) (prev_at ends less) (length nodes) (length less) None ns None last-out
+      (path-stays (next_at ends nodes) (prev_at ends nodes) (next_at ends less) (prev_at ends less) (length nodes) None ns None refl
+      (λ k c. ap (λ (x : Node). x.next) (sym (ap (λ (l : List Node). get_or l k no_node) e ∙ get_or_append_left less (m ∷ []) no_node k (last-out k c))))
+      (λ k c. ap (λ (x : Node). x.prev) (sym (ap (λ (l : List Node). get_or l k no_node) e ∙ get_or_append_left less (m ∷ []) no_node k (last-out k c)))) refl h)
+
+  popped-is : ring_of ends less ≡ ring_of ends nodes
+  popped-is = ring-is ends less (ring_of ends nodes) popped-ring
+
+  pub row-popped : IsRing ends less (ring_of ends less)
+  row-popped = subst (λ l. IsRing ends less l) (sym popped-is) popped-ring
+
+  pub line-popped : (now : Line) → line (ring_of ends nodes) (kept_from (ring_of ends nodes) 0 nodes) ≡ with_node now → line (ring_of ends less) (kept_from (ring_of ends less) 0 less) ≡ now
+  line-popped now i =
+      let ns = ring_of ends nodes in
+      let kept : kept_from ns 0 less ++ cond (has_node ns (0 + length less)) None (sides_of m) ∷ [] ≡ now.kept ++ sides_of no_node ∷ [] =
+      sym (ap (kept_from ns 0) e ∙ kept-push ns 0 less m) ∙ ap (λ (v : Line). v.kept) i in
+      ap (λ l. line l (kept_from l 0 less)) popped-is ∙ ap (λ l. line l (kept_from ns 0 less)) (ap (λ (v : Line). v.linked) i)
+      ∙ ap (line now.linked) (front-same (kept_from ns 0 less) now.kept (cond (has_node ns (0 + length less)) None (sides_of m)) (sides_of no_node) kept)
+    where
+      front-same : {X : Type 0} (xs ys : List X) (x y : X) → xs ++ x ∷ [] ≡ ys ++ y ∷ [] → xs ≡ ys
+      front-same [] [] x y h = refl
+      front-same [] (w ∷ ys) x y h = absurd (no-front ys y cc)
+        where
+          no-front : {X : Type 0} (ys : List X) (y : X) → [] ≡ ys ++ y ∷ [] → ⊥
+          no-front [] y h = cc h
+          no-front (w ∷ ys) y h = cc h
+      front-same (z ∷ xs) [] x y h = absurd (no-back xs x cc)
+        where
+          no-back : {X : Type 0} (ys : List X) (y : X) → ys ++ y ∷ [] ≡ [] → ⊥
+          no-back [] y h = cc h
+          no-back (w ∷ ys) y h = cc h
+      front-same (z ∷ xs) (w ∷ ys) x y h = let i : z ≡ w = cc in ap (λ a. a ∷ xs) i ∙ ap (λ l. w ∷ l) (front-same xs ys x y cc)
+
+-- where no node is taken there is none
+pub none-popped : (ends : Node) (nodes less : List Node) → nodes ≡ less ++ [] → length nodes ≡ 0 → IsRing ends nodes (ring_of ends nodes)
+    → IsRing ends less (ring_of ends less) × ((now : Line) → line (ring_of ends nodes) (kept_from (ring_of ends nodes) 0 nodes) ≡ with_node now
+      → line (ring_of ends less) (kept_from (ring_of ends less) 0 less) ≡ now)
+none-popped ends nodes less e zero-long h =
+    let same : nodes ≡ less = e ∙ append-nil less in
+    (subst (λ (l : List Node). IsRing ends l (ring_of ends l)) same h,
+    λ now i. absurd (too-long now (ap (λ (v : Line). length v.kept) i)))
+  where
+    too-long : (now : Line) → length (kept_from (ring_of ends nodes) 0 nodes) ≡ length (now.kept ++ sides_of no_node ∷ []) → ⊥
+    too-long now i = omega (arith, i, zero-long, kept-length (ring_of ends nodes) 0 nodes, length-append now.kept (sides_of no_node ∷ []))

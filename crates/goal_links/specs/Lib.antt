@@ -2,3 +2,4 @@ pub mod Beside
 pub mod Ring
 pub mod Row
 pub mod Chains
+pub mod Links

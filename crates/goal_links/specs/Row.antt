@@ -1,5 +1,5 @@
 -- Rows of nodes, of which those that stand outside keep neighbours.
-use Rattle.std.specs.Prelude.{◌≡◌, ℕ, suc, Bool, not, eqb, cond, List, [], ◌∷◌, ◌++◌, Option, Some, None, IsTrue, slice_get, slice_set}
+use Rattle.std.specs.Prelude.{◌≡◌, ℕ, suc, ◌<◌, Bool, true, not, eqb, cond, List, [], ◌∷◌, ◌++◌, Option, Some, None, IsTrue, slice_get, slice_set}
 use Rattle.std.specs.List.{list_any, filter}
 use Rattle.goal_links.specs.declared.ring.Node.{Node}
 use Rattle.goal_links.specs.Beside.{beside, behind_first, AreBeside}
@@ -48,3 +48,7 @@ unlinked line n = record {
 -- a node stands outside, and the neighbours that it keeps stand side by side
 abbrev pub MayReturn : Line → ℕ → Type 0
 MayReturn line n = (sides : Option ℕ × Option ℕ) × (slice_get line.kept n ≡ Some (Some sides)) × AreBeside sides line.linked
+
+-- each node is below a number
+abbrev pub AreBelow : ℕ → List ℕ → Type 0
+AreBelow count ns = (n : ℕ) → has_node ns n ≡ true → n < count

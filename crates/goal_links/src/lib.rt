@@ -3,5 +3,9 @@
 #![tactic(auto)]
 
 mod chains;
+mod links;
 mod ring;
 mod row;
+mod vars;
+
+pub use links::Links;

@@ -1,7 +1,7 @@
 // A row of nodes, of which those that were taken out keep their neighbours.
-ghost use Rattle.std.specs.Prelude.{◌≡◌, ◌<◌, ◌++◌, [], ◌∷◌, Some, None, Option, List, ℕ, IsTrue, OnOk, OnErr, false, length, slice_get, slice_set};
+ghost use Rattle.std.specs.Prelude.{◌≡◌, ◌<◌, ◌++◌, [], ◌∷◌, Some, None, Option, List, ℕ, IsTrue, OnOk, OnErr, IfSome, true, false, ◌-◌, length, slice_get, slice_set};
 ghost use Rattle.goal_links.specs.Beside.{first_of, last_of, beside};
-ghost use Rattle.goal_links.specs.Row.{Line, has_node, behind, StandsIn, MayReturn, with_node, unlinked};
+ghost use Rattle.goal_links.specs.Row.{Line, has_node, without_node, behind, StandsIn, MayReturn, with_node, unlinked};
 
 use crate::ring::{Node, alone, relink, unlink};
 use plan_types::NoMemory;
@@ -48,10 +48,20 @@ impl Row {
         Ok(())
     }
 
+    /// Takes the last node away, which stands outside.
+    pub(crate) fn drop_last(&mut self)
+        requires { has_node self.old.linked (length self.old.kept - 1) ≡ false }
+        ensures { (line : Line) → self.old ≡ with_node line → self.new ≡ line }
+    {
+        let _ = self.nodes.pop();
+    }
+
     /// What follows a place, of which None stands before all.
     pub(crate) fn next(&self, place: Option<usize>) -> Option<usize>
         requires { StandsIn self.now.linked place }
-        ensures { result ≡ first_of (behind place self.now.linked) }
+        ensures next { result ≡ first_of (behind place self.now.linked) }
+        ensures rest { IfSome result (λ next. behind place self.now.linked ≡ next ∷ behind (Some next) self.now.linked) }
+        ensures linked { IfSome result (λ next. has_node self.now.linked next ≡ true) }
     {
         match place {
             Some(node) => self.nodes[node].next,
@@ -61,7 +71,7 @@ impl Row {
 
     pub(crate) fn prev(&self, node: usize) -> Option<usize>
         requires { IsTrue (has_node self.now.linked node) }
-        ensures { StandsIn self.now.linked result }
+        ensures { StandsIn (without_node node self.now.linked) result }
     {
         self.nodes[node].prev
     }

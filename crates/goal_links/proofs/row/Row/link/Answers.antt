@@ -21,7 +21,7 @@ relink-requires-clause-node c =
     let within = node-within c.self.inside.nodes.items c.args.self.now (ring_of c.self.inside.ends c.self.inside.nodes.items) c.args.node (ap (λ (v : Line). v.kept) c.self.view_is) c.requires.node in
     let linked = ap (λ (v : Line). v.linked) c.self.view_is in
     let place = subst (λ (l : List ℕ). StandsIn l c.args.place) (sym linked) c.requires.place in
-    let next = c.next-next.ensures ∙ ap (λ (l : List ℕ). first_of (behind c.args.place l)) (sym linked) in
+    let next = c.next-next.ensures.next ∙ ap (λ (l : List ℕ). first_of (behind c.args.place l)) (sym linked) in
     placed-node c.self.inside.ends c.self.inside.nodes.items c.self.invariant c.args.place c.next-next.result c.args.node within place next c.deref_mut.result.now c.deref_mut.ensures.value
 
 pub relink-requires-clause-prev : goal.relink-requires-clause-prev
@@ -29,7 +29,7 @@ relink-requires-clause-prev c =
     let within = node-within c.self.inside.nodes.items c.args.self.now (ring_of c.self.inside.ends c.self.inside.nodes.items) c.args.node (ap (λ (v : Line). v.kept) c.self.view_is) c.requires.node in
     let linked = ap (λ (v : Line). v.linked) c.self.view_is in
     let place = subst (λ (l : List ℕ). StandsIn l c.args.place) (sym linked) c.requires.place in
-    let next = c.next-next.ensures ∙ ap (λ (l : List ℕ). first_of (behind c.args.place l)) (sym linked) in
+    let next = c.next-next.ensures.next ∙ ap (λ (l : List ℕ). first_of (behind c.args.place l)) (sym linked) in
     placed-prev c.self.inside.ends c.self.inside.nodes.items c.self.invariant c.args.place c.next-next.result c.args.node within place next c.deref_mut.result.now c.deref_mut.ensures.value
 
 pub relink-requires-clause-next : goal.relink-requires-clause-next
@@ -37,7 +37,7 @@ relink-requires-clause-next c =
     let within = node-within c.self.inside.nodes.items c.args.self.now (ring_of c.self.inside.ends c.self.inside.nodes.items) c.args.node (ap (λ (v : Line). v.kept) c.self.view_is) c.requires.node in
     let linked = ap (λ (v : Line). v.linked) c.self.view_is in
     let place = subst (λ (l : List ℕ). StandsIn l c.args.place) (sym linked) c.requires.place in
-    let next = c.next-next.ensures ∙ ap (λ (l : List ℕ). first_of (behind c.args.place l)) (sym linked) in
+    let next = c.next-next.ensures.next ∙ ap (λ (l : List ℕ). first_of (behind c.args.place l)) (sym linked) in
     placed-next c.self.inside.ends c.self.inside.nodes.items c.self.invariant c.args.place c.next-next.result c.args.node within place next c.deref_mut.result.now c.deref_mut.ensures.value
 
 pub invariant_of-self : goal.invariant_of-self
@@ -45,7 +45,7 @@ invariant_of-self c =
     let within = node-within c.self.inside.nodes.items c.args.self.now (ring_of c.self.inside.ends c.self.inside.nodes.items) c.args.node (ap (λ (v : Line). v.kept) c.self.view_is) c.requires.node in
     let linked = ap (λ (v : Line). v.linked) c.self.view_is in
     let place = subst (λ (l : List ℕ). StandsIn l c.args.place) (sym linked) c.requires.place in
-    let next = c.next-next.ensures ∙ ap (λ (l : List ℕ). first_of (behind c.args.place l)) (sym linked) in
+    let next = c.next-next.ensures.next ∙ ap (λ (l : List ℕ). first_of (behind c.args.place l)) (sym linked) in
     let found = placed-somewhere c.self.inside.ends c.self.inside.nodes.items c.self.invariant c.args.place c.next-next.result c.args.node within place next c.deref_mut.result.now c.deref_mut.ensures.value
     c.relink.new.ends c.relink.new.nodes (set c.self.inside.nodes.items c.args.node (record { prev = c.args.place; next = c.next-next.result })) c.self.inside.nodes.len
     (ap (λ (l : List ℕ). has_node l c.args.node) linked ∙ c.requires.new) c.relink.ensures.next c.relink.ensures.prev c.relink.auto.nodes c.self.inside.nodes.ok.0 in
@@ -56,7 +56,7 @@ returns-clause-linked c front rest e last =
     let within = node-within c.self.inside.nodes.items c.args.self.now (ring_of c.self.inside.ends c.self.inside.nodes.items) c.args.node (ap (λ (v : Line). v.kept) c.self.view_is) c.requires.node in
     let linked = ap (λ (v : Line). v.linked) c.self.view_is in
     let place = subst (λ (l : List ℕ). StandsIn l c.args.place) (sym linked) c.requires.place in
-    let next = c.next-next.ensures ∙ ap (λ (l : List ℕ). first_of (behind c.args.place l)) (sym linked) in
+    let next = c.next-next.ensures.next ∙ ap (λ (l : List ℕ). first_of (behind c.args.place l)) (sym linked) in
     (placed-row c.self.inside.ends c.self.inside.nodes.items c.self.invariant c.args.place c.next-next.result c.args.node within place next c.deref_mut.result.now c.deref_mut.ensures.value
     c.relink.new.ends c.relink.new.nodes (set c.self.inside.nodes.items c.args.node (record { prev = c.args.place; next = c.next-next.result })) c.self.inside.nodes.len
     (ap (λ (l : List ℕ). has_node l c.args.node) linked ∙ c.requires.new) c.relink.ensures.next c.relink.ensures.prev c.relink.auto.nodes c.self.inside.nodes.ok.0 front rest (linked ∙ e) last).1
@@ -66,7 +66,7 @@ returns-clause-kept c =
     let within = node-within c.self.inside.nodes.items c.args.self.now (ring_of c.self.inside.ends c.self.inside.nodes.items) c.args.node (ap (λ (v : Line). v.kept) c.self.view_is) c.requires.node in
     let linked = ap (λ (v : Line). v.linked) c.self.view_is in
     let place = subst (λ (l : List ℕ). StandsIn l c.args.place) (sym linked) c.requires.place in
-    let next = c.next-next.ensures ∙ ap (λ (l : List ℕ). first_of (behind c.args.place l)) (sym linked) in
+    let next = c.next-next.ensures.next ∙ ap (λ (l : List ℕ). first_of (behind c.args.place l)) (sym linked) in
     let found = placed-somewhere c.self.inside.ends c.self.inside.nodes.items c.self.invariant c.args.place c.next-next.result c.args.node within place next c.deref_mut.result.now c.deref_mut.ensures.value
     c.relink.new.ends c.relink.new.nodes (set c.self.inside.nodes.items c.args.node (record { prev = c.args.place; next = c.next-next.result })) c.self.inside.nodes.len
     (ap (λ (l : List ℕ). has_node l c.args.node) linked ∙ c.requires.new) c.relink.ensures.next c.relink.ensures.prev c.relink.auto.nodes c.self.inside.nodes.ok.0 in
