@@ -1,5 +1,5 @@
 -- Chains: what one that changes leaves of the others.
-use Rattle.std.proofs.Common.{◌≡◌, ℕ, zero, suc, ◌+◌, ◌<◌, ◌≤◌, arith, length, map, eqb, eqb-true, eq-eqb, Bool, true, false, cond, List, [], ◌∷◌, ◌++◌, Option, Some, None, IfSome, refl, sym, ap, ◌∙◌, subst, inl, inr, ◌⊎◌, get_or, take, drop, append-nil}
+use Rattle.std.proofs.Common.{◌≡◌, ℕ, zero, suc, ◌+◌, ◌<◌, ◌≤◌, arith, length, map, eqb, eqb-true, eq-eqb, Bool, true, false, cond, List, [], ◌∷◌, ◌++◌, Option, Some, None, IfSome, IsTrue, refl, sym, ap, ◌∙◌, subst, inl, inr, ◌⊎◌, get_or, take, drop, append-nil}
 use Rattle.std.specs.List.{Contains}
 use Rattle.std.proofs.Math.ListN.{set}
 use Rattle.std.proofs.Math.Seq.{ext_get_or}
@@ -11,8 +11,8 @@ use Rattle.goal_links.specs.declared.chains.Cell.{Cell}
 use Rattle.goal_links.specs.Beside.{last_from, last_of, first_or, first_of, behind_first}
 use Rattle.goal_links.specs.Ring.{IsPath, IsRing, no_node, nodes_from, ring_of, next_at, prev_at, with_place, IsWithin}
 use Rattle.goal_links.specs.Row.{has_node, without_node, behind}
-use Rattle.goal_links.specs.Chains.{Chained, no_cell, cell_at, chain_at, without_last, ends_at, chains_of, AreChains}
-use Rattle.goal_links.proofs.Paths.{path-stays, path-last, path-first, not-last, not-first}
+use Rattle.goal_links.specs.Chains.{Chained, no_cell, cell_at, chain_at, chain_with, without_last, ends_at, chains_of, AreChains}
+use Rattle.goal_links.proofs.Paths.{path-stays, path-last, path-first, last-contains, not-last, not-first}
 use Rattle.goal_links.proofs.Rings.{has-contains, ring-once, ring-within, ring-is}
 use Rattle.goal_links.proofs.Nodes.{contains-has, hasn't, without-parted, apart-front, apart-back}
 use Rattle.goal_links.proofs.Rows.{IsRow, row-linked, row-unlinked, written, AreSame, same-elsewhere, linked-row, unlinked-row, gap-within, node-parted, sides-within, linked-next, ring-pushed}
@@ -314,3 +314,34 @@ module _ (ends nodes : List Node) (cells : List Cell) (h : AreChains ends nodes 
         subst (λ (l : List Node). AreChains (set ends entry end2) l cells × (chains_of (set ends entry end2) l ≡ set (chains_of ends nodes) entry (without_last (chain_at (chains_of ends nodes) entry))))
         (sym (written len new old (lens ∙ sym all)))
         (changed.0, changed.1 ∙ ap (λ (l : List ℕ). set (chains_of ends nodes) entry (without_last l)) (sym (chain-is ends nodes entry entry-fits)))
+
+-- a cell of a chain is in the chain of its entry
+pub in-own-chain : (ends nodes : List Node) (cells : List Cell) → AreChains ends nodes cells → (entry : ℕ) → entry < length ends → (now : Chained)
+    → chained cells (chains_of ends nodes) ≡ now → (o : Option ℕ) → IfSome o (λ n. Contains (ring_of (ends_at ends entry) nodes) n)
+    → IfSome o (λ n. IsTrue (has_node (chain_with now n) n))
+in-own-chain ends nodes cells h entry fits now is None c = tt
+in-own-chain ends nodes cells h entry fits now is (Some n) c =
+    ap (λ (v : Chained). has_node (chain_with v n) n) (sym is) ∙ ap (λ e. has_node (chain_at (chains_of ends nodes) e) n) (h.owned entry n fits c)
+    ∙ ap (λ (l : List ℕ). has_node l n) (chain-is ends nodes entry fits) ∙ contains-has (ring_of (ends_at ends entry) nodes) n c
+
+pub first-in : (o : Option ℕ) (ns : List ℕ) → o ≡ first_of ns → IfSome o (λ n. Contains ns n)
+first-in None ns e = tt
+first-in (Some n) [] e = absurd (cc e)
+first-in (Some n) (m ∷ ns) e = let same : n ≡ m = cc in subst (λ k. Contains (m ∷ ns) k) (sym same) (contains-head m ns)
+
+pub last-in : (o : Option ℕ) (ns : List ℕ) → o ≡ last_of ns → IfSome o (λ n. Contains ns n)
+last-in None ns e = tt
+last-in (Some n) [] e = absurd (cc e)
+last-in (Some n) (m ∷ ns) e = let last = last-contains m ns in let i : Some n ≡ Some last.0 = e ∙ last.1 in let same : n ≡ last.0 = cc in subst (λ k. Contains (m ∷ ns) k) (sym same) last.2
+
+pub behind-in : (ns : List ℕ) (m n : ℕ) → Contains (behind_first (eqb m) ns) n → Contains ns n
+behind-in [] m n c = c
+behind-in (k ∷ ns) m n c =
+    elim (eqb m k) as (λ b. Contains (cond b ns (behind_first (eqb m) ns)) n → Contains (k ∷ ns) n) [
+      | true ↦ λ d. contains-tail k ns n d
+      | false ↦ λ d. contains-tail k ns n (behind-in ns m n d)
+    ] c
+
+pub some-more : (o : Option ℕ) (P Q : ℕ → Type 0) → ((n : ℕ) → P n → Q n) → IfSome o P → IfSome o Q
+some-more None P Q f h = tt
+some-more (Some n) P Q f h = f n h

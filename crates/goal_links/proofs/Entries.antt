@@ -12,13 +12,13 @@ use Rattle.qualified_goals.specs.Variable.{is_before, same_var}
 use Rattle.qualified_goals.specs.SameVariable.{same_var-is, same_var-refl}
 use Rattle.qualified_goals.proofs.Order.{before-itself, before-trans, before-back, before-neither}
 use Rattle.choice_problem.specs.ConflictSet.{is_rising, has, with_var, without}
-use Rattle.choice_problem.proofs.Sets.{same-not, before-not-same, same-back, rising-tail, rising-with_var, rising-below, contains-has}
-use Rattle.choice_problem.proofs.InOrder.{rising-without}
+use Rattle.choice_problem.proofs.Sets.{same-not, before-not-same, same-back, rising-tail, rising-with_var, rising-below, rising-same, has-with_var, contains-has}
+use Rattle.choice_problem.proofs.InOrder.{rising-without, has-without}
 use Rattle.goal_links.specs.declared.chains.Cell.{Cell}
 use Rattle.goal_links.specs.Beside.{last_from, last_of, first_or, first_of, beside_from, beside, behind_first, AreBeside}
 use Rattle.goal_links.specs.Row.{Line, has_node, without_node, behind, StandsIn, AreBelow, with_node, unlinked}
 use Rattle.goal_links.specs.Chains.{Chained, with_chain}
-use Rattle.goal_links.specs.Links.{Entries, no_var, var_at, sides_in, entries_of, AreAround, AreLinks, MayReturn, registered, linked as put, unlinked as taken}
+use Rattle.goal_links.specs.Links.{Entries, no_var, var_at, sides_in, entries_of, AreAround, AreLinks, MayReturn, WasLinked, registered, linked as put, unlinked as taken}
 use Rattle.goal_links.proofs.Paths.{AreOnce, last-contains}
 use Rattle.goal_links.proofs.Rings.{has-contains}
 use Rattle.goal_links.proofs.Nodes.{contains-has as node-has, hasn't, eqb-not, has-other, has-itself, behind-front}
@@ -411,3 +411,32 @@ pub registered-again : (s : Entries) (v : Var) (n : ℕ) → slice_get s.vars n 
 registered-again s v n h =
     let more : Entries = record s { vars = s.vars ++ v ∷ []; kept = s.kept ++ Some (None, None) ∷ []; chains = s.chains ++ [] ∷ [] } in
     sym (ap (λ b. cond b s more) (contains-has s.vars v (get-contains s.vars n v h)))
+
+-- an entry that is put back where it was taken out
+
+with-without : (v : Var) (vars : List Var) → is_rising vars ≡ true → has vars v ≡ true → with_var v (without v vars) ≡ vars
+with-without v vars rising h =
+    rising-same (with_var v (without v vars)) vars (rising-with_var v (without v vars) (rising-without v vars rising)) rising (λ u.
+      has-with_var v (without v vars) u ∙ ap (λ b. same_var v u || b) (has-without v vars u)
+      ∙ elim (same_var v u) as (λ b. same_var v u ≡ b → b || (not b && has vars u) ≡ has vars u) [
+        | true ↦ λ e. sym (ap (has vars) (sym (same_var-is v u e)) ∙ h)
+        | false ↦ λ e. refl
+      ] refl)
+
+set-twice : {X : Type 0} (xs : List X) (i : ℕ) (x y : X) → slice_get xs i ≡ Some y → set (set xs i x) i y ≡ xs
+set-twice [] i x y h = refl
+set-twice (z ∷ xs) zero x y h = let e : z ≡ y = cc in ap (λ w. w ∷ xs) (sym e)
+set-twice (z ∷ xs) (suc i) x y h = ap (λ l. z ∷ l) (set-twice xs i x y h)
+
+pub put-back : (s : Entries) (n : ℕ) → WasLinked s n → put (taken s n) n ≡ s
+put-back s n was =
+    entries-same s.vars (record { cells = s.cells; chains = s.chains }) (with_var (var_at s.vars n) (without (var_at s.vars n) s.linked)) s.linked
+    (set (set s.kept n (Some (beside (same_var (var_at s.vars n)) s.linked))) n None) s.kept
+    (with-without (var_at s.vars n) s.linked was.rising was.linked) (set-twice s.kept n (Some (beside (same_var (var_at s.vars n)) s.linked)) None was.kept)
+
+-- an entry that is found is linked
+pub found-linked : (vars : List Var) (row : Line) (hint : Option ℕ) (chains : Chained) → AreLinks vars row hint chains → (now : Entries) → entries_of vars row chains ≡ now
+    → (o : Option ℕ) → IfSome o (λ n. has_node row.linked n ≡ true) → IfSome o (λ n. IsTrue (has now.linked (var_at now.vars n)))
+found-linked vars row hint chains h now is None k = tt
+found-linked vars row hint chains h now is (Some n) k =
+    sym (linked-number vars row hint chains h now is n (subst (λ (s : Entries). n < length s.vars) is (h.below n k))) ∙ k

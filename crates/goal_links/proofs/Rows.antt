@@ -5,6 +5,7 @@ use Rattle.std.proofs.Math.ListN.{set}
 use Rattle.std.proofs.Math.Seq.{ext_get_or, take-append_seam}
 use Rattle.std.proofs.lemmas.List.{length-set, get_or-set_same, get_or-set_other, get_or_append_left, length-append}
 use Rattle.std.proofs.lemmas.Bool.{false≢true}
+use Rattle.std.proofs.lemmas.Option.{slice_get-get_or}
 use Rattle.common_laws.specs.Lists.{contains-head, contains-tail, contains-left, contains-right}
 use Rattle.goal_links.specs.declared.ring.Node.{Node}
 use Rattle.goal_links.specs.Beside.{last_from, last_of, first_or, first_of, beside, behind_first, AreBeside}
@@ -282,6 +283,15 @@ place-parted ns (Some n) h =
     last-end : (start : Option ℕ) (xs : List ℕ) (n : ℕ) → last_from start (xs ++ n ∷ []) ≡ Some n
     last-end start [] n = refl
     last-end start (x ∷ xs) n = last-end (Some x) xs n
+
+-- a linked node keeps nothing
+pub kept-none : (ends : Node) (nodes : List Node) → IsRing ends nodes (ring_of ends nodes) → (n : ℕ) → has_node (ring_of ends nodes) n ≡ true
+    → slice_get (kept_from (ring_of ends nodes) 0 nodes) n ≡ Some None
+kept-none ends nodes h n in' =
+    let ns = ring_of ends nodes in
+    let within = linked-within ends nodes ns h n in' in
+    slice_get-get_or (kept_from ns 0 nodes) n None (omega (arith, within, kept-length ns 0 nodes))
+    ∙ ap Some (kept-at ns nodes n within ∙ ap (λ b. cond b None (neighbours nodes n)) in')
 
 some-at : {X : Type 0} (xs : List X) (k : ℕ) (x d : X) → slice_get xs k ≡ Some x → (k < length xs) × (get_or xs k d ≡ x)
 some-at [] k x d h = absurd (cc h)

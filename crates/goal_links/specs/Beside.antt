@@ -30,7 +30,8 @@ beside test xs = beside_from test None xs
 
 -- two neighbours stand side by side: the list is one that ends in the left one, and one that begins with the right one
 abbrev pub AreBeside : {X : Type 0} → Option X × Option X → List X → Type 0
-AreBeside {X} sides xs = (front : List X) × (rest : List X) × (xs ≡ front ++ rest) × (last_of front ≡ sides.0) × (first_of rest ≡ sides.1)
+AreBeside {X} sides xs =
+    (front : List X) × (rest : List X) × (xs ≡ front ++ rest) × (last_of front ≡ sides.0) × (first_of rest ≡ sides.1)
 
 -- what stands behind the first item that passes a test
 abbrev pub behind_first : {X : Type 0} → (X → Bool) → List X → List X

@@ -62,5 +62,6 @@ pub record AreChains (ends nodes : List Node) (cells : List Cell) : Type 0 where
   pub paired : length cells ≡ length nodes
   pub rings : (entry : ℕ) → entry < length ends → IsRing (ends_at ends entry) nodes (ring_of (ends_at ends entry) nodes)
   -- the cells of a chain are of its entry
-  pub owned : (entry cell : ℕ) → entry < length ends → Contains (ring_of (ends_at ends entry) nodes) cell → (cell_at cells cell).entry ≡ entry
+  pub owned : (entry cell : ℕ) → entry < length ends → Contains (ring_of (ends_at ends entry) nodes) cell
+      → (cell_at cells cell).entry ≡ entry
   pub entries : (cell : ℕ) → cell < length cells → (cell_at cells cell).entry < length ends

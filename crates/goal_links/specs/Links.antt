@@ -7,7 +7,7 @@ use Rattle.qualified_goals.specs.declared.variable.Part.TheVariants.{Package}
 use Rattle.qualified_goals.specs.Variable.{is_before, same_var}
 use Rattle.choice_problem.specs.ConflictSet.{is_rising, has, with_var, without}
 use Rattle.goal_links.specs.declared.chains.Cell.{Cell}
-use Rattle.goal_links.specs.Beside.{beside, AreBeside}
+use Rattle.goal_links.specs.Beside.{beside, behind_first, AreBeside}
 use Rattle.goal_links.specs.Row.{Line, AreBelow, StandsIn}
 use Rattle.goal_links.specs.Chains.{Chained, cell_at, chain_at, without_last}
 
@@ -50,6 +50,16 @@ registered s v = cond (has s.vars v) s (record s {
 -- one cell more
 abbrev pub with_cell : Entries → Cell → Entries
 with_cell s cell = record s { cells = s.cells ++ cell ∷ [] }
+
+-- the variables behind that of an entry
+abbrev pub vars_behind : Entries → ℕ → List Var
+vars_behind s entry = behind_first (same_var (var_at s.vars entry)) s.linked
+
+-- an entry is linked, and those that are linked stand in goal order
+pub record WasLinked (s : Entries) (entry : ℕ) : Type 0 where
+  pub linked : IsTrue (has s.linked (var_at s.vars entry))
+  pub kept : slice_get s.kept entry ≡ Some None
+  pub rising : IsTrue (is_rising s.linked)
 
 -- an entry linked
 abbrev pub linked : Entries → ℕ → Entries

@@ -30,15 +30,32 @@ same_place (Some m) (Some n) = eqb m n
 abbrev pub with_place : Option ℕ → Option ℕ → (Option ℕ → Option ℕ) → Option ℕ → Option ℕ
 with_place place to old at = cond (same_place place at) to (old at)
 
+-- what follows each place once the neighbours of a node were joined
+abbrev pub next_without : Node → List Node → ℕ → Option ℕ → Option ℕ
+next_without ends nodes n = with_place (prev_at ends nodes (Some n)) (next_at ends nodes (Some n)) (next_at ends nodes)
+
+-- what stands before each
+abbrev pub prev_without : Node → List Node → ℕ → Option ℕ → Option ℕ
+prev_without ends nodes n = with_place (next_at ends nodes (Some n)) (prev_at ends nodes (Some n)) (prev_at ends nodes)
+
+-- what follows each place once a node was put between its neighbours
+abbrev pub next_with : Node → List Node → ℕ → Option ℕ → Option ℕ
+next_with ends nodes n = with_place (prev_at ends nodes (Some n)) (Some n) (next_at ends nodes)
+
+-- what stands before each
+abbrev pub prev_with : Node → List Node → ℕ → Option ℕ → Option ℕ
+prev_with ends nodes n = with_place (next_at ends nodes (Some n)) (Some n) (prev_at ends nodes)
+
 -- the ends, or one of so many nodes
 abbrev pub IsWithin : ℕ → Option ℕ → Type 0
 IsWithin count None = Unit {0}
 IsWithin count (Some n) = n < count
 
 -- the way from one place to another leads over these nodes, forth and back
-abbrev pub IsPath : (Option ℕ → Option ℕ) → (Option ℕ → Option ℕ) → ℕ → Option ℕ → List ℕ → Option ℕ → Type 0
+abbrev pub IsPath : (next prev : Option ℕ → Option ℕ) (count : ℕ) («from» : Option ℕ) (ns : List ℕ) (to : Option ℕ) → Type 0
 IsPath next prev count «from» [] to = (next «from» ≡ to) × (prev to ≡ «from»)
-IsPath next prev count «from» (n ∷ ns) to = (next «from» ≡ Some n) × (prev (Some n) ≡ «from») × (n < count) × IsPath next prev count (Some n) ns to
+IsPath next prev count «from» (n ∷ ns) to =
+    (next «from» ≡ Some n) × (prev (Some n) ≡ «from») × (n < count) × IsPath next prev count (Some n) ns to
 
 -- the ring leads over these nodes
 abbrev pub IsRing : Node → List Node → List ℕ → Type 0

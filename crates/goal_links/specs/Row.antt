@@ -2,7 +2,7 @@
 use Rattle.std.specs.Prelude.{◌≡◌, ℕ, suc, ◌<◌, Bool, true, not, eqb, cond, List, [], ◌∷◌, ◌++◌, Option, Some, None, IsTrue, slice_get, slice_set}
 use Rattle.std.specs.List.{list_any, filter}
 use Rattle.goal_links.specs.declared.ring.Node.{Node}
-use Rattle.goal_links.specs.Beside.{beside, behind_first, AreBeside}
+use Rattle.goal_links.specs.Beside.{first_of, last_of, beside, behind_first, AreBeside}
 
 -- what contracts see of a row
 pub record Line : Type 0 where
@@ -52,3 +52,11 @@ MayReturn line n = (sides : Option ℕ × Option ℕ) × (slice_get line.kept n 
 -- each node is below a number
 abbrev pub AreBelow : ℕ → List ℕ → Type 0
 AreBelow count ns = (n : ℕ) → has_node ns n ≡ true → n < count
+
+-- nodes parted at a place
+abbrev pub IsParted : List ℕ → Option ℕ → List ℕ → List ℕ → Type 0
+IsParted ns place front rest = (ns ≡ front ++ rest) × (last_of front ≡ place)
+
+-- the gap between the neighbours that a node keeps
+abbrev pub IsGap : Line → ℕ → List ℕ → List ℕ → Type 0
+IsGap line n front rest = (line.linked ≡ front ++ rest) × (slice_get line.kept n ≡ Some (Some (last_of front, first_of rest)))

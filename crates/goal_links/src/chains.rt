@@ -80,6 +80,7 @@ impl Chains {
         requires { entry < length self.now.chains }
         ensures first { result ≡ first_of (chain_at self.now.chains entry) }
         ensures within { IfSome result (λ cell. cell < length self.now.cells) }
+        ensures linked { IfSome result (λ cell. IsTrue (has_node (chain_with self.now cell) cell)) }
     {
         self.ends[entry].next
     }
@@ -88,6 +89,7 @@ impl Chains {
         requires { entry < length self.now.chains }
         ensures last { result ≡ last_of (chain_at self.now.chains entry) }
         ensures within { IfSome result (λ cell. cell < length self.now.cells) }
+        ensures linked { IfSome result (λ cell. IsTrue (has_node (chain_with self.now cell) cell)) }
     {
         self.ends[entry].prev
     }
@@ -97,6 +99,7 @@ impl Chains {
         requires linked { IsTrue (has_node (chain_with self.now cell) cell) }
         ensures next { result ≡ first_of (behind (Some cell) (chain_with self.now cell)) }
         ensures within { IfSome result (λ next. next < length self.now.cells) }
+        ensures linked { IfSome result (λ next. IsTrue (has_node (chain_with self.now next) next)) }
     {
         self.nodes[cell].next
     }

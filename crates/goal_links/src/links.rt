@@ -1,12 +1,12 @@
 // Entries of variables that are linked in goal order, each with a chain of cells.
-ghost use Rattle.std.specs.Prelude.{◌≡◌, ◌<◌, ◌++◌, [], ◌∷◌, Some, Option, OnOk, OnErr, IfOk, IfSome, IsTrue, MatchOption, true, false, length, slice_get, slice_index_or};
+ghost use Rattle.std.specs.Prelude.{◌≡◌, ◌<◌, ◌++◌, [], ◌∷◌, Some, None, Option, OnOk, OnErr, IfOk, IfSome, IsTrue, MatchOption, true, false, length, slice_get, slice_index_or};
 ghost use Rattle.std.specs.Option.{option_map};
-ghost use Rattle.qualified_goals.specs.Variable.{is_before, same_var};
-ghost use Rattle.choice_problem.specs.ConflictSet.{has};
-ghost use Rattle.goal_links.specs.Beside.{first_of, last_of, behind_first};
+ghost use Rattle.qualified_goals.specs.Variable.{is_before};
+ghost use Rattle.choice_problem.specs.ConflictSet.{is_rising, has};
+ghost use Rattle.goal_links.specs.Beside.{first_of, last_of};
 ghost use Rattle.goal_links.specs.Row.{has_node, without_node, behind, StandsIn, AreBelow};
 ghost use Rattle.goal_links.specs.Chains.{cell_at, chain_at};
-ghost use Rattle.goal_links.specs.Links.{Entries, var_at, MayReturn, registered, with_cell, linked, unlinked, chain_with, lengthened, shortened};
+ghost use Rattle.goal_links.specs.Links.{Entries, var_at, MayReturn, WasLinked, vars_behind, registered, with_cell, linked, unlinked, chain_with, lengthened, shortened};
 
 use crate::chains::{Cell, Chains};
 use crate::row::Row;
@@ -128,7 +128,9 @@ impl Links {
     pub fn unlink(&mut self, entry: u64)
         requires entry { entry < length self.old.vars }
         requires linked { IsTrue (has self.old.linked (var_at self.old.vars entry)) }
-        ensures { self.new ≡ unlinked self.old entry }
+        ensures unlinked { self.new ≡ unlinked self.old entry }
+        ensures kept { slice_get self.old.kept entry ≡ Some None }
+        ensures rising { IsTrue (is_rising self.old.linked) }
     {
         let entry = entry as usize;
         self.recent = recent_without(&self.row, self.recent, entry);
@@ -138,7 +140,8 @@ impl Links {
     /// Puts an entry between the neighbours that it keeps.
     pub fn relink(&mut self, entry: u64)
         requires { MayReturn self.old entry }
-        ensures { self.new ≡ linked self.old entry }
+        ensures linked { self.new ≡ linked self.old entry }
+        ensures back { (before : Entries) → self.old ≡ unlinked before entry → WasLinked before entry → self.new ≡ before }
     {
         self.row.relink(entry as usize);
     }
@@ -147,6 +150,7 @@ impl Links {
     pub fn first(&self) -> Option<u64>
         ensures first { option_map (var_at self.now.vars) result ≡ first_of self.now.linked }
         ensures within { IfSome result (λ entry. entry < length self.now.vars) }
+        ensures linked { IfSome result (λ entry. IsTrue (has self.now.linked (var_at self.now.vars entry))) }
     {
         number(self.row.next(None))
     }
@@ -155,8 +159,9 @@ impl Links {
     pub fn next(&self, entry: u64) -> Option<u64>
         requires entry { entry < length self.now.vars }
         requires linked { IsTrue (has self.now.linked (var_at self.now.vars entry)) }
-        ensures next { option_map (var_at self.now.vars) result ≡ first_of (behind_first (same_var (var_at self.now.vars entry)) self.now.linked) }
+        ensures next { option_map (var_at self.now.vars) result ≡ first_of (vars_behind self.now entry) }
         ensures within { IfSome result (λ next. next < length self.now.vars) }
+        ensures linked { IfSome result (λ next. IsTrue (has self.now.linked (var_at self.now.vars next))) }
     {
         number(self.row.next(Some(entry as usize)))
     }
@@ -186,6 +191,7 @@ impl Links {
         requires { entry < length self.now.vars }
         ensures first { result ≡ first_of (chain_at self.now.chains entry) }
         ensures within { IfSome result (λ cell. cell < length self.now.cells) }
+        ensures linked { IfSome result (λ cell. IsTrue (has_node (chain_with self.now cell) cell)) }
     {
         number(self.chains.first(entry as usize))
     }
@@ -195,6 +201,7 @@ impl Links {
         requires { entry < length self.now.vars }
         ensures last { result ≡ last_of (chain_at self.now.chains entry) }
         ensures within { IfSome result (λ cell. cell < length self.now.cells) }
+        ensures linked { IfSome result (λ cell. IsTrue (has_node (chain_with self.now cell) cell)) }
     {
         number(self.chains.last(entry as usize))
     }
@@ -205,6 +212,7 @@ impl Links {
         requires linked { IsTrue (has_node (chain_with self.now cell) cell) }
         ensures next { result ≡ first_of (behind (Some cell) (chain_with self.now cell)) }
         ensures within { IfSome result (λ next. next < length self.now.cells) }
+        ensures linked { IfSome result (λ next. IsTrue (has_node (chain_with self.now next) next)) }
     {
         number(self.chains.next(cell as usize))
     }

@@ -1,6 +1,6 @@
 // Rings of nodes by number: which one stands before each, and which one behind it.
 ghost use Rattle.std.specs.Prelude.{◌≡◌, ◌<◌, length, Some, Option, ℕ};
-ghost use Rattle.goal_links.specs.Ring.{next_at, prev_at, with_place, IsWithin};
+ghost use Rattle.goal_links.specs.Ring.{next_at, prev_at, with_place, next_without, prev_without, next_with, prev_with, IsWithin};
 
 /// The neighbours of a node. Those of a ring's ends are its last and its first node.
 #[derive(Clone, Copy, Debug, Drop)]
@@ -48,8 +48,8 @@ pub(crate) fn unlink(ends: &mut Node, nodes: &mut [Node], node: usize)
     requires node { node < length nodes.old }
     requires prev { IsWithin (length nodes.old) (prev_at ends.old nodes.old (Some node)) }
     requires next { IsWithin (length nodes.old) (next_at ends.old nodes.old (Some node)) }
-    ensures next { (at : Option ℕ) → next_at ends.new nodes.new at ≡ with_place (prev_at ends.old nodes.old (Some node)) (next_at ends.old nodes.old (Some node)) (next_at ends.old nodes.old) at }
-    ensures prev { (at : Option ℕ) → prev_at ends.new nodes.new at ≡ with_place (next_at ends.old nodes.old (Some node)) (prev_at ends.old nodes.old (Some node)) (prev_at ends.old nodes.old) at }
+    ensures next { (at : Option ℕ) → next_at ends.new nodes.new at ≡ next_without ends.old nodes.old node at }
+    ensures prev { (at : Option ℕ) → prev_at ends.new nodes.new at ≡ prev_without ends.old nodes.old node at }
 {
     let Node { prev, next } = nodes[node];
     set_next(ends, nodes, prev, next);
@@ -61,8 +61,8 @@ pub(crate) fn relink(ends: &mut Node, nodes: &mut [Node], node: usize)
     requires node { node < length nodes.old }
     requires prev { IsWithin (length nodes.old) (prev_at ends.old nodes.old (Some node)) }
     requires next { IsWithin (length nodes.old) (next_at ends.old nodes.old (Some node)) }
-    ensures next { (at : Option ℕ) → next_at ends.new nodes.new at ≡ with_place (prev_at ends.old nodes.old (Some node)) (Some node) (next_at ends.old nodes.old) at }
-    ensures prev { (at : Option ℕ) → prev_at ends.new nodes.new at ≡ with_place (next_at ends.old nodes.old (Some node)) (Some node) (prev_at ends.old nodes.old) at }
+    ensures next { (at : Option ℕ) → next_at ends.new nodes.new at ≡ next_with ends.old nodes.old node at }
+    ensures prev { (at : Option ℕ) → prev_at ends.new nodes.new at ≡ prev_with ends.old nodes.old node at }
 {
     let Node { prev, next } = nodes[node];
     set_next(ends, nodes, prev, Some(node));

@@ -1,7 +1,7 @@
 // A row of nodes, of which those that were taken out keep their neighbours.
 ghost use Rattle.std.specs.Prelude.{◌≡◌, ◌<◌, ◌++◌, [], ◌∷◌, Some, None, Option, List, ℕ, IsTrue, OnOk, OnErr, IfSome, true, false, ◌-◌, length, slice_get, slice_set};
-ghost use Rattle.goal_links.specs.Beside.{first_of, last_of, beside};
-ghost use Rattle.goal_links.specs.Row.{Line, has_node, without_node, behind, StandsIn, MayReturn, with_node, unlinked};
+ghost use Rattle.goal_links.specs.Beside.{first_of};
+ghost use Rattle.goal_links.specs.Row.{Line, has_node, without_node, behind, StandsIn, MayReturn, IsParted, IsGap, with_node, unlinked};
 
 use crate::ring::{Node, alone, relink, unlink};
 use plan_types::NoMemory;
@@ -81,7 +81,7 @@ impl Row {
         requires node { node < length self.old.kept }
         requires new { has_node self.old.linked node ≡ false }
         requires place { StandsIn self.old.linked place }
-        ensures linked { (front rest : List ℕ) → self.old.linked ≡ front ++ rest → last_of front ≡ place → self.new.linked ≡ front ++ node ∷ rest }
+        ensures linked { (front rest : List ℕ) → IsParted self.old.linked place front rest → self.new.linked ≡ front ++ node ∷ rest }
         ensures kept { self.new.kept ≡ slice_set self.old.kept node None }
     {
         let next = self.next(place);
@@ -92,7 +92,8 @@ impl Row {
     /// Takes a node out, which keeps its neighbours.
     pub(crate) fn unlink(&mut self, node: usize)
         requires { IsTrue (has_node self.old.linked node) }
-        ensures { self.new ≡ unlinked self.old node }
+        ensures unlinked { self.new ≡ unlinked self.old node }
+        ensures kept { slice_get self.old.kept node ≡ Some None }
     {
         unlink(&mut self.ends, &mut self.nodes, node);
     }
@@ -100,7 +101,7 @@ impl Row {
     /// Puts a node between the neighbours that it keeps.
     pub(crate) fn relink(&mut self, node: usize)
         requires { MayReturn self.old node }
-        ensures linked { (front rest : List ℕ) → self.old.linked ≡ front ++ rest → slice_get self.old.kept node ≡ Some (Some (last_of front, first_of rest)) → self.new.linked ≡ front ++ node ∷ rest }
+        ensures linked { (front rest : List ℕ) → IsGap self.old node front rest → self.new.linked ≡ front ++ node ∷ rest }
         ensures kept { self.new.kept ≡ slice_set self.old.kept node None }
     {
         relink(&mut self.ends, &mut self.nodes, node);

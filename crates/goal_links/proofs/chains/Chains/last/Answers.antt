@@ -7,7 +7,7 @@ use Rattle.goal_links.specs.Beside.{first_of, last_of}
 use Rattle.goal_links.specs.Ring.{ring_of, no_node}
 use Rattle.goal_links.specs.Row.{has_node, behind}
 use Rattle.goal_links.specs.Chains.{Chained, cell_at, chain_at, chain_with, chains_of, ends_at, no_cell, appended, shortened, without_last}
-use Rattle.goal_links.proofs.Chained.{map-length, chain-last, last-within}
+use Rattle.goal_links.proofs.Chained.{map-length, chain-last, last-within, chain-is, in-own-chain, last-in}
 use Rattle.goal_links.proofs.chains.Chains.last.Goals as goal
 
 fits : (ends nodes : List Node) (chains : List (List ℕ)) (entry : ℕ) → chains_of ends nodes ≡ chains → entry < length chains → entry < length ends
@@ -27,3 +27,12 @@ returns-clause-within c =
     subst (λ (v : Chained). IfSome c.index.result.now.prev (λ n. n < length v.cells)) c.self.view_is
     (subst (λ (o : Option ℕ). IfSome o (λ n. n < length c.self.inside.cells.items)) (sym (ap (λ (n : Node). n.prev) is))
     (last-within c.self.inside.ends.items c.self.inside.nodes.items c.self.inside.cells.items c.self.invariant c.args.entry in'))
+
+pub returns-clause-linked : goal.returns-clause-linked
+returns-clause-linked c =
+    let in' = fits c.self.inside.ends.items c.self.inside.nodes.items c.args.self.now.chains c.args.entry (ap (λ (v : Chained). v.chains) c.self.view_is) c.requires in
+    let is = c.index.ensures ∙ get-any c.self.inside.ends.items c.args.entry c.index.result.now no_node in' in
+    let chain = chain-last c.self.inside.ends.items c.self.inside.nodes.items c.self.inside.cells.items c.self.invariant c.args.entry in' in
+    in-own-chain c.self.inside.ends.items c.self.inside.nodes.items c.self.inside.cells.items c.self.invariant c.args.entry in' c.args.self.now c.self.view_is c.index.result.now.prev
+    (last-in c.index.result.now.prev (ring_of (ends_at c.self.inside.ends.items c.args.entry) c.self.inside.nodes.items)
+    (ap (λ (n : Node). n.prev) is ∙ chain ∙ ap last_of (chain-is c.self.inside.ends.items c.self.inside.nodes.items c.args.entry in')))

@@ -22,7 +22,7 @@ invariant_of-self c =
     c.place_before-place.ensures.before c.place_before-place.ensures.behind part.0 part.1 part.2 part.3 in
     let right = gap-right c.self.inside.vars c.self.inside.row c.self.inside.recent c.self.inside.chains c.self.invariant c.args.entry fits out c.place_before-place.result c.at-v.result c.at-v.ensures
     c.place_before-place.ensures.before c.place_before-place.ensures.behind part.0 part.1 part.2 part.3 in
-    let new = c.link.ensures.linked part.0 part.1 part.2 part.3 in
+    let new = c.link.ensures.linked part.0 part.1 (part.2, part.3) in
     links-linked c.self.inside.vars c.self.inside.row c.self.inside.recent c.self.inside.chains c.self.invariant c.args.entry fits c.link.new.self part.0 part.1 part.2 new c.link.ensures.kept left right (Some c.args.entry) (inr refl)
 
 pub returns : goal.returns
@@ -34,6 +34,6 @@ returns c =
     c.place_before-place.ensures.before c.place_before-place.ensures.behind part.0 part.1 part.2 part.3 in
     let right = gap-right c.self.inside.vars c.self.inside.row c.self.inside.recent c.self.inside.chains c.self.invariant c.args.entry fits out c.place_before-place.result c.at-v.result c.at-v.ensures
     c.place_before-place.ensures.before c.place_before-place.ensures.behind part.0 part.1 part.2 part.3 in
-    let new = c.link.ensures.linked part.0 part.1 part.2 part.3 in
+    let new = c.link.ensures.linked part.0 part.1 (part.2, part.3) in
     view-linked c.self.inside.vars c.self.inside.row c.self.inside.recent c.self.inside.chains c.self.invariant c.args.entry fits c.link.new.self part.0 part.1 part.2 new c.link.ensures.kept left right
     ∙ ap (λ (s : Entries). linked s c.args.entry) c.self.view_is

@@ -52,14 +52,14 @@ invariant_of-self c =
     found.2.0
 
 pub returns-clause-linked : goal.returns-clause-linked
-returns-clause-linked c front rest e last =
+returns-clause-linked c front rest gap =
     let within = node-within c.self.inside.nodes.items c.args.self.now (ring_of c.self.inside.ends c.self.inside.nodes.items) c.args.node (ap (λ (v : Line). v.kept) c.self.view_is) c.requires.node in
     let linked = ap (λ (v : Line). v.linked) c.self.view_is in
     let place = subst (λ (l : List ℕ). StandsIn l c.args.place) (sym linked) c.requires.place in
     let next = c.next-next.ensures.next ∙ ap (λ (l : List ℕ). first_of (behind c.args.place l)) (sym linked) in
     (placed-row c.self.inside.ends c.self.inside.nodes.items c.self.invariant c.args.place c.next-next.result c.args.node within place next c.deref_mut.result.now c.deref_mut.ensures.value
     c.relink.new.ends c.relink.new.nodes (set c.self.inside.nodes.items c.args.node (record { prev = c.args.place; next = c.next-next.result })) c.self.inside.nodes.len
-    (ap (λ (l : List ℕ). has_node l c.args.node) linked ∙ c.requires.new) c.relink.ensures.next c.relink.ensures.prev c.relink.auto.nodes c.self.inside.nodes.ok.0 front rest (linked ∙ e) last).1
+    (ap (λ (l : List ℕ). has_node l c.args.node) linked ∙ c.requires.new) c.relink.ensures.next c.relink.ensures.prev c.relink.auto.nodes c.self.inside.nodes.ok.0 front rest (linked ∙ gap.0) gap.1).1
 
 pub returns-clause-kept : goal.returns-clause-kept
 returns-clause-kept c =

@@ -46,9 +46,9 @@ invariant_of-self c =
     c.relink.ensures.next c.relink.ensures.prev c.relink.auto.nodes c.self.inside.nodes.ok.0).0
 
 pub returns-clause-linked : goal.returns-clause-linked
-returns-clause-linked c front rest e is =
-    (returned-row c.self.inside.ends c.self.inside.nodes.items c.self.invariant c.args.node front rest (ap (λ (v : Line). v.linked) c.self.view_is ∙ e)
-    (ap (λ (v : Line). slice_get v.kept c.args.node) c.self.view_is ∙ is) c.deref_mut.result.now c.deref_mut.ensures.value
+returns-clause-linked c front rest gap =
+    (returned-row c.self.inside.ends c.self.inside.nodes.items c.self.invariant c.args.node front rest (ap (λ (v : Line). v.linked) c.self.view_is ∙ gap.0)
+    (ap (λ (v : Line). slice_get v.kept c.args.node) c.self.view_is ∙ gap.1) c.deref_mut.result.now c.deref_mut.ensures.value
     c.relink.new.ends c.relink.new.nodes c.self.inside.nodes.items c.self.inside.nodes.len
     c.relink.ensures.next c.relink.ensures.prev c.relink.auto.nodes c.self.inside.nodes.ok.0).1
 

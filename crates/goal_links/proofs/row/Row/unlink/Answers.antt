@@ -1,10 +1,11 @@
 use Rattle.std.proofs.Common.{◌≡◌, ◌<◌, length, Option, Some, None, ℕ, List, sym, ap, ◌∙◌, subst, eqb, ◌++◌, take, drop}
 use Rattle.std.proofs.Math.ListN.{set}
+use Rattle.std.specs.List.{slice_get}
 use Rattle.goal_links.specs.Beside.{beside}
 use Rattle.goal_links.specs.declared.ring.Node.{Node}
 use Rattle.goal_links.specs.Ring.{ring_of, IsWithin, prev_at, next_at}
 use Rattle.goal_links.specs.Row.{Line, has_node, without_node, kept_from, unlinked}
-use Rattle.goal_links.proofs.Rows.{IsRow, written, linked-within, sides-within, unlinked-row, row-line}
+use Rattle.goal_links.proofs.Rows.{IsRow, written, linked-within, sides-within, unlinked-row, row-line, kept-none}
 use Rattle.goal_links.proofs.row.Row.unlink.Goals as goal
 
 pub unlink-requires-clause-node : goal.unlink-requires-clause-node
@@ -37,7 +38,12 @@ after c =
 pub invariant_of-self : goal.invariant_of-self
 invariant_of-self c = (after c).0
 
-pub returns : goal.returns
-returns c =
+pub returns-clause-kept : goal.returns-clause-kept
+returns-clause-kept c =
+    ap (λ (v : Line). slice_get v.kept c.args.node) (sym c.self.view_is)
+    ∙ kept-none c.self.inside.ends c.self.inside.nodes.items c.self.invariant c.args.node (ap (λ (v : Line). has_node v.linked c.args.node) c.self.view_is ∙ c.requires)
+
+pub returns-clause-unlinked : goal.returns-clause-unlinked
+returns-clause-unlinked c =
     row-line c.unlink.new.ends (take c.self.inside.nodes.len (c.unlink.new.nodes ++ drop (length c.unlink.new.nodes) c.self.inside.nodes.items)) _ _ (after c)
     ∙ ap (λ (v : Line). unlinked v c.args.node) c.self.view_is
