@@ -1,5 +1,5 @@
 -- Chains: what one that changes leaves of the others.
-use Rattle.std.proofs.Common.{◌≡◌, ℕ, zero, suc, ◌+◌, ◌<◌, ◌≤◌, arith, length, map, eqb, eqb-true, eq-eqb, Bool, true, false, cond, List, [], ◌∷◌, ◌++◌, Option, Some, None, IfSome, IsTrue, refl, sym, ap, ◌∙◌, subst, inl, inr, ◌⊎◌, get_or, take, drop, append-nil}
+use Rattle.std.proofs.Common.{◌≡◌, ℕ, zero, suc, ◌+◌, ◌<◌, arith, length, map, eqb, eqb-true, eq-eqb, true, false, cond, List, [], ◌∷◌, ◌++◌, Option, Some, None, IfSome, IsTrue, refl, sym, ap, ◌∙◌, subst, inl, inr, ◌⊎◌, get_or, take, drop, append-nil}
 use Rattle.std.specs.List.{Contains}
 use Rattle.std.proofs.Math.ListN.{set}
 use Rattle.std.proofs.Math.Seq.{ext_get_or}
@@ -8,14 +8,14 @@ use Rattle.std.proofs.lemmas.Bool.{false≢true}
 use Rattle.common_laws.specs.Lists.{contains-head, contains-tail, contains-left, contains-right, contains-append, contains-none, contains-cases}
 use Rattle.goal_links.specs.declared.ring.Node.{Node}
 use Rattle.goal_links.specs.declared.chains.Cell.{Cell}
-use Rattle.goal_links.specs.Beside.{last_from, last_of, first_or, first_of, behind_first}
-use Rattle.goal_links.specs.Ring.{IsPath, IsRing, no_node, nodes_from, ring_of, next_at, prev_at, with_place, IsWithin}
+use Rattle.goal_links.specs.Beside.{last_of, first_of, behind_first}
+use Rattle.goal_links.specs.Ring.{IsPath, IsRing, no_node, ring_of, next_at, prev_at, with_place, IsWithin}
 use Rattle.goal_links.specs.Row.{has_node, without_node, behind}
 use Rattle.goal_links.specs.Chains.{Chained, no_cell, cell_at, chain_at, chain_with, without_last, ends_at, chains_of, AreChains}
 use Rattle.goal_links.proofs.Paths.{path-stays, path-last, path-first, last-contains, not-last, not-first}
 use Rattle.goal_links.proofs.Rings.{has-contains, ring-once, ring-within, ring-is}
-use Rattle.goal_links.proofs.Nodes.{contains-has, hasn't, without-parted, apart-front, apart-back}
-use Rattle.goal_links.proofs.Rows.{IsRow, row-linked, row-unlinked, written, AreSame, same-elsewhere, linked-row, unlinked-row, gap-within, node-parted, sides-within, linked-next, ring-pushed}
+use Rattle.goal_links.proofs.Nodes.{contains-has, without-parted, apart-front, apart-back}
+use Rattle.goal_links.proofs.Rows.{row-linked, row-unlinked, written, AreSame, same-elsewhere, gap-within, node-parted, sides-within, linked-next, ring-pushed}
 
 pub map-length : {X Y : Type 0} (f : X → Y) (xs : List X) → length (map f xs) ≡ length xs
 map-length f [] = refl
@@ -38,48 +38,49 @@ chain-changed ends nodes nodes2 cells entry end2 ns2 h within len ring is owned 
     let there : (e : ℕ) → (e ≡ entry → ⊥) → ends_at ends2 e ≡ ends_at ends e = λ e ne. get_or-set_other ends entry e end2 no_node ne in
     let stays : (e : ℕ) → e < length ends → (e ≡ entry → ⊥) → IsRing (ends_at ends e) nodes2 (ring_of (ends_at ends e) nodes) =
     λ e lt ne.
-        let apart : (k : ℕ) → Contains (ring_of (ends_at ends e) nodes) k → (cell_at cells k).entry ≡ entry → ⊥ = λ k c i. ne (sym (h.owned e k lt c) ∙ i) in
-        subst (λ (c : ℕ). IsPath (next_at (ends_at ends e) nodes2) (prev_at (ends_at ends e) nodes2) c None (ring_of (ends_at ends e) nodes) None) (sym len)
-        (path-stays (next_at (ends_at ends e) nodes) (prev_at (ends_at ends e) nodes) (next_at (ends_at ends e) nodes2) (prev_at (ends_at ends e) nodes2) (length nodes)
-        None (ring_of (ends_at ends e) nodes) None refl (λ k c. (others k (apart k c)).1) (λ k c. (others k (apart k c)).0) refl (h.rings e lt)) in
+    let apart : (k : ℕ) → Contains (ring_of (ends_at ends e) nodes) k → (cell_at cells k).entry ≡ entry → ⊥ = λ k c i. ne (sym (h.owned e k lt c) ∙ i) in
+    subst (λ (c : ℕ). IsPath (next_at (ends_at ends e) nodes2) (prev_at (ends_at ends e) nodes2) c None (ring_of (ends_at ends e) nodes) None) (sym len)
+    (path-stays (next_at (ends_at ends e) nodes) (prev_at (ends_at ends e) nodes) (next_at (ends_at ends e) nodes2) (prev_at (ends_at ends e) nodes2) (length nodes)
+    None (ring_of (ends_at ends e) nodes) None refl (λ k c. (others k (apart k c)).1) (λ k c. (others k (apart k c)).0) refl (h.rings e lt)) in
     let rings2 : (e : ℕ) → e < length ends → (e ≡ entry → ⊥) → ring_of (ends_at ends e) nodes2 ≡ ring_of (ends_at ends e) nodes =
-    λ e lt ne. ring-is (ends_at ends e) nodes2 (ring_of (ends_at ends e) nodes) (stays e lt ne) in
-    (record {
-      paired = h.paired ∙ sym len;
-      rings = λ e lt. elim (eqb e entry) as (λ b. eqb e entry ≡ b → IsRing (ends_at ends2 e) nodes2 (ring_of (ends_at ends2 e) nodes2)) [
-        | true ↦ λ i. subst (λ (x : Node). IsRing x nodes2 (ring_of x nodes2)) (sym (ap (ends_at ends2) (eqb-true e entry i) ∙ here)) ring
-        | false ↦ λ i.
-            let ne : e ≡ entry → ⊥ = λ j. false≢true (sym i ∙ eq-eqb e entry j) in
-            let lt2 : e < length ends = omega (arith, lt, lens) in
-            subst (λ (x : Node). IsRing x nodes2 (ring_of x nodes2)) (sym (there e ne))
-            (subst (λ l. IsRing (ends_at ends e) nodes2 l) (sym (rings2 e lt2 ne)) (stays e lt2 ne))
-      ] refl;
-      owned = λ e k lt c. elim (eqb e entry) as (λ b. eqb e entry ≡ b → (cell_at cells k).entry ≡ e) [
-        | true ↦ λ i. let j = eqb-true e entry i in owned k (subst (λ l. Contains l k) (ap (λ (x : Node). ring_of x nodes2) (ap (ends_at ends2) j ∙ here) ∙ is) c) ∙ sym j
-        | false ↦ λ i.
-            let ne : e ≡ entry → ⊥ = λ j. false≢true (sym i ∙ eq-eqb e entry j) in
-            let lt2 : e < length ends = omega (arith, lt, lens) in
-            h.owned e k lt2 (subst (λ l. Contains l k) (ap (λ (x : Node). ring_of x nodes2) (there e ne) ∙ rings2 e lt2 ne) c)
-      ] refl;
-      entries = λ k lt. let old = h.entries k lt in omega (arith, old, lens);
-    },
-    ext_get_or [] (chains_of ends2 nodes2) (set (chains_of ends nodes) entry ns2)
-    (map-length (λ e. ring_of e nodes2) ends2 ∙ lens ∙ sym (length-set (chains_of ends nodes) entry ns2 ∙ map-length (λ e. ring_of e nodes) ends))
-    (λ e lt.
-      let in2 : e < length ends2 = omega (arith, lt, map-length (λ e. ring_of e nodes2) ends2) in
-      let in1 : e < length ends = omega (arith, in2, lens) in
-      get_or-map (λ e. ring_of e nodes2) ends2 e no_node [] in2
-      ∙ elim (eqb e entry) as (λ b. eqb e entry ≡ b → ring_of (ends_at ends2 e) nodes2 ≡ get_or (set (chains_of ends nodes) entry ns2) e []) [
-        | true ↦ λ i.
-            let j = eqb-true e entry i in
-            let fits : entry < length (chains_of ends nodes) = omega (arith, within, map-length (λ e. ring_of e nodes) ends) in
-            ap (λ (x : Node). ring_of x nodes2) (ap (ends_at ends2) j ∙ here) ∙ is
-            ∙ sym (get_or-set_same (chains_of ends nodes) entry ns2 [] fits) ∙ ap (λ m. get_or (set (chains_of ends nodes) entry ns2) m []) (sym j)
-        | false ↦ λ i.
-            let ne : e ≡ entry → ⊥ = λ j. false≢true (sym i ∙ eq-eqb e entry j) in
-            ap (λ (x : Node). ring_of x nodes2) (there e ne) ∙ rings2 e in1 ne
-            ∙ sym (get_or-set_other (chains_of ends nodes) entry e ns2 [] ne ∙ get_or-map (λ e. ring_of e nodes) ends e no_node [] in1)
-      ] refl))
+    λ e lt ne. ring-is (ends_at ends e) nodes2 (ring_of (ends_at ends e) nodes) (stays e lt ne) in (
+      record {
+        paired = h.paired ∙ sym len;
+        rings = λ e lt. elim (eqb e entry) as (λ b. eqb e entry ≡ b → IsRing (ends_at ends2 e) nodes2 (ring_of (ends_at ends2 e) nodes2)) [
+          | true ↦ λ i. subst (λ (x : Node). IsRing x nodes2 (ring_of x nodes2)) (sym (ap (ends_at ends2) (eqb-true e entry i) ∙ here)) ring
+          | false ↦ λ i.
+              let ne : e ≡ entry → ⊥ = λ j. false≢true (sym i ∙ eq-eqb e entry j) in
+              let lt2 : e < length ends = omega (arith, lt, lens) in
+              subst (λ (x : Node). IsRing x nodes2 (ring_of x nodes2)) (sym (there e ne))
+              (subst (λ l. IsRing (ends_at ends e) nodes2 l) (sym (rings2 e lt2 ne)) (stays e lt2 ne))
+        ] refl;
+        owned = λ e k lt c. elim (eqb e entry) as (λ b. eqb e entry ≡ b → (cell_at cells k).entry ≡ e) [
+          | true ↦ λ i. let j = eqb-true e entry i in owned k (subst (λ l. Contains l k) (ap (λ (x : Node). ring_of x nodes2) (ap (ends_at ends2) j ∙ here) ∙ is) c) ∙ sym j
+          | false ↦ λ i.
+              let ne : e ≡ entry → ⊥ = λ j. false≢true (sym i ∙ eq-eqb e entry j) in
+              let lt2 : e < length ends = omega (arith, lt, lens) in
+              h.owned e k lt2 (subst (λ l. Contains l k) (ap (λ (x : Node). ring_of x nodes2) (there e ne) ∙ rings2 e lt2 ne) c)
+        ] refl;
+        entries = λ k lt. let old = h.entries k lt in omega (arith, old, lens);
+      },
+      ext_get_or [] (chains_of ends2 nodes2) (set (chains_of ends nodes) entry ns2)
+          (map-length (λ e. ring_of e nodes2) ends2 ∙ lens ∙ sym (length-set (chains_of ends nodes) entry ns2 ∙ map-length (λ e. ring_of e nodes) ends))
+          (λ e lt.
+          let in2 : e < length ends2 = omega (arith, lt, map-length (λ e. ring_of e nodes2) ends2) in
+          let in1 : e < length ends = omega (arith, in2, lens) in
+          get_or-map (λ e. ring_of e nodes2) ends2 e no_node [] in2
+          ∙ elim (eqb e entry) as (λ b. eqb e entry ≡ b → ring_of (ends_at ends2 e) nodes2 ≡ get_or (set (chains_of ends nodes) entry ns2) e []) [
+            | true ↦ λ i.
+                let j = eqb-true e entry i in
+                let fits : entry < length (chains_of ends nodes) = omega (arith, within, map-length (λ e. ring_of e nodes) ends) in
+                ap (λ (x : Node). ring_of x nodes2) (ap (ends_at ends2) j ∙ here) ∙ is
+                ∙ sym (get_or-set_same (chains_of ends nodes) entry ns2 [] fits) ∙ ap (λ m. get_or (set (chains_of ends nodes) entry ns2) m []) (sym j)
+            | false ↦ λ i.
+                let ne : e ≡ entry → ⊥ = λ j. false≢true (sym i ∙ eq-eqb e entry j) in
+                ap (λ (x : Node). ring_of x nodes2) (there e ne) ∙ rings2 e in1 ne
+                ∙ sym (get_or-set_other (chains_of ends nodes) entry e ns2 [] ne ∙ get_or-map (λ e. ring_of e nodes) ends e no_node [] in1)
+          ] refl),
+    )
 
 -- the ends and the nodes of one entry more
 
@@ -98,21 +99,22 @@ at-push (y ∷ xs) x (suc k) d h =
 
 pub entry-pushed : (ends ends2 nodes : List Node) (cells : List Cell) → ends2 ≡ ends ++ no_node ∷ [] → AreChains ends nodes cells
     → AreChains ends2 nodes cells × (chains_of ends2 nodes ≡ chains_of ends nodes ++ [] ∷ [])
-entry-pushed ends ends2 nodes cells e h =
-    (subst (λ (l : List Node). AreChains l nodes cells) (sym e) (record {
-      paired = h.paired;
-      rings = λ n lt. elim (at-push ends no_node n no_node lt) [
-        | inl p ↦ subst (λ (x : Node). IsRing x nodes (ring_of x nodes)) (sym p.1) (h.rings n p.0)
-        | inr p ↦ subst (λ (x : Node). IsRing x nodes (ring_of x nodes)) (sym p.1) (subst (λ l. IsRing no_node nodes l) (sym (alone-ring nodes)) (refl, refl))
-      ];
-      owned = λ n k lt c. elim (at-push ends no_node n no_node lt) [
-        | inl p ↦ h.owned n k p.0 (subst (λ (x : Node). Contains (ring_of x nodes) k) p.1 c)
-        | inr p ↦ absurd (contains-none k (subst (λ l. Contains l k) (alone-ring nodes) (subst (λ (x : Node). Contains (ring_of x nodes) k) p.1 c)))
-      ];
-      entries = λ k lt. let old = h.entries k lt in omega (arith, old, length-append ends (no_node ∷ []));
-    }),
-    ap (λ (l : List Node). chains_of l nodes) e ∙ map-append (λ e. ring_of e nodes) ends (no_node ∷ [])
-    ∙ ap (λ l. chains_of ends nodes ++ l ∷ []) (alone-ring nodes))
+entry-pushed ends ends2 nodes cells e h = (
+  subst (λ (l : List Node). AreChains l nodes cells) (sym e) (record {
+    paired = h.paired;
+    rings = λ n lt. elim (at-push ends no_node n no_node lt) [
+      | inl p ↦ subst (λ (x : Node). IsRing x nodes (ring_of x nodes)) (sym p.1) (h.rings n p.0)
+      | inr p ↦ subst (λ (x : Node). IsRing x nodes (ring_of x nodes)) (sym p.1) (subst (λ l. IsRing no_node nodes l) (sym (alone-ring nodes)) (refl, refl))
+    ];
+    owned = λ n k lt c. elim (at-push ends no_node n no_node lt) [
+      | inl p ↦ h.owned n k p.0 (subst (λ (x : Node). Contains (ring_of x nodes) k) p.1 c)
+      | inr p ↦ absurd (contains-none k (subst (λ l. Contains l k) (alone-ring nodes) (subst (λ (x : Node). Contains (ring_of x nodes) k) p.1 c)))
+    ];
+    entries = λ k lt. let old = h.entries k lt in omega (arith, old, length-append ends (no_node ∷ []));
+  }),
+  ap (λ (l : List Node). chains_of l nodes) e ∙ map-append (λ e. ring_of e nodes) ends (no_node ∷ [])
+      ∙ ap (λ l. chains_of ends nodes ++ l ∷ []) (alone-ring nodes),
+)
 
 chains-same : (ends nodes nodes2 : List Node) → ((n : ℕ) → n < length ends → ring_of (ends_at ends n) nodes2 ≡ ring_of (ends_at ends n) nodes) → chains_of ends nodes2 ≡ chains_of ends nodes
 chains-same [] nodes nodes2 h = refl
@@ -126,20 +128,21 @@ cell-pushed ends nodes nodes2 cells cells2 cell e f fits h =
     let stays : (n : ℕ) → n < length ends → IsRing (ends_at ends n) pushed (ring_of (ends_at ends n) nodes) =
     λ n lt. ring-pushed (ends_at ends n) nodes no_node (ring_of (ends_at ends n) nodes) (h.rings n lt) in
     let same : (n : ℕ) → n < length ends → ring_of (ends_at ends n) pushed ≡ ring_of (ends_at ends n) nodes =
-    λ n lt. ring-is (ends_at ends n) pushed (ring_of (ends_at ends n) nodes) (stays n lt) in
-    (subst (λ (l : List Node). AreChains ends l cells2) (sym e) (subst (λ (l : List Cell). AreChains ends pushed l) (sym f) (record {
-      paired = length-append cells (cell ∷ []) ∙ ap (λ n. n + 1) h.paired ∙ sym (length-append nodes (no_node ∷ []));
-      rings = λ n lt. subst (λ l. IsRing (ends_at ends n) pushed l) (sym (same n lt)) (stays n lt);
-      owned = λ n k lt c.
-          let old : Contains (ring_of (ends_at ends n) nodes) k = subst (λ l. Contains l k) (same n lt) c in
-          let in-nodes = ring-within (ends_at ends n) nodes (ring_of (ends_at ends n) nodes) (h.rings n lt) k old in
-          ap (λ (x : Cell). x.entry) (get_or_append_left cells (cell ∷ []) no_cell k (omega (arith, in-nodes, h.paired))) ∙ h.owned n k lt old;
-      entries = λ k lt. elim (at-push cells cell k no_cell lt) [
-        | inl p ↦ subst (λ (x : Cell). x.entry < length ends) (sym p.1) (h.entries k p.0)
-        | inr p ↦ subst (λ (x : Cell). x.entry < length ends) (sym p.1) fits
-      ];
-    })),
-    ap (chains_of ends) e ∙ chains-same ends nodes pushed same)
+    λ n lt. ring-is (ends_at ends n) pushed (ring_of (ends_at ends n) nodes) (stays n lt) in (
+      subst (λ (l : List Node). AreChains ends l cells2) (sym e) (subst (λ (l : List Cell). AreChains ends pushed l) (sym f) (record {
+        paired = length-append cells (cell ∷ []) ∙ ap (λ n. n + 1) h.paired ∙ sym (length-append nodes (no_node ∷ []));
+        rings = λ n lt. subst (λ l. IsRing (ends_at ends n) pushed l) (sym (same n lt)) (stays n lt);
+        owned = λ n k lt c.
+            let old : Contains (ring_of (ends_at ends n) nodes) k = subst (λ l. Contains l k) (same n lt) c in
+            let in-nodes = ring-within (ends_at ends n) nodes (ring_of (ends_at ends n) nodes) (h.rings n lt) k old in
+            ap (λ (x : Cell). x.entry) (get_or_append_left cells (cell ∷ []) no_cell k (omega (arith, in-nodes, h.paired))) ∙ h.owned n k lt old;
+        entries = λ k lt. elim (at-push cells cell k no_cell lt) [
+          | inl p ↦ subst (λ (x : Cell). x.entry < length ends) (sym p.1) (h.entries k p.0)
+          | inr p ↦ subst (λ (x : Cell). x.entry < length ends) (sym p.1) fits
+        ];
+      })),
+      ap (chains_of ends) e ∙ chains-same ends nodes pushed same,
+    )
 
 abbrev pub chained : List Cell → List (List ℕ) → Chained
 chained cells chains = record { cells = cells; chains = chains }
@@ -258,9 +261,10 @@ module _ (ends nodes : List Node) (cells : List Cell) (h : AreChains ends nodes 
           | inr b ↦ elim (contains-cases cell [] k b) [ inl i ↦ ap (λ n. (cell_at cells n).entry) (sym i) ∙ sym e | inr none ↦ absurd (contains-none k none) ]
         ])
         (λ k ne.
-          let other : k ≡ cell → ⊥ = λ i. ne (ap (λ n. (cell_at cells n).entry) i ∙ sym e) in
-          (back' (Some k) ∙ same-elsewhere (next_at end' mid (Some cell)) (Some cell) (prev_at end' mid) k (λ i. let no : None ≡ Some k = sym q ∙ i in cc no) ∙ ap (λ (x : Node). x.prev) (mid-other k other),
-          on' (Some k) ∙ same-elsewhere (prev_at end' mid (Some cell)) (Some cell) (next_at end' mid) k (λ i. not-last ns k (λ c. ne (chain-owned k c)) (sym p ∙ i)) ∙ ap (λ (x : Node). x.next) (mid-other k other))) in
+        let other : k ≡ cell → ⊥ = λ i. ne (ap (λ n. (cell_at cells n).entry) i ∙ sym e) in (
+          back' (Some k) ∙ same-elsewhere (next_at end' mid (Some cell)) (Some cell) (prev_at end' mid) k (λ i. let no : None ≡ Some k = sym q ∙ i in cc no) ∙ ap (λ (x : Node). x.prev) (mid-other k other),
+          on' (Some k) ∙ same-elsewhere (prev_at end' mid (Some cell)) (Some cell) (next_at end' mid) k (λ i. not-last ns k (λ c. ne (chain-owned k c)) (sym p ∙ i)) ∙ ap (λ (x : Node). x.next) (mid-other k other),
+        )) in
         subst (λ (l : List Node). AreChains (set ends entry end2) l cells × (chains_of (set ends entry end2) l ≡ set (chains_of ends nodes) entry (chain_at (chains_of ends nodes) entry ++ cell ∷ [])))
         (sym (written len new old (same ∙ mid-length ∙ sym all)))
         (changed.0, changed.1 ∙ ap (λ (l : List ℕ). set (chains_of ends nodes) entry (l ++ cell ∷ [])) (sym is))
@@ -292,10 +296,10 @@ module _ (ends nodes : List Node) (cells : List Cell) (h : AreChains ends nodes 
         let lens : length new ≡ length nodes = same ∙ ap length mid-is in
         let on' : (at : Option ℕ) → next_at end2 new at ≡ with_place (prev_at end' nodes (Some cell)) (next_at end' nodes (Some cell)) (next_at end' nodes) at =
         λ at. on at ∙ ap (λ (x : Node). with_place (prev_at x mid (Some cell)) (next_at x mid (Some cell)) (next_at x mid) at) end-is
-            ∙ ap (λ (l : List Node). with_place (prev_at end' l (Some cell)) (next_at end' l (Some cell)) (next_at end' l) at) mid-is in
+        ∙ ap (λ (l : List Node). with_place (prev_at end' l (Some cell)) (next_at end' l (Some cell)) (next_at end' l) at) mid-is in
         let back' : (at : Option ℕ) → prev_at end2 new at ≡ with_place (next_at end' nodes (Some cell)) (prev_at end' nodes (Some cell)) (prev_at end' nodes) at =
         λ at. back at ∙ ap (λ (x : Node). with_place (next_at x mid (Some cell)) (prev_at x mid (Some cell)) (prev_at x mid) at) end-is
-            ∙ ap (λ (l : List Node). with_place (next_at end' l (Some cell)) (prev_at end' l (Some cell)) (prev_at end' l) at) mid-is in
+        ∙ ap (λ (l : List Node). with_place (next_at end' l (Some cell)) (prev_at end' l (Some cell)) (prev_at end' l) at) mid-is in
         let part = node-parted end' nodes chain-ring cell in-chain in
         let whole : IsRing end' nodes (front ++ cell ∷ []) = subst (λ l. IsRing end' nodes l) ring-parted chain-ring in
         let once = ring-once end' nodes (front ++ cell ∷ []) whole in
@@ -306,11 +310,12 @@ module _ (ends nodes : List Node) (cells : List Cell) (h : AreChains ends nodes 
         λ xs ys k i c. chain-owned k (subst (λ l. Contains l k) (sym i) c) in
         let changed = chain-changed ends nodes new cells entry end2 front h entry-fits lens row.0 (row.1 ∙ left)
         (λ k c. in-ns front (cell ∷ []) k ring-parted (contains-left front (cell ∷ []) k c))
-        (λ k ne.
-          (back' (Some k) ∙ same-elsewhere (next_at end' nodes (Some cell)) (prev_at end' nodes (Some cell)) (prev_at end' nodes) k
-          (λ i. not-first part.1 k (λ c. ne (in-ns part.0 (cell ∷ part.1) k part.2 (contains-right part.0 (cell ∷ part.1) k (contains-tail cell part.1 k c)))) (sym part.4 ∙ i)),
+        (λ k ne. (
+          back' (Some k) ∙ same-elsewhere (next_at end' nodes (Some cell)) (prev_at end' nodes (Some cell)) (prev_at end' nodes) k
+              (λ i. not-first part.1 k (λ c. ne (in-ns part.0 (cell ∷ part.1) k part.2 (contains-right part.0 (cell ∷ part.1) k (contains-tail cell part.1 k c)))) (sym part.4 ∙ i)),
           on' (Some k) ∙ same-elsewhere (prev_at end' nodes (Some cell)) (next_at end' nodes (Some cell)) (next_at end' nodes) k
-          (λ i. not-last part.0 k (λ c. ne (in-ns part.0 (cell ∷ part.1) k part.2 (contains-left part.0 (cell ∷ part.1) k c))) (sym part.3 ∙ i)))) in
+              (λ i. not-last part.0 k (λ c. ne (in-ns part.0 (cell ∷ part.1) k part.2 (contains-left part.0 (cell ∷ part.1) k c))) (sym part.3 ∙ i)),
+        )) in
         subst (λ (l : List Node). AreChains (set ends entry end2) l cells × (chains_of (set ends entry end2) l ≡ set (chains_of ends nodes) entry (without_last (chain_at (chains_of ends nodes) entry))))
         (sym (written len new old (lens ∙ sym all)))
         (changed.0, changed.1 ∙ ap (λ (l : List ℕ). set (chains_of ends nodes) entry (without_last l)) (sym (chain-is ends nodes entry entry-fits)))

@@ -1,6 +1,6 @@
 -- Entries: what stays of their variables, their order and what they keep.
-use Rattle.std.proofs.Common.{◌≡◌, ℕ, zero, suc, ◌+◌, ◌<◌, ◌≤◌, arith, length, map, eqb, eqb-true, eq-eqb, Bool, true, false, cond, not, ◌&&◌, ◌||◌, List, [], ◌∷◌, ◌++◌, Option, Some, None, IfSome, IsTrue, refl, sym, ap, ◌∙◌, subst, inl, inr, ◌⊎◌, get_or, append_assoc}
-use Rattle.std.specs.List.{Contains, list_any, filter, slice_get}
+use Rattle.std.proofs.Common.{◌≡◌, ℕ, zero, suc, ◌+◌, ◌<◌, arith, length, map, eqb, eqb-true, eq-eqb, true, false, cond, not, ◌&&◌, ◌||◌, List, [], ◌∷◌, ◌++◌, Option, Some, None, IfSome, IsTrue, refl, sym, ap, ◌∙◌, subst, inl, inr, ◌⊎◌}
+use Rattle.std.specs.List.{Contains, slice_get}
 use Rattle.std.specs.Option.{option_map}
 use Rattle.std.proofs.Math.ListN.{set}
 use Rattle.std.proofs.lemmas.List.{length-set, map-append, map-set, get_or_append_left, length-append}
@@ -14,14 +14,13 @@ use Rattle.qualified_goals.proofs.Order.{before-itself, before-trans, before-bac
 use Rattle.choice_problem.specs.ConflictSet.{is_rising, has, with_var, without}
 use Rattle.choice_problem.proofs.Sets.{same-not, before-not-same, same-back, rising-tail, rising-with_var, rising-below, rising-same, has-with_var, contains-has}
 use Rattle.choice_problem.proofs.InOrder.{rising-without, has-without}
-use Rattle.goal_links.specs.declared.chains.Cell.{Cell}
-use Rattle.goal_links.specs.Beside.{last_from, last_of, first_or, first_of, beside_from, beside, behind_first, AreBeside}
+use Rattle.goal_links.specs.Beside.{last_from, last_of, first_of, beside_from, beside, behind_first}
 use Rattle.goal_links.specs.Row.{Line, has_node, without_node, behind, StandsIn, AreBelow, with_node, unlinked}
 use Rattle.goal_links.specs.Chains.{Chained, with_chain}
 use Rattle.goal_links.specs.Links.{Entries, no_var, var_at, sides_in, entries_of, AreAround, AreLinks, MayReturn, WasLinked, registered, linked as put, unlinked as taken}
 use Rattle.goal_links.proofs.Paths.{AreOnce, last-contains}
 use Rattle.goal_links.proofs.Rings.{has-contains}
-use Rattle.goal_links.proofs.Nodes.{contains-has as node-has, hasn't, eqb-not, has-other, has-itself, behind-front}
+use Rattle.goal_links.proofs.Nodes.{contains-has as node-has, hasn't, has-itself, behind-front}
 use Rattle.goal_links.proofs.Mapped.{any-mapped, filter-mapped, behind-mapped, first-mapped, last-mapped, beside-mapped, map-parted, map-alike, get-contains, get-set, get-push, get-last}
 
 -- a variable put between those that are before it and those behind it
@@ -114,6 +113,7 @@ module _ (vars : List Var) (once : (m n : ℕ) → m < length vars → n < lengt
         next-after x [] lt rising = tt
         next-after x (y ∷ ms) lt rising =
             (lt y (contains-tail x (y ∷ ms) y (contains-head y ms)), (and_parts (is_before (var_at vars x) (var_at vars y)) (is_rising (map (var_at vars) (y ∷ ms))) rising).0)
+
         first-after : (x : ℕ) (ms : List ℕ) → ((k : ℕ) → Contains (x ∷ ms) k → k < length vars) → is_rising (map (var_at vars) (x ∷ ms)) ≡ true
             → IfSome (first_of ms) (λ y. (x < length vars) × (is_before (var_at vars x) (var_at vars y) ≡ true))
         first-after x [] lt rising = tt
@@ -145,7 +145,7 @@ module _ (vars : List Var) (row : Line) (hint : Option ℕ) (chains : Chained) (
     once = h.once;
     below = λ k k-in. h.below k (node-has row.linked k ((contains-filter (λ m. not (eqb n m)) row.linked k (has-contains (without_node n row.linked) k k-in)).0));
     rising =
-      ap is_rising (sym (without-number vars h.once row.linked h.below n fits)) ∙ rising-without (var_at vars n) (map (var_at vars) row.linked) h.rising;
+        ap is_rising (sym (without-number vars h.once row.linked h.below n fits)) ∙ rising-without (var_at vars n) (map (var_at vars) row.linked) h.rising;
     around = λ k sides e. elim (get-set row.kept n (Some (beside (eqb n) row.linked)) k (Some sides) e) [
       | inl p ↦
           let is : beside (eqb n) row.linked ≡ sides = cc (p.1) in
@@ -174,9 +174,9 @@ module _ (vars : List Var) (row : Line) (hint : Option ℕ) (chains : Chained) (
         let parts : map (var_at vars) row.linked ≡ map (var_at vars) xs ++ map (var_at vars) ys = ap (map (var_at vars)) old ∙ map-append (var_at vars) xs ys in
         ap (map (var_at vars)) new ∙ map-append (var_at vars) xs (n ∷ ys)
         ∙ sym (ap (with_var (var_at vars n)) parts
-          ∙ with-between (var_at vars n) (map (var_at vars) xs) (map (var_at vars) ys) (ap is_rising (sym parts) ∙ h.rising)
-          (subst (λ o. IfSome o (λ w. is_before w (var_at vars n) ≡ true)) (sym (last-mapped (var_at vars) None xs)) (mapped-some (last_of xs) (λ w. is_before w (var_at vars n) ≡ true) left))
-          (subst (λ o. IfSome o (λ w. is_before (var_at vars n) w ≡ true)) (sym (first-mapped (var_at vars) ys)) (mapped-some (first_of ys) (λ w. is_before (var_at vars n) w ≡ true) right)))
+        ∙ with-between (var_at vars n) (map (var_at vars) xs) (map (var_at vars) ys) (ap is_rising (sym parts) ∙ h.rising)
+        (subst (λ o. IfSome o (λ w. is_before w (var_at vars n) ≡ true)) (sym (last-mapped (var_at vars) None xs)) (mapped-some (last_of xs) (λ w. is_before w (var_at vars n) ≡ true) left))
+        (subst (λ o. IfSome o (λ w. is_before (var_at vars n) w ≡ true)) (sym (first-mapped (var_at vars) ys)) (mapped-some (first_of ys) (λ w. is_before (var_at vars n) w ≡ true) right)))
       where
         mapped-some : (o : Option ℕ) (P : Var → Type 0) → IfSome o (λ m. P (var_at vars m)) → IfSome (option_map (var_at vars) o) P
         mapped-some None P k = tt
@@ -208,6 +208,7 @@ module _ (vars : List Var) (row : Line) (hint : Option ℕ) (chains : Chained) (
       where
         old-below : (k : ℕ) → Contains (xs ++ ys) k → k < length vars
         old-below k c = h.below k (node-has row.linked k (subst (λ l. Contains l k) (sym old) c))
+
         stays : (o : Option ℕ) → StandsIn row.linked o → StandsIn row2.linked o
         stays None k = tt
         stays (Some m) k =
@@ -227,11 +228,13 @@ pair left right = (left, right)
 -- in goal order no entry stands twice
 pub rising-once : (vars : List Var) (start : Option ℕ) (ns : List ℕ) → is_rising (map (var_at vars) ns) ≡ true → ((k : ℕ) → Contains ns k → start ≡ Some k → ⊥) → AreOnce start ns
 rising-once vars start [] rising h = tt
-rising-once vars start (n ∷ ns) rising h =
-    (h, rising-once vars (Some n) ns (rising-tail (var_at vars n) (map (var_at vars) ns) rising) (λ k c e.
+rising-once vars start (n ∷ ns) rising h = (
+  h,
+  rising-once vars (Some n) ns (rising-tail (var_at vars n) (map (var_at vars) ns) rising) (λ k c e.
       let same : n ≡ k = cc in
       false≢true (sym (before-itself (var_at vars k)) ∙ ap (λ m. is_before (var_at vars m) (var_at vars k)) (sym same)
-      ∙ rising-below (var_at vars n) (map (var_at vars) ns) (var_at vars k) rising (map-contains (var_at vars) ns k c))))
+      ∙ rising-below (var_at vars n) (map (var_at vars) ns) (var_at vars k) rising (map-contains (var_at vars) ns k c))),
+)
 
 module _ (vars : List Var) (row : Line) (hint : Option ℕ) (chains : Chained) (h : AreLinks vars row hint chains) where
   pub row-once : AreOnce None row.linked
@@ -315,10 +318,15 @@ module _ (vars : List Var) (row : Line) (hint : Option ℕ) (chains : Chained) (
       one-of (first_of ys) sides.1 (first-below ys (λ k c. in-row k (contains-right xs ys k c))) (some-below sides.1 (λ m. is_before (var_at vars n) (var_at vars m) ≡ true) around.right)
       (sym (first-mapped (var_at vars) ys) ∙ ap first_of split.4 ∙ may.2.4 ∙ ap (λ s. s.1) (sym kept.2)) in
       let both : sides ≡ pair (last_of xs) (first_of ys) = ap (λ o. pair o sides.1) (sym left) ∙ ap (pair (last_of xs)) (sym right) in
-      let within = slice_get_within row.kept n (Some sides) kept.1 in
-      (xs, ys, split.2, kept.1 ∙ ap (λ s. Some (Some s)) both, omega (arith, within, h.counted),
-      subst (λ o. IfSome o (λ m. is_before (var_at vars m) (var_at vars n) ≡ true)) (sym left) (some-holds sides.0 (λ m. is_before (var_at vars m) (var_at vars n) ≡ true) around.left),
-      subst (λ o. IfSome o (λ m. is_before (var_at vars n) (var_at vars m) ≡ true)) (sym right) (some-holds sides.1 (λ m. is_before (var_at vars n) (var_at vars m) ≡ true) around.right))
+      let within = slice_get_within row.kept n (Some sides) kept.1 in (
+        xs,
+        ys,
+        split.2,
+        kept.1 ∙ ap (λ s. Some (Some s)) both,
+        omega (arith, within, h.counted),
+        subst (λ o. IfSome o (λ m. is_before (var_at vars m) (var_at vars n) ≡ true)) (sym left) (some-holds sides.0 (λ m. is_before (var_at vars m) (var_at vars n) ≡ true) around.left),
+        subst (λ o. IfSome o (λ m. is_before (var_at vars n) (var_at vars m) ≡ true)) (sym right) (some-holds sides.1 (λ m. is_before (var_at vars n) (var_at vars m) ≡ true) around.right),
+      )
 
   -- an entry of a variable more
   module _ (v : Var) (fresh : has vars v ≡ false) where
@@ -353,6 +361,7 @@ module _ (vars : List Var) (row : Line) (hint : Option ℕ) (chains : Chained) (
         at-both : (o : Option ℕ) → IfSome o (λ m. m < length vars) → option_map (var_at (vars ++ v ∷ [])) o ≡ option_map (var_at vars) o
         at-both None lt = refl
         at-both (Some m) lt = ap Some (same-at m lt)
+
         alike : (k : ℕ) (o : Option (Option ℕ × Option ℕ)) → slice_get row.kept k ≡ Some o → option_map (sides_in (vars ++ v ∷ [])) o ≡ option_map (sides_in vars) o
         alike k None e = refl
         alike k (Some sides) e =
@@ -417,11 +426,11 @@ registered-again s v n h =
 with-without : (v : Var) (vars : List Var) → is_rising vars ≡ true → has vars v ≡ true → with_var v (without v vars) ≡ vars
 with-without v vars rising h =
     rising-same (with_var v (without v vars)) vars (rising-with_var v (without v vars) (rising-without v vars rising)) rising (λ u.
-      has-with_var v (without v vars) u ∙ ap (λ b. same_var v u || b) (has-without v vars u)
-      ∙ elim (same_var v u) as (λ b. same_var v u ≡ b → b || (not b && has vars u) ≡ has vars u) [
-        | true ↦ λ e. sym (ap (has vars) (sym (same_var-is v u e)) ∙ h)
-        | false ↦ λ e. refl
-      ] refl)
+    has-with_var v (without v vars) u ∙ ap (λ b. same_var v u || b) (has-without v vars u)
+    ∙ elim (same_var v u) as (λ b. same_var v u ≡ b → b || (not b && has vars u) ≡ has vars u) [
+      | true ↦ λ e. sym (ap (has vars) (sym (same_var-is v u e)) ∙ h)
+      | false ↦ λ e. refl
+    ] refl)
 
 set-twice : {X : Type 0} (xs : List X) (i : ℕ) (x y : X) → slice_get xs i ≡ Some y → set (set xs i x) i y ≡ xs
 set-twice [] i x y h = refl

@@ -1,5 +1,5 @@
 -- Keys of a set of variables: the derived equality is the goal order's.
-use Rattle.std.proofs.Common.{◌≡◌, ℕ, ◌<◌, Bool, true, false, ◌||◌, List, [], ◌∷◌, ◌++◌, length, get_or, Option, Some, None, MatchOption, IsSome, refl, sym, ap, ◌∙◌, subst, rules}
+use Rattle.std.proofs.Common.{◌≡◌, ℕ, true, false, ◌||◌, List, [], ◌∷◌, ◌++◌, get_or, Option, Some, None, MatchOption, refl, sym, ap, ◌∙◌, rules}
 use Rattle.std.specs.List.{list_any, position, slice_get}
 use Rattle.std.specs.Option.{is_some}
 use Rattle.std.specs.Prelude.{if◌then◌else◌}
@@ -13,8 +13,6 @@ use Rattle.qualified_goals.specs.contracts.variable.VarPartialEq.TheImpl.{eq-val
 use Rattle.qualified_goals.specs.contracts.variable.VarOrd.TheImpl.{cmp-value}
 use Rattle.qualified_goals.specs.contracts.variable.VarOrd.TheImpl.Laws.{matches_eq-law}
 use Rattle.qualified_goals.specs.declared.variable.Var.{Var}
-use Rattle.qualified_goals.specs.declared.variable.Qual.TheVariants.{Top}
-use Rattle.qualified_goals.specs.declared.variable.Part.TheVariants.{Package}
 use Rattle.qualified_goals.specs.Variable.{var_cmp, is_equal, same_var}
 use Rattle.qualified_goals.specs.SameVariable.{same_var-is, same_var-refl}
 use Rattle.choice_problem.specs.ConflictSet.{has}

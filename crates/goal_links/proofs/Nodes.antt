@@ -1,9 +1,9 @@
 -- Lists of nodes: what is in them, and what stands beside a node.
-use Rattle.std.proofs.Common.{◌≡◌, ℕ, ◌<◌, eqb, eqb-true, eq-eqb, Bool, true, false, not, cond, ◌||◌, List, [], ◌∷◌, ◌++◌, Option, Some, None, refl, sym, ap, ◌∙◌, subst, inl, inr}
+use Rattle.std.proofs.Common.{◌≡◌, ℕ, eqb, eqb-true, eq-eqb, true, false, not, cond, ◌||◌, List, [], ◌∷◌, ◌++◌, Option, Some, None, refl, sym, ap, ◌∙◌, subst, inl, inr}
 use Rattle.std.specs.List.{Contains}
 use Rattle.std.proofs.lemmas.Bool.{false≢true, or_right}
 use Rattle.common_laws.specs.Lists.{contains-head, contains-tail, contains-none, contains-cases, contains-left, contains-right, contains-append}
-use Rattle.goal_links.specs.Beside.{last_from, last_of, first_or, first_of, beside_from, behind_first}
+use Rattle.goal_links.specs.Beside.{last_from, last_of, first_of, beside_from, behind_first}
 use Rattle.goal_links.specs.Row.{has_node, without_node, behind}
 use Rattle.goal_links.proofs.Paths.{AreOnce, once-start, once-back, once-apart, last-contains}
 use Rattle.goal_links.proofs.Rings.{has-contains}

@@ -1,5 +1,5 @@
 -- Paths: their parts, that they pass no node twice, and what a node more or less makes of them.
-use Rattle.std.proofs.Common.{◌≡◌, ℕ, eqb, eqb-true, eq-eqb, append-nil, zero, suc, ◌+◌, ◌<◌, ◌≤◌, arith, length, Bool, true, false, cond, List, [], ◌∷◌, ◌++◌, Option, Some, None, refl, sym, ap, ◌∙◌, subst, inl, inr, length-append}
+use Rattle.std.proofs.Common.{◌≡◌, ℕ, eqb-true, eq-eqb, append-nil, ◌<◌, ◌≤◌, arith, length, true, false, cond, List, [], ◌∷◌, ◌++◌, Option, Some, None, refl, sym, ap, ◌∙◌, subst, inl, inr, length-append}
 use Rattle.std.specs.List.{Contains}
 use Rattle.common_laws.specs.Lists.{contains-head, contains-tail, contains-none, contains-cases, contains-left, contains-right}
 use Rattle.goal_links.specs.Beside.{last_from, first_or}
@@ -85,9 +85,12 @@ module _ (next prev next2 prev2 : Option ℕ → Option ℕ) (count : ℕ) where
       → IsPath next prev count start xs end → IsPath next2 prev2 count start xs end
   path-stays start [] end first on back last h = (first ∙ h.0, last ∙ h.1)
   path-stays start (x ∷ xs) end first on back last h =
-      let here = contains-head x xs in
-      (first ∙ h.0, back x here ∙ h.1, h.2,
-      path-stays (Some x) xs end (on x here) (λ k c. on k (contains-tail x xs k c)) (λ k c. back k (contains-tail x xs k c)) last h.3)
+      let here = contains-head x xs in (
+        first ∙ h.0,
+        back x here ∙ h.1,
+        h.2,
+        path-stays (Some x) xs end (on x here) (λ k c. on k (contains-tail x xs k c)) (λ k c. back k (contains-tail x xs k c)) last h.3,
+      )
 
   -- a path leads elsewhere once its last node does
   pub path-turned : (start : Option ℕ) (xs : List ℕ) (end to : Option ℕ) → AreOnce start xs
@@ -96,9 +99,12 @@ module _ (next prev next2 prev2 : Option ℕ → Option ℕ) (count : ℕ) where
       → IsPath next prev count start xs end → IsPath next2 prev2 count start xs to
   path-turned start [] end to once on back others before h = (on, back)
   path-turned start (x ∷ xs) end to once on back others before h =
-      let last = last-contains x xs in
-      (others start (λ e. once.0 last.0 last.2 (e ∙ last.1)) ∙ h.0, before x (contains-head x xs) ∙ h.1, h.2,
-      path-turned (Some x) xs end to once.1 on back others (λ k c. before k (contains-tail x xs k c)) h.3)
+      let last = last-contains x xs in (
+        others start (λ e. once.0 last.0 last.2 (e ∙ last.1)) ∙ h.0,
+        before x (contains-head x xs) ∙ h.1,
+        h.2,
+        path-turned (Some x) xs end to once.1 on back others (λ k c. before k (contains-tail x xs k c)) h.3,
+      )
 
 -- places
 
@@ -214,11 +220,14 @@ module _ (next prev next2 prev2 : Option ℕ → Option ℕ) (count : ℕ) where
             let past : (k : ℕ) → Contains (y ∷ ys) k → prev (Some x) ≡ Some k → ⊥ =
             λ k c e. not-last xs k (λ d. once-apart None xs (y ∷ ys) k once d c) (sym p ∙ e) in
             let behind : AreOnce (Some y) ys = once-back None xs y ys once in
-            path-joined next2 prev2 count None xs x (y ∷ ys) None (turned (Some y) parts.0) within
-            (next-x ∙ q, back (Some y) ∙ put-there (next (Some x)) (Some x) prev (Some y) q, parts.1,
-            path-stays next prev next2 prev2 count (Some y) ys None
-            (on (Some y) ∙ put-elsewhere (prev (Some x)) (Some x) next (Some y) (past y (contains-head y ys)))
-            (λ k c. on (Some k) ∙ put-elsewhere (prev (Some x)) (Some x) next (Some k) (past k (contains-tail y ys k c)))
-            (λ k c. back (Some k) ∙ put-elsewhere (next (Some x)) (Some x) prev (Some k) (λ e. once-start (Some y) ys k behind c (sym q ∙ e)))
-            (back None ∙ put-elsewhere (next (Some x)) (Some x) prev None (λ e. let no : Some y ≡ None = sym q ∙ e in cc no)) parts.2)
+            path-joined next2 prev2 count None xs x (y ∷ ys) None (turned (Some y) parts.0) within (
+              next-x ∙ q,
+              back (Some y) ∙ put-there (next (Some x)) (Some x) prev (Some y) q,
+              parts.1,
+              path-stays next prev next2 prev2 count (Some y) ys None
+                  (on (Some y) ∙ put-elsewhere (prev (Some x)) (Some x) next (Some y) (past y (contains-head y ys)))
+                  (λ k c. on (Some k) ∙ put-elsewhere (prev (Some x)) (Some x) next (Some k) (past k (contains-tail y ys k c)))
+                  (λ k c. back (Some k) ∙ put-elsewhere (next (Some x)) (Some x) prev (Some k) (λ e. once-start (Some y) ys k behind c (sym q ∙ e)))
+                  (back None ∙ put-elsewhere (next (Some x)) (Some x) prev None (λ e. let no : Some y ≡ None = sym q ∙ e in cc no)) parts.2,
+            )
       ] h once q

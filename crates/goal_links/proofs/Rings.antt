@@ -1,16 +1,15 @@
 -- Rings: the nodes of one, and what a node more or less makes of them.
-use Rattle.std.proofs.Common.{◌≡◌, ℕ, zero, suc, ◌+◌, ◌<◌, ◌≤◌, arith, length, eqb, eqb-true, Bool, true, false, ◌||◌, List, [], ◌∷◌, ◌++◌, Option, Some, None, refl, sym, ap, ◌∙◌, subst, inl, inr}
-use Rattle.std.specs.List.{Contains, IsDistinct, AllPairs}
+use Rattle.std.proofs.Common.{◌≡◌, ℕ, zero, suc, ◌<◌, ◌≤◌, arith, length, eqb, eqb-true, true, false, ◌||◌, List, [], ◌∷◌, Option, Some, None, refl, sym, ap, ◌∙◌, subst}
+use Rattle.std.specs.List.{Contains, AllPairs}
 use Rattle.std.proofs.lemmas.Bool.{false≢true}
 use Rattle.std.proofs.lemmas.Bool.Decides.{Decides-eqb}
 use Rattle.std.proofs.lemmas.Map.Steps.{length-le_from_distinct_below}
 use Rattle.std.proofs.lemmas.Map.Made.{IsDistinct-from_AllPairs}
-use Rattle.common_laws.specs.Lists.{contains-head, contains-tail, contains-none, contains-cases, pairs-nil, pairs-cons}
+use Rattle.common_laws.specs.Lists.{contains-head, contains-tail, pairs-nil, pairs-cons}
 use Rattle.goal_links.specs.declared.ring.Node.{Node}
-use Rattle.goal_links.specs.Beside.{last_from, first_or}
-use Rattle.goal_links.specs.Ring.{IsPath, IsRing, nodes_from, ring_of, next_at, prev_at, with_place}
+use Rattle.goal_links.specs.Ring.{IsPath, IsRing, nodes_from, ring_of, next_at, prev_at}
 use Rattle.goal_links.specs.Row.{has_node}
-use Rattle.goal_links.proofs.Paths.{AreOnce, path-once, path-within, path-unlinked, path-linked, once-start}
+use Rattle.goal_links.proofs.Paths.{AreOnce, path-once, path-within, once-start}
 
 pub has-contains : (ns : List ℕ) (n : ℕ) → has_node ns n ≡ true → Contains ns n
 has-contains [] n h = absurd (false≢true h)

@@ -1,5 +1,5 @@
 -- Rows: what stands beside a node, and a node that is taken out or put in.
-use Rattle.std.proofs.Common.{◌≡◌, ℕ, zero, suc, ◌+◌, ◌-◌, ◌<◌, ◌≤◌, arith, length, eqb, eqb-true, eq-eqb, Bool, true, false, cond, List, [], ◌∷◌, ◌++◌, Option, Some, None, IsTrue, append_assoc, append-nil, refl, sym, ap, ◌∙◌, subst, inl, inr, get_or, take, drop}
+use Rattle.std.proofs.Common.{◌≡◌, ℕ, zero, suc, ◌+◌, ◌-◌, ◌<◌, arith, length, eqb, eqb-true, eq-eqb, Bool, true, false, cond, List, [], ◌∷◌, ◌++◌, Option, Some, None, append_assoc, append-nil, refl, sym, ap, ◌∙◌, subst, get_or, take, drop}
 use Rattle.std.specs.List.{Contains, slice_get}
 use Rattle.std.proofs.Math.ListN.{set}
 use Rattle.std.proofs.Math.Seq.{ext_get_or, take-append_seam}
@@ -8,9 +8,9 @@ use Rattle.std.proofs.lemmas.Bool.{false≢true}
 use Rattle.std.proofs.lemmas.Option.{slice_get-get_or}
 use Rattle.common_laws.specs.Lists.{contains-head, contains-tail, contains-left, contains-right}
 use Rattle.goal_links.specs.declared.ring.Node.{Node}
-use Rattle.goal_links.specs.Beside.{last_from, last_of, first_or, first_of, beside, behind_first, AreBeside}
-use Rattle.goal_links.specs.Ring.{IsPath, IsRing, no_node, nodes_from, ring_of, next_at, prev_at, with_place, same_place, IsWithin}
-use Rattle.goal_links.specs.Row.{Line, with_node, has_node, without_node, behind, StandsIn, kept_from, MayReturn}
+use Rattle.goal_links.specs.Beside.{last_from, last_of, first_of, beside, behind_first}
+use Rattle.goal_links.specs.Ring.{IsPath, IsRing, no_node, ring_of, next_at, prev_at, with_place, IsWithin}
+use Rattle.goal_links.specs.Row.{Line, with_node, has_node, without_node, behind, StandsIn, kept_from}
 use Rattle.goal_links.proofs.Paths.{AreOnce, parted, path-parts, path-last, path-first, path-stays, path-more, path-unlinked, path-linked, last-contains, place-other, not-last, not-first}
 use Rattle.goal_links.proofs.Rings.{has-contains, ring-once, ring-within, ring-is}
 use Rattle.goal_links.proofs.Nodes.{contains-has, hasn't, not-in, behind-parted, beside-parted, without-parted, has-other, has-itself, apart-front, apart-back, behind-front, in-front, in-back, not-either}
@@ -83,25 +83,25 @@ kept-changed linked linked2 nodes nodes2 x v len within has same at =
     let new = kept_from linked2 0 nodes2 in
     let lens : length new ≡ length nodes = kept-length linked2 0 nodes2 ∙ len in
     ext_get_or None new (set old x v) (lens ∙ sym (length-set old x v ∙ kept-length linked 0 nodes)) (λ k h.
-      let in2 : k < length nodes2 = omega (arith, h, lens, len) in
-      let in1 : k < length nodes = omega (arith, h, lens) in
-      let here = kept-at linked2 nodes2 k in2 in
-      elim (eqb k x) as (λ b. eqb k x ≡ b → get_or new k None ≡ get_or (set old x v) k None) [
-        | true ↦ λ e.
-            let is : k ≡ x = eqb-true k x e in
-            let in-old : x < length old = omega (arith, within, kept-length linked 0 nodes) in
-            ap (λ m. get_or new m None) is ∙ kept-at linked2 nodes2 x (omega (arith, within, len)) ∙ at
-            ∙ sym (get_or-set_same old x v None in-old) ∙ ap (λ m. get_or (set old x v) m None) (sym is)
-        | false ↦ λ e.
-            let other : k ≡ x → ⊥ = λ i. false≢true (sym e ∙ eq-eqb k x i) in
-            here ∙ ap (λ b. cond b None (neighbours nodes2 k)) (has k other)
-            ∙ elim (has_node linked k) as (λ b. has_node linked k ≡ b
-              → cond b None (neighbours nodes2 k) ≡ cond b None (neighbours nodes k)) [
-              | true ↦ λ i. refl
-              | false ↦ λ i. same-sides (get_or nodes2 k no_node) (get_or nodes k no_node) (same k other i)
-            ] refl
-            ∙ sym (kept-at linked nodes k in1) ∙ sym (get_or-set_other old x k v None other)
-      ] refl)
+    let in2 : k < length nodes2 = omega (arith, h, lens, len) in
+    let in1 : k < length nodes = omega (arith, h, lens) in
+    let here = kept-at linked2 nodes2 k in2 in
+    elim (eqb k x) as (λ b. eqb k x ≡ b → get_or new k None ≡ get_or (set old x v) k None) [
+      | true ↦ λ e.
+          let is : k ≡ x = eqb-true k x e in
+          let in-old : x < length old = omega (arith, within, kept-length linked 0 nodes) in
+          ap (λ m. get_or new m None) is ∙ kept-at linked2 nodes2 x (omega (arith, within, len)) ∙ at
+          ∙ sym (get_or-set_same old x v None in-old) ∙ ap (λ m. get_or (set old x v) m None) (sym is)
+      | false ↦ λ e.
+          let other : k ≡ x → ⊥ = λ i. false≢true (sym e ∙ eq-eqb k x i) in
+          here ∙ ap (λ b. cond b None (neighbours nodes2 k)) (has k other)
+          ∙ elim (has_node linked k) as (λ b. has_node linked k ≡ b
+          → cond b None (neighbours nodes2 k) ≡ cond b None (neighbours nodes k)) [
+            | true ↦ λ i. refl
+            | false ↦ λ i. same-sides (get_or nodes2 k no_node) (get_or nodes k no_node) (same k other i)
+          ] refl
+          ∙ sym (kept-at linked nodes k in1) ∙ sym (get_or-set_other old x k v None other)
+    ] refl)
 
 -- what stands beside a node of a ring
 
@@ -151,18 +151,20 @@ module _ (ends ends2 : Node) (nodes nodes2 : List Node) (len : length nodes2 ≡
       let beside-n : Option Sides = Some (last_of xs, first_of ys) in
       let at-n : cond (has_node (xs ++ ys) n) None (neighbours nodes2 n) ≡ beside-n =
       ap (λ b. cond b None (neighbours nodes2 n)) (not-in (xs ++ ys) n (not-either xs n ys front back'))
-      ∙ same-sides (get_or nodes2 n no_node) (record { prev = last_of xs; next = first_of ys }) (left, right) in
-      (subst (λ l. IsRing ends2 nodes2 l) (sym is) new,
-      is ∙ sym (ap (without_node n) part.2 ∙ without-parted xs n ys front back'),
-      ap (λ l. kept_from l 0 nodes2) is
-      ∙ kept-changed (xs ++ n ∷ ys) (xs ++ ys) nodes nodes2 n beside-n len (linked-within ends nodes ns h n in')
-      (λ k other. sym (has-other xs n ys k other))
-      (λ k other out. let out2 = hasn't (xs ++ n ∷ ys) k out in
-        (back (Some k) ∙ same-elsewhere (next_at ends nodes (Some n)) (prev_at ends nodes (Some n)) (prev_at ends nodes) k (λ e. not-first ys k (λ c. out2 (in-back xs n ys k c)) (sym q ∙ e)),
-        on (Some k) ∙ same-elsewhere (prev_at ends nodes (Some n)) (next_at ends nodes (Some n)) (next_at ends nodes) k (λ e. not-last xs k (λ c. out2 (in-front xs n ys k c)) (sym p ∙ e))))
-      at-n
-      ∙ ap (λ l. set (kept_from l 0 nodes) n beside-n) (sym part.2)
-      ∙ ap (λ s. set (kept_from ns 0 nodes) n (Some s)) (sym (ap (beside (eqb n)) part.2 ∙ beside-parted None xs n ys front)))
+      ∙ same-sides (get_or nodes2 n no_node) (record { prev = last_of xs; next = first_of ys }) (left, right) in (
+        subst (λ l. IsRing ends2 nodes2 l) (sym is) new,
+        is ∙ sym (ap (without_node n) part.2 ∙ without-parted xs n ys front back'),
+        ap (λ l. kept_from l 0 nodes2) is
+            ∙ kept-changed (xs ++ n ∷ ys) (xs ++ ys) nodes nodes2 n beside-n len (linked-within ends nodes ns h n in')
+            (λ k other. sym (has-other xs n ys k other))
+            (λ k other out. let out2 = hasn't (xs ++ n ∷ ys) k out in (
+              back (Some k) ∙ same-elsewhere (next_at ends nodes (Some n)) (prev_at ends nodes (Some n)) (prev_at ends nodes) k (λ e. not-first ys k (λ c. out2 (in-back xs n ys k c)) (sym q ∙ e)),
+              on (Some k) ∙ same-elsewhere (prev_at ends nodes (Some n)) (next_at ends nodes (Some n)) (next_at ends nodes) k (λ e. not-last xs k (λ c. out2 (in-front xs n ys k c)) (sym p ∙ e)),
+            ))
+            at-n
+            ∙ ap (λ l. set (kept_from l 0 nodes) n beside-n) (sym part.2)
+            ∙ ap (λ s. set (kept_from ns 0 nodes) n (Some s)) (sym (ap (beside (eqb n)) part.2 ∙ beside-parted None xs n ys front)),
+      )
 
 -- the ring, its nodes and what is kept, with one node more outside
 kept-push : (linked : List ℕ) (n : ℕ) (nodes : List Node) (m : Node)
@@ -187,10 +189,12 @@ row-pushed ends nodes nodes2 e h =
     let new : IsRing ends nodes2 ns = subst (λ l. IsRing ends l ns) (sym e) (ring-pushed ends nodes no_node ns h) in
     let is = ring-is ends nodes2 ns new in
     let out : has_node ns (0 + length nodes) ≡ false =
-    not-in ns (0 + length nodes) (λ c. let bad = ring-within ends nodes ns h (0 + length nodes) c in omega (arith, bad)) in
-    (subst (λ l. IsRing ends nodes2 l) (sym is) new, is,
-    ap (λ l. kept_from l 0 nodes2) is ∙ ap (kept_from ns 0) e ∙ kept-push ns 0 nodes no_node
-    ∙ ap (λ b. kept_from ns 0 nodes ++ cond b None (sides_of no_node) ∷ []) out)
+    not-in ns (0 + length nodes) (λ c. let bad = ring-within ends nodes ns h (0 + length nodes) c in omega (arith, bad)) in (
+      subst (λ l. IsRing ends nodes2 l) (sym is) new,
+      is,
+      ap (λ l. kept_from l 0 nodes2) is ∙ ap (kept_from ns 0) e ∙ kept-push ns 0 nodes no_node
+          ∙ ap (λ b. kept_from ns 0 nodes ++ cond b None (sides_of no_node) ∷ []) out,
+    )
 
 -- a place in a row is linked where it is a node
 pub stands : (place : Option ℕ) (n : ℕ) (ns now : List ℕ) → ns ≡ now → StandsIn now place → place ≡ Some n → has_node ns n ≡ true
@@ -214,17 +218,20 @@ module _ (ends ends2 : Node) (nodes nodes1 nodes2 : List Node) (n : ℕ) where
       let ring2 : IsRing ends2 nodes2 (xs ++ n ∷ ys) =
       subst (λ (c : ℕ). IsPath (next_at ends2 nodes2) (prev_at ends2 nodes2) c None (xs ++ n ∷ ys) None) (sym len2)
       (path-linked (next_at ends nodes1) (prev_at ends nodes1) (next_at ends2 nodes2) (prev_at ends2 nodes2) (length nodes) xs n ys path1 out within p q on back) in
-      let is : ring_of ends2 nodes2 ≡ xs ++ n ∷ ys = ring-is ends2 nodes2 (xs ++ n ∷ ys) ring2 in
-      (subst (λ l. IsRing ends2 nodes2 l) (sym is) ring2, is,
-      ap (λ l. kept_from l 0 nodes2) is
-      ∙ kept-changed (xs ++ ys) (xs ++ n ∷ ys) nodes nodes2 n None len2 within (λ k other. has-other xs n ys k other)
-      (λ k other outside. let out2 = hasn't (xs ++ ys) k outside in
-        (back (Some k) ∙ same-elsewhere (next_at ends nodes1 (Some n)) (Some n) (prev_at ends nodes1) k (λ e. not-first ys k (λ c. out2 (contains-right xs ys k c)) (sym q ∙ e))
-        ∙ ap (λ (m : Node). m.prev) (others k other),
-        on (Some k) ∙ same-elsewhere (prev_at ends nodes1 (Some n)) (Some n) (next_at ends nodes1) k (λ e. not-last xs k (λ c. out2 (contains-left xs ys k c)) (sym p ∙ e))
-        ∙ ap (λ (m : Node). m.next) (others k other)))
-      (ap (λ b. cond b None (neighbours nodes2 n)) (has-itself xs n ys))
-      ∙ ap (λ l. set (kept_from l 0 nodes) n None) (sym parts))
+      let is : ring_of ends2 nodes2 ≡ xs ++ n ∷ ys = ring-is ends2 nodes2 (xs ++ n ∷ ys) ring2 in (
+        subst (λ l. IsRing ends2 nodes2 l) (sym is) ring2,
+        is,
+        ap (λ l. kept_from l 0 nodes2) is
+            ∙ kept-changed (xs ++ ys) (xs ++ n ∷ ys) nodes nodes2 n None len2 within (λ k other. has-other xs n ys k other)
+            (λ k other outside. let out2 = hasn't (xs ++ ys) k outside in (
+              back (Some k) ∙ same-elsewhere (next_at ends nodes1 (Some n)) (Some n) (prev_at ends nodes1) k (λ e. not-first ys k (λ c. out2 (contains-right xs ys k c)) (sym q ∙ e))
+                  ∙ ap (λ (m : Node). m.prev) (others k other),
+              on (Some k) ∙ same-elsewhere (prev_at ends nodes1 (Some n)) (Some n) (next_at ends nodes1) k (λ e. not-last xs k (λ c. out2 (contains-left xs ys k c)) (sym p ∙ e))
+                  ∙ ap (λ (m : Node). m.next) (others k other),
+            ))
+            (ap (λ b. cond b None (neighbours nodes2 n)) (has-itself xs n ys))
+            ∙ ap (λ l. set (kept_from l 0 nodes) n None) (sym parts),
+      )
 
 module _ (ends : Node) (nodes : List Node) (h : IsRing ends nodes (ring_of ends nodes)) where
   -- the neighbours of a gap are nodes
@@ -236,6 +243,7 @@ module _ (ends : Node) (nodes : List Node) (h : IsRing ends nodes (ring_of ends 
       last-within : (xs : List ℕ) → ((k : ℕ) → Contains xs k → k < length nodes) → IsWithin (length nodes) (last_of xs)
       last-within [] h = tt
       last-within (x ∷ xs) h = let last = last-contains x xs in subst (IsWithin (length nodes)) (sym last.1) (h last.0 last.2)
+
       first-within : (ys : List ℕ) → ((k : ℕ) → Contains ys k → k < length nodes) → IsWithin (length nodes) (first_of ys)
       first-within [] h = tt
       first-within (y ∷ ys) h = h y (contains-head y ys)
@@ -245,9 +253,13 @@ module _ (ends : Node) (nodes : List Node) (h : IsRing ends nodes (ring_of ends 
       × (prev_at ends nodes (Some n) ≡ last_of xs) × (next_at ends nodes (Some n) ≡ first_of ys)
   node-parted n in' =
       let part = parted (ring_of ends nodes) n (has-contains (ring_of ends nodes) n in') in
-      let parts = path-parts (next_at ends nodes) (prev_at ends nodes) (length nodes) None part.0 n part.1 None (subst (λ l. IsRing ends nodes l) part.2 h) in
-      (part.0, part.1, part.2, path-last (next_at ends nodes) (prev_at ends nodes) (length nodes) None part.0 (Some n) parts.0,
-      path-first (next_at ends nodes) (prev_at ends nodes) (length nodes) (Some n) part.1 None parts.2)
+      let parts = path-parts (next_at ends nodes) (prev_at ends nodes) (length nodes) None part.0 n part.1 None (subst (λ l. IsRing ends nodes l) part.2 h) in (
+        part.0,
+        part.1,
+        part.2,
+        path-last (next_at ends nodes) (prev_at ends nodes) (length nodes) None part.0 (Some n) parts.0,
+        path-first (next_at ends nodes) (prev_at ends nodes) (length nodes) (Some n) part.1 None parts.2,
+      )
 
   pub sides-within : (n : ℕ) → has_node (ring_of ends nodes) n ≡ true
       → IsWithin (length nodes) (prev_at ends nodes (Some n)) × IsWithin (length nodes) (next_at ends nodes (Some n))
@@ -496,11 +508,12 @@ module _ (ends : Node) (nodes less : List Node) (m : Node) (e : nodes ≡ less +
 -- where no node is taken there is none
 pub none-popped : (ends : Node) (nodes less : List Node) → nodes ≡ less ++ [] → length nodes ≡ 0 → IsRing ends nodes (ring_of ends nodes)
     → IsRing ends less (ring_of ends less) × ((now : Line) → line (ring_of ends nodes) (kept_from (ring_of ends nodes) 0 nodes) ≡ with_node now
-      → line (ring_of ends less) (kept_from (ring_of ends less) 0 less) ≡ now)
+    → line (ring_of ends less) (kept_from (ring_of ends less) 0 less) ≡ now)
 none-popped ends nodes less e zero-long h =
-    let same : nodes ≡ less = e ∙ append-nil less in
-    (subst (λ (l : List Node). IsRing ends l (ring_of ends l)) same h,
-    λ now i. absurd (too-long now (ap (λ (v : Line). length v.kept) i)))
+    let same : nodes ≡ less = e ∙ append-nil less in (
+      subst (λ (l : List Node). IsRing ends l (ring_of ends l)) same h,
+      λ now i. absurd (too-long now (ap (λ (v : Line). length v.kept) i)),
+    )
   where
     too-long : (now : Line) → length (kept_from (ring_of ends nodes) 0 nodes) ≡ length (now.kept ++ sides_of no_node ∷ []) → ⊥
     too-long now i = omega (arith, i, zero-long, kept-length (ring_of ends nodes) 0 nodes, length-append now.kept (sides_of no_node ∷ []))

@@ -1,4 +1,4 @@
-use Rattle.std.proofs.Common.{◌≡◌, ℕ, length, true, IfSome}
+use Rattle.std.proofs.Common.{◌≡◌, length, true, IfSome}
 use Rattle.qualified_goals.specs.Variable.{is_before}
 use Rattle.goal_links.specs.Row.{StandsIn, behind}
 use Rattle.goal_links.specs.Links.{var_at}

@@ -1,5 +1,5 @@
-use Rattle.std.proofs.Common.{◌≡◌, ◌∙◌, ℕ, true, Option, Some, arith, subst}
-use Rattle.goal_links.specs.Row.{has_node, StandsIn}
+use Rattle.std.proofs.Common.{◌∙◌, ℕ, Option, arith, subst}
+use Rattle.goal_links.specs.Row.{StandsIn}
 use Rattle.goal_links.proofs.Nodes.{without-other}
 use Rattle.goal_links.proofs.links.recent_without.Goals as goal
 

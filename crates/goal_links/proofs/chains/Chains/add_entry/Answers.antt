@@ -1,6 +1,6 @@
-use Rattle.std.proofs.Common.{◌≡◌, ℕ, List, [], ◌∷◌, ◌++◌, refl, sym, ap, ◌∙◌}
+use Rattle.std.proofs.Common.{[], ◌∷◌, ◌++◌, refl, ap, ◌∙◌}
 use Rattle.goal_links.specs.declared.ring.Node.{Node}
-use Rattle.goal_links.specs.Chains.{Chained, with_chain, chains_of}
+use Rattle.goal_links.specs.Chains.{with_chain, chains_of}
 use Rattle.goal_links.proofs.Chained.{entry-pushed, chained-is}
 use Rattle.goal_links.proofs.chains.Chains.add_entry.Goals as goal
 

@@ -1,13 +1,11 @@
-use Rattle.std.proofs.Common.{◌≡◌, ◌<◌, ◌++◌, ◌∷◌, [], length, take, drop, get_or, Option, Some, None, IfSome, ℕ, List, refl, sym, ap, ◌∙◌, subst, arith}
-use Rattle.std.proofs.Math.ListN.{set}
+use Rattle.std.proofs.Common.{◌<◌, length, Option, Some, IfSome, ℕ, List, sym, ap, ◌∙◌, subst, arith}
 use Rattle.std.specs.List.{Contains}
 use Rattle.common_laws.specs.Lists.{get-any}
 use Rattle.goal_links.specs.declared.ring.Node.{Node}
-use Rattle.goal_links.specs.declared.chains.Cell.{Cell}
-use Rattle.goal_links.specs.Beside.{first_of, last_of}
+use Rattle.goal_links.specs.Beside.{first_of}
 use Rattle.goal_links.specs.Ring.{ring_of, no_node}
 use Rattle.goal_links.specs.Row.{has_node, behind}
-use Rattle.goal_links.specs.Chains.{Chained, cell_at, chain_at, chain_with, chains_of, ends_at, no_cell, appended, shortened, without_last}
+use Rattle.goal_links.specs.Chains.{Chained, cell_at, chain_with, ends_at}
 use Rattle.goal_links.proofs.Chained.{cell-within, cell-next, next-within, chain-is, in-own-chain, first-in, behind-in, some-more}
 use Rattle.goal_links.proofs.chains.Chains.next.Goals as goal
 

@@ -1,4 +1,4 @@
-use Rattle.std.proofs.Common.{◌≡◌, ℕ, Option, IfSome, IsTrue, sym, subst}
+use Rattle.std.proofs.Common.{ℕ, Option, IfSome, IsTrue, sym, subst}
 use Rattle.choice_problem.specs.ConflictSet.{has}
 use Rattle.goal_links.specs.Links.{var_at}
 use Rattle.goal_links.proofs.Entries.{found-linked}

@@ -1,11 +1,5 @@
-use Rattle.std.proofs.Common.{◌≡◌, ◌<◌, ◌++◌, ◌∷◌, ℕ, List, Option, Some, None, IfSome, length, map, true, false, refl, ap, ◌∙◌, sym, subst, inl, inr}
-use Rattle.std.specs.Option.{option_map}
-use Rattle.qualified_goals.specs.declared.variable.Var.{Var}
-use Rattle.qualified_goals.specs.Variable.{same_var}
-use Rattle.choice_problem.specs.ConflictSet.{has}
-use Rattle.goal_links.specs.Beside.{last_of, first_of, behind_first}
-use Rattle.goal_links.specs.Row.{Line, has_node, behind, StandsIn}
-use Rattle.goal_links.specs.Links.{Entries, AreLinks, entries_of, var_at, linked, unlinked}
+use Rattle.std.proofs.Common.{Some, refl, ap, ◌∙◌, inr}
+use Rattle.goal_links.specs.Links.{Entries, linked}
 use Rattle.goal_links.proofs.Rows.{place-parted}
 use Rattle.goal_links.proofs.Entries.{entry-fits, linked-number, gap-left, gap-right, links-linked, view-linked}
 use Rattle.goal_links.proofs.links.Links.link.Goals as goal

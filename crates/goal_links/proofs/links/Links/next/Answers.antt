@@ -1,11 +1,10 @@
-use Rattle.std.proofs.Common.{◌≡◌, ◌<◌, ◌++◌, ◌∷◌, ℕ, List, Option, Some, None, IfSome, IsTrue, length, map, true, false, refl, ap, ◌∙◌, sym, subst, inl, inr}
+use Rattle.std.proofs.Common.{ℕ, Option, Some, IfSome, IsTrue, ap, ◌∙◌, sym, subst}
 use Rattle.std.specs.Option.{option_map}
-use Rattle.qualified_goals.specs.declared.variable.Var.{Var}
 use Rattle.qualified_goals.specs.Variable.{same_var}
 use Rattle.choice_problem.specs.ConflictSet.{has}
-use Rattle.goal_links.specs.Beside.{last_of, first_of, behind_first}
-use Rattle.goal_links.specs.Row.{Line, has_node, behind, StandsIn}
-use Rattle.goal_links.specs.Links.{Entries, AreLinks, entries_of, var_at, linked, unlinked}
+use Rattle.goal_links.specs.Beside.{first_of, behind_first}
+use Rattle.goal_links.specs.Row.{behind}
+use Rattle.goal_links.specs.Links.{Entries, var_at}
 use Rattle.goal_links.proofs.Mapped.{first-mapped}
 use Rattle.goal_links.proofs.Entries.{entry-fits, linked-number, behind-number, found-linked}
 use Rattle.goal_links.proofs.links.Links.next.Goals as goal

@@ -1,13 +1,11 @@
-use Rattle.std.proofs.Common.{◌≡◌, ◌∷◌, [], ◌++◌, ℕ, List, Result, Ok, Err, OnOk, Bool, true, false, cond, Some, length, refl, ap, ◌∙◌, sym, subst}
+use Rattle.std.proofs.Common.{◌≡◌, ◌∷◌, [], ◌++◌, List, Result, Ok, Err, OnOk, false, ap, ◌∙◌, sym, subst}
 use Rattle.std.specs.Result.{is_err}
 use Rattle.std.specs.List.{slice_get}
 use Rattle.qualified_goals.specs.declared.variable.Var.{Var}
-use Rattle.choice_problem.specs.ConflictSet.{has}
-use Rattle.choice_problem.proofs.Sets.{contains-has}
 use Rattle.goal_links.specs.Row.{Line, with_node}
 use Rattle.goal_links.specs.Chains.{Chained, with_chain}
 use Rattle.goal_links.specs.Links.{Entries, AreLinks, entries_of, registered}
-use Rattle.goal_links.proofs.Mapped.{get-contains, get-last}
+use Rattle.goal_links.proofs.Mapped.{get-last}
 use Rattle.goal_links.proofs.Entries.{links-registered, view-registered, registered-again}
 use Rattle.goal_links.proofs.links.Links.register.Goals as goal
 

@@ -1,11 +1,6 @@
-use Rattle.std.proofs.Common.{◌≡◌, ◌<◌, ◌++◌, ◌∷◌, ℕ, List, Option, Some, None, IfSome, length, map, true, false, refl, ap, ◌∙◌, sym, subst, inl, inr}
-use Rattle.std.specs.Option.{option_map}
-use Rattle.qualified_goals.specs.declared.variable.Var.{Var}
-use Rattle.qualified_goals.specs.Variable.{same_var}
-use Rattle.choice_problem.specs.ConflictSet.{has}
-use Rattle.goal_links.specs.Beside.{last_of, first_of, behind_first}
-use Rattle.goal_links.specs.Row.{Line, has_node, behind, StandsIn}
-use Rattle.goal_links.specs.Links.{Entries, AreLinks, entries_of, var_at, linked, unlinked}
+use Rattle.std.proofs.Common.{refl, ap, ◌∙◌, sym, subst, inl}
+use Rattle.goal_links.specs.Beside.{last_of, first_of}
+use Rattle.goal_links.specs.Links.{Entries, linked}
 use Rattle.goal_links.specs.Links.{MayReturn}
 use Rattle.goal_links.proofs.Entries.{put-back, gap-of, links-linked, view-linked}
 use Rattle.goal_links.proofs.links.Links.relink.Goals as goal

@@ -1,13 +1,10 @@
-use Rattle.std.proofs.Common.{◌≡◌, ◌<◌, ◌++◌, ◌∷◌, ℕ, List, Option, Some, None, IfSome, length, map, true, false, refl, ap, ◌∙◌, sym, subst, inl, inr}
+use Rattle.std.proofs.Common.{ap, ◌∙◌, sym, subst}
 use Rattle.std.specs.Option.{option_map}
 use Rattle.std.specs.List.{slice_get}
 use Rattle.std.proofs.lemmas.Option.{slice_get-map}
-use Rattle.qualified_goals.specs.declared.variable.Var.{Var}
-use Rattle.qualified_goals.specs.Variable.{same_var}
-use Rattle.choice_problem.specs.ConflictSet.{is_rising, has}
-use Rattle.goal_links.specs.Beside.{last_of, first_of, behind_first}
-use Rattle.goal_links.specs.Row.{Line, has_node, behind, StandsIn}
-use Rattle.goal_links.specs.Links.{Entries, AreLinks, entries_of, var_at, sides_in, linked, unlinked}
+use Rattle.choice_problem.specs.ConflictSet.{is_rising}
+use Rattle.goal_links.specs.Row.{Line}
+use Rattle.goal_links.specs.Links.{Entries, AreLinks, entries_of, sides_in, unlinked}
 use Rattle.goal_links.proofs.Entries.{entry-fits, linked-number, links-unlinked, view-unlinked}
 use Rattle.goal_links.proofs.links.Links.unlink.Goals as goal
 

@@ -1,8 +1,7 @@
-use Rattle.std.proofs.Common.{◌≡◌, ℕ, List, [], ◌∷◌, ◌++◌, sym, ap, ◌∙◌}
+use Rattle.std.proofs.Common.{[], ◌∷◌, ◌++◌, ap, ◌∙◌}
 use Rattle.goal_links.specs.declared.ring.Node.{Node}
-use Rattle.goal_links.specs.Ring.{no_node}
-use Rattle.goal_links.specs.Row.{Line, with_node}
-use Rattle.goal_links.proofs.Rows.{IsRow, row-pushed, row-line}
+use Rattle.goal_links.specs.Row.{with_node}
+use Rattle.goal_links.proofs.Rows.{row-pushed, row-line}
 use Rattle.goal_links.proofs.row.Row.add.Goals as goal
 
 pub invariant_of-self-2 : goal.invariant_of-self-2

@@ -1,4 +1,4 @@
-use Rattle.std.proofs.Common.{◌≡◌, ℕ, List, [], ◌∷◌, ◌++◌, ◌-◌, length, Option, Some, None, MatchOption, ◌+◌, false, refl, sym, ap, ◌∙◌, subst}
+use Rattle.std.proofs.Common.{◌≡◌, ℕ, List, ◌++◌, ◌-◌, length, Option, Some, None, MatchOption, ◌+◌, false, refl, sym, ap, ◌∙◌}
 use Rattle.std.specs.Option.{option_to_list}
 use Rattle.goal_links.specs.declared.ring.Node.{Node}
 use Rattle.goal_links.specs.Ring.{IsRing, ring_of}
@@ -10,7 +10,7 @@ use Rattle.goal_links.proofs.row.Row.drop_last.Goals as goal
 popped : (ends : Node) (nodes less : List Node) (o : Option Node) → nodes ≡ less ++ option_to_list o → (o ≡ None → length nodes ≡ 0) → IsRing ends nodes (ring_of ends nodes)
     → has_node (ring_of ends nodes) (length (kept_from (ring_of ends nodes) 0 nodes) - 1) ≡ false
     → IsRing ends less (ring_of ends less) × ((now : Line) → line (ring_of ends nodes) (kept_from (ring_of ends nodes) 0 nodes) ≡ with_node now
-      → line (ring_of ends less) (kept_from (ring_of ends less) 0 less) ≡ now)
+    → line (ring_of ends less) (kept_from (ring_of ends less) 0 less) ≡ now)
 popped ends nodes less None e none h out = none-popped ends nodes less e (none refl) h
 popped ends nodes less (Some m) e none h out = (row-popped ends nodes less m e h out, line-popped ends nodes less m e h out)
 

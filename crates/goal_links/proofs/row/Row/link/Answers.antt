@@ -1,11 +1,10 @@
-use Rattle.std.proofs.Common.{◌≡◌, ◌<◌, ◌++◌, ◌∷◌, length, take, drop, Option, Some, None, ℕ, List, sym, ap, ◌∙◌, subst, arith}
+use Rattle.std.proofs.Common.{◌≡◌, ◌<◌, length, None, ℕ, List, sym, ap, ◌∙◌, subst, arith}
 use Rattle.std.proofs.Math.ListN.{set}
-use Rattle.std.specs.List.{slice_get}
 use Rattle.goal_links.specs.declared.ring.Node.{Node}
-use Rattle.goal_links.specs.Beside.{first_of, last_of}
-use Rattle.goal_links.specs.Ring.{ring_of, IsRing}
+use Rattle.goal_links.specs.Beside.{first_of}
+use Rattle.goal_links.specs.Ring.{ring_of}
 use Rattle.goal_links.specs.Row.{Line, StandsIn, has_node, kept_from, behind}
-use Rattle.goal_links.proofs.Rows.{IsRow, kept-length, placed-node, placed-prev, placed-next, placed-row, placed-somewhere}
+use Rattle.goal_links.proofs.Rows.{kept-length, placed-node, placed-prev, placed-next, placed-row, placed-somewhere}
 use Rattle.goal_links.proofs.row.Row.link.Goals as goal
 
 node-within : (nodes : List Node) (now : Line) (linked : List ℕ) (node : ℕ) → kept_from linked 0 nodes ≡ now.kept → node < length now.kept → node < length nodes

@@ -1,4 +1,4 @@
-use Rattle.std.proofs.Common.{◌≡◌, ◌<◌, length, Option, Some, None, ℕ, List, ◌∷◌, IfSome, true, sym, ap, ◌∙◌, subst, arith}
+use Rattle.std.proofs.Common.{◌≡◌, Option, Some, None, ℕ, List, ◌∷◌, IfSome, true, sym, ap, ◌∙◌, subst, arith}
 use Rattle.common_laws.specs.Lists.{get-any}
 use Rattle.goal_links.specs.declared.ring.Node.{Node}
 use Rattle.goal_links.specs.Beside.{first_of}

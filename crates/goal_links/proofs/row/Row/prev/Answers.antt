@@ -1,4 +1,4 @@
-use Rattle.std.proofs.Common.{◌≡◌, ◌<◌, length, Option, Some, None, ℕ, List, sym, ap, ◌∙◌, subst, arith}
+use Rattle.std.proofs.Common.{sym, ap, ◌∙◌, subst, arith}
 use Rattle.common_laws.specs.Lists.{get-any}
 use Rattle.goal_links.specs.declared.ring.Node.{Node}
 use Rattle.goal_links.specs.Ring.{ring_of, no_node}

@@ -1,11 +1,9 @@
-use Rattle.std.proofs.Common.{◌≡◌, ◌<◌, ◌++◌, ◌∷◌, length, take, drop, Option, Some, None, ℕ, List, sym, ap, ◌∙◌, subst, arith}
+use Rattle.std.proofs.Common.{◌≡◌, Option, Some, None, ℕ, sym, ap, ◌∙◌}
 use Rattle.std.proofs.Math.ListN.{set}
 use Rattle.std.specs.List.{slice_get}
-use Rattle.goal_links.specs.declared.ring.Node.{Node}
 use Rattle.goal_links.specs.Beside.{first_of, last_of}
-use Rattle.goal_links.specs.Ring.{ring_of, IsRing}
-use Rattle.goal_links.specs.Row.{Line, StandsIn, has_node, kept_from, behind}
-use Rattle.goal_links.proofs.Rows.{IsRow, returned-node, returned-prev, returned-next, returned-row}
+use Rattle.goal_links.specs.Row.{Line}
+use Rattle.goal_links.proofs.Rows.{returned-node, returned-prev, returned-next, returned-row}
 use Rattle.goal_links.proofs.row.Row.relink.Goals as goal
 
 sides-are : (sides : Option ℕ × Option ℕ) (left right : Option ℕ) → left ≡ sides.0 → right ≡ sides.1 → sides ≡ (left, right)

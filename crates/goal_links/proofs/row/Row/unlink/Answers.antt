@@ -1,11 +1,11 @@
-use Rattle.std.proofs.Common.{◌≡◌, ◌<◌, length, Option, Some, None, ℕ, List, sym, ap, ◌∙◌, subst, eqb, ◌++◌, take, drop}
+use Rattle.std.proofs.Common.{◌<◌, length, Some, List, sym, ap, ◌∙◌, subst, eqb, ◌++◌, take, drop}
 use Rattle.std.proofs.Math.ListN.{set}
 use Rattle.std.specs.List.{slice_get}
 use Rattle.goal_links.specs.Beside.{beside}
 use Rattle.goal_links.specs.declared.ring.Node.{Node}
 use Rattle.goal_links.specs.Ring.{ring_of, IsWithin, prev_at, next_at}
 use Rattle.goal_links.specs.Row.{Line, has_node, without_node, kept_from, unlinked}
-use Rattle.goal_links.proofs.Rows.{IsRow, written, linked-within, sides-within, unlinked-row, row-line, kept-none}
+use Rattle.goal_links.proofs.Rows.{IsRow, linked-within, sides-within, unlinked-row, row-line, kept-none}
 use Rattle.goal_links.proofs.row.Row.unlink.Goals as goal
 
 pub unlink-requires-clause-node : goal.unlink-requires-clause-node

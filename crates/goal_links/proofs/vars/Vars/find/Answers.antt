@@ -1,4 +1,4 @@
-use Rattle.std.proofs.Common.{◌≡◌, List, ℕ, MatchOption, false, subst, Some}
+use Rattle.std.proofs.Common.{◌≡◌, List, MatchOption, false, subst, Some}
 use Rattle.std.specs.List.{slice_get}
 use Rattle.qualified_goals.specs.declared.variable.Var.{Var}
 use Rattle.choice_problem.specs.ConflictSet.{has}
