@@ -1,0 +1,31 @@
+use Rattle.std.proofs.Common.{◌≡◌, ◌<◌, ℕ, List, [], ◌∷◌, ◌++◌, length, ap, ◌∙◌, arith}
+use Rattle.goal_links.specs.declared.ring.Node.{Node}
+use Rattle.goal_links.specs.declared.chains.Cell.{Cell}
+use Rattle.goal_links.specs.Ring.{ring_of}
+use Rattle.goal_links.specs.Chains.{Chained, with_cell, chains_of}
+use Rattle.goal_links.proofs.Chained.{cell-pushed, chained-is, map-length}
+use Rattle.goal_links.proofs.chains.Chains.add_cell.Goals as goal
+
+fits : (ends nodes : List Node) (chains : List (List ℕ)) (entry : ℕ) → chains_of ends nodes ≡ chains → entry < length chains → entry < length ends
+fits ends nodes chains entry e h = omega (arith, h, ap length e, map-length (λ (x : Node). ring_of x nodes) ends)
+
+pub invariant_of-self-2 : goal.invariant_of-self-2
+invariant_of-self-2 c =
+    let room = c.in_ok-reserve.ensures.ok in
+    let nodes = c.in_ok-push.ensures.items ∙ ap (λ (n : Node). c.self.inside.nodes.items ++ n ∷ []) c.alone.ensures in
+    let items : c.push-2.new.self.items ≡ c.reserve.new.self.items ++ c.args.cell ∷ [] = grind (arith, c.push-2.ensures.items, c.push-2.ensures.succeeds, room) in
+    let cells = items ∙ ap (λ (l : List Cell). l ++ c.args.cell ∷ []) c.reserve.ensures.items in
+    let in' = fits c.self.inside.ends.items c.self.inside.nodes.items c.args.self.now.chains c.args.cell.entry (ap (λ (v : Chained). v.chains) c.self.view_is) c.requires in
+    (cell-pushed c.self.inside.ends.items c.self.inside.nodes.items c.push.new.self.items c.self.inside.cells.items c.push-2.new.self.items c.args.cell nodes cells in' c.self.invariant).0
+
+pub returns-clause-ok : goal.returns-clause-ok
+returns-clause-ok c =
+    let room = c.in_ok-reserve.ensures.ok in
+    let nodes = c.in_ok-push.ensures.items ∙ ap (λ (n : Node). c.self.inside.nodes.items ++ n ∷ []) c.alone.ensures in
+    let items : c.push-2.new.self.items ≡ c.reserve.new.self.items ++ c.args.cell ∷ [] = grind (arith, c.push-2.ensures.items, c.push-2.ensures.succeeds, room) in
+    let cells = items ∙ ap (λ (l : List Cell). l ++ c.args.cell ∷ []) c.reserve.ensures.items in
+    let in' = fits c.self.inside.ends.items c.self.inside.nodes.items c.args.self.now.chains c.args.cell.entry (ap (λ (v : Chained). v.chains) c.self.view_is) c.requires in
+    let same = (cell-pushed c.self.inside.ends.items c.self.inside.nodes.items c.push.new.self.items c.self.inside.cells.items c.push-2.new.self.items c.args.cell nodes cells in' c.self.invariant).1 in
+    chained-is c.push-2.new.self.items (c.self.inside.cells.items ++ c.args.cell ∷ []) (chains_of c.self.inside.ends.items c.push.new.self.items)
+    (chains_of c.self.inside.ends.items c.self.inside.nodes.items) cells same
+    ∙ ap (λ (v : Chained). with_cell v c.args.cell) c.self.view_is

@@ -1,0 +1,39 @@
+-- What stands side by side in a list.
+use Rattle.std.specs.Prelude.{◌≡◌, Bool, cond, List, [], ◌∷◌, ◌++◌, Option, Some, None}
+
+-- the last item of a list, or what stands before it
+abbrev pub last_from : {X : Type 0} → Option X → List X → Option X
+last_from before [] = before
+last_from before (x ∷ xs) = last_from (Some x) xs
+
+-- the last item of a list
+abbrev pub last_of : {X : Type 0} → List X → Option X
+last_of xs = last_from None xs
+
+-- the first item of a list, or what stands behind it
+abbrev pub first_or : {X : Type 0} → Option X → List X → Option X
+first_or behind [] = behind
+first_or behind (x ∷ xs) = Some x
+
+-- the first item of a list
+abbrev pub first_of : {X : Type 0} → List X → Option X
+first_of xs = first_or None xs
+
+-- the neighbours of the first item that passes a test, where one stands before them all
+abbrev pub beside_from : {X : Type 0} → (X → Bool) → Option X → List X → Option X × Option X
+beside_from test before [] = (before, None)
+beside_from test before (x ∷ xs) = cond (test x) (before, first_of xs) (beside_from test (Some x) xs)
+
+-- the neighbours of the first item that passes a test
+abbrev pub beside : {X : Type 0} → (X → Bool) → List X → Option X × Option X
+beside test xs = beside_from test None xs
+
+-- two neighbours stand side by side: the list is one that ends in the left one, and one that begins with the right one
+abbrev pub AreBeside : {X : Type 0} → Option X × Option X → List X → Type 0
+AreBeside {X} sides xs =
+    (front : List X) × (rest : List X) × (xs ≡ front ++ rest) × (last_of front ≡ sides.0) × (first_of rest ≡ sides.1)
+
+-- what stands behind the first item that passes a test
+abbrev pub behind_first : {X : Type 0} → (X → Bool) → List X → List X
+behind_first test [] = []
+behind_first test (x ∷ xs) = cond (test x) xs (behind_first test xs)

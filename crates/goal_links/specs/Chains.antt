@@ -1,0 +1,67 @@
+-- Chains of cells, one for each entry.
+use Rattle.std.specs.Prelude.{◌≡◌, ℕ, ◌<◌, List, [], ◌∷◌, ◌++◌, length, map, slice_index_or, slice_set}
+use Rattle.std.specs.List.{Contains}
+use Rattle.goal_links.specs.declared.ring.Node.{Node}
+use Rattle.goal_links.specs.declared.chains.Cell.{Cell}
+use Rattle.goal_links.specs.Ring.{IsRing, ring_of, no_node}
+
+-- what contracts see of chains
+pub record Chained : Type 0 where
+  pub cells : List Cell
+  -- for each entry the cells of its chain, in order
+  pub chains : List (List ℕ)
+
+-- what stands behind the last cell
+abbrev pub no_cell : Cell
+no_cell = record { entry = 0; demand = 0 }
+
+-- the cell with a number
+abbrev pub cell_at : List Cell → ℕ → Cell
+cell_at cells n = slice_index_or cells n no_cell
+
+-- the chain of an entry
+abbrev pub chain_at : List (List ℕ) → ℕ → List ℕ
+chain_at chains entry = slice_index_or chains entry []
+
+-- the chain of a cell's entry
+abbrev pub chain_with : Chained → ℕ → List ℕ
+chain_with all cell = chain_at all.chains (cell_at all.cells cell).entry
+
+-- all but the last
+abbrev pub without_last : {X : Type 0} → List X → List X
+without_last [] = []
+without_last (x ∷ []) = []
+without_last (x ∷ y ∷ xs) = x ∷ without_last (y ∷ xs)
+
+-- one entry more, with an empty chain
+abbrev pub with_chain : Chained → Chained
+with_chain all = record all { chains = all.chains ++ [] ∷ [] }
+
+-- one cell more
+abbrev pub with_cell : Chained → Cell → Chained
+with_cell all cell = record all { cells = all.cells ++ cell ∷ [] }
+
+-- a cell put behind the last one of its chain
+abbrev pub appended : Chained → ℕ → Chained
+appended all cell = record all { chains = slice_set all.chains (cell_at all.cells cell).entry (chain_with all cell ++ cell ∷ []) }
+
+-- the last cell of a chain taken off
+abbrev pub shortened : Chained → ℕ → Chained
+shortened all cell = record all { chains = slice_set all.chains (cell_at all.cells cell).entry (without_last (chain_with all cell)) }
+
+-- the ends of an entry's chain
+abbrev pub ends_at : List Node → ℕ → Node
+ends_at ends entry = slice_index_or ends entry no_node
+
+-- the chains that lead from some ends over nodes
+abbrev pub chains_of : List Node → List Node → List (List ℕ)
+chains_of ends nodes = map (λ e. ring_of e nodes) ends
+
+-- what ends, nodes and cells have to do with each other
+pub record AreChains (ends nodes : List Node) (cells : List Cell) : Type 0 where
+  pub paired : length cells ≡ length nodes
+  pub rings : (entry : ℕ) → entry < length ends → IsRing (ends_at ends entry) nodes (ring_of (ends_at ends entry) nodes)
+  -- the cells of a chain are of its entry
+  pub owned : (entry cell : ℕ) → entry < length ends → Contains (ring_of (ends_at ends entry) nodes) cell
+      → (cell_at cells cell).entry ≡ entry
+  pub entries : (cell : ℕ) → cell < length cells → (cell_at cells cell).entry < length ends

@@ -1,0 +1,5 @@
+pub mod Beside
+pub mod Ring
+pub mod Row
+pub mod Chains
+pub mod Links

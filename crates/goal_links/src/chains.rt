@@ -1,0 +1,130 @@
+// Chains of cells, one for each entry.
+ghost use Rattle.std.specs.Prelude.{◌≡◌, ◌<◌, ◌++◌, [], ◌∷◌, Some, OnOk, OnErr, IsTrue, IfOk, IfSome, false, length};
+ghost use Rattle.goal_links.specs.Beside.{first_of, last_of};
+ghost use Rattle.goal_links.specs.Row.{has_node, behind};
+ghost use Rattle.goal_links.specs.Chains.{Chained, cell_at, chain_at, chain_with, with_chain, with_cell, appended, shortened};
+
+use crate::ring::{Node, alone, relink, unlink};
+use plan_types::NoMemory;
+use std::alloc::Global;
+use std::marker::Model;
+
+/// A demand that an entry may have in its chain.
+#[derive(Clone, Copy, Debug, Drop)]
+pub(crate) struct Cell {
+    pub(crate) entry: usize,
+    pub(crate) demand: u64,
+}
+
+/// Cells by number, of which those of each entry may be linked.
+#[derive(Drop)]
+pub(crate) struct Chains {
+    // Of each entry the ends of its chain.
+    ends: Vec<Node>,
+    nodes: Vec<Node>,
+    cells: Vec<Cell>,
+}
+
+impl Model for Chains {
+    ghost use Rattle.goal_links.specs.Chains.{Chained, AreChains, chains_of};
+
+    ghost Value = { Chained };
+
+    ghost view = { λ c. record { cells = c.cells.items; chains = chains_of c.ends.items c.nodes.items } };
+
+    ghost invariant = { λ c. AreChains c.ends.items c.nodes.items c.cells.items };
+}
+
+impl Chains {
+    pub(crate) fn new(alloc: Global) -> Chains
+        ensures { result ≡ record { cells = []; chains = [] } }
+    {
+        Chains {
+            ends: Vec::new(alloc),
+            nodes: Vec::new(alloc),
+            cells: Vec::new(alloc),
+        }
+    }
+
+    /// One entry more, with an empty chain.
+    pub(crate) fn add_entry(&mut self) -> Result<(), NoMemory>
+        ensures ok { OnOk result (self.new ≡ with_chain self.old) }
+        ensures err { OnErr result (self.new ≡ self.old) }
+    {
+        self.ends.push(alone())?;
+        Ok(())
+    }
+
+    /// One cell more, outside its chain.
+    pub(crate) fn add_cell(&mut self, cell: Cell) -> Result<usize, NoMemory>
+        requires { cell.entry < length self.old.chains }
+        ensures ok { OnOk result (self.new ≡ with_cell self.old cell) }
+        ensures place { IfOk result (λ place. place ≡ length self.old.cells) }
+        ensures err { OnErr result (self.new ≡ self.old) }
+    {
+        let place = self.cells.len();
+        self.cells.reserve(1)?;
+        self.nodes.push(alone())?;
+        let _ = self.cells.push(cell);
+        Ok(place)
+    }
+
+    pub(crate) fn demand(&self, cell: usize) -> u64
+        requires { cell < length self.now.cells }
+        ensures { result ≡ (cell_at self.now.cells cell).demand }
+    {
+        self.cells[cell].demand
+    }
+
+    pub(crate) fn first(&self, entry: usize) -> Option<usize>
+        requires { entry < length self.now.chains }
+        ensures first { result ≡ first_of (chain_at self.now.chains entry) }
+        ensures within { IfSome result (λ cell. cell < length self.now.cells) }
+        ensures linked { IfSome result (λ cell. IsTrue (has_node (chain_with self.now cell) cell)) }
+    {
+        self.ends[entry].next
+    }
+
+    pub(crate) fn last(&self, entry: usize) -> Option<usize>
+        requires { entry < length self.now.chains }
+        ensures last { result ≡ last_of (chain_at self.now.chains entry) }
+        ensures within { IfSome result (λ cell. cell < length self.now.cells) }
+        ensures linked { IfSome result (λ cell. IsTrue (has_node (chain_with self.now cell) cell)) }
+    {
+        self.ends[entry].prev
+    }
+
+    pub(crate) fn next(&self, cell: usize) -> Option<usize>
+        requires cell { cell < length self.now.cells }
+        requires linked { IsTrue (has_node (chain_with self.now cell) cell) }
+        ensures next { result ≡ first_of (behind (Some cell) (chain_with self.now cell)) }
+        ensures within { IfSome result (λ next. next < length self.now.cells) }
+        ensures linked { IfSome result (λ next. IsTrue (has_node (chain_with self.now next) next)) }
+    {
+        self.nodes[cell].next
+    }
+}
+
+impl Chains {
+    /// Puts a cell behind the last one of its chain.
+    pub(crate) fn append(&mut self, cell: usize)
+        requires cell { cell < length self.old.cells }
+        requires new { has_node (chain_with self.old cell) cell ≡ false }
+        ensures { self.new ≡ appended self.old cell }
+    {
+        let entry = self.cells[cell].entry;
+        let prev = self.ends[entry].prev;
+        self.nodes[cell] = Node { prev, next: None };
+        relink(&mut self.ends[entry], &mut self.nodes, cell);
+    }
+
+    /// Takes the last cell off its chain.
+    pub(crate) fn shorten(&mut self, cell: usize)
+        requires cell { cell < length self.old.cells }
+        requires last { last_of (chain_with self.old cell) ≡ Some cell }
+        ensures { self.new ≡ shortened self.old cell }
+    {
+        let entry = self.cells[cell].entry;
+        unlink(&mut self.ends[entry], &mut self.nodes, cell);
+    }
+}

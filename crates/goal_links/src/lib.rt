@@ -1,0 +1,11 @@
+//! Open variables as a list that is linked in goal order, and chains of demands. An entry that was unlinked keeps its
+//! neighbours, so that it is put back in constant time where they stand side by side.
+#![tactic(auto)]
+
+mod chains;
+mod links;
+mod ring;
+mod row;
+mod vars;
+
+pub use links::Links;

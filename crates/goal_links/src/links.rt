@@ -1,0 +1,270 @@
+// Entries of variables that are linked in goal order, each with a chain of cells.
+ghost use Rattle.std.specs.Prelude.{◌≡◌, ◌<◌, ◌++◌, [], ◌∷◌, Some, None, Option, OnOk, OnErr, IfOk, IfSome, IsTrue, MatchOption, true, false, length, slice_get, slice_index_or};
+ghost use Rattle.std.specs.Option.{option_map};
+ghost use Rattle.qualified_goals.specs.Variable.{is_before};
+ghost use Rattle.choice_problem.specs.ConflictSet.{is_rising, has};
+ghost use Rattle.goal_links.specs.Beside.{first_of, last_of};
+ghost use Rattle.goal_links.specs.Row.{has_node, without_node, behind, StandsIn, AreBelow};
+ghost use Rattle.goal_links.specs.Chains.{cell_at, chain_at};
+ghost use Rattle.goal_links.specs.Links.{Entries, var_at, MayReturn, WasLinked, vars_behind, registered, with_cell, linked, unlinked, chain_with, lengthened, shortened};
+
+use crate::chains::{Cell, Chains};
+use crate::row::Row;
+use crate::vars::Vars;
+use choice_problem::{Var, is_before};
+use plan_types::NoMemory;
+use std::alloc::Global;
+use std::marker::Model;
+
+/// Entries of variables, of which some are linked in goal order, each with a chain of cells.
+#[derive(Drop)]
+pub struct Links {
+    vars: Vars,
+    row: Row,
+    // One that is linked still, from which the next place is looked for.
+    recent: Option<usize>,
+    chains: Chains,
+}
+
+impl Model for Links {
+    ghost use Rattle.goal_links.specs.Links.{Entries, AreLinks, entries_of};
+
+    ghost Value = { Entries };
+
+    ghost view = { λ l. entries_of l.vars l.row l.chains };
+
+    ghost invariant = { λ l. AreLinks l.vars l.row l.recent l.chains };
+}
+
+impl Links {
+    pub fn new(alloc: Global) -> Links
+        ensures { result ≡ record { vars = []; linked = []; kept = []; cells = []; chains = [] } }
+    {
+        Links {
+            vars: Vars::new(alloc),
+            row: Row::new(alloc),
+            recent: None,
+            chains: Chains::new(alloc),
+        }
+    }
+
+    /// The entry of a variable that was registered.
+    pub fn entry_of(&self, v: Var) -> Option<u64>
+        ensures { MatchOption result (has self.now.vars v ≡ false) (λ entry. slice_get self.now.vars entry ≡ Some v) }
+    {
+        match self.vars.find(v) {
+            Some(entry) => Some(entry as u64),
+            None => None,
+        }
+    }
+
+    /// The entry of a variable, the same at each call. A new one isn't linked, and its chain is empty.
+    pub fn register(&mut self, v: Var) -> Result<u64, NoMemory>
+        ensures ok { OnOk result (self.new ≡ registered self.old v) }
+        ensures entry { IfOk result (λ entry. slice_get self.new.vars entry ≡ Some v) }
+        ensures err { OnErr result (self.new ≡ self.old) }
+    {
+        if let Some(entry) = self.vars.find(v) {
+            return Ok(entry as u64);
+        }
+        let entry = self.vars.len();
+        self.vars.add(v)?;
+        if self.row.add().is_err() {
+            self.vars.cut(entry);
+            return Err(NoMemory);
+        }
+        if self.chains.add_entry().is_err() {
+            self.row.drop_last();
+            self.vars.cut(entry);
+            return Err(NoMemory);
+        }
+        Ok(entry as u64)
+    }
+
+    /// A new cell of an entry, outside its chain.
+    pub fn register_cell(&mut self, entry: u64, demand: u64) -> Result<u64, NoMemory>
+        requires { entry < length self.old.vars }
+        ensures ok { OnOk result (self.new ≡ with_cell self.old (record { entry = entry; demand = demand })) }
+        ensures cell { IfOk result (λ cell. cell ≡ length self.old.cells) }
+        ensures err { OnErr result (self.new ≡ self.old) }
+    {
+        let entry = entry as usize;
+        let cell = self.chains.add_cell(Cell { entry, demand })?;
+        Ok(cell as u64)
+    }
+
+    /// The variable that was registered.
+    pub fn var_of(&self, entry: u64) -> Var
+        requires { entry < length self.now.vars }
+        ensures { result ≡ var_at self.now.vars entry }
+    {
+        self.vars.at(entry as usize)
+    }
+
+    /// The demand that was registered.
+    pub fn demand_of(&self, cell: u64) -> u64
+        requires { cell < length self.now.cells }
+        ensures { result ≡ (cell_at self.now.cells cell).demand }
+    {
+        self.chains.demand(cell as usize)
+    }
+}
+
+impl Links {
+    /// Puts an entry in its place by goal order.
+    pub fn link(&mut self, entry: u64)
+        requires entry { entry < length self.old.vars }
+        requires new { has self.old.linked (var_at self.old.vars entry) ≡ false }
+        ensures { self.new ≡ linked self.old entry }
+    {
+        let entry = entry as usize;
+        let v = self.vars.at(entry);
+        let place = place_before(&self.vars, &self.row, self.recent, v);
+        self.row.link(place, entry);
+        self.recent = Some(entry);
+    }
+
+    /// Takes an entry out, which keeps its neighbours.
+    pub fn unlink(&mut self, entry: u64)
+        requires entry { entry < length self.old.vars }
+        requires linked { IsTrue (has self.old.linked (var_at self.old.vars entry)) }
+        ensures unlinked { self.new ≡ unlinked self.old entry }
+        ensures kept { slice_get self.old.kept entry ≡ Some None }
+        ensures rising { IsTrue (is_rising self.old.linked) }
+    {
+        let entry = entry as usize;
+        self.recent = recent_without(&self.row, self.recent, entry);
+        self.row.unlink(entry);
+    }
+
+    /// Puts an entry between the neighbours that it keeps.
+    pub fn relink(&mut self, entry: u64)
+        requires { MayReturn self.old entry }
+        ensures linked { self.new ≡ linked self.old entry }
+        ensures back { (before : Entries) → self.old ≡ unlinked before entry → WasLinked before entry → self.new ≡ before }
+    {
+        self.row.relink(entry as usize);
+    }
+
+    /// The first entry in goal order.
+    pub fn first(&self) -> Option<u64>
+        ensures first { option_map (var_at self.now.vars) result ≡ first_of self.now.linked }
+        ensures within { IfSome result (λ entry. entry < length self.now.vars) }
+        ensures linked { IfSome result (λ entry. IsTrue (has self.now.linked (var_at self.now.vars entry))) }
+    {
+        number(self.row.next(None))
+    }
+
+    /// The entry that follows.
+    pub fn next(&self, entry: u64) -> Option<u64>
+        requires entry { entry < length self.now.vars }
+        requires linked { IsTrue (has self.now.linked (var_at self.now.vars entry)) }
+        ensures next { option_map (var_at self.now.vars) result ≡ first_of (vars_behind self.now entry) }
+        ensures within { IfSome result (λ next. next < length self.now.vars) }
+        ensures linked { IfSome result (λ next. IsTrue (has self.now.linked (var_at self.now.vars next))) }
+    {
+        number(self.row.next(Some(entry as usize)))
+    }
+}
+
+impl Links {
+    /// Puts a cell behind the last one of its chain.
+    pub fn chain_push(&mut self, cell: u64)
+        requires cell { cell < length self.old.cells }
+        requires new { has_node (chain_with self.old cell) cell ≡ false }
+        ensures { self.new ≡ lengthened self.old cell }
+    {
+        self.chains.append(cell as usize);
+    }
+
+    /// Takes the last cell off its chain.
+    pub fn chain_pop(&mut self, cell: u64)
+        requires cell { cell < length self.old.cells }
+        requires last { last_of (chain_with self.old cell) ≡ Some cell }
+        ensures { self.new ≡ shortened self.old cell }
+    {
+        self.chains.shorten(cell as usize);
+    }
+
+    /// The first cell of an entry's chain.
+    pub fn chain_first(&self, entry: u64) -> Option<u64>
+        requires { entry < length self.now.vars }
+        ensures first { result ≡ first_of (chain_at self.now.chains entry) }
+        ensures within { IfSome result (λ cell. cell < length self.now.cells) }
+        ensures linked { IfSome result (λ cell. IsTrue (has_node (chain_with self.now cell) cell)) }
+    {
+        number(self.chains.first(entry as usize))
+    }
+
+    /// The last cell of an entry's chain.
+    pub fn chain_last(&self, entry: u64) -> Option<u64>
+        requires { entry < length self.now.vars }
+        ensures last { result ≡ last_of (chain_at self.now.chains entry) }
+        ensures within { IfSome result (λ cell. cell < length self.now.cells) }
+        ensures linked { IfSome result (λ cell. IsTrue (has_node (chain_with self.now cell) cell)) }
+    {
+        number(self.chains.last(entry as usize))
+    }
+
+    /// The cell that follows one in its chain.
+    pub fn chain_next(&self, cell: u64) -> Option<u64>
+        requires cell { cell < length self.now.cells }
+        requires linked { IsTrue (has_node (chain_with self.now cell) cell) }
+        ensures next { result ≡ first_of (behind (Some cell) (chain_with self.now cell)) }
+        ensures within { IfSome result (λ next. next < length self.now.cells) }
+        ensures linked { IfSome result (λ next. IsTrue (has_node (chain_with self.now next) next)) }
+    {
+        number(self.chains.next(cell as usize))
+    }
+}
+
+fn number(place: Option<usize>) -> Option<u64>
+    ensures { result ≡ place }
+{
+    match place {
+        Some(n) => Some(n as u64),
+        None => None,
+    }
+}
+
+// The last entry before a variable. The walk begins at the recent one where that is before it.
+fn place_before(vars: &Vars, row: &Row, recent: Option<usize>, v: Var) -> Option<usize>
+    requires below { AreBelow (length vars.now) row.now.linked }
+    requires recent { StandsIn row.now.linked recent }
+    ensures linked { StandsIn row.now.linked result }
+    ensures before { IfSome result (λ n. is_before (var_at vars.now n) v ≡ true) }
+    ensures behind { IfSome (first_of (behind result row.now.linked)) (λ n. is_before (var_at vars.now n) v ≡ false) }
+{
+    let mut place = start(vars, row, recent, v);
+    while let Some(next) = row.next(place) {
+        if !is_before(vars.at(next), v) {
+            return place;
+        }
+        place = Some(next);
+    }
+    place
+}
+
+fn start(vars: &Vars, row: &Row, recent: Option<usize>, v: Var) -> Option<usize>
+    requires below { AreBelow (length vars.now) row.now.linked }
+    requires recent { StandsIn row.now.linked recent }
+    ensures linked { StandsIn row.now.linked result }
+    ensures before { IfSome result (λ n. is_before (var_at vars.now n) v ≡ true) }
+{
+    match recent {
+        Some(n) if is_before(vars.at(n), v) => Some(n),
+        _ => None,
+    }
+}
+
+// What is the recent entry once one was taken out.
+fn recent_without(row: &Row, recent: Option<usize>, entry: usize) -> Option<usize>
+    requires linked { IsTrue (has_node row.now.linked entry) }
+    requires recent { StandsIn row.now.linked recent }
+    ensures { StandsIn (without_node entry row.now.linked) result }
+{
+    match recent {
+        Some(n) if n == entry => row.prev(entry),
+        _ => recent,
+    }
+}
