@@ -12,9 +12,9 @@ OUT = f"{os.environ.get('XDG_CACHE_HOME') or os.path.expanduser('~/.cache')}/cab
 FAILED = 70
 
 
-def table():
-    """Returns, for each crate of this repository, what crates.txt says that it uses."""
-    with open(f"{TOP}/crates.txt", encoding="utf-8") as lines:
+def table(top=TOP):
+    """Returns, for each crate of a repository, what its crates.txt says that it uses."""
+    with open(f"{top}/crates.txt", encoding="utf-8") as lines:
         said = [line.split(":", 1) for line in lines if ":" in line and not line.startswith("#")]
     return {crate.strip(): words.split() for crate, words in said}
 

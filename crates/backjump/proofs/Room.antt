@@ -8,11 +8,10 @@ use Rattle.qualified_goals.specs.declared.variable.Var.{Var}
 use Rattle.choice_problem.specs.declared.problem.Choice.{Choice}
 use Rattle.qualified_goals.specs.Variable.{same_var}
 use Rattle.choice_problem.specs.Problem.{Problem, IsChoice, Lawful}
-use Rattle.choice_problem.specs.Trail.{value_in}
+use Rattle.choice_problem.specs.Trail.{value_in, AreNew, before_any, one_more}
 use Rattle.choice_problem.specs.Active.{least_open}
 use Rattle.common_laws.specs.Lists.{contains-head, contains-left, contains-right, without}
 use Rattle.qualified_goals.specs.SameVariable.{same_var-refl}
-use Rattle.validation.specs.View.{AreNew, none, on}
 use Rattle.validation.proofs.Views.{least-known}
 use Rattle.choice_tree.specs.Tree.{choice_at}
 use Rattle.backjump.specs.Walk.{Point, IsChain}
@@ -53,8 +52,8 @@ module _ (p : Problem) (lawful : Lawful p) where
       }
 
   room : {trail : List Choice} → AreNew trail → AreChoices p trail → Room trail
-  room none choices = record { rest = lawful.bounded.variables; count = omega (arith, lawful.bounded.count); each = λ v k e. lawful.bounded.each v k }
-  room (on {before = before} new c unchosen e) choices =
+  room before_any choices = record { rest = lawful.bounded.variables; count = omega (arith, lawful.bounded.count); each = λ v k e. lawful.bounded.each v k }
+  room (one_more {before = before} new c unchosen e) choices =
       let all = subst (AreChoices p) e choices in
       subst Room (sym e)
       (room-next before c (room new (λ x k. all x (contains-left before (c ∷ []) x k))) (all c (contains-right before (c ∷ []) c (contains-head c []))).variable unchosen)

@@ -1,3 +1,4 @@
+// Trees of choices: values on demand, and the way back.
 use crate::problems::package;
 use choice_problem::Choice;
 use choice_tree::Tree;

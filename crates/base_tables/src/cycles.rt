@@ -1,3 +1,5 @@
+// A graph, and its first node on a cycle. In the last one a chain leads from a cycle of the two nodes before the last two to one of
+// these.
 ghost use Rattle.std.specs.Prelude.{◌<◌, IsTrue};
 ghost use Rattle.component_cycle.specs.Cycle.{IsGraph};
 
@@ -7,8 +9,6 @@ use plan_types::List;
 use std::alloc::Global;
 use std::test::Fail;
 
-// A graph, and its first node on a cycle. In the last one a chain leads from a cycle of the two nodes before the last two to one of
-// these.
 pub(crate) const CASES: &str = "\
 - => None
 -|- => None

@@ -1,3 +1,5 @@
+// Files, and behind `fails at` the calls that are to fail; then calls, with what they answer, or why the files make no folder.
+// `six` and `many` stand for the files below, and `each` lists their index and reads all of them.
 use crate::calls::answered;
 use crate::files::files;
 use outside_folder::{MemFault, MemFolder};
@@ -5,8 +7,6 @@ use plan_types::List;
 use std::alloc::Global;
 use std::test::Fail;
 
-// Files, and behind `fails at` the calls that are to fail; then calls, with what they answer, or why the files make no folder.
-// `six` and `many` stand for the files below, and `each` lists their index and reads all of them.
 pub(crate) const CASES: &str = "\
 six: list ./ => names Z/ a/ b.cabal z
 six: list ./a => names b/ x

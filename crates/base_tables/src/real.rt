@@ -1,3 +1,4 @@
+// Calls on a folder of the test's own, and what they answer.
 use crate::calls::answered;
 use outside_folder::{Folder, RealFolder, RealSink, write_all};
 use plan_types::Text;
@@ -6,7 +7,6 @@ use std::os::unix::fs::symlink;
 use std::test::Fail;
 use std::{env, fs, process};
 
-// Calls on a folder of the test's own, and what they answer.
 const CALLS: &str = "\
 list ./ => names Z a b/ d
 list ./b => names c empty/

@@ -1,15 +1,3 @@
-ghost use Rattle.std.specs.Prelude.{◌≡◌, ◌<◌};
-
-use crate::problems::{package, problem, push_name, push_names};
-use backjump::search;
-use choice_problem::{Choice, Choices, ConflictSet, Counts, Demand, Limit, Outcome, Steps, Var};
-use plan_types::{List, NoMemory};
-use std::alloc::Global;
-use std::cell::Cell;
-use std::marker::Brand;
-use std::sync::ledger::{Blank, Ledger};
-use std::test::Fail;
-
 // A problem, the limit, and the outcome. `ends` and the numbers of packages: whether the search of the five ends with their set.
 // `asked`: the outcome of the five, where it asks at most 17 questions for orders and 20 for demands.
 //
@@ -17,6 +5,20 @@ use std::test::Fail;
 // b's value 1 asks for c's value 0, which asks for the fifth; b's value 0 asks for a. The next is a problem to which those
 // behind it add a word that breaks a law: a variable that is listed twice, an order that is no permutation, a root of what
 // isn't listed, a root with a condition, a demand without one, and a condition on two packages.
+ghost use Rattle.std.specs.Prelude.{◌≡◌, ◌<◌};
+
+use crate::problems::{package, problem, push_name, push_names};
+use backjump::search;
+use choice_problem::{
+    Choice, Choices, ConflictSet, Counts, Demand, Limit, Outcome, Steps, Trail, Var,
+};
+use plan_types::{List, NoMemory};
+use std::alloc::Global;
+use std::cell::Cell;
+use std::marker::Brand;
+use std::sync::ledger::{Blank, Ledger};
+use std::test::Fail;
+
 pub(crate) const CASES: &str = "\
 - => unlimited => found; visited 0 exhausted 0
 0: >>0: => unlimited => no plan 0; visited 0 exhausted 1
@@ -162,7 +164,7 @@ impl<C: Choices> Choices for Asked<C> {
         self.choices.roots(alloc)
     }
 
-    fn order(&self, alloc: Global, v: Var, trail: &List<Choice>) -> Result<List<u64>, NoMemory> {
+    fn order(&self, alloc: Global, v: Var, trail: &Trail) -> Result<List<u64>, NoMemory> {
         self.orders.set(self.orders.get().saturating_add(1));
         self.choices.order(alloc, v, trail)
     }

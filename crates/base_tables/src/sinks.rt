@@ -1,10 +1,10 @@
+// The room, the most bytes of a write, and the write that fails; whether all of two lines is written, and what is left in
+// the sink, with `;` for the end of a line.
 use outside_folder::{MemSink, write_all};
 use plan_types::List;
 use std::alloc::Global;
 use std::test::Fail;
 
-// The room, the most bytes of a write, and the write that fails; whether all of two lines is written, and what is left in
-// the sink, with `;` for the end of a line.
 pub(crate) const CASES: &str = "\
 100 100 9 => all [plan;choose main 1 local;]
 26 1 27 => all [plan;choose main 1 local;]

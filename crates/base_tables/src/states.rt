@@ -1,6 +1,7 @@
 // The state of a search, move by move: what it answers to a value, what it opens, and what undoing gives back.
-ghost use Rattle.std.specs.Prelude.{◌≡◌, ◌<◌, IsTrue};
-ghost use Rattle.choice_problem.specs.Problem.{Problem};
+ghost use Rattle.std.specs.Prelude.{◌≡◌, ◌<◌, IfSome, IsTrue};
+ghost use Rattle.choice_problem.specs.Active.{is_open};
+ghost use Rattle.choice_problem.specs.Problem.{Lawful, Problem};
 ghost use Rattle.validation.specs.View.{Represents};
 
 use crate::problems::{problem, push_name, push_names};
@@ -12,8 +13,9 @@ use std::sync::ledger::{Blank, Ledger};
 use std::test::Fail;
 use validation::{State, Verdict};
 
-// A problem, the moves, and what is answered to each. A digit tries that value of the least open variable, `<` takes the
-// last choice back, and `?` asks what is open. `often`: moves that are made a thousand times in the first problem, and others.
+// A problem, the moves, and what is answered to each. A digit tries that value of the least open variable, a letter the value of its
+// place in the alphabet of the open variable behind the least, `<` takes the last choice back, `?` asks for the least that is open, and
+// `*` for all. `often`: moves that are made a thousand times in the first problem, and others.
 //
 // The first has a bar, an active demand that refuses the value, and one that becomes active and is broken. The next three
 // are rings of packages, of which the first also asks for one that is on no cycle. The set of the cycle in the fifth has
@@ -26,6 +28,8 @@ pub(crate) const CASES: &str = "\
 0:0 1:0 2:0 9:0 >>0:0 0.0>1:0 1.0>2:0 2.0>0:0 0.0>9:0 => 000?<? => ok; ok; not 0 1 2; 2 by 1; back; 1 by 0
 0:0 1:0 1f:10 3:0 >>0:0 0.0>1:0 0.0>3:0 1.0>1f:01 1.0,1f.1>0:0 => 001?0? => ok; ok; not 0 1 1f; 1f by 1; ok; 3 by 0
 3:0 5:0 5f:10 7:10 >>5:0 5.0>5f:01 5.0,5f.1>7:0 5.0>3:0 3.0>7:0 => 0?0?1?10?<?<0? => ok; 3 by 5; ok; 5f by 5; ok; 7 by 3; not 3 7; ok; all; back; 7 by 3; back; ok; 7 by 3
+0:0 1:01 2:0 >>0:0 0.0>1:01 0.0>2:0 2.0>1:1 => *0*a*0*1*<<* => open 0; ok; open 1 2; ok; open 1; not 1 2; open 1; ok; open; back; back; open 1 2
+1:0 2:0 3:0/0 >>1:0 >>2:0 >>3:0 => *aa<* => open 1 2 3; ok; not 3; back; open 1 2 3
 often 0< ? => ok; back, 1000 times; 0 by
 ";
 
@@ -59,11 +63,58 @@ fn tried<C: Choices, L: Ledger>(
     Ok(Some(verdict))
 }
 
+// The open variable behind the least one.
+fn second(state: &State) -> Option<Var>
+    ensures { (p : Problem) → Lawful p → Represents p state.now → IfSome result (λ v. IsTrue (is_open p state.now.trail v)) }
+{
+    match state.least() {
+        Some(least) => state.open_after(Some(least)),
+        None => None,
+    }
+}
+
+// Tries a value of the open variable behind the least one.
+fn tried_second<C: Choices, L: Ledger>(
+    alloc: Global,
+    choices: &C,
+    state: &mut State,
+    val: u64,
+    steps: &mut Steps<L>,
+) -> Result<Option<Verdict>, NoMemory>
+    requires { Represents (C.problem choices.now) state.old }
+    ensures { Represents (C.problem choices.now) state.new }
+{
+    let Some(var) = second(state) else {
+        return Ok(None);
+    };
+    if !has_value(choices, var, val) {
+        return Ok(None);
+    }
+    let verdict = state.choose_open(alloc, choices, Choice { var, val }, steps)?;
+    Ok(Some(verdict))
+}
+
+// All open variables, each found behind the one before it.
+fn push_all_open(text: &mut String, state: &State) -> Result<(), NoMemory> {
+    text.push_str("open")?;
+    let mut last = None;
+    for _ in 0..100 {
+        if let Some(var) = state.open_after(last) {
+            text.push_str(" ")?;
+            push_name(text, var)?;
+            last = Some(var);
+        } else {
+            return Ok(());
+        }
+    }
+    Ok(())
+}
+
 // Takes the last choice back, where there is one.
 fn undone(state: &mut State) -> &'static str
     ensures { (p : Problem) → Represents p state.old → Represents p state.new }
 {
-    if state.trail().is_empty() {
+    if state.trail().choices().is_empty() {
         return "none";
     }
     state.undo();
@@ -109,6 +160,11 @@ fn made<C: Choices, L: Ledger>(
     match byte {
         b'<' => Ok(text.push_str(undone(state))?),
         b'?' => push_open(alloc, text, state),
+        b'*' => push_all_open(text, state),
+        b'a'..=b'z' => {
+            let verdict = tried_second(alloc, choices, state, u64::from(byte - b'a'), steps)?;
+            push_verdict(text, &verdict)
+        }
         _ => {
             let verdict = tried(alloc, choices, state, u64::from(byte & 15), steps)?;
             push_verdict(text, &verdict)

@@ -1,12 +1,12 @@
+// Two texts, with a bar between them: how they compare, the same as a partial order tells it, and whether they are equal. Then of the
+// text that grew by both: what it is, the same by its trait, its bytes, and whether it equals the text that is made of both at once, and
+// a copy, which is to have its hash. Or a text of ASCII bytes.
 use plan_types::Text;
 use std::alloc::Global;
 use std::convert::AsStr;
 use std::hash::{DefaultHasher, Hash, Hasher};
 use std::test::Fail;
 
-// Two texts, with a bar between them: how they compare, the same as a partial order tells it, and whether they are equal. Then of the
-// text that grew by both: what it is, the same by its trait, its bytes, and whether it equals the text that is made of both at once, and
-// a copy, which is to have its hash. Or a text of ASCII bytes.
 pub(crate) const CASES: &str = "\
 | => Equal Some(Equal) true;   []; true true true
 a|a => Equal Some(Equal) true; aa aa [97, 97]; true true true

@@ -1,10 +1,10 @@
+// A graph; an `x` for each of its last nodes that is marked; and the same for all nodes that lead to one, where they aren't many.
 use crate::graphs::graph;
 use broken_units::leading;
 use plan_types::{List, NoMemory};
 use std::alloc::Global;
 use std::test::Fail;
 
-// A graph; an `x` for each of its last nodes that is marked; and the same for all nodes that lead to one, where they aren't many.
 pub(crate) const CASES: &str = "\
 - => . => .
 - => x => x

@@ -5,6 +5,7 @@ use Rattle.std.proofs.lemmas.Bool.{cases_eq}
 use Rattle.std.proofs.lemmas.List.{take_more, take_all}
 use Rattle.std.proofs.lemmas.List.Elements.{Contains-append_left, Contains-push, Contains-push_cases}
 use Rattle.broken_units.specs.Leads.{IsMarked}
+use Rattle.broken_units.proofs.Table.{no_item}
 
 abbrev pub Is : Bool → Type 0
 Is b = (b ≡ true) ⊎ (b ≡ true → ⊥)
@@ -28,9 +29,6 @@ pub record Marks (gone : List ℕ) (old new : List Bool) (before behind : List �
   pub marked : (i : ℕ) → IsMarked new i ↔ IsMarked old i ⊎ (Contains gone i × (i < length old))
   pub waiting : (i : ℕ) → Contains behind i ↔ Contains before i ⊎ (IsMarked new i × (IsMarked old i → ⊥))
   pub less : count_by not new + length behind ≡ count_by not old + length before
-
-no_item : (v : ℕ) → Contains [] v → ⊥
-no_item v h = omega (arith, h.1)
 
 pub marks_none : (old : List Bool) (before : List ℕ) → Marks [] old old before before
 marks_none old before =

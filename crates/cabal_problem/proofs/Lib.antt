@@ -3,6 +3,7 @@ mod OrderTests
 mod Findings
 mod InBlocks
 mod NewProblem
+mod GroupLaws
 mod Whole
 mod WholeLaws
 mod OneTable

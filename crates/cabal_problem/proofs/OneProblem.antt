@@ -1,5 +1,5 @@
 -- An index and a project have one problem.
-use Rattle.std.proofs.Common.{◌≡◌, ℕ, List, sym, ap, ◌∙◌}
+use Rattle.std.proofs.Common.{◌≡◌, ℕ, List, sym, ◌∙◌}
 use Rattle.plan_types.specs.declared.index.Index.{Index}
 use Rattle.plan_types.specs.declared.index.Instance.{Instance}
 use Rattle.plan_types.specs.declared.project.Project.{Project}

@@ -1,14 +1,11 @@
 -- What an instance asks for in numbers makes the demands that it has by the names.
-use Rattle.std.proofs.Common.{◌≡◌, ℕ, zero, suc, ◌+◌, ◌<◌, Bool, true, false, cond, ◌&&◌, List, [], ◌∷◌, ◌++◌, length, get_or, map, take, refl, sym, ap, ◌∙◌, arith, append_assoc, nat_eq}
+use Rattle.std.proofs.Common.{◌≡◌, ℕ, zero, suc, ◌+◌, ◌<◌, Bool, true, false, cond, ◌&&◌, List, [], ◌∷◌, ◌++◌, length, get_or, map, take, refl, sym, ap, ◌∙◌, arith, append_assoc}
 use Rattle.std.specs.List.{filter}
-use Rattle.std.specs.Prelude.{Some, find}
 use Rattle.plan_types.specs.declared.dependency.Dep.{Dep}
-use Rattle.plan_types.specs.declared.dependency.DepKind.{DepKind}
 use Rattle.plan_types.specs.declared.dependency.DepKind.TheVariants as kind
 use Rattle.plan_types.specs.declared.description.Description.{Description}
 use Rattle.plan_types.specs.declared.description.FlagDecl.{FlagDecl}
-use Rattle.plan_types.specs.declared.index.Body.{Body}
-use Rattle.plan_types.specs.declared.index.Body.TheVariants.{Source, Installed}
+use Rattle.plan_types.specs.declared.index.Body.TheVariants.{Source}
 use Rattle.plan_types.specs.declared.index.Exposed.{Exposed}
 use Rattle.plan_types.specs.declared.index.FlatDep.{FlatDep}
 use Rattle.plan_types.specs.declared.index.Package.{Package}
@@ -17,16 +14,12 @@ use Rattle.plan_types.specs.declared.version.Version.{Version}
 use Rattle.qualified_goals.specs.declared.variable.Part.TheVariants.{Tests, Benches}
 use Rattle.qualified_goals.specs.Names.{Name, NameTable}
 use Rattle.choice_problem.specs.declared.problem.Choice.{Choice}
-use Rattle.choice_problem.specs.declared.problem.Demand.{Demand}
 use Rattle.solver_index.specs.Dependencies.{body_dependencies, conditional_dep, dep_target, need_at, setting_of}
-use Rattle.solver_index.specs.Places.{flag_number, number, rising}
-use Rattle.solver_index.proofs.Allowing.{allowed-inside}
+use Rattle.solver_index.specs.Places.{flag_number, rising}
 use Rattle.cabal_problem.specs.Variables.{has_kind, is_benchmark, is_suite}
-use Rattle.cabal_problem.specs.Values.{default_in, default_of, has_number, package_var}
-use Rattle.cabal_problem.specs.ListedDemands.{can_count, dep_demand, flag_demand, flat_demand, flat_demands, has_stanzas, qual_for, setup_demand, setup_demands, setup_if, source_demands, stanza_if, unit_demands, when_of}
-use Rattle.cabal_problem.specs.Rows.{choice_at, default_by, dep_row, flag_row, in_pairs, need_demand, setup_row, source_rows, target_demand}
+use Rattle.cabal_problem.specs.ListedDemands.{can_count, dep_demand, flag_demand, flat_demand, flat_demands, has_stanzas, setup_demands, setup_if, source_demands, stanza_if, unit_demands, when_of}
+use Rattle.cabal_problem.specs.Rows.{choice_at, dep_row, flag_row, in_pairs, need_demand, setup_demand_to, source_rows}
 use Rattle.common_laws.specs.Lists.{map-map}
-use Rattle.plan_types.specs.Packages.{declared_by, entries_of}
 
 -- ---- pairs
 
@@ -62,26 +55,16 @@ pairs-kept make row one test (x ∷ xs) h =
 -- ---- demands
 
 module _ (packages : List Package) (project : Project) (names : NameTable) (owner : Choice) (allows : Dep → Version → Bool) where
-  abbrev demand_to : List Choice → DepKind → Dep → List ℕ → Demand
-  demand_to when kind dep allowed = record { when = when; target = package_var (qual_for kind owner.var (number packages names dep.«package»)) (number packages names dep.«package»); allowed = allowed }
-
-  target-is : (when : List Choice) (kind : DepKind) (dep : Dep) → target_demand packages owner when kind dep (dep_target packages names allows kind dep) ≡ dep_demand packages names owner when kind (allows dep) dep
-  target-is when kind dep = ap (demand_to when kind dep) (allowed-inside kind (allows dep) dep (entries_of packages (number packages names dep.«package»)))
-
   when-is : (flat : FlatDep) → owner ∷ map (choice_at owner) (map (setting_of names) flat.when) ≡ when_of names owner flat.when
   when-is flat = ap (λ l. owner ∷ l) (map-map (setting_of names) (choice_at owner) flat.when)
 
-  deps-are : (flats : List FlatDep) → in_pairs (dep_row packages owner) flats (map (conditional_dep packages names allows) flats) ≡ flat_demands packages names owner allows flats
+  deps-are : (flats : List FlatDep) → in_pairs (dep_row (has_stanzas packages owner.var) owner) flats (map (conditional_dep packages names allows) flats) ≡ flat_demands packages names owner allows flats
   deps-are flats =
-      pairs-kept (dep_row packages owner) (conditional_dep packages names allows) (flat_demand packages names owner allows) (can_count (has_stanzas packages owner.var)) flats (λ flat.
-      ap (λ (d : Demand). cond (can_count (has_stanzas packages owner.var) flat) (d ∷ []) [])
-      (target-is (owner ∷ map (choice_at owner) (map (setting_of names) flat.when)) flat.dep.kind flat.dep
-      ∙ ap (λ when. dep_demand packages names owner when flat.dep.kind (allows flat.dep) flat.dep) (when-is flat)))
+      pairs-kept (dep_row (has_stanzas packages owner.var) owner) (conditional_dep packages names allows) (flat_demand packages names owner allows) (can_count (has_stanzas packages owner.var)) flats (λ flat.
+      ap (λ when. cond (can_count (has_stanzas packages owner.var) flat) (dep_demand packages names owner when flat.dep.kind (allows flat.dep) flat.dep ∷ []) []) (when-is flat))
 
-  setup-are : (deps : List Dep) → in_pairs (setup_row packages owner) deps (map (dep_target packages names allows kind.Setup) deps) ≡ setup_demands packages names owner allows deps
-  setup-are deps =
-      pairs-one (setup_row packages owner) (dep_target packages names allows kind.Setup) (setup_demand packages names owner allows) deps (λ dep.
-      ap (λ (d : Demand). d ∷ []) (target-is (owner ∷ []) kind.Setup dep))
+  setup-are : (deps : List Dep) → map (setup_demand_to owner) (map (dep_target packages names allows kind.Setup) deps) ≡ setup_demands packages names owner allows deps
+  setup-are deps = map-map (dep_target packages names allows kind.Setup) (setup_demand_to owner) deps
 
   flags-are : (flags : List FlagDecl) → in_pairs (flag_row project names owner) flags (map (λ (decl : FlagDecl). flag_number names decl.name) flags) ≡ map (flag_demand project names owner) flags
   flags-are flags = pairs-one (flag_row project names owner) (λ (decl : FlagDecl). flag_number names decl.name) (flag_demand project names owner) flags (λ decl. refl)
@@ -94,17 +77,3 @@ module _ (packages : List Package) (project : Project) (names : NameTable) (owne
 
   pub units-are : (ids needs : List Name) → map (need_demand owner) (map (need_at packages names ids needs) (rising (length needs))) ≡ unit_demands packages names owner ids needs
   units-are ids needs = map-map (need_at packages names ids needs) (need_demand owner) (rising (length needs))
-
--- ---- defaults
-
-default-is : (names : NameTable) (f : ℕ) (flags : List FlagDecl) → default_by f flags (map (λ (decl : FlagDecl). flag_number names decl.name) flags) ≡ default_in (find (has_number names f) flags)
-default-is names f [] = refl
-default-is names f (decl ∷ flags) =
-    elim (nat_eq (flag_number names decl.name) f) as (λ b. cond b decl.default (default_by f flags (map (λ (d : FlagDecl). flag_number names d.name) flags)) ≡ default_in (cond b (Some decl) (find (has_number names f) flags))) [
-      | true ↦ refl
-      | false ↦ default-is names f flags
-    ]
-
-pub default-of-body : (packages : List Package) (names : NameTable) (allows : Dep → Version → Bool) (f : ℕ) (body : Body) → default_by f (declared_by body) (body_dependencies packages names allows body).flags ≡ default_of names f body
-default-of-body packages names allows f (Source d flats exposed) = default-is names f d.flags
-default-of-body packages names allows f (Installed unit needs) = refl

@@ -1,17 +1,16 @@
--- A demand with a whole condition is Yes exactly where one that is listed for it is.
+-- The demands that are searched are listed for those with whole conditions, one group after another.
 use Rattle.std.proofs.Common.{◌≡◌, ℕ, zero, suc, ◌<◌, Bool, true, false, cond, ◌&&◌, ◌||◌, nat_eq, List, [], ◌∷◌, ◌++◌, length, map, Some, None, refl, sym, ap, ◌∙◌, subst, inl, inr, arith}
 use Rattle.std.specs.Prelude.{Option, Contains}
-use Rattle.std.specs.List.{filter, list_all, list_any}
-use Rattle.std.proofs.lemmas.Bool.{false≢true, eqb-true, and_parts, and_from}
-use Rattle.std.proofs.lemmas.List.Elements.{Contains-get_or}
+use Rattle.std.specs.List.{filter, flat_map, list_all, list_any}
+use Rattle.std.proofs.lemmas.Bool.{false≢true, eqb-true}
+use Rattle.std.proofs.lemmas.List.{map-append}
+use Rattle.std.proofs.lemmas.List.Elements.{Contains-get_or, filter-append}
 use Rattle.plan_types.specs.declared.condition.Env.{Env}
 use Rattle.plan_types.specs.declared.dependency.Dep.{Dep}
 use Rattle.plan_types.specs.declared.description.CompKind.{CompKind}
-use Rattle.plan_types.specs.declared.description.Description.{Description}
 use Rattle.plan_types.specs.declared.index.Body.{Body}
 use Rattle.plan_types.specs.declared.index.Body.TheVariants.{Source, Installed}
 use Rattle.plan_types.specs.declared.index.Entry.{Entry}
-use Rattle.plan_types.specs.declared.index.Exposed.{Exposed}
 use Rattle.plan_types.specs.declared.index.FlatDep.{FlatDep}
 use Rattle.plan_types.specs.declared.index.Index.{Index}
 use Rattle.plan_types.specs.declared.index.Literal.{Literal}
@@ -23,7 +22,7 @@ use Rattle.conditionals.specs.Value.{value}
 use Rattle.flatten.specs.WholeCondition.{whole_condition}
 use Rattle.flatten.specs.Counting.{Parts, flags_of, are_met}
 use Rattle.flatten.specs.Demands.{Outward, outward, paths_at, flat_of, literal_of, stanza_of, demands_at}
-use Rattle.flatten.specs.Sound.{IsSound, IsSource, IsBody}
+use Rattle.flatten.specs.Sound.{IsSound, IsBody}
 use Rattle.qualified_goals.specs.declared.variable.Part.{Part}
 use Rattle.qualified_goals.specs.declared.variable.Part.TheVariants.{Package as ThePackage, Flag, Tests, Benches}
 use Rattle.qualified_goals.specs.Names.{NameTable, AreNumbers}
@@ -31,23 +30,22 @@ use Rattle.choice_problem.specs.declared.problem.Choice.{Choice}
 use Rattle.choice_problem.specs.declared.problem.Demand.{Demand}
 use Rattle.choice_problem.specs.Assignment.{Assignment, is_one_of, is_made, is_yes}
 use Rattle.choice_problem.specs.Problem.{IsChoice, IsDemand}
-use Rattle.choice_problem.specs.General.{Request, General, owner_of, request_of, general}
+use Rattle.choice_problem.specs.General.{Request, General, request_of, general}
 use Rattle.choice_problem.specs.Joined.{HasYes, AreYesTogether}
-use Rattle.common_laws.specs.Lists.{contains-head, contains-tail, contains-none, contains-cases, contains-append, contains-left, contains-right, contains-map, map-contains, contains-filter, contains-flat_map, flat_map-contains, all-append, any-at, any-from, filter-contains}
-use Rattle.solver_index.specs.Places.{entry_at, no_entry, number}
+use Rattle.common_laws.specs.Lists.{contains-map, map-contains, all-append}
+use Rattle.solver_index.specs.Places.{entry_at, no_entry}
 use Rattle.solver_index.specs.Dependencies.{bit, part_of}
 use Rattle.solver_index.specs.AllowedVersions.{allowed_versions}
 use Rattle.cabal_problem.specs.Variables.{domain_of}
-use Rattle.solver_index.specs.Allowed.{allowed_by}
-use Rattle.cabal_problem.specs.ListedDemands.{part_beside, choice_beside, target_for, has_part, has_stanzas, can_count, flat_demand, flat_demands, setup_demand, setup_demands, setup_if, body_demands, part_demands, unit_demands}
+use Rattle.cabal_problem.specs.ListedDemands.{part_beside, choice_beside, has_part, has_stanzas, can_count, flat_demand, flat_demands, setup_demand, setup_demands, setup_if, body_demands, part_demands, roots_of, unit_demands}
 use Rattle.cabal_problem.specs.Laws.{known-below}
 use Rattle.cabal_problem.specs.Problem.{problem_of}
 use Rattle.cabal_problem.specs.WholeDemands.{is_set, parts_under, whole_request, can_ask, requests_of, front_demands, setup_request, setup_requests, body_requests, part_requests, whole_problem}
+use Rattle.cabal_problem.specs.Groups.{AreGroups, AsksForSame, IsGroup, IsInGroups}
 use Rattle.cabal_problem.proofs.Findings.{entry-sound}
+use Rattle.cabal_problem.proofs.GroupLaws.{groups-append, groups-same, listed-there, one-same, requested-there}
 use Rattle.common_laws.specs.Small.{both-ways}
 use Rattle.plan_types.specs.Packages.{entries_of}
-
--- ---- tests
 
 -- ---- what an assignment makes
 
@@ -90,46 +88,27 @@ count-as-asked stanzas k dep path =
     all-append (λ (literal : Literal). has_part stanzas literal.part) (stanza_of k) (map literal_of path)
     ∙ and-true (list_all (λ literal. has_part stanzas literal.part) (stanza_of k)) (list_all (λ literal. has_part stanzas literal.part) (map literal_of path)) (flags-count stanzas path)
 
--- ---- matches
+-- ---- groups
 
--- one of the listed demands asks for the same, and is Yes
-record IsListed (A : Assignment) (r : Request) (demands : List Demand) : Type 0 where
-  demand : Demand
-  there : Contains demands demand
-  owner : owner_of demand.when ≡ r.owner
-  target : demand.target ≡ r.target
-  allowed : demand.allowed ≡ r.allowed
-  yes : is_yes A demand ≡ true
+none-kept : (b : Bool) (flats : List FlatDep) → flats ≡ [] → flats ≡ cond b flats []
+none-kept true flats h = refl
+none-kept false flats h = h
 
--- one of the requests asks for the same, and is Yes
-record IsRequested (A : Assignment) (d : Demand) (requests : List Request) : Type 0 where
-  request : Request
-  there : Contains requests request
-  owner : request.owner ≡ owner_of d.when
-  target : request.target ≡ d.target
-  allowed : request.allowed ≡ d.allowed
-  yes : request.is_yes A ≡ true
+more-kept : (b : Bool) (flat : FlatDep) (flats : List FlatDep) → cond b (flat ∷ cond b flats []) (cond b flats []) ≡ cond b (flat ∷ flats) []
+more-kept true flat flats = refl
+more-kept false flat flats = refl
 
-listed-same : (A : Assignment) (r : Request) (demands : List Demand) → Contains (requests_of demands) r → r.is_yes A ≡ true → IsListed A r demands
-listed-same A r demands h made =
-    let found = contains-map request_of demands r h in
-    subst (λ s. IsListed A s demands) found.2
-    (record { demand = found.0; there = found.1; owner = refl; target = refl; allowed = refl; yes = subst (λ s. s.is_yes A ≡ true) (sym found.2) made })
+and-none : (b : Bool) → false ≡ b && false
+and-none true = refl
+and-none false = refl
 
-requested-same : (A : Assignment) (d : Demand) (demands : List Demand) → Contains demands d → is_yes A d ≡ true → IsRequested A d (requests_of demands)
-requested-same A d demands h made = record { request = request_of d; there = map-contains request_of demands d h; owner = refl; target = refl; allowed = refl; yes = made }
+spread : (a b c : Bool) → (a && b) || (a && c) ≡ a && (b || c)
+spread true b c = refl
+spread false b c = refl
 
-listed-left : (A : Assignment) (r : Request) (xs ys : List Demand) → IsListed A r xs → IsListed A r (xs ++ ys)
-listed-left A r xs ys h = record { demand = h.demand; there = contains-left xs ys h.demand h.there; owner = h.owner; target = h.target; allowed = h.allowed; yes = h.yes }
-
-listed-right : (A : Assignment) (r : Request) (xs ys : List Demand) → IsListed A r ys → IsListed A r (xs ++ ys)
-listed-right A r xs ys h = record { demand = h.demand; there = contains-right xs ys h.demand h.there; owner = h.owner; target = h.target; allowed = h.allowed; yes = h.yes }
-
-requested-left : (A : Assignment) (d : Demand) (xs ys : List Request) → IsRequested A d xs → IsRequested A d (xs ++ ys)
-requested-left A d xs ys h = record { request = h.request; there = contains-left xs ys h.request h.there; owner = h.owner; target = h.target; allowed = h.allowed; yes = h.yes }
-
-requested-right : (A : Assignment) (d : Demand) (xs ys : List Request) → IsRequested A d ys → IsRequested A d (xs ++ ys)
-requested-right A d xs ys h = record { request = h.request; there = contains-right xs ys h.request h.there; owner = h.owner; target = h.target; allowed = h.allowed; yes = h.yes }
+alone-is : (b : Bool) → b ≡ (b && true) || false
+alone-is true = refl
+alone-is false = refl
 
 module _ (env : Env) (index : Index) (project : Project) (names : NameTable) (orders : List (List ℕ)) (sound : IsSound env index) (numbers : AreNumbers index.packages names)
     (counts : (at : Outward) (parts : Parts) → list_any (λ flat. are_met parts flat.when) (demands_at env at)
@@ -139,17 +118,7 @@ module _ (env : Env) (index : Index) (project : Project) (names : NameTable) (or
 
   -- ---- a dependency
 
-  -- an entry of a dependency
-  record IsEntryOf (at : Outward) (flat : FlatDep) : Type 0 where
-    path : Path
-    is_flat : flat_of at.component.kind at.guarded.dep path ≡ flat
-
-  entry-of : (at : Outward) (flat : FlatDep) → Contains (demands_at env at) flat → IsEntryOf at flat
-  entry-of at flat h =
-      let path = contains-map (flat_of at.component.kind at.guarded.dep) (clean_paths (paths_at env at)) flat h in
-      record { path = path.0; is_flat = path.2 }
-
-  module _ (owner : Choice) (d : Description) (flats : List FlatDep) (offer : Exposed) (allows : Dep → Version → Bool) (source : IsSource env index d flats offer) (A : Assignment) where
+  module _ (owner : Choice) (allows : Dep → Version → Bool) where
     abbrev stanzas : Bool
     stanzas = has_stanzas packages owner.var
 
@@ -159,66 +128,53 @@ module _ (env : Env) (index : Index) (project : Project) (names : NameTable) (or
     abbrev demand : FlatDep → Demand
     demand flat = flat_demand packages names owner allows flat
 
-    abbrev parts : Parts
-    parts = parts_under names owner A
+    yes-is : (A : Assignment) (flat : FlatDep) → is_yes A (demand flat) ≡ is_made A owner && are_met (parts_under names owner A) flat.when
+    yes-is A flat = ap (λ b. is_made A owner && b) (literals-met names owner A flat.when)
 
-    dep-is : (at : Outward) (flat : FlatDep) → IsEntryOf at flat → flat.dep ≡ at.guarded.dep
-    dep-is at flat is = sym (ap (λ (f : FlatDep). f.dep) is.is_flat)
+    any-yes : (A : Assignment) (flats : List FlatDep) → list_any (is_yes A) (map demand flats) ≡ is_made A owner && list_any (λ flat. are_met (parts_under names owner A) flat.when) flats
+    any-yes A [] = and-none (is_made A owner)
+    any-yes A (flat ∷ flats) =
+        (λ i. yes-is A flat i || any-yes A flats i)
+        ∙ spread (is_made A owner) (are_met (parts_under names owner A) flat.when) (list_any (λ f. are_met (parts_under names owner A) f.when) flats)
 
-    target-is : (at : Outward) (flat : FlatDep) → IsEntryOf at flat → (demand flat).target ≡ (request at).target
-    target-is at flat is = ap (λ (dep : Dep). target_for packages names owner.var dep.kind dep.«package») (dep-is at flat is)
+    -- an entry of a dependency asks for the same
+    entry-same : (at : Outward) (d : Demand) → Contains (map demand (demands_at env at)) d → AsksForSame (request at) d
+    entry-same at d h =
+        let found = contains-map demand (demands_at env at) d h in
+        let path = contains-map (flat_of at.component.kind at.guarded.dep) (clean_paths (paths_at env at)) found.0 found.1 in
+        subst (AsksForSame (request at)) (ap demand path.2 ∙ found.2) (record { owner = refl; target = refl; allowed = refl })
 
-    allowed-is : (at : Outward) (flat : FlatDep) → IsEntryOf at flat → (demand flat).allowed ≡ (request at).allowed
-    allowed-is at flat is = ap (λ (e : Dep). allowed_by e.kind (allows e) e (entries_of packages (number packages names e.«package»))) (dep-is at flat is)
+    group : (at : Outward) → IsGroup (request at) (map demand (demands_at env at))
+    group at = record {
+      same = entry-same at;
+      yes = λ A. sym (any-yes A (demands_at env at) ∙ ap (λ b. is_made A owner && b) (counts at (parts_under names owner A)));
+    }
 
-    count-is : (at : Outward) (flat : FlatDep) → IsEntryOf at flat → can_count stanzas flat ≡ can_ask stanzas at
-    count-is at flat is = sym (ap (can_count stanzas) is.is_flat) ∙ count-as-asked stanzas at.component.kind at.guarded.dep is.path
+    -- all entries of a dependency can count, or none can
+    paths-kept : (k : CompKind) (dep : Dep) (paths : List Path) → filter (can_count stanzas) (map (flat_of k dep) paths) ≡ cond (list_all (λ literal. has_part stanzas literal.part) (stanza_of k)) (map (flat_of k dep) paths) []
+    paths-kept k dep [] = none-kept (list_all (λ literal. has_part stanzas literal.part) (stanza_of k)) [] refl
+    paths-kept k dep (path ∷ paths) =
+        let flat = flat_of k dep path in
+        let rest = map (flat_of k dep) paths in
+        let asked = list_all (λ (literal : Literal). has_part stanzas literal.part) (stanza_of k) in
+        (λ i. cond (count-as-asked stanzas k dep path i) (flat ∷ paths-kept k dep paths i) (paths-kept k dep paths i)) ∙ more-kept asked flat rest
 
-    yes-is : (flat : FlatDep) → is_yes A (demand flat) ≡ is_made A owner && are_met parts flat.when
-    yes-is flat = ap (λ b. is_made A owner && b) (literals-met names owner A flat.when)
+    entries-kept : (at : Outward) → filter (can_count stanzas) (demands_at env at) ≡ cond (can_ask stanzas at) (demands_at env at) []
+    entries-kept at = paths-kept at.component.kind at.guarded.dep (clean_paths (paths_at env at))
 
-    deps-listed : (r : Request) → Contains (map request (filter (can_ask stanzas) (outward d))) r → r.is_yes A ≡ true → IsListed A r (flat_demands packages names owner allows flats)
-    deps-listed r h holds =
-        let found = contains-map request (filter (can_ask stanzas) (outward d)) r h in
-        let at = found.0 in
-        let kept = contains-filter (can_ask stanzas) (outward d) at found.1 in
-        let whole = are_met parts (stanza_of at.component.kind) && is_wanted true (value env (flags_of parts) (whole_condition at.component at.guarded)) in
-        let yes_at = ap (λ (s : Request). s.is_yes A) found.2 ∙ holds in
-        let met = any-at (λ (f : FlatDep). are_met parts f.when) (demands_at env at) (counts at parts ∙ (and_parts (is_made A owner) whole yes_at).1) in
-        let flat = met.0 in
-        let is = entry-of at flat met.1 in
-        let there : Contains flats flat = subst (λ l. Contains l flat) (sym source.demands) (flat_map-contains (demands_at env) (outward d) at flat kept.0 met.1) in
-        subst (λ s. IsListed A s (flat_demands packages names owner allows flats)) found.2
-        (record {
-          demand = demand flat;
-          there = map-contains demand (filter (can_count stanzas) flats) flat (filter-contains (can_count stanzas) flats flat there (count-is at flat is ∙ kept.1));
-          owner = refl;
-          target = target-is at flat is;
-          allowed = allowed-is at flat is;
-          yes = yes-is flat ∙ and_from (is_made A owner) (are_met parts flat.when) ((and_parts (is_made A owner) whole yes_at).0) met.2;
-        })
-
-    deps-requested : (one : Demand) → Contains (flat_demands packages names owner allows flats) one → is_yes A one ≡ true → IsRequested A one (map request (filter (can_ask stanzas) (outward d)))
-    deps-requested one h holds =
-        let found = contains-map demand (filter (can_count stanzas) flats) one h in
-        let flat = found.0 in
-        let kept = contains-filter (can_count stanzas) flats flat found.1 in
-        let place = contains-flat_map (demands_at env) (outward d) flat (subst (λ l. Contains l flat) source.demands kept.0) in
-        let at = place.0 in
-        let is = entry-of at flat place.2 in
-        let met = sym (yes-is flat) ∙ ap (is_yes A) found.2 ∙ holds in
-        let owner_made = (and_parts (is_made A owner) (are_met parts flat.when) met).0 in
-        let flat_met = (and_parts (is_made A owner) (are_met parts flat.when) met).1 in
-        let whole = are_met parts (stanza_of at.component.kind) && is_wanted true (value env (flags_of parts) (whole_condition at.component at.guarded)) in
-        subst (λ e. IsRequested A e (map request (filter (can_ask stanzas) (outward d)))) found.2
-        (record {
-          request = request at;
-          there = map-contains request (filter (can_ask stanzas) (outward d)) at (filter-contains (can_ask stanzas) (outward d) at place.1 (sym (count-is at flat is) ∙ kept.1));
-          owner = refl;
-          target = sym (target-is at flat is);
-          allowed = sym (allowed-is at flat is);
-          yes = and_from (is_made A owner) whole owner_made (sym (counts at parts) ∙ any-from (λ (f : FlatDep). are_met parts f.when) (demands_at env at) flat place.2 flat_met);
-        })
+    deps-grouped : (ats : List Outward) → AreGroups (map request (filter (can_ask stanzas) ats)) (map demand (filter (can_count stanzas) (flat_map (demands_at env) ats)))
+    deps-grouped [] = refl
+    deps-grouped (at ∷ ats) =
+        let asking = filter (can_ask stanzas) ats in
+        let rest = filter (can_count stanzas) (flat_map (demands_at env) ats) in
+        let split =
+        ap (map demand) (filter-append (can_count stanzas) (demands_at env at) (flat_map (demands_at env) ats) ∙ ap (λ l. l ++ rest) (entries-kept at))
+        ∙ map-append demand (cond (can_ask stanzas at) (demands_at env at) []) rest in
+        subst (λ (l : List Demand). AreGroups (map request (cond (can_ask stanzas at) (at ∷ asking) asking)) l) (sym split)
+        (elim (can_ask stanzas at) as (λ b. AreGroups (map request (cond b (at ∷ asking) asking)) (map demand (cond b (demands_at env at) []) ++ map demand rest)) [
+          | true ↦ (map demand (demands_at env at), map demand rest, refl, group at, deps-grouped ats)
+          | false ↦ deps-grouped ats
+        ])
 
     -- ---- the setup script
 
@@ -228,84 +184,38 @@ module _ (env : Env) (index : Index) (project : Project) (names : NameTable) (or
     abbrev script : Dep → Demand
     script dep = setup_demand packages names owner allows dep
 
-    script-listed : (custom : Bool) (r : Request) → Contains (setup_requests custom (map set_up d.setup)) r → r.is_yes A ≡ true → IsListed A r (setup_if custom (setup_demands packages names owner allows d.setup))
-    script-listed false r h holds = absurd (contains-none r h)
-    script-listed true r h holds =
-        let found = contains-map set_up d.setup r h in
-        subst (λ s. IsListed A s (setup_demands packages names owner allows d.setup)) found.2
-        (record {
-          demand = script found.0;
-          there = map-contains script d.setup found.0 found.1;
-          owner = refl;
-          target = refl;
-          allowed = refl;
-          yes = and_from (is_made A owner) true (ap (λ (s : Request). s.is_yes A) found.2 ∙ holds) refl;
-        })
+    script-group : (dep : Dep) → IsGroup (set_up dep) (script dep ∷ [])
+    script-group dep = record {
+      same = λ d h. one-same (set_up dep) (script dep) d (record { owner = refl; target = refl; allowed = refl }) h;
+      yes = λ A. alone-is (is_made A owner);
+    }
 
-    script-requested : (custom : Bool) (one : Demand) → Contains (setup_if custom (setup_demands packages names owner allows d.setup)) one → is_yes A one ≡ true
-        → IsRequested A one (setup_requests custom (map set_up d.setup))
-    script-requested false one h holds = absurd (contains-none one h)
-    script-requested true one h holds =
-        let found = contains-map script d.setup one h in
-        subst (λ e. IsRequested A e (map set_up d.setup)) found.2
-        (record {
-          request = set_up found.0;
-          there = map-contains set_up d.setup found.0 found.1;
-          owner = refl;
-          target = refl;
-          allowed = refl;
-          yes = (and_parts (is_made A owner) true (ap (is_yes A) found.2 ∙ holds)).0;
-        })
+    scripts-grouped : (deps : List Dep) → AreGroups (map set_up deps) (map script deps)
+    scripts-grouped [] = refl
+    scripts-grouped (dep ∷ deps) = (script dep ∷ [], map script deps, refl, script-group dep, scripts-grouped deps)
+
+    setup-grouped : (custom : Bool) (deps : List Dep) → AreGroups (setup_requests custom (map set_up deps)) (setup_if custom (setup_demands packages names owner allows deps))
+    setup-grouped true deps = scripts-grouped deps
+    setup-grouped false deps = refl
 
   -- ---- an instance
 
-  body-listed : (owner : Choice) (allows : Dep → Version → Bool) (body : Body) → IsBody env index body → (A : Assignment) (r : Request)
-      → Contains (body_requests env packages project names owner allows body) r → r.is_yes A ≡ true → IsListed A r (body_demands packages project names owner allows body)
-  body-listed owner allows (Source d flats offer) source A r h holds =
+  body-grouped : (owner : Choice) (allows : Dep → Version → Bool) (body : Body) → IsBody env index body → AreGroups (body_requests env packages project names owner allows body) (body_demands packages project names owner allows body)
+  body-grouped owner allows (Source d flats offer) source =
       let front = front_demands packages project names owner d in
-      let deps = flat_demands packages names owner allows flats in
-      let setups = setup_if d.custom (setup_demands packages names owner allows d.setup) in
       let requests = map (whole_request env packages names owner allows) (filter (can_ask (has_stanzas packages owner.var)) (outward d)) in
-      let scripts = setup_requests d.custom (map (setup_request packages names owner allows) d.setup) in
-      elim (contains-append (requests_of front ++ requests) scripts r h) [
-        | inl own ↦ listed-left A r (front ++ deps) setups (elim (contains-append (requests_of front) requests r own) [
-          | inl f ↦ listed-left A r front deps (listed-same A r front f holds)
-          | inr q ↦ listed-right A r front deps (deps-listed owner d flats offer allows source A r q holds)
-        ])
-        | inr s ↦ listed-right A r (front ++ deps) setups (script-listed owner d flats offer allows source A d.custom r s holds)
-      ]
-  body-listed owner allows (Installed unit needs) units A r h holds = listed-same A r (unit_demands packages names owner unit.depends needs) h holds
+      let deps = subst (λ l. AreGroups requests (flat_demands packages names owner allows l)) (sym source.demands) (deps-grouped owner allows (outward d)) in
+      groups-append (requests_of front ++ requests) (setup_requests d.custom (map (setup_request packages names owner allows) d.setup))
+      (front ++ flat_demands packages names owner allows flats) (setup_if d.custom (setup_demands packages names owner allows d.setup))
+      (groups-append (requests_of front) requests front (flat_demands packages names owner allows flats) (groups-same front) deps)
+      (setup-grouped owner allows d.custom d.setup)
+  body-grouped owner allows (Installed unit needs) units = groups-same (unit_demands packages names owner unit.depends needs)
 
-  body-requested : (owner : Choice) (allows : Dep → Version → Bool) (body : Body) → IsBody env index body → (A : Assignment) (one : Demand)
-      → Contains (body_demands packages project names owner allows body) one → is_yes A one ≡ true → IsRequested A one (body_requests env packages project names owner allows body)
-  body-requested owner allows (Source d flats offer) source A one h holds =
-      let front = front_demands packages project names owner d in
-      let deps = flat_demands packages names owner allows flats in
-      let setups = setup_if d.custom (setup_demands packages names owner allows d.setup) in
-      let requests = map (whole_request env packages names owner allows) (filter (can_ask (has_stanzas packages owner.var)) (outward d)) in
-      let scripts = setup_requests d.custom (map (setup_request packages names owner allows) d.setup) in
-      elim (contains-append (front ++ deps) setups one h) [
-        | inl own ↦ requested-left A one (requests_of front ++ requests) scripts (elim (contains-append front deps one own) [
-          | inl f ↦ requested-left A one (requests_of front) requests (requested-same A one front f holds)
-          | inr q ↦ requested-right A one (requests_of front) requests (deps-requested owner d flats offer allows source A one q holds)
-        ])
-        | inr s ↦ requested-right A one (requests_of front ++ requests) scripts (script-requested owner d flats offer allows source A d.custom one s holds)
-      ]
-  body-requested owner allows (Installed unit needs) units A one h holds = requested-same A one (unit_demands packages names owner unit.depends needs) h holds
-
-  part-listed : (A : Assignment) (r : Request) (requests : List Request) (demands : List Demand) (part : Part) → (part ≡ ThePackage → Contains requests r → IsListed A r demands)
-      → Contains (part_requests requests part) r → IsListed A r (part_demands demands part)
-  part-listed A r requests demands ThePackage h k = h refl k
-  part-listed A r requests demands (Flag f) h k = absurd (contains-none r k)
-  part-listed A r requests demands Tests h k = absurd (contains-none r k)
-  part-listed A r requests demands Benches h k = absurd (contains-none r k)
-
-  part-requested : (A : Assignment) (one : Demand) (requests : List Request) (demands : List Demand) (part : Part) → (part ≡ ThePackage → Contains demands one → IsRequested A one requests)
-      → Contains (part_demands demands part) one → IsRequested A one (part_requests requests part)
-  part-requested A one requests demands ThePackage h k = h refl k
-  part-requested A one requests demands (Flag f) h k = absurd (contains-none one k)
-  part-requested A one requests demands Tests h k = absurd (contains-none one k)
-  part-requested A one requests demands Benches h k = absurd (contains-none one k)
+  part-grouped : (requests : List Request) (demands : List Demand) (part : Part) → (part ≡ ThePackage → AreGroups requests demands) → AreGroups (part_requests requests part) (part_demands demands part)
+  part-grouped requests demands ThePackage h = h refl
+  part-grouped requests demands (Flag f) h = refl
+  part-grouped requests demands Tests h = refl
+  part-grouped requests demands Benches h = refl
 
   -- ---- both problems
 
@@ -326,22 +236,32 @@ module _ (env : Env) (index : Index) (project : Project) (names : NameTable) (or
       let value : owner.val < length (entries_of packages p) = subst (λ k. owner.val < domain_of packages p k) part is.value in
       (entry-sound index names numbers env sound p below (entry owner) (Contains-get_or (entries_of packages p) owner.val no_entry value)).body
 
+  demands-grouped : (owner : Choice) → IsChoice searched owner → AreGroups (whole.demands owner) ((problem_of packages project names orders).demands owner)
+  demands-grouped owner is =
+      let e = entry owner in
+      let allows = allowed_versions project e.instance in
+      part-grouped (body_requests env packages project names owner allows e.body) (body_demands packages project names owner allows e.body) owner.var.part
+      (λ part. body-grouped owner allows e.body (chosen-at owner is part))
+
+  pub in-groups : IsInGroups (whole_problem env index.packages project names orders) (problem_of index.packages project names orders)
+  in-groups = record {
+    roots = groups-same (roots_of packages project names);
+    demands = λ owner is. demands-grouped owner (record { variable = is.variable; value = is.value });
+  }
+
   yes-there : (A : Assignment) (r : Request) → IsDemand whole r → r.is_yes A ≡ true → HasYes searched A r
   yes-there A r (inl root) holds = record { other = r; demand = inl root; owner = refl; target = refl; allowed = refl; yes = holds }
   yes-there A r (inr owned) holds =
       let owner = owned.0 in
-      let e = entry owner in
-      let allows = allowed_versions project e.instance in
+      let demands = (problem_of packages project names orders).demands owner in
       let is : IsChoice searched owner = record { variable = owned.1.variable; value = owned.1.value } in
-      let demands = body_demands packages project names owner allows e.body in
-      let found = part-listed A r (body_requests env packages project names owner allows e.body) demands owner.var.part
-      (λ part k. body-listed owner allows e.body (chosen-at owner is part) A r k holds) owned.2 in
+      let found = listed-there A r (whole.demands owner) demands (demands-grouped owner is) owned.2 holds in
       record {
         other = request_of found.demand;
-        demand = inr (owner, is, map-contains request_of (part_demands demands owner.var.part) found.demand found.there);
-        owner = found.owner;
-        target = found.target;
-        allowed = found.allowed;
+        demand = inr (owner, is, map-contains request_of demands found.demand found.there);
+        owner = found.same.owner;
+        target = found.same.target;
+        allowed = found.same.allowed;
         yes = found.yes;
       }
 
@@ -349,20 +269,17 @@ module _ (env : Env) (index : Index) (project : Project) (names : NameTable) (or
   yes-back A r (inl root) holds = record { other = r; demand = inl root; owner = refl; target = refl; allowed = refl; yes = holds }
   yes-back A r (inr owned) holds =
       let owner = owned.0 in
-      let e = entry owner in
-      let allows = allowed_versions project e.instance in
-      let demands = body_demands packages project names owner allows e.body in
-      let one = contains-map request_of (part_demands demands owner.var.part) r owned.2 in
+      let demands = (problem_of packages project names orders).demands owner in
+      let one = contains-map request_of demands r owned.2 in
       let holds_one = ap (λ (s : Request). s.is_yes A) one.2 ∙ holds in
-      let found = part-requested A one.0 (body_requests env packages project names owner allows e.body) demands owner.var.part
-      (λ part k. body-requested owner allows e.body (chosen-at owner owned.1 part) A one.0 k holds_one) one.1 in
+      let found = requested-there A one.0 (whole.demands owner) demands (demands-grouped owner owned.1) one.1 holds_one in
       subst (λ s. HasYes whole A s) one.2
       (record {
         other = found.request;
         demand = inr (owner, record { variable = owned.1.variable; value = owned.1.value }, found.there);
-        owner = found.owner;
-        target = found.target;
-        allowed = found.allowed;
+        owner = sym found.same.owner;
+        target = sym found.same.target;
+        allowed = sym found.same.allowed;
         yes = found.yes;
       })
 

@@ -1,8 +1,8 @@
 -- The problem with whole conditions keeps the laws.
-use Rattle.std.proofs.Common.{◌≡◌, ℕ, ◌<◌, Bool, true, false, not, ◌&&◌, ◌||◌, nat_eq, List, [], ◌∷◌, ◌++◌, length, map, Some, None, refl, sym, ap, ◌∙◌, subst, inl, inr}
+use Rattle.std.proofs.Common.{◌≡◌, ℕ, ◌<◌, Bool, true, false, not, ◌&&◌, List, ◌++◌, length, map, refl, sym, ap, ◌∙◌, subst, inl, inr}
 use Rattle.std.specs.Prelude.{Contains}
 use Rattle.std.specs.List.{filter, list_all}
-use Rattle.std.proofs.lemmas.Bool.{false≢true, eqb-true, and_parts}
+use Rattle.std.proofs.lemmas.Bool.{and_parts}
 use Rattle.std.proofs.lemmas.List.Elements.{All-contains, Contains-get_or}
 use Rattle.plan_types.specs.declared.condition.Env.{Env}
 use Rattle.plan_types.specs.declared.dependency.Dep.{Dep}
@@ -30,7 +30,7 @@ use Rattle.qualified_goals.specs.declared.variable.Part.TheVariants.{Package as 
 use Rattle.qualified_goals.specs.Names.{NameTable, AreNumbers}
 use Rattle.choice_problem.specs.declared.problem.Choice.{Choice}
 use Rattle.choice_problem.specs.declared.problem.Demand.{Demand}
-use Rattle.choice_problem.specs.Assignment.{Assignment, is_made, is_one_of}
+use Rattle.choice_problem.specs.Assignment.{is_made}
 use Rattle.choice_problem.specs.Problem.{IsChoice, IsOwned, IsRoot, Lawful}
 use Rattle.choice_problem.specs.General.{Request, General, LawfulGeneral, IsOwnedRequest, IsRootRequest, owner_of, request_of}
 use Rattle.common_laws.specs.Lists.{contains-none, contains-append, contains-left, contains-map, contains-filter, contains-flat_map, all-at, any-from, all-where}

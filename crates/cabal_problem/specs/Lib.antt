@@ -7,5 +7,6 @@ pub mod Problem
 pub mod Lawful
 pub mod Laws
 pub mod WholeDemands
+pub mod Groups
 pub mod Examples
 pub mod Shown

@@ -5,7 +5,7 @@ use Rattle.plan_types.specs.declared.index.Package.{Package}
 use Rattle.plan_types.specs.declared.project.Project.{Project}
 use Rattle.qualified_goals.specs.declared.variable.Part.{Part}
 use Rattle.qualified_goals.specs.declared.variable.Part.TheVariants.{Package as ThePackage, Flag, Tests, Benches}
-use Rattle.qualified_goals.specs.Names.{NameTable, AreNumbers}
+use Rattle.qualified_goals.specs.Names.{NameTable, AreInGoalOrder, AreNumbers}
 use Rattle.choice_problem.specs.declared.problem.Choice.{Choice}
 use Rattle.choice_problem.specs.Problem.{Problem}
 use Rattle.constraint_set.specs.Bars.{bars, bars_part}
@@ -36,8 +36,9 @@ problem_of packages project names orders = record {
   demands = demands_of packages project names;
 }
 
--- the problem of an index and a project, by the numbers of the index's names
+-- the problem of an index whose packages stand in goal order and of a project, by the numbers of the index's names
 pub record IsProblemOf (index : Index) (project : Project) (names : NameTable) (p : Problem) : Type 0 where
+  pub in_goal_order : AreInGoalOrder index.packages
   pub numbers : AreNumbers index.packages names
   pub orders : List (List ℕ)
   pub orders_are : AreOrders project index.packages orders

@@ -1,6 +1,5 @@
 -- The demands of a choice by what its instance asks for in numbers.
-use Rattle.std.specs.Prelude.{ℕ, Bool, false, ◌&&◌, nat_eq, List, [], ◌∷◌, ◌++◌, map, filter, if◌then◌else◌}
-use Rattle.plan_types.specs.declared.dependency.Dep.{Dep}
+use Rattle.std.specs.Prelude.{ℕ, Bool, ◌&&◌, List, [], ◌∷◌, ◌++◌, map, if◌then◌else◌}
 use Rattle.plan_types.specs.declared.dependency.DepKind.{DepKind}
 use Rattle.plan_types.specs.declared.dependency.DepKind.TheVariants as kind
 use Rattle.plan_types.specs.declared.description.Description.{Description}
@@ -17,11 +16,9 @@ use Rattle.solver_index.specs.declared.dependencies.ConditionalDep.{ConditionalD
 use Rattle.solver_index.specs.declared.dependencies.Need.{Need}
 use Rattle.solver_index.specs.declared.dependencies.Setting.{Setting}
 use Rattle.solver_index.specs.declared.dependencies.Target.{Target}
-use Rattle.solver_index.specs.Allowed.{has_at}
 use Rattle.cabal_problem.specs.Variables.{has_kind, is_benchmark, is_suite}
 use Rattle.cabal_problem.specs.Values.{package_var}
 use Rattle.cabal_problem.specs.ListedDemands.{can_count, flag_values, has_stanzas, part_beside, qual_for, setup_if, stanza_if}
-use Rattle.plan_types.specs.Packages.{entries_of}
 
 -- what each item makes with the row of its place
 abbrev pub in_pairs : {X Y Z : Type 0} → (X → Y → List Z) → List X → List Y → List Z
@@ -38,21 +35,21 @@ abbrev pub choice_at : Choice → Setting → Choice
 choice_at owner setting = record { var = part_beside owner setting.part; val = setting.val }
 
 -- the demand for a target under these choices
-abbrev pub target_demand : List Package → Choice → List Choice → DepKind → Dep → Target → Demand
-target_demand packages owner when kind dep target = record {
+abbrev pub target_demand : Choice → List Choice → DepKind → Target → Demand
+target_demand owner when kind target = record {
   when = when;
   target = package_var (qual_for kind owner.var target.«package») target.«package»;
-  allowed = filter (has_at kind dep (entries_of packages target.«package»)) target.inside;
+  allowed = target.allowed;
 }
 
 -- the demand of a dependency that can count
-abbrev pub dep_row : List Package → Choice → FlatDep → ConditionalDep → List Demand
-dep_row packages owner flat dep =
-    if can_count (has_stanzas packages owner.var) flat then target_demand packages owner (owner ∷ map (choice_at owner) dep.when) flat.dep.kind flat.dep dep.target ∷ [] else []
+abbrev pub dep_row : Bool → Choice → FlatDep → ConditionalDep → List Demand
+dep_row stanzas owner flat dep =
+    if can_count stanzas flat then target_demand owner (owner ∷ map (choice_at owner) dep.when) flat.dep.kind dep.target ∷ [] else []
 
 -- the demand of a setup dependency
-abbrev pub setup_row : List Package → Choice → Dep → Target → List Demand
-setup_row packages owner dep target = target_demand packages owner (owner ∷ []) kind.Setup dep target ∷ []
+abbrev pub setup_demand_to : Choice → Target → Demand
+setup_demand_to owner target = target_demand owner (owner ∷ []) kind.Setup target
 
 -- the demand for a unit
 abbrev pub need_demand : Choice → Need → Demand
@@ -64,11 +61,5 @@ source_rows packages project names owner dependencies d flats =
     in_pairs (flag_row project names owner) d.flags dependencies.flags
     ++ stanza_if (has_stanzas packages owner.var && has_kind is_suite d) owner Tests
     ++ stanza_if (has_stanzas packages owner.var && has_kind is_benchmark d) owner Benches
-    ++ in_pairs (dep_row packages owner) flats dependencies.deps
-    ++ setup_if d.custom (in_pairs (setup_row packages owner) d.setup dependencies.setup)
-
--- the default of the flag with a number
-abbrev pub default_by : ℕ → List FlagDecl → List ℕ → Bool
-default_by f [] numbers = false
-default_by f (decl ∷ flags) [] = false
-default_by f (decl ∷ flags) (n ∷ numbers) = if nat_eq n f then decl.default else default_by f flags numbers
+    ++ in_pairs (dep_row (has_stanzas packages owner.var) owner) flats dependencies.deps
+    ++ setup_if d.custom (map (setup_demand_to owner) dependencies.setup)

@@ -4,19 +4,20 @@ ghost use Rattle.std.specs.List.{list_all};
 ghost use Rattle.constraint_set.specs.Bars.{bars, bars_part, names_flag};
 ghost use Rattle.constraint_set.specs.Stands.{StandsFor};
 ghost use Rattle.flatten.specs.Sound.{IsSound, has_package};
+ghost use Rattle.solver_index.specs.Defaults.{AreDefaults, default_of};
 ghost use Rattle.solver_index.specs.Dependencies.{all_dependencies, entry_dependencies};
 ghost use Rattle.solver_index.specs.Places.{entry_at};
 ghost use Rattle.cabal_problem.specs.ListedDemands.{entry_demands, flag_allows, flag_values, one_if};
 ghost use Rattle.cabal_problem.specs.Lawful.{is_lawful};
 ghost use Rattle.cabal_problem.specs.Rows.{flag_row, in_pairs, source_rows};
-ghost use Rattle.cabal_problem.specs.Values.{chosen_default, default_of};
+ghost use Rattle.cabal_problem.specs.Values.{chosen_default};
 ghost use Rattle.plan_types.specs.Packages.{entries_of};
 
 use crate::demands::{alone, part_beside, push_custom, push_deps, push_stanzas, unit_demands};
 use crate::roots::roots_of;
-use crate::values::{chosen, copied, default_by, on_first, order_at};
+use crate::values::{copied, on_first, order_at, package_var};
 use crate::variables::{domain_of, is_known};
-use choice_problem::{Choice, Choices, Demand, Part, Var};
+use choice_problem::{Choice, Choices, Demand, Part, Trail, Var};
 use constraint_set::Constraints;
 use plan_types::{
     Body, Description, Entry, FlagDecl, FlatDep, Index, Instance, List, NoMemory, Package, Settings,
@@ -35,6 +36,7 @@ pub struct CabalProblem<'a> {
     tables: Tables,
     ghost lawful: { IsTrue (is_lawful index.packages settings.now.project names tables.orders) },
     ghost stands: { ∥ StandsFor settings.now.project names constraints ∥₁ },
+    ghost defaults: { ∥ AreDefaults index.packages names tables.defaults ∥₁ },
     ghost dependencies: { tables.dependencies ≡ all_dependencies index.packages settings.now.project names },
 }
 
@@ -173,7 +175,6 @@ impl<'a> CabalProblem<'a> {
     ) -> Result<List<Demand>, NoMemory>
         requires flags { length dependencies.now.flags ≡ length d.now.flags }
         requires deps { length dependencies.now.deps ≡ length flats.now }
-        requires setup { length dependencies.now.setup ≡ length d.now.setup }
         ensures { IfOk result (λ found. found ≡ source_rows self.now.index.packages self.now.settings.now.project
             self.now.names owner dependencies.now d.now flats.now) }
     {
@@ -195,14 +196,7 @@ impl<'a> CabalProblem<'a> {
             flats,
             dependencies.deps.as_slice(),
         )?;
-        push_custom(
-            alloc,
-            &mut found,
-            packages,
-            owner,
-            d,
-            dependencies.setup.as_slice(),
-        )?;
+        push_custom(alloc, &mut found, owner, d, dependencies.setup.as_slice())?;
         Ok(found)
     }
 
@@ -255,32 +249,15 @@ impl<'a> CabalProblem<'a> {
         ensures { result ≡ chosen_default self.now.names f (entries_of self.now.index.packages p) instance }
     {
         match instance {
-            Some(i) => self.default_at(f, p, i),
+            Some(i) => self.default_of(f, p, i),
             None => false,
         }
     }
 
-    fn default_at(&self, f: u64, p: u64, i: u64) -> bool
+    fn default_of(&self, f: u64, p: u64, i: u64) -> bool
         ensures { result ≡ default_of self.now.names f (entry_at (entries_of self.now.index.packages p) i).body }
     {
-        let entries = Package::entries_at(self.index.packages.as_slice(), p);
-        let row = self.asked_by(p);
-        let place = i as usize;
-        if place < entries.len() {
-            return self.default_in(f, &entries[place], &row[place]);
-        }
-        false
-    }
-
-    fn default_in(&self, f: u64, entry: &Entry, dependencies: &Dependencies) -> bool
-        requires { dependencies.now ≡ entry_dependencies self.now.index.packages self.now.settings.now.project self.now.names entry.now }
-        ensures { result ≡ default_of self.now.names f entry.now.body }
-    {
-        default_by(
-            f,
-            entry.body.declared_flags(),
-            dependencies.flags.as_slice(),
-        )
+        self.tables.default_of(p, i, f)
     }
 }
 
@@ -315,11 +292,11 @@ impl<'a> Choices for CabalProblem<'a> {
         roots_of(alloc, packages, &self.names, extra)
     }
 
-    fn order(&self, alloc: Global, v: Var, trail: &List<Choice>) -> Result<List<u64>, NoMemory> {
+    fn order(&self, alloc: Global, v: Var, trail: &Trail) -> Result<List<u64>, NoMemory> {
         match v.part {
             Part::Package => copied(alloc, order_at(self.tables.orders.as_slice(), v.package)),
             Part::Flag(f) => {
-                let instance = chosen(trail.as_slice(), v.qual, v.package);
+                let instance = trail.value_of(package_var(v.qual, v.package));
                 on_first(alloc, self.default_after(f, v.package, instance))
             }
             Part::Tests => on_first(alloc, true),

@@ -3,14 +3,14 @@ ghost use Rattle.std.specs.Prelude.{◌≡◌, ◌++◌, ◌∷◌, ◌&&◌, []
 ghost use Rattle.qualified_goals.specs.declared.variable.Part.TheVariants.{Tests, Benches};
 ghost use Rattle.cabal_problem.specs.Variables.{has_kind, is_benchmark, is_suite};
 ghost use Rattle.cabal_problem.specs.ListedDemands.{can_count, has_part, has_stanzas, part_beside, qual_for, setup_if, stanza_demand, stanza_if};
-ghost use Rattle.cabal_problem.specs.Rows.{choice_at, dep_row, in_pairs, need_demand, setup_row, target_demand};
+ghost use Rattle.cabal_problem.specs.Rows.{choice_at, dep_row, in_pairs, need_demand, setup_demand_to, target_demand};
 
 use crate::values::package_var;
 use crate::variables::{has_benchmark, has_suite, is_top};
 use choice_problem::{Choice, Demand};
-use plan_types::{Dep, DepKind, Description, FlatDep, List, NoMemory, Package, PartName};
+use plan_types::{DepKind, Description, FlatDep, List, NoMemory, Package, PartName};
 use qualified_goals::{Part, Qual, Var};
-use solver_index::{ConditionalDep, Need, Setting, Target, allowed_by, is_local};
+use solver_index::{ConditionalDep, Need, Setting, Target, is_local};
 use std::alloc::Global;
 
 /// A part of the owner's package, under its qualifier.
@@ -106,11 +106,11 @@ pub(crate) fn push_deps(
     deps: &[ConditionalDep],
 ) -> Result<(), NoMemory>
     requires { length deps.now ≡ length flats.now }
-    ensures { OnOk result (found.new ≡ found.old ++ in_pairs (dep_row packages.now owner) flats.now deps.now) }
+    ensures { OnOk result (found.new ≡ found.old ++ in_pairs (dep_row (has_stanzas packages.now owner.var) owner) flats.now deps.now) }
 {
     let stanzas = has_stanzas(packages, owner.var);
     for (place, flat) in flats.iter().enumerate() {
-        push_dep(alloc, found, packages, owner, stanzas, flat, &deps[place])?;
+        push_dep(alloc, found, owner, stanzas, flat, &deps[place])?;
     }
     Ok(())
 }
@@ -118,19 +118,16 @@ pub(crate) fn push_deps(
 fn push_dep(
     alloc: Global,
     found: &mut List<Demand>,
-    packages: &[Package],
     owner: Choice,
     stanzas: bool,
     flat: &FlatDep,
     dep: &ConditionalDep,
 ) -> Result<(), NoMemory>
-    requires { stanzas ≡ has_stanzas packages.now owner.var }
-    ensures { OnOk result (found.new ≡ found.old ++ dep_row packages.now owner flat.now dep.now) }
+    ensures { OnOk result (found.new ≡ found.old ++ dep_row stanzas owner flat.now dep.now) }
 {
     if can_count(stanzas, flat) {
         let when = when_of(alloc, owner, dep.when.as_slice())?;
-        let kind = flat.dep.kind;
-        found.push(target_demand(alloc, packages, owner, when, kind, &flat.dep, &dep.target)?)?;
+        found.push(target_demand(alloc, owner, when, flat.dep.kind, &dep.target)?)?;
     }
     Ok(())
 }
@@ -185,18 +182,15 @@ fn qual_for(kind: DepKind, owner: Var, package: u64) -> Qual
 
 fn target_demand(
     alloc: Global,
-    packages: &[Package],
     owner: Choice,
     when: List<Choice>,
     kind: DepKind,
-    dep: &Dep,
     target: &Target,
 ) -> Result<Demand, NoMemory>
-    ensures { IfOk result (λ demand. demand ≡ target_demand packages.now owner when kind dep.now target.now) }
+    ensures { IfOk result (λ demand. demand ≡ target_demand owner when kind target.now) }
 {
     let package = target.package;
-    let entries = Package::entries_at(packages, package);
-    let allowed = allowed_by(alloc, kind, dep, &target.inside, entries)?;
+    let allowed = target.allowed.places(alloc)?;
     Ok(Demand {
         when,
         target: package_var(qual_for(kind, owner.var, package), package),
@@ -208,17 +202,14 @@ fn target_demand(
 pub(crate) fn push_custom(
     alloc: Global,
     found: &mut List<Demand>,
-    packages: &[Package],
     owner: Choice,
     d: &Description,
     targets: &[Target],
 ) -> Result<(), NoMemory>
-    requires { length targets.now ≡ length d.now.setup }
-    ensures { OnOk result (found.new ≡ found.old ++ setup_if d.now.custom
-        (in_pairs (setup_row packages.now owner) d.now.setup targets.now)) }
+    ensures { OnOk result (found.new ≡ found.old ++ setup_if d.now.custom (map (setup_demand_to owner) targets.now)) }
 {
     if d.custom {
-        push_setup(alloc, found, packages, owner, d.setup.as_slice(), targets)?;
+        push_setup(alloc, found, owner, targets)?;
     }
     Ok(())
 }
@@ -226,20 +217,22 @@ pub(crate) fn push_custom(
 fn push_setup(
     alloc: Global,
     found: &mut List<Demand>,
-    packages: &[Package],
     owner: Choice,
-    deps: &[Dep],
     targets: &[Target],
 ) -> Result<(), NoMemory>
-    requires { length targets.now ≡ length deps.now }
-    ensures { OnOk result (found.new ≡ found.old ++ in_pairs (setup_row packages.now owner) deps.now targets.now) }
+    ensures { OnOk result (found.new ≡ found.old ++ map (setup_demand_to owner) targets.now) }
 {
-    for (place, dep) in deps.iter().enumerate() {
-        let when = alone(alloc, owner)?;
-        let kind = DepKind::Setup;
-        found.push(target_demand(alloc, packages, owner, when, kind, dep, &targets[place])?)?;
+    for target in targets {
+        found.push(setup_demand_to(alloc, owner, target)?)?;
     }
     Ok(())
+}
+
+fn setup_demand_to(alloc: Global, owner: Choice, target: &Target) -> Result<Demand, NoMemory>
+    ensures { IfOk result (λ demand. demand ≡ setup_demand_to owner target.now) }
+{
+    let when = alone(alloc, owner)?;
+    target_demand(alloc, owner, when, DepKind::Setup, target)
 }
 
 /// The units that an installed unit needs.

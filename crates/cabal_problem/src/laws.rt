@@ -10,6 +10,7 @@ ghost use Rattle.choice_problem.specs.Joined.{AreOne, AreYesTogether};
 ghost use Rattle.choice_problem.specs.Problem.{Problem};
 ghost use Rattle.flatten.specs.Sound.{IsSound, has_package};
 ghost use Rattle.solver_index.specs.Orders.{AreOrders};
+ghost use Rattle.cabal_problem.specs.Groups.{IsInGroups};
 ghost use Rattle.cabal_problem.specs.Problem.{IsProblemOf, problem_of};
 ghost use Rattle.cabal_problem.specs.WholeDemands.{whole_problem};
 
@@ -17,11 +18,16 @@ use choice_problem::{general_is_lawful, valid_alike};
 use flatten::counts_as_its_condition;
 use preferences::one_order;
 
-/// A demand with a whole condition is Yes exactly where one of those that are listed for it is.
+/// The demands that are searched are listed for those with whole conditions, one group after another in their order: a
+/// demand with a whole condition is Yes exactly where one of its group is.
 pub fn listed_as_whole()
-    ensures { (env : Env) (index : Index) (project : Project) (names : NameTable) (orders : List (List ℕ))
+    ensures groups { (env : Env) (index : Index) (project : Project) (names : NameTable) (orders : List (List ℕ))
         → IsSound env index → AreNumbers index.packages names
-        → AreYesTogether (whole_problem env index.packages project names orders) (general (problem_of index.packages project names orders)) }
+        → IsInGroups (whole_problem env index.packages project names orders) (problem_of index.packages project names orders) }
+    ensures together { (env : Env) (index : Index) (project : Project) (names : NameTable) (orders : List (List ℕ))
+        → IsSound env index → AreNumbers index.packages names
+        → AreYesTogether (whole_problem env index.packages project names orders)
+        (general (problem_of index.packages project names orders)) }
 {
     counts_as_its_condition();
 }

@@ -1,10 +1,8 @@
 // The values of flags and stanzas in the order in which they are tried.
-ghost use Rattle.std.specs.Prelude.{◌≡◌, IfOk, length, slice_index_or, []};
-ghost use Rattle.cabal_problem.specs.Rows.{default_by};
-ghost use Rattle.cabal_problem.specs.Values.{chosen, on_first, package_var};
+ghost use Rattle.std.specs.Prelude.{◌≡◌, IfOk, slice_index_or, []};
+ghost use Rattle.cabal_problem.specs.Values.{on_first, package_var};
 
-use choice_problem::{Choice, is_same};
-use plan_types::{FlagDecl, List, NoMemory};
+use plan_types::{List, NoMemory};
 use qualified_goals::{Part, Qual, Var};
 use std::alloc::Global;
 
@@ -34,19 +32,6 @@ pub(crate) fn on_first(alloc: Global, on: bool) -> Result<List<u64>, NoMemory>
     copied(alloc, &[0, 1])
 }
 
-/// The default of the flag with a number.
-pub(crate) fn default_by(f: u64, flags: &[FlagDecl], numbers: &[u64]) -> bool
-    requires { length numbers.now ≡ length flags.now }
-    ensures { result ≡ default_by f flags.now numbers.now }
-{
-    for (place, decl) in flags.iter().enumerate() {
-        if numbers[place] == f {
-            return decl.default;
-        }
-    }
-    false
-}
-
 /// The variable of a package itself.
 pub(crate) fn package_var(qual: Qual, package: u64) -> Var
     ensures { result ≡ package_var qual «package» }
@@ -56,16 +41,4 @@ pub(crate) fn package_var(qual: Qual, package: u64) -> Var
         package,
         part: Part::Package,
     }
-}
-
-/// The instance that the last choice of a package under a qualifier is.
-pub(crate) fn chosen(trail: &[Choice], qual: Qual, p: u64) -> Option<u64>
-    ensures { result ≡ chosen trail.now qual p }
-{
-    let v = package_var(qual, p);
-    trail
-        .iter()
-        .rev()
-        .find(|c| is_same(c.var, v))
-        .map(|c| c.val)
 }

@@ -1,6 +1,6 @@
 -- The demands that are active after a trail: those that are Yes, in the order in which they became so.
-use Rattle.std.proofs.Common.{◌≡◌, ℕ, Bool, true, false, cond, not, List, [], ◌∷◌, ◌++◌, map, Some, None, refl, sym, ap, ◌∙◌, subst, inl, inr, ◌⊎◌, append_assoc}
-use Rattle.std.specs.Prelude.{is_none, find}
+use Rattle.std.proofs.Common.{◌≡◌, ℕ, Bool, true, false, cond, not, List, [], ◌∷◌, ◌++◌, map, Option, Some, None, refl, sym, ap, ◌∙◌, subst, inl, inr, ◌⊎◌, append_assoc}
+use Rattle.std.specs.Prelude.{is_none, find, IfSome}
 use Rattle.std.specs.List.{Contains, All, filter, flat_map, list_all}
 use Rattle.std.proofs.lemmas.Bool.{false≢true, and_parts, and_from}
 use Rattle.std.proofs.lemmas.List.{append-nil}
@@ -8,16 +8,17 @@ use Rattle.std.proofs.lemmas.List.Elements.{All-contains}
 use Rattle.qualified_goals.specs.declared.variable.Var.{Var}
 use Rattle.choice_problem.specs.declared.problem.Choice.{Choice}
 use Rattle.choice_problem.specs.declared.problem.Demand.{Demand}
-use Rattle.qualified_goals.specs.Variable.{same_var}
+use Rattle.qualified_goals.specs.Variable.{same_var, is_before}
+use Rattle.choice_problem.specs.ConflictSet.{has, first_behind}
 use Rattle.choice_problem.specs.Problem.{Problem, IsChoice, IsDemand, IsRoot, IsOwned, Lawful}
 use Rattle.choice_problem.specs.Assignment.{Assignment, is_made, is_yes}
 use Rattle.choice_problem.specs.General.{Request, request_of, general}
-use Rattle.choice_problem.specs.Trail.{value_in, demands_after, opens, next_var}
-use Rattle.choice_problem.specs.Active.{turns_yes, made_active, active_from, active, is_waited_for, least_open, vars_of, asks_for, vars_of_first, reason}
+use Rattle.choice_problem.specs.Trail.{value_in, demands_after, opens, open_vars}
+use Rattle.choice_problem.specs.Active.{turns_yes, made_active, active_from, active, is_waited_for, open_in, is_open, least_open, waiting, vars_of, asks_for, vars_of_first, reason}
 use Rattle.qualified_goals.specs.SameVariable.{same_var-is, same_var-refl}
 use Rattle.common_laws.specs.Lists.{contains-head, contains-tail, contains-none, contains-cases, contains-left, contains-right, contains-append, contains-flat_map, flat_map-contains, contains-map, map-contains, contains-filter, all-at, all-from, filter-contains}
-use Rattle.choice_problem.proofs.Order.{least-is, least-same}
-use Rattle.choice_problem.proofs.Trails.{value_in-made, value_in-kept, is_made-is, is_made-from, none-is, demand-after, after-general, after-plain, owner-made}
+use Rattle.choice_problem.proofs.Sets.{contains-has, first-has, set-alike}
+use Rattle.choice_problem.proofs.Trails.{value_in-made, value_in-kept, is_made-is, is_made-from, none-is, targets_open, open-is, next-open, demand-after, after-general, after-plain, owner-made}
 
 -- the first item that passes
 
@@ -44,6 +45,15 @@ find-some {X = X} test xs x h k =
       | None ↦ λ e. absurd (false≢true (sym (find-none test xs x e h) ∙ k))
       | Some y ↦ λ e. (y, refl)
     ] refl
+
+-- the first behind a variable is one of them
+pub behind-has : (v : Option Var) (vars : List Var) (w : Var) → first_behind v vars ≡ Some w → has vars w ≡ true
+behind-has None vars w h = first-has vars w h
+behind-has (Some v) vars w h = contains-has vars w (find-is (is_before v) vars w h).0
+
+pub some-behind : (v : Option Var) (vars : List Var) (o : Option Var) → o ≡ first_behind v vars → IfSome o (λ w. has vars w ≡ true)
+some-behind v vars None h = tt
+some-behind v vars (Some w) h = behind-has v vars w (sym h)
 
 -- a value that one choice more gives was there, or is that choice's
 pub value_in-last : (trail : List Choice) (c : Choice) (v : Var) (n : ℕ) → value_in (trail ++ c ∷ []) v ≡ Some n → (value_in trail v ≡ Some n) ⊎ ((c.var ≡ v) × (c.val ≡ n))
@@ -184,35 +194,30 @@ module _ (p : Problem) (lawful : Lawful p) where
     pub target : demand.target ≡ v
     pub unchosen : value_in trail v ≡ None
 
-  pub least-open : (trail : List Choice) (v : Var) → least_open p trail ≡ Some v → IsOpen trail v
-  unfolding least_open
-  least-open trail v h =
-      let found = contains-map (λ (d : Demand). d.target) (filter (is_waited_for trail) (active p trail)) v
-      (least-is (map (λ d. d.target) (filter (is_waited_for trail) (active p trail))) v h).0 in
-      let kept = contains-filter (is_waited_for trail) (active p trail) found.0 found.1 in
+  pub open-plain : (trail : List Choice) (v : Var) → All (IsChoice p) trail → is_open p trail v ≡ true → IsOpen trail v
+  open-plain trail v choices h =
+      let o = open-is (general p) trail v h in
+      let plain = after-plain p trail o.request o.member in
+      let d = plain.0 in
+      let passes = subst (λ x. opens trail x ≡ true) (sym plain.2) o.opens_it in
+      let parts = and_parts (is_yes (value_in trail) d) (is_none (value_in trail d.target)) passes in
+      let target : d.target ≡ v = ap (λ (x : Request). x.target) plain.2 ∙ o.target in
       record {
-        demand = found.0;
-        member = kept.0;
-        target = found.2;
-        unchosen = subst (λ w. value_in trail w ≡ None) found.2 (none-is (value_in trail found.0.target) kept.1);
+        demand = d;
+        member = yes-active trail d (demand-after p trail d choices plain.1) parts.0;
+        target = target;
+        unchosen = subst (λ w. value_in trail w ≡ None) target (none-is (value_in trail d.target) parts.1);
       }
 
-  -- the least open variable is the same, however demands are listed
-  pub least-next : (trail : List Choice) → All (IsChoice p) trail → least_open p trail ≡ next_var (general p) trail
-  unfolding least_open next_var
-  least-next trail choices =
-      least-same
-      (map (λ d. d.target) (filter (is_waited_for trail) (active p trail)))
-      (map (λ r. r.target) (filter (opens trail) (demands_after (general p) trail)))
-      (λ v h.
-      let found = contains-map (λ (d : Demand). d.target) (filter (is_waited_for trail) (active p trail)) v h in
-      let d = found.0 in
-      let kept = contains-filter (is_waited_for trail) (active p trail) d found.1 in
-      let is = active-is trail d kept.0 in
-      subst (λ w. Contains (map (λ (r : Request). r.target) (filter (opens trail) (demands_after (general p) trail))) w) found.2
-      (map-contains (λ (r : Request). r.target) (filter (opens trail) (demands_after (general p) trail)) (request_of d)
-      (filter-contains (opens trail) (demands_after (general p) trail) (request_of d) (after-general p trail d is.0)
-      (and_from (is_yes (value_in trail) d) (is_none (value_in trail d.target)) is.1 kept.1))))
+  pub least-open : (trail : List Choice) (v : Var) → All (IsChoice p) trail → least_open p trail ≡ Some v → IsOpen trail v
+  least-open trail v choices h = open-plain trail v choices (next-open (general p) trail v h)
+
+  -- the open variables are the targets of active demands that wait for a value
+  pub open-waiting : (trail : List Choice) → All (IsChoice p) trail → open_in p trail ≡ waiting trail (active p trail)
+  unfolding open_vars
+  open-waiting trail choices =
+      let targets = map (λ (d : Demand). d.target) (filter (is_waited_for trail) (active p trail)) in
+      set-alike (targets_open trail (demands_after (general p) trail)) targets
       (λ v h.
       let found = contains-map (λ (r : Request). r.target) (filter (opens trail) (demands_after (general p) trail)) v h in
       let r = found.0 in
@@ -220,11 +225,19 @@ module _ (p : Problem) (lawful : Lawful p) where
       let plain = after-plain p trail r kept.0 in
       let d = plain.0 in
       let passes = subst (λ x. opens trail x ≡ true) (sym plain.2) kept.1 in
-      subst (λ w. Contains (map (λ (d : Demand). d.target) (filter (is_waited_for trail) (active p trail))) w) (ap (λ (x : Request). x.target) plain.2 ∙ found.2)
+      let parts = and_parts (is_yes (value_in trail) d) (is_none (value_in trail d.target)) passes in
+      subst (λ w. Contains targets w) (ap (λ (x : Request). x.target) plain.2 ∙ found.2)
       (map-contains (λ (d : Demand). d.target) (filter (is_waited_for trail) (active p trail)) d
-      (filter-contains (is_waited_for trail) (active p trail) d
-      (yes-active trail d (demand-after p trail d choices plain.1) ((and_parts (is_yes (value_in trail) d) (is_none (value_in trail d.target)) passes).0))
-      ((and_parts (is_yes (value_in trail) d) (is_none (value_in trail d.target)) passes).1))))
+      (filter-contains (is_waited_for trail) (active p trail) d (yes-active trail d (demand-after p trail d choices plain.1) parts.0) parts.1)))
+      (λ v h.
+      let found = contains-map (λ (d : Demand). d.target) (filter (is_waited_for trail) (active p trail)) v h in
+      let d = found.0 in
+      let kept = contains-filter (is_waited_for trail) (active p trail) d found.1 in
+      let is = active-is trail d kept.0 in
+      subst (λ w. Contains (targets_open trail (demands_after (general p) trail)) w) found.2
+      (map-contains (λ (r : Request). r.target) (filter (opens trail) (demands_after (general p) trail)) (request_of d)
+      (filter-contains (opens trail) (demands_after (general p) trail) (request_of d) (after-general p trail d is.0)
+      (and_from (is_yes (value_in trail) d) (is_none (value_in trail d.target)) is.1 kept.1))))
 
   -- the reason of an open variable is the condition of an active demand on it
   pub record IsReason (trail : List Choice) (v : Var) : Type 0 where

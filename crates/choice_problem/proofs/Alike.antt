@@ -9,11 +9,12 @@ use Rattle.choice_problem.specs.Assignment.{Assignment, is_one_of}
 use Rattle.choice_problem.specs.Problem.{IsChoice}
 use Rattle.choice_problem.specs.General.{Request, General, LawfulGeneral}
 use Rattle.choice_problem.specs.Holds.{IsAssignmentIn, IsEdge, IsPath, last, more, HoldsWithin}
-use Rattle.choice_problem.specs.Trail.{value_in, demands_after, opens, next_var, with_next, with_value, choice_of, trail_from, trail_of}
+use Rattle.choice_problem.specs.ConflictSet.{first_of}
+use Rattle.choice_problem.specs.Trail.{value_in, demands_after, opens, open_vars, next_var, with_next, with_value, choice_of, trail_from, trail_of}
 use Rattle.choice_problem.specs.Valid.{IsWholeValid, IsEarlier, ComesBefore, IsFirst}
 use Rattle.choice_problem.specs.Joined.{AreYesTogether, AreOne}
 use Rattle.common_laws.specs.Lists.{contains-map, map-contains, contains-filter, filter-contains}
-use Rattle.choice_problem.proofs.Order.{least-same}
+use Rattle.choice_problem.proofs.Sets.{set-alike}
 use Rattle.choice_problem.proofs.Trails.{targets_open, demand-after, yes-after}
 use Rattle.std.proofs.lemmas.Bool.{and_parts, and_from}
 
@@ -82,10 +83,11 @@ module _ (g h : General) (same : AreYesTogether g h) where
 
 module _ (g h : General) (lawful_g : LawfulGeneral g) (lawful_h : LawfulGeneral h) (same : AreYesTogether g h) where
   next-alike : (trail : List Choice) → All (IsChoice g) trail → next_var g trail ≡ next_var h trail
-  unfolding next_var
+  unfolding open_vars
   next-alike trail choices =
-      least-same (targets_open trail (demands_after g trail)) (targets_open trail (demands_after h trail)) (open-there g h same lawful_h trail choices)
-      (open-there h g (together-back g h same) lawful_g trail (λ k d l. choice-there g h same (get_or trail k d) (choices k d l)))
+      ap first_of
+      (set-alike (targets_open trail (demands_after g trail)) (targets_open trail (demands_after h trail)) (open-there g h same lawful_h trail choices)
+      (open-there h g (together-back g h same) lawful_g trail (λ k d l. choice-there g h same (get_or trail k d) (choices k d l))))
 
   trail_from-alike : (A : Assignment) → ((c : Choice) → A c.var ≡ Some c.val → IsChoice g c) → (fuel : ℕ) (trail : List Choice) → All (IsChoice g) trail → trail_from fuel g A trail ≡ trail_from fuel h A trail
   trail_from-alike A is zero trail choices = refl

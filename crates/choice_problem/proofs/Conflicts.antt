@@ -1,7 +1,7 @@
 -- The set of a conflict admits none with the choice that conflicts, and a choice without a conflict breaks nothing.
 use Rattle.std.proofs.Common.{◌≡◌, ℕ, Bool, true, false, cond, not, ◌&&◌, List, [], ◌∷◌, ◌++◌, length, get_or, Option, Some, None, refl, sym, ap, ◌∙◌, subst, inl, inr, ◌⊎◌, arith}
 use Rattle.std.specs.Prelude.{is_some, find}
-use Rattle.std.specs.List.{Contains, All, flat_map}
+use Rattle.std.specs.List.{Contains, All, filter, flat_map}
 use Rattle.std.proofs.lemmas.Bool.{false≢true, not-true, not-false, and_parts}
 use Rattle.std.proofs.lemmas.List.Elements.{All-contains, Contains-get_or}
 use Rattle.qualified_goals.specs.declared.variable.Var.{Var}
@@ -15,26 +15,15 @@ use Rattle.choice_problem.specs.Holds.{IsEdge, IsPath, last, more, HoldsWithin}
 use Rattle.choice_problem.specs.Trail.{value_in}
 use Rattle.choice_problem.specs.Active.{made_active, active, vars_of}
 use Rattle.choice_problem.specs.ConflictSet.{has, set_of}
-use Rattle.choice_problem.specs.Conflict.{named_by, set_of_first, barred_set, refuses, refused_set, is_broken, broken_set, Edge, edges_from, edges_by, edges_of, leads, lies_on_cycle, circular, set_of_all, cycle_set, first_set, conflict}
+use Rattle.choice_problem.specs.Conflict.{named_by, set_of_first, barred_set, refuses, refused_set, is_broken, broken_set, Edge, edges_from, edges_by, edges_of, leads, lies_on_cycle, circular, set_of_all, cycle_set, value_sets, lasting_sets, lasting_set, conflict}
 use Rattle.choice_problem.specs.Sound.{MakesWithin, ConflictsAreSound}
 use Rattle.qualified_goals.specs.SameVariable.{same_var-is, same_var-refl}
-use Rattle.common_laws.specs.Lists.{contains-head, contains-tail, contains-none, contains-cases, contains-left, contains-flat_map, flat_map-contains, map-contains, contains-filter, filter-none, filter-contains, any-from, any-at}
+use Rattle.common_laws.specs.Lists.{contains-head, contains-tail, contains-none, contains-cases, contains-left, contains-append, contains-flat_map, flat_map-contains, map-contains, contains-filter, filter-none, filter-contains, any-from, any-at}
 use Rattle.choice_problem.proofs.Sets.{contains-has, has-set_of}
+use Rattle.choice_problem.proofs.Rules.{first-member, each-none, rest-none}
 use Rattle.choice_problem.proofs.Trails.{value_in-new, demand-general}
 use Rattle.choice_problem.proofs.Paths.{Way, start, step, way-edge, way-join, leads-way, way-leads}
 use Rattle.choice_problem.proofs.Active.{find-is, find-none, yes-from, yes-kept, active-yes, active-demand, made-is, made-demand}
-
--- the first of some sets
-
-first-member : (sets : List (Option (List Var))) (set : List Var) → first_set sets ≡ Some set → Contains sets (Some set)
-first-member [] set h = absurd (cc h)
-first-member (None ∷ sets) set h = contains-tail None sets (Some set) (first-member sets set h)
-first-member (Some s ∷ sets) set h = subst (λ o. Contains (Some s ∷ sets) o) h (contains-head (Some s) sets)
-
-first-none : (sets : List (Option (List Var))) (o : Option (List Var)) → first_set sets ≡ None → Contains sets o → o ≡ None
-first-none [] o h k = absurd (contains-none o k)
-first-none (None ∷ sets) o h k = elim (contains-cases None sets o k) [ inl e ↦ sym e | inr r ↦ first-none sets o h r ]
-first-none (Some s ∷ sets) o h k = absurd (cc h)
 
 -- the variables that a demand names are in its set
 
@@ -54,7 +43,7 @@ all-named (d ∷ ds) set h = (
   λ e v k named. set-has (flat_map named_by (d ∷ ds)) set v (cc h) (flat_map-contains named_by (d ∷ ds) e v k named),
 )
 
-none-named : (ds : List Demand) → set_of_all ds ≡ None → ds ≡ []
+pub none-named : (ds : List Demand) → set_of_all ds ≡ None → ds ≡ []
 none-named [] h = refl
 none-named (d ∷ ds) h = absurd (cc h)
 
@@ -94,6 +83,16 @@ circular-from ds d h k = filter-contains (lies_on_cycle (edges_of ds)) ds d h k
 circular-none : (ds : List Demand) (d : Demand) → circular ds ≡ [] → Contains ds d → lies_on_cycle (edges_of ds) d ≡ false
 unfolding circular
 circular-none ds d h k = filter-none (lies_on_cycle (edges_of ds)) ds h d k
+
+none-passes : (test : Demand → Bool) (ds : List Demand) → ((d : Demand) → Contains ds d → test d ≡ false) → filter test ds ≡ []
+none-passes test [] h = refl
+none-passes test (d ∷ ds) h =
+    ap (λ b. cond b (d ∷ filter test ds) (filter test ds)) (h d (contains-head d ds)) ∙ none-passes test ds (λ x k. h x (contains-tail d ds x k))
+
+-- where no demand lies on a cycle none is circular
+pub acyclic-none : (ds : List Demand) → ((d : Demand) → Contains ds d → lies_on_cycle (edges_of ds) d ≡ false) → circular ds ≡ []
+unfolding circular
+acyclic-none ds h = none-passes (lies_on_cycle (edges_of ds)) ds h
 
 module _ (p : Problem) (lawful : Lawful p) where
   -- an assignment that holds within a set, and makes the choices of a trail within it
@@ -207,7 +206,7 @@ module _ (p : Problem) (lawful : Lawful p) where
               false≢true (sym unmet ∙ ap (λ o. is_one_of o d.allowed) (e ∙ sym chosen) ∙ met)
         ] refl ((and_parts (is_some (value_in after d.target)) (not (is_met (value_in after) d)) found.1).0)
 
-    cycle-sound : cycle_set p trail c ≡ Some set → ⊥
+    cycle-sound : cycle_set (active p (trail ++ c ∷ [])) ≡ Some set → ⊥
     cycle-sound h =
         let after = trail ++ c ∷ [] in
         let all = all-named (circular (active p after)) set h in
@@ -215,22 +214,38 @@ module _ (p : Problem) (lawful : Lawful p) where
         (λ d k. (active-demand p lawful after d choices k, active-yes p lawful after d k))
         all.2 all.0 all.1
 
+    -- what a rule gives isn't the set
+    abbrev IsOther : Option (List Var) → Type 0
+    IsOther o = o ≡ Some set → ⊥
+
+    value-sound : (o : Option (List Var)) → Contains (value_sets p trail c) o → IsOther o
+    value-sound o k =
+        elim (contains-cases (barred_set p c) (refused_set p trail c ∷ broken_set p trail c ∷ []) o k) [
+          | inl e ↦ subst IsOther e barred-sound
+          | inr r ↦ elim (contains-cases (refused_set p trail c) (broken_set p trail c ∷ []) o r) [
+            | inl e ↦ subst IsOther e refused-sound
+            | inr s ↦ elim (contains-cases (broken_set p trail c) [] o s) [
+              | inl e ↦ subst IsOther e broken-sound
+              | inr none ↦ absurd (contains-none o none)
+            ]
+          ]
+        ]
+
+    lasting-sound : (o : Option (List Var)) → Contains (lasting_sets (trail ++ c ∷ []) (active p (trail ++ c ∷ []))) o → IsOther o
+    lasting-sound o k =
+        elim (contains-cases (cycle_set (active p (trail ++ c ∷ []))) [] o k) [
+          | inl e ↦ subst IsOther e cycle-sound
+          | inr none ↦ absurd (contains-none o none)
+        ]
+
     sound : conflict p trail c ≡ Some set → ⊥
     unfolding conflict
     sound h =
-        let found = first-member (barred_set p c ∷ refused_set p trail c ∷ broken_set p trail c ∷ cycle_set p trail c ∷ []) set h in
-        elim (contains-cases (barred_set p c) (refused_set p trail c ∷ broken_set p trail c ∷ cycle_set p trail c ∷ []) (Some set) found) [
-          | inl e ↦ barred-sound e
-          | inr r ↦ elim (contains-cases (refused_set p trail c) (broken_set p trail c ∷ cycle_set p trail c ∷ []) (Some set) r) [
-            | inl e ↦ refused-sound e
-            | inr s ↦ elim (contains-cases (broken_set p trail c) (cycle_set p trail c ∷ []) (Some set) s) [
-              | inl e ↦ broken-sound e
-              | inr t ↦ elim (contains-cases (cycle_set p trail c) [] (Some set) t) [
-                | inl e ↦ cycle-sound e
-                | inr none ↦ contains-none (Some set) none
-              ]
-            ]
-          ]
+        let of_value = value_sets p trail c in
+        let lasting = lasting_sets (trail ++ c ∷ []) (active p (trail ++ c ∷ [])) in
+        elim (contains-append of_value lasting (Some set) (first-member (of_value ++ lasting) set h)) [
+          | inl l ↦ value-sound (Some set) l refl
+          | inr r ↦ lasting-sound (Some set) r refl
         ]
 
   pub conflicts-sound : ConflictsAreSound p
@@ -243,26 +258,35 @@ pub and-false : (a b : Bool) → a && b ≡ false → a ≡ true → b ≡ false
 and-false true b h k = h
 and-false false b h k = absurd (false≢true k)
 
+-- where the lasting rules give no set, no demand lies on a cycle
+pub lasting-acyclic : (trail : List Choice) (ds : List Demand) → lasting_set trail ds ≡ None → (d : Demand) → Contains ds d → lies_on_cycle (edges_of ds) d ≡ false
+lasting-acyclic trail ds h d k =
+    circular-none ds d (none-named (circular ds) (each-none (lasting_sets trail ds) (cycle_set ds) h (contains-head (cycle_set ds) []))) k
+
 module _ (p : Problem) where
-  -- the choice breaks none of the four rules
+  -- the choice breaks none of the rules
   pub record IsFree (trail : List Choice) (c : Choice) : Type 0 where
     pub unbarred : p.barred c ≡ false
     pub allowed : (d : Demand) → Contains (active p trail) d → d.target ≡ c.var → is_one_of (Some c.val) d.allowed ≡ true
     pub kept : (d : Demand) (n : ℕ) → Contains (made_active p trail c) d → value_in (trail ++ c ∷ []) d.target ≡ Some n → is_one_of (Some n) d.allowed ≡ true
-    pub acyclic : (d : Demand) → Contains (active p (trail ++ c ∷ [])) d → lies_on_cycle (edges_of (active p (trail ++ c ∷ []))) d ≡ false
+    pub lasting : lasting_set (trail ++ c ∷ []) (active p (trail ++ c ∷ [])) ≡ None
 
-  none-at : (trail : List Choice) (c : Choice) → conflict p trail c ≡ None
-      → (o : Option (List Var)) → Contains (barred_set p c ∷ refused_set p trail c ∷ broken_set p trail c ∷ cycle_set p trail c ∷ []) o → o ≡ None
+  value-none : (trail : List Choice) (c : Choice) → conflict p trail c ≡ None → (o : Option (List Var)) → Contains (value_sets p trail c) o → o ≡ None
   unfolding conflict
-  none-at trail c h o k = first-none (barred_set p c ∷ refused_set p trail c ∷ broken_set p trail c ∷ cycle_set p trail c ∷ []) o h k
+  value-none trail c h o k =
+      let lasting = lasting_sets (trail ++ c ∷ []) (active p (trail ++ c ∷ [])) in
+      each-none (value_sets p trail c ++ lasting) o h (contains-left (value_sets p trail c) lasting o k)
+
+  lasting-none : (trail : List Choice) (c : Choice) → conflict p trail c ≡ None → lasting_set (trail ++ c ∷ []) (active p (trail ++ c ∷ [])) ≡ None
+  unfolding conflict
+  lasting-none trail c h = rest-none (value_sets p trail c) (lasting_sets (trail ++ c ∷ []) (active p (trail ++ c ∷ []))) h
 
   pub free : (trail : List Choice) (c : Choice) → conflict p trail c ≡ None → IsFree trail c
   free trail c h =
       let after = trail ++ c ∷ [] in
-      let barred = none-at trail c h (barred_set p c) (0, omega arith, refl) in
-      let refused = none-first (find (refuses c) (active p trail)) (none-at trail c h (refused_set p trail c) (1, omega arith, refl)) in
-      let broken = none-first (find (is_broken after) (made_active p trail c)) (none-at trail c h (broken_set p trail c) (2, omega arith, refl)) in
-      let cycle = none-named (circular (active p after)) (none-at trail c h (cycle_set p trail c) (3, omega arith, refl)) in
+      let barred = value-none trail c h (barred_set p c) (0, omega arith, refl) in
+      let refused = none-first (find (refuses c) (active p trail)) (value-none trail c h (refused_set p trail c) (1, omega arith, refl)) in
+      let broken = none-first (find (is_broken after) (made_active p trail c)) (value-none trail c h (broken_set p trail c) (2, omega arith, refl)) in
       record {
         unbarred = elim (p.barred c) as (λ b. cond b (Some (set_of (c.var ∷ []))) None ≡ None → b ≡ false) [ true ↦ λ k. absurd (cc k) | false ↦ λ k. refl ] barred;
         allowed = λ d k same.
@@ -272,5 +296,5 @@ module _ (p : Problem) where
         kept = λ d n k e.
             not-false (is_one_of (Some n) d.allowed)
             (subst (λ o. is_some o && not (is_one_of o d.allowed) ≡ false) e (find-none (is_broken after) (made_active p trail c) d broken k));
-        acyclic = λ d k. circular-none (active p after) d cycle k;
+        lasting = lasting-none trail c h;
       }

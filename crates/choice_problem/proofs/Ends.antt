@@ -18,14 +18,14 @@ use Rattle.choice_problem.specs.Trail.{value_in, next_var, with_next, choice_of,
 use Rattle.choice_problem.specs.Valid.{IsWholeValid, IsFirst}
 use Rattle.choice_problem.specs.Active.{active, least_open, reason}
 use Rattle.choice_problem.specs.ConflictSet.{has, set_of, union}
-use Rattle.choice_problem.specs.Conflict.{Edge, edges_from, edges_by, edges_of, leads, lies_on_cycle, conflict}
+use Rattle.choice_problem.specs.Conflict.{Edge, edges_from, edges_by, edges_of, leads, lies_on_cycle, set_of_all, first_set, lasting_set, conflict}
 use Rattle.choice_problem.specs.Answer.{Found, Failed, GaveUp, Answer, Manner, gives_up, one_visited, one_exhausted, after_conflict, of_value, after_end, of_values, answer_from, none_counted, answer_of}
 use Rattle.choice_problem.specs.Sound.{AdmitsNoneWith, IsRightEnd}
 use Rattle.common_laws.specs.Lists.{contains-head, contains-tail, contains-none, contains-cases, contains-append, contains-right, contains-map, map-contains, flat_map-contains, cancel-front, earlier-in-front, any-from}
 use Rattle.choice_problem.proofs.Trails.{value_in-made, value_in-kept, value_in-new, value_in-some, Passes, passes-value, passes-push, passes-front, next-none, next-unchosen, target-known, yes-after, Room, room-start, room-zero, room-next, trail-step, trail-end, passes-trail, passes-choices, choices-general, choice-general, choices-plain, demand-plain, general-lawful}
 use Rattle.choice_problem.proofs.Paths.{Way, start, step, way-leads}
-use Rattle.choice_problem.proofs.Active.{value_in-last, yes-active, yes-made, IsOpen, least-open, least-next}
-use Rattle.choice_problem.proofs.Conflicts.{and-false, of-edge, IsFree, free}
+use Rattle.choice_problem.proofs.Active.{value_in-last, yes-active, yes-made, IsOpen, least-open}
+use Rattle.choice_problem.proofs.Conflicts.{and-false, of-edge, acyclic-none, lasting-acyclic, IsFree, free}
 use Rattle.choice_problem.proofs.Failures.{within, within-at, restrict, open-known, value-sound, failures-sound}
 use Rattle.choice_problem.proofs.Limits.{no-limit}
 
@@ -112,11 +112,11 @@ module _ (p : Problem) where
     counts : Counts
     goes_on : (Below (prefix ++ choice_of v value ∷ []) counts).ended ≡ Found found
 
-  -- nothing that was chosen is barred, no demand that is Yes is broken, and no active one lies on a cycle
+  -- nothing that was chosen is barred, no demand that is Yes is broken, and the lasting rules give no set
   record IsKept (trail : List Choice) : Type 0 where
     unbarred : (c : Choice) → Contains trail c → p.barred c ≡ false
     met : (d : Demand) (n : ℕ) → IsDemand p d → is_yes (value_in trail) d ≡ true → value_in trail d.target ≡ Some n → is_one_of (Some n) d.allowed ≡ true
-    acyclic : (d : Demand) → Contains (active p trail) d → lies_on_cycle (edges_of (active p trail)) d ≡ false
+    lasting : lasting_set trail (active p trail) ≡ None
 
 module _ (p : Problem) (lawful : Lawful p) where
   -- where a set admits none with a trail, no assignment that holds makes all its choices
@@ -195,16 +195,16 @@ module _ (p : Problem) (lawful : Lawful p) where
       elim (least_open p prefix) as (λ x. least_open p prefix ≡ x
       → (with_next x (record { ended = Found prefix; counts = counts }) (λ v. of_values (answer_from fuel manner p) manner p prefix v (p.order v prefix) [] counts)).ended ≡ Found found
       → ((prefix ≡ found) × (next_var (general p) prefix ≡ None)) ⊎ IsStep fuel manner prefix found) [
-        | None ↦ λ e k. inl (cc k, sym (least-next p lawful prefix choices) ∙ e)
+        | None ↦ λ e k. inl (cc k, e)
         | Some v ↦ λ e k.
-            let o = least-open p lawful prefix v e in
+            let o = least-open p lawful prefix v choices e in
             let known = open-known p lawful prefix v choices o in
             let order = lawful.order v known prefix choices in
             let below = λ (n : ℕ) (i : Contains (p.order v prefix) n). All-contains (λ x. x < p.domain v) (p.order v prefix) n order.below i in
             let at = found-at fuel manner prefix v choices o found (p.order v prefix) [] counts below k in
             inr (record {
               var = v;
-              next = sym (least-next p lawful prefix choices) ∙ e;
+              next = e;
               place = at;
               choice = record {
                 variable = known;
@@ -247,18 +247,21 @@ module _ (p : Problem) (lawful : Lawful p) where
 
   -- what was reached is kept
 
-  kept-start : IsKept p []
+  -- before any choice the lasting rules give no set: roots have no edges
+  roots-acyclic : (d : Demand) → Contains (active p []) d → lies_on_cycle (edges_of (active p [])) d ≡ false
   unfolding active
-  kept-start = record {
-    unbarred = λ c h. absurd (contains-none c h);
-    met = λ d n is h e. absurd (cc e);
-    acyclic = λ d h.
-        let edges = edges_of (active p []) in
-        elim (contains-append p.roots [] d h) [
-          | inl root ↦ ap (λ condition. list_any (λ (e : Edge). leads (length edges) edges e.to e.from) (edges_from condition d.target)) (All-contains (IsRoot p) p.roots d lawful.roots root).condition
-          | inr none ↦ absurd (contains-none d none)
-        ];
-  }
+  roots-acyclic d h =
+      let edges = edges_of (active p []) in
+      elim (contains-append p.roots [] d h) [
+        | inl root ↦ ap (λ condition. list_any (λ (e : Edge). leads (length edges) edges e.to e.from) (edges_from condition d.target)) (All-contains (IsRoot p) p.roots d lawful.roots root).condition
+        | inr none ↦ absurd (contains-none d none)
+      ]
+
+  pub lasting-start : lasting_set [] (active p []) ≡ None
+  lasting-start = ap (λ ds. first_set (set_of_all ds ∷ [])) (acyclic-none (active p []) roots-acyclic)
+
+  kept-start : IsKept p []
+  kept-start = record { unbarred = λ c h. absurd (contains-none c h); met = λ d n is h e. absurd (cc e); lasting = lasting-start }
 
   kept-push : (trail : List Choice) (c : Choice) → IsKept p trail → IsFree p trail c → IsKept p (trail ++ c ∷ [])
   kept-push trail c kept free = record {
@@ -274,7 +277,7 @@ module _ (p : Problem) (lawful : Lawful p) where
           ]
           | false ↦ λ before. free.kept d n (yes-made p lawful trail c d is h before) e
         ] refl;
-    acyclic = free.acyclic;
+    lasting = free.lasting;
   }
 
   reach-kept : (to from : List Choice) → Reaches p to from → IsKept p from → IsKept p to
@@ -335,7 +338,7 @@ module _ (p : Problem) (lawful : Lawful p) where
   no-loop trail v kept loop =
       let edges = edges_of (active p trail) in
       let d = loop.first.demand in
-      false≢true (sym (kept.acyclic d loop.first.member)
+      false≢true (sym (lasting-acyclic trail (active p trail) kept.lasting d loop.first.member)
       ∙ any-from (λ (e : Edge). leads (length edges) edges e.to e.from) (edges_by d) (record { from = v; to = loop.middle }) loop.first.edge (way-leads edges loop.middle v loop.rest))
 
   -- a trail that was reached from the start, and after which nothing is open

@@ -191,7 +191,7 @@ module _ (p : Problem) (lawful : Lawful p) where
       → AdmitsNoneWith p set prefix) [
         | None ↦ λ e k. absurd (cc k)
         | Some v ↦ λ e k.
-            let o = least-open p lawful prefix v e in
+            let o = least-open p lawful prefix v choices e in
             let order = lawful.order v (open-known prefix v choices o) prefix choices in
             values-sound (answer_from fuel manner p) manner prefix v choices o
             (λ n now s is failed. failures-sound fuel manner (prefix ++ choice_of v n ∷ []) now s (All-push (IsChoice p) prefix (choice_of v n) choices is) failed)

@@ -10,7 +10,7 @@ use Rattle.choice_problem.specs.General.{General, LawfulGeneral}
 use Rattle.choice_problem.specs.Trail.{value_in, next_var, choice_of, trail_from, trail_of}
 use Rattle.choice_problem.specs.Valid.{IsWholeValid, IsEarlier, ComesBefore, IsFirst}
 use Rattle.common_laws.specs.Lists.{contains-none, contains-cases, contains-map}
-use Rattle.choice_problem.proofs.Trails.{Passes, passes-value, passes-push, value_in-some, next-opens, demand-after, target-known, passes-choices, trail-step, trail-end, trail-stop, trail-front}
+use Rattle.choice_problem.proofs.Trails.{Passes, passes-value, passes-push, value_in-some, open-is, next-open, demand-after, target-known, passes-choices, trail-step, trail-end, trail-stop, trail-front}
 
 contains-split : (xs : List ℕ) (x : ℕ) → Contains xs x → (front : List ℕ) × (rest : List ℕ) × (xs ≡ front ++ x ∷ rest)
 contains-split [] x h = absurd (contains-none x h)
@@ -65,11 +65,12 @@ module _ (g : General) (lawful : LawfulGeneral g) where
         | None ↦ λ e.
             let whole = sym on ∙ trail-stop g A fuel trail v next e in
             let same = passes-all A trail passes (λ w some. subst (λ t. Contains (map (λ (c : Choice). c.var) t) w) whole ((valid.reached w).0 some)) in
-            let found = next-opens g trail v next in
-            let is = demand-after g trail found.0 (passes-choices g lawful g.known A valid.holds trail passes) found.1 in
-            let yes = subst (λ B. found.0.is_yes B ≡ true) (sym same) ((and_parts (found.0.is_yes (value_in trail)) (is_none (value_in trail found.0.target)) found.2).0) in
-            let met = valid.holds.met found.0 is yes (target-known g found.0 lawful is) in
-            absurd (false≢true (subst (λ o. is_one_of o found.0.allowed ≡ true) (ap A found.3 ∙ e) met))
+            let o = open-is g trail v (next-open g trail v next) in
+            let r = o.request in
+            let is = demand-after g trail r (passes-choices g lawful g.known A valid.holds trail passes) o.member in
+            let yes = subst (λ B. r.is_yes B ≡ true) (sym same) ((and_parts (r.is_yes (value_in trail)) (is_none (value_in trail r.target)) o.opens_it).0) in
+            let met = valid.holds.met r is yes (target-known g r lawful is) in
+            absurd (false≢true (subst (λ x. is_one_of x r.allowed ≡ true) (ap A o.target ∙ e) met))
       ] refl
 
   -- the trails part after a common front, where the value of A is the earlier one

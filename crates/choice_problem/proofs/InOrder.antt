@@ -1,17 +1,15 @@
 -- Rising lists of variables: what stands at a place, one variable less, and the least.
-use Rattle.std.proofs.Common.{◌≡◌, ℕ, zero, suc, ◌+◌, ◌<◌, ◌≤◌, arith, add-one, length, get_or, insert, Bool, true, false, not, cond, ◌&&◌, ◌||◌, List, [], ◌∷◌, Option, Some, None, refl, sym, ap, ◌∙◌, subst, inl, inr}
+use Rattle.std.proofs.Common.{◌≡◌, ℕ, zero, suc, ◌+◌, ◌<◌, ◌≤◌, arith, add-one, length, get_or, insert, Bool, true, false, not, cond, ◌&&◌, ◌||◌, List, [], ◌∷◌, Option, Some, None, refl, sym, ap, ◌∙◌}
+use Rattle.std.specs.Prelude.{find}
 use Rattle.std.specs.List.{slice_get, remove}
 use Rattle.std.specs.List.Sorted.{IsPartitionedBy}
 use Rattle.std.proofs.lemmas.Bool.{false≢true, and_parts, and_from}
 use Rattle.qualified_goals.specs.declared.variable.Var.{Var}
 use Rattle.qualified_goals.specs.Variable.{same_var, is_before}
 use Rattle.qualified_goals.specs.SameVariable.{same_var-is, same_var-refl}
-use Rattle.choice_problem.specs.Trail.{least_from}
 use Rattle.choice_problem.specs.ConflictSet.{is_rising, has, with_var, without, place_of}
-use Rattle.common_laws.specs.Lists.{contains-head, contains-cases}
-use Rattle.qualified_goals.proofs.Order.{before-itself, before-trans, before-back}
-use Rattle.choice_problem.proofs.Order.{least-one}
-use Rattle.choice_problem.proofs.Sets.{has-contains, rising-tail, rising-below, insert-place, same-not, before-not-same, same-back}
+use Rattle.qualified_goals.proofs.Order.{before-trans, before-back, before-neither}
+use Rattle.choice_problem.proofs.Sets.{has-contains, rising-tail, rising-below, insert-place, before-not-same, same-back}
 use Rattle.std.proofs.Math.Bool.{or-false}
 
 -- whether a variable is the one that may stand there
@@ -161,13 +159,6 @@ with-there v (w ∷ vars) h k =
       ] refl
     ] refl
 
-pub first-least : (vars : List Var) → is_rising vars ≡ true → slice_get vars 0 ≡ least_from None vars
-first-least [] h = refl
-first-least (w ∷ vars) h = sym (least-one (w ∷ vars) w (contains-head w vars) (λ v k. elim (contains-cases w vars v k) [
-  | inl e ↦ subst (λ x. is_before x w ≡ false) e (before-itself w)
-  | inr r ↦ before-back w v (rising-below w vars v h r)
-]))
-
 get-some : (vars : List Var) (n : ℕ) (d : Var) → n < length vars → slice_get vars n ≡ Some (get_or vars n d)
 get-some [] n d h = absurd (omega (arith, h))
 get-some (v ∷ vars) zero d h = refl
@@ -211,3 +202,35 @@ parted-place v (w ∷ vars) (suc n) bound before after =
     let more : n ≡ place_of v vars =
     parted-place v vars n (omega (arith, bound)) (λ k d h. before (suc k) d (omega (arith, h))) (λ k d h l. after (suc k) d (omega (arith, h)) (omega (arith, l))) in
     sym (ap (λ b. cond b (place_of v vars + 1) 0) (before 0 w (omega arith)) ∙ add-one (place_of v vars) ∙ ap suc (sym more))
+
+-- the first variable behind one
+
+next-place : (v : Var) (w : Var) (vars : List Var) → has (w ∷ vars) v ≡ has vars v → slice_get (w ∷ vars) (cond (has (w ∷ vars) v) (place_of v vars + 1 + 1) (place_of v vars + 1)) ≡ slice_get vars (cond (has vars v) (place_of v vars + 1) (place_of v vars))
+next-place v w vars e =
+    ap (λ b. slice_get (w ∷ vars) (cond b (place_of v vars + 1 + 1) (place_of v vars + 1))) e
+    ∙ elim (has vars v) as (λ b. slice_get (w ∷ vars) (cond b (place_of v vars + 1 + 1) (place_of v vars + 1)) ≡ slice_get vars (cond b (place_of v vars + 1) (place_of v vars))) [
+      | true ↦ ap (slice_get (w ∷ vars)) (add-one (place_of v vars + 1))
+      | false ↦ ap (slice_get (w ∷ vars)) (add-one (place_of v vars))
+    ]
+
+first-found : (v : Var) (vars : List Var) → is_rising (v ∷ vars) ≡ true → find (is_before v) vars ≡ slice_get vars 0
+first-found v [] h = refl
+first-found v (x ∷ vars) h = ap (λ b. cond b (Some x) (find (is_before v) vars)) ((and_parts (is_before v x) (is_rising (x ∷ vars)) h).0)
+
+pub found-behind : (v : Var) (vars : List Var) → is_rising vars ≡ true → slice_get vars (cond (has vars v) (place_of v vars + 1) (place_of v vars)) ≡ find (is_before v) vars
+found-behind v [] h = refl
+found-behind v (w ∷ vars) h =
+    elim (is_before w v) as (λ b. is_before w v ≡ b
+    → slice_get (w ∷ vars) (cond (has (w ∷ vars) v) (cond b (place_of v vars + 1) 0 + 1) (cond b (place_of v vars + 1) 0)) ≡ cond (is_before v w) (Some w) (find (is_before v) vars)) [
+      | true ↦ λ e.
+          next-place v w vars (ap (λ b. b || has vars v) (before-not-same w v e)) ∙ found-behind v vars (rising-tail w vars h)
+          ∙ sym (ap (λ b. cond b (Some w) (find (is_before v) vars)) (before-back w v e))
+      | false ↦ λ e. elim (is_before v w) as (λ b. is_before v w ≡ b → slice_get (w ∷ vars) (cond (has (w ∷ vars) v) 1 0) ≡ cond b (Some w) (find (is_before v) vars)) [
+        | true ↦ λ f.
+            ap (λ b. slice_get (w ∷ vars) (cond b 1 0)) (ap (λ b. b || has vars v) (same-back w v ∙ before-not-same v w f) ∙ not-behind w vars v h e)
+        | false ↦ λ f.
+            let same : v ≡ w = before-neither v w f e in
+            ap (λ b. slice_get (w ∷ vars) (cond b 1 0)) (ap (λ x. same_var w x || has vars v) same ∙ ap (λ b. b || has vars v) (same_var-refl w))
+            ∙ sym (first-found w vars h) ∙ ap (λ x. find (is_before x) vars) (sym same)
+      ] refl
+    ] refl

@@ -1,4 +1,7 @@
-pub mod Order
+pub mod Tables
+pub mod TrailEnds
+pub mod Rules
+pub mod Results
 pub mod Sets
 pub mod InOrder
 pub mod Trails

@@ -1,12 +1,13 @@
 -- Sets of variables, as rising lists: what they have, and that they are one where they have the same.
-use Rattle.std.proofs.Common.{◌≡◌, suc, ◌+◌, ◌<◌, ◌≤◌, arith, length, get_or, insert, Bool, true, false, cond, ◌&&◌, ◌||◌, List, [], ◌∷◌, ◌++◌, refl, sym, ap, ◌∙◌, subst, inl, inr, add-one}
-use Rattle.std.specs.List.{Contains}
+use Rattle.std.proofs.Common.{◌≡◌, suc, ◌+◌, ◌<◌, ◌≤◌, arith, length, get_or, insert, Bool, true, false, cond, ◌&&◌, ◌||◌, List, [], ◌∷◌, ◌++◌, Some, None, refl, sym, ap, ◌∙◌, subst, inl, inr, add-one}
+use Rattle.std.specs.List.{Contains, slice_get}
 use Rattle.std.proofs.lemmas.Bool.{false≢true, or_right, and_parts, and_from}
 use Rattle.qualified_goals.specs.declared.variable.Var.{Var}
 use Rattle.qualified_goals.specs.Variable.{same_var, is_before}
 use Rattle.qualified_goals.specs.SameVariable.{same_var-is, same_var-refl}
-use Rattle.choice_problem.specs.ConflictSet.{is_rising, has, with_var, set_of, union, place_of}
+use Rattle.choice_problem.specs.ConflictSet.{is_rising, has, with_var, first_of, set_of, union, place_of}
 use Rattle.common_laws.specs.Lists.{contains-head, contains-tail, contains-none, contains-cases}
+use Rattle.common_laws.specs.Small.{both-ways}
 use Rattle.qualified_goals.proofs.Order.{before-itself, before-trans, before-back, before-neither}
 
 pub same-not : (v w : Var) → (v ≡ w → ⊥) → same_var v w ≡ false
@@ -202,3 +203,25 @@ insert-place v (w ∷ vars) d h =
 -- a rising list is the set of its variables
 pub set_of-rising : (vars : List Var) → is_rising vars ≡ true → set_of vars ≡ vars
 set_of-rising vars h = rising-same (set_of vars) vars (rising-set_of vars) h (has-set_of vars)
+
+-- sets of the same variables are one
+pub set-same : (xs ys : List Var) → ((v : Var) → has xs v ≡ has ys v) → set_of xs ≡ set_of ys
+set-same xs ys same = rising-same (set_of xs) (set_of ys) (rising-set_of xs) (rising-set_of ys) (λ v. has-set_of xs v ∙ same v ∙ sym (has-set_of ys v))
+
+pub set-alike : (xs ys : List Var) → ((v : Var) → Contains xs v → Contains ys v) → ((v : Var) → Contains ys v → Contains xs v) → set_of xs ≡ set_of ys
+set-alike xs ys there back =
+    set-same xs ys (λ v. both-ways (has xs v) (has ys v) (λ h. contains-has ys v (there v (has-contains xs v h))) (λ h. contains-has xs v (back v (has-contains ys v h))))
+
+-- the first of some variables
+
+pub first-has : (vars : List Var) (v : Var) → first_of vars ≡ Some v → has vars v ≡ true
+first-has [] v h = absurd (cc h)
+first-has (w ∷ vars) v h = let same : w ≡ v = cc h in contains-has (w ∷ vars) v (subst (λ x. Contains (w ∷ vars) x) same (contains-head w vars))
+
+pub first-none : (vars : List Var) → first_of vars ≡ None → vars ≡ []
+first-none [] h = refl
+first-none (w ∷ vars) h = absurd (cc h)
+
+pub first-at : (vars : List Var) → slice_get vars 0 ≡ first_of vars
+first-at [] = refl
+first-at (w ∷ vars) = refl

@@ -13,10 +13,11 @@ use Rattle.choice_problem.specs.Problem.{ProblemOf, Problem, IsChoice, IsDemand,
 use Rattle.choice_problem.specs.Assignment.{Assignment, is_one_of, is_made, is_yes}
 use Rattle.choice_problem.specs.General.{Request, General, IsRootRequest, IsOwnedRequest, LawfulGeneral, owner_of, request_of, general}
 use Rattle.choice_problem.specs.Holds.{HoldsWithin}
-use Rattle.choice_problem.specs.Trail.{value_in, demands_after, opens, next_var, with_next, with_value, choice_of, trail_from}
+use Rattle.choice_problem.specs.ConflictSet.{has}
+use Rattle.choice_problem.specs.Trail.{value_in, demands_after, opens, open_vars, next_var, with_next, with_value, choice_of, trail_from}
 use Rattle.qualified_goals.specs.SameVariable.{same_var-is, same_var-refl}
-use Rattle.common_laws.specs.Lists.{contains-head, contains-tail, contains-none, contains-cases, contains-left, contains-right, contains-append, contains-flat_map, flat_map-contains, contains-map, map-contains, without, contains-filter, filter-none, all-at, all-from, map-nil}
-use Rattle.choice_problem.proofs.Order.{least-is, least-none}
+use Rattle.common_laws.specs.Lists.{contains-head, contains-tail, contains-none, contains-cases, contains-left, contains-right, contains-append, contains-flat_map, flat_map-contains, contains-map, map-contains, without, contains-filter, filter-contains, all-at, all-from}
+use Rattle.choice_problem.proofs.Sets.{has-contains, contains-has, has-set_of, first-has, first-none}
 
 -- a trail as a map
 
@@ -123,31 +124,57 @@ passes-yes A trail d passes h =
 abbrev pub targets_open : List Choice → List Request → List Var
 targets_open trail requests = map (λ r. r.target) (filter (opens trail) requests)
 
--- the least open variable is the target of a demand that opens it
-pub next-opens : (g : General) (trail : List Choice) (v : Var) → next_var g trail ≡ Some v
-    → (r : Request) × Contains (demands_after g trail) r × (opens trail r ≡ true) × (r.target ≡ v)
-unfolding next_var
-next-opens g trail v h =
-    let found = contains-map (λ (r : Request). r.target) (filter (opens trail) (demands_after g trail)) v (least-is (targets_open trail (demands_after g trail)) v h).0 in
-    let kept = contains-filter (opens trail) (demands_after g trail) found.0 found.1 in
-    (found.0, kept.0, kept.1, found.2)
-
--- where none is open, no demand opens one
-pub next-none : (g : General) (trail : List Choice) → next_var g trail ≡ None → (r : Request) → Contains (demands_after g trail) r → opens trail r ≡ false
-unfolding next_var
-next-none g trail h r k =
-    filter-none (opens trail) (demands_after g trail)
-    (map-nil (λ (e : Request). e.target) (filter (opens trail) (demands_after g trail)) (least-none (targets_open trail (demands_after g trail)) h)) r k
-
 pub none-is : {X : Type 0} (o : Option X) → is_none o ≡ true → o ≡ None
 none-is None h = refl
 none-is (Some x) h = absurd (false≢true h)
 
+-- an open variable is the target of a demand that opens it
+pub record Opens (g : General) (trail : List Choice) (v : Var) : Type 0 where
+  pub request : Request
+  pub member : Contains (demands_after g trail) request
+  pub opens_it : opens trail request ≡ true
+  pub target : request.target ≡ v
+
+pub open-is : (g : General) (trail : List Choice) (v : Var) → has (open_vars g trail) v ≡ true → Opens g trail v
+unfolding open_vars
+open-is g trail v h =
+    let targets = targets_open trail (demands_after g trail) in
+    let found = contains-map (λ (r : Request). r.target) (filter (opens trail) (demands_after g trail)) v (has-contains targets v (sym (has-set_of targets v) ∙ h)) in
+    let kept = contains-filter (opens trail) (demands_after g trail) found.0 found.1 in
+    record { request = found.0; member = kept.0; opens_it = kept.1; target = found.2 }
+
+pub is-open : (g : General) (trail : List Choice) (v : Var) → Opens g trail v → has (open_vars g trail) v ≡ true
+unfolding open_vars
+is-open g trail v o =
+    let targets = targets_open trail (demands_after g trail) in
+    has-set_of targets v
+    ∙ contains-has targets v
+    (subst (λ w. Contains targets w) o.target
+    (map-contains (λ (r : Request). r.target) (filter (opens trail) (demands_after g trail)) o.request (filter-contains (opens trail) (demands_after g trail) o.request o.member o.opens_it)))
+
 -- it isn't chosen yet
+pub open-unchosen : (g : General) (trail : List Choice) (v : Var) → has (open_vars g trail) v ≡ true → value_in trail v ≡ None
+open-unchosen g trail v h =
+    let o = open-is g trail v h in
+    let r = o.request in
+    subst (λ w. value_in trail w ≡ None) o.target (none-is (value_in trail r.target) ((and_parts (r.is_yes (value_in trail)) (is_none (value_in trail r.target)) o.opens_it).1))
+
+-- the least open variable is open
+pub next-open : (g : General) (trail : List Choice) (v : Var) → next_var g trail ≡ Some v → has (open_vars g trail) v ≡ true
+next-open g trail v h = first-has (open_vars g trail) v h
+
+-- where none is open, no demand opens one
+pub next-none : (g : General) (trail : List Choice) → next_var g trail ≡ None → (r : Request) → Contains (demands_after g trail) r → opens trail r ≡ false
+next-none g trail h r k =
+    elim (opens trail r) as (λ b. opens trail r ≡ b → b ≡ false) [
+      | true ↦ λ e.
+          let asked = is-open g trail r.target (record { request = r; member = k; opens_it = e; target = refl }) in
+          absurd (false≢true (ap (λ vs. has vs r.target) (sym (first-none (open_vars g trail) h)) ∙ asked))
+      | false ↦ λ e. refl
+    ] refl
+
 pub next-unchosen : (g : General) (trail : List Choice) (v : Var) → next_var g trail ≡ Some v → value_in trail v ≡ None
-next-unchosen g trail v h =
-    let found = next-opens g trail v h in
-    subst (λ w. value_in trail w ≡ None) found.3 (none-is (value_in trail found.0.target) ((and_parts (found.0.is_yes (value_in trail)) (is_none (value_in trail found.0.target)) found.2).1))
+next-unchosen g trail v h = open-unchosen g trail v (next-open g trail v h)
 
 -- the demands so far
 
@@ -183,10 +210,13 @@ module _ (g : General) (lawful : LawfulGeneral g) where
   pub room-start : Room g.bound []
   room-start = record { unchosen = lawful.bounded.variables; count = lawful.bounded.count; each = λ v k none. lawful.bounded.each v k }
 
+  pub open-known : (trail : List Choice) (v : Var) → All (IsChoice g) trail → has (open_vars g trail) v ≡ true → IsTrue (g.known v)
+  open-known trail v choices h =
+      let o = open-is g trail v h in
+      subst (λ w. IsTrue (g.known w)) o.target (target-known g o.request lawful (demand-after g trail o.request choices o.member))
+
   pub next-known : (trail : List Choice) (v : Var) → All (IsChoice g) trail → next_var g trail ≡ Some v → IsTrue (g.known v)
-  next-known trail v choices h =
-      let found = next-opens g trail v h in
-      subst (λ w. IsTrue (g.known w)) found.3 (target-known g found.0 lawful (demand-after g trail found.0 choices found.1))
+  next-known trail v choices h = open-known trail v choices (next-open g trail v h)
 
   pub room-zero : (trail : List Choice) (v : Var) → All (IsChoice g) trail → next_var g trail ≡ Some v → Room zero trail → ⊥
   room-zero trail v choices h room =

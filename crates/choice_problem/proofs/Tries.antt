@@ -1,5 +1,5 @@
 -- A search that leaves points early tries at most as many values as one that doesn't.
-use Rattle.std.proofs.Common.{◌≡◌, ℕ, zero, suc, ◌<◌, ◌≤◌, true, false, cond, not, List, [], ◌∷◌, ◌++◌, Some, None, refl, sym, ◌∙◌, subst, le_trans, arith}
+use Rattle.std.proofs.Common.{◌≡◌, ℕ, zero, suc, ◌<◌, ◌≤◌, true, false, cond, not, List, [], ◌∷◌, ◌++◌, Some, None, refl, sym, subst, le_trans, arith}
 use Rattle.std.specs.List.{Contains}
 use Rattle.std.proofs.lemmas.List.Elements.{All-nil, All-contains}
 use Rattle.plan_types.specs.declared.limit.Limit.{Limit}
@@ -16,7 +16,6 @@ use Rattle.common_laws.specs.Lists.{contains-head, contains-tail}
 use Rattle.choice_problem.specs.Answer.{Found, Failed, GaveUp, Answer, Manner, one_visited, one_exhausted, gives_up, exhausts, after_conflict, of_value, after_end, after_value, of_values, answer_from, none_counted, answer_of, plain_count}
 use Rattle.choice_problem.proofs.Limits.{answer_with, TriesFrom, after_end-tries, of_values-tries, answer-tries, limit-tries}
 use Rattle.choice_problem.proofs.Trails.{Room, room-start, room-next, next-known, choices-general, general-lawful}
-use Rattle.choice_problem.proofs.Active.{least-next}
 use Rattle.choice_problem.proofs.Ends.{unlimited, Reaches, here, reach-push, reach-choices, never-gives-up, failed-none, found-valid}
 
 -- a search without a limit that leaves a point early, and one that doesn't
@@ -76,12 +75,11 @@ module _ (p : Problem) (lawful : Lawful p) where
   reached-next fuel prefix v n reached opened member free =
       let choices = reach-choices p prefix [] reached.way (All-nil (IsChoice p)) in
       let all = choices-general p prefix choices in
-      let next = sym (least-next p lawful prefix choices) ∙ opened in
-      let known = next-known (general p) (general-lawful p lawful) prefix v all next in
+      let known = next-known (general p) (general-lawful p lawful) prefix v all opened in
       record {
-        way = reach-push p prefix [] v n reached.way next
+        way = reach-push p prefix [] v n reached.way opened
             (record { variable = known; value = All-contains (λ x. x < p.domain v) (p.order v prefix) n (lawful.order v known prefix choices).below member }) free;
-        room = room-next (general p) (general-lawful p lawful) fuel prefix v n all next reached.room;
+        room = room-next (general p) (general-lawful p lawful) fuel prefix v n all opened reached.room;
       }
 
   -- there a search can't both fail and find a trail

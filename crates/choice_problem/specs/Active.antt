@@ -6,7 +6,9 @@ use Rattle.choice_problem.specs.declared.problem.Demand.{Demand}
 use Rattle.qualified_goals.specs.Variable.{same_var}
 use Rattle.choice_problem.specs.Assignment.{is_yes}
 use Rattle.choice_problem.specs.Problem.{Problem}
-use Rattle.choice_problem.specs.Trail.{value_in, demands_after, least_from}
+use Rattle.choice_problem.specs.General.{general}
+use Rattle.choice_problem.specs.Trail.{value_in, demands_after, open_vars, next_var}
+use Rattle.choice_problem.specs.ConflictSet.{has, first_behind, set_of}
 
 -- Yes with a choice, and not before it
 abbrev pub turns_yes : List Choice → Choice → Demand → Bool
@@ -29,9 +31,25 @@ active p trail = p.roots ++ active_from p [] trail
 abbrev pub is_waited_for : List Choice → Demand → Bool
 is_waited_for trail d = is_none (value_in trail d.target)
 
--- the least variable that isn't chosen yet and is the target of an active demand
-unfoldable pub least_open : Problem → List Choice → Option Var
-least_open p trail = least_from None (map (λ d. d.target) (filter (is_waited_for trail) (active p trail)))
+-- the open variables of a problem that is searched, in goal order
+abbrev pub open_in : Problem → List Choice → List Var
+open_in p trail = open_vars (general p) trail
+
+-- whether a variable is open
+abbrev pub is_open : Problem → List Choice → Var → Bool
+is_open p trail v = has (open_in p trail) v
+
+-- the least open variable
+abbrev pub least_open : Problem → List Choice → Option Var
+least_open p trail = next_var (general p) trail
+
+-- the least open variable behind one, or of all
+abbrev pub open_after : Problem → List Choice → Option Var → Option Var
+open_after p trail v = first_behind v (open_in p trail)
+
+-- the targets of active demands that aren't chosen yet, in goal order
+abbrev pub waiting : List Choice → List Demand → List Var
+waiting trail demands = set_of (map (λ d. d.target) (filter (is_waited_for trail) demands))
 
 -- the variables of a condition
 abbrev pub vars_of : List Choice → List Var

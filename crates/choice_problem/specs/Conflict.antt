@@ -76,9 +76,9 @@ abbrev pub set_of_all : List Demand → Option (List Var)
 set_of_all [] = None
 set_of_all (d ∷ demands) = Some (set_of (flat_map named_by (d ∷ demands)))
 
--- 4. With the choice, some demands that are active lie on a cycle.
-abbrev pub cycle_set : Problem → List Choice → Choice → Option (List Var)
-cycle_set p trail c = set_of_all (circular (active p (trail ++ c ∷ [])))
+-- 4. Some active demands lie on a cycle.
+abbrev pub cycle_set : List Demand → Option (List Var)
+cycle_set demands = set_of_all (circular demands)
 
 -- the first of some sets, of which each may be missing
 abbrev pub first_set : List (Option (List Var)) → Option (List Var)
@@ -86,6 +86,18 @@ first_set [] = None
 first_set (None ∷ sets) = first_set sets
 first_set (Some set ∷ sets) = Some set
 
+-- The rules of a value, and of active demands with it.
+abbrev pub value_sets : Problem → List Choice → Choice → List (Option (List Var))
+value_sets p trail c = barred_set p c ∷ refused_set p trail c ∷ broken_set p trail c ∷ []
+
+-- The rules that last: they are of choices and the demands that are active after them, whichever choice came last.
+abbrev pub lasting_sets : List Choice → List Demand → List (Option (List Var))
+lasting_sets trail demands = cycle_set demands ∷ []
+
+-- the set of the first lasting rule that is broken, if any is
+abbrev pub lasting_set : List Choice → List Demand → Option (List Var)
+lasting_set trail demands = first_set (lasting_sets trail demands)
+
 -- the set of the first rule by which a choice conflicts, if any does
 unfoldable pub conflict : Problem → List Choice → Choice → Option (List Var)
-conflict p trail c = first_set (barred_set p c ∷ refused_set p trail c ∷ broken_set p trail c ∷ cycle_set p trail c ∷ [])
+conflict p trail c = first_set (value_sets p trail c ++ lasting_sets (trail ++ c ∷ []) (active p (trail ++ c ∷ [])))

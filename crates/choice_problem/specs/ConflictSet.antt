@@ -1,5 +1,5 @@
 -- Sets of variables, as lists in goal order with each variable once.
-use Rattle.std.specs.Prelude.{ℕ, ◌+◌, Bool, true, not, cond, ◌&&◌, List, [], ◌∷◌, ◌++◌, Option, Some, None}
+use Rattle.std.specs.Prelude.{ℕ, ◌+◌, Bool, true, not, cond, ◌&&◌, List, [], ◌∷◌, ◌++◌, Option, Some, None, find}
 use Rattle.std.specs.List.{list_any, filter}
 use Rattle.qualified_goals.specs.declared.variable.Var.{Var}
 use Rattle.qualified_goals.specs.Variable.{same_var, is_before}
@@ -22,6 +22,16 @@ with_var v (w ∷ vars) = cond (is_before v w) (v ∷ w ∷ vars) (cond (same_va
 -- the variables but for one
 abbrev pub without : Var → List Var → List Var
 without v vars = filter (λ w. not (same_var v w)) vars
+
+-- the first of some variables
+abbrev pub first_of : List Var → Option Var
+first_of [] = None
+first_of (v ∷ vars) = Some v
+
+-- the first of them behind a variable, where one is given
+abbrev pub first_behind : Option Var → List Var → Option Var
+first_behind None vars = first_of vars
+first_behind (Some v) vars = find (is_before v) vars
 
 -- the set of some variables
 abbrev pub set_of : List Var → List Var

@@ -11,10 +11,10 @@ use Rattle.choice_problem.specs.declared.outcome.Outcome.TheVariants as outcome
 use Rattle.choice_problem.specs.Problem.{Problem}
 use Rattle.choice_problem.specs.Assignment.{Assignment, is_yes, is_met}
 use Rattle.choice_problem.specs.General.{general}
-use Rattle.choice_problem.specs.Trail.{next_var, trail_of, choice_of}
+use Rattle.choice_problem.specs.Trail.{open_vars, next_var, trail_of, choice_of}
 use Rattle.choice_problem.specs.Valid.{ComesBefore}
 use Rattle.choice_problem.specs.ConflictSet.{set_of, has}
-use Rattle.choice_problem.specs.Active.{made_active, active, least_open, reason}
+use Rattle.choice_problem.specs.Active.{made_active, active, reason}
 use Rattle.choice_problem.specs.Conflict.{circular, conflict}
 use Rattle.choice_problem.specs.Answer.{Found, Failed, GaveUp, counts_of, answer_of, plain_count, outcome_of}
 use Rattle.choice_problem.specs.Written.{problem_of}
@@ -76,20 +76,20 @@ abbrev plan_trail : List Choice
 plan_trail = choice main 0 ∷ choice b 0 ∷ choice a 1 ∷ choice c 1 ∷ []
 
 pub late_trail : trail_of (general late) plan ≡ plan_trail
-unfolding next_var
+unfolding open_vars
 late_trail = refl
 
 -- before any choice main alone is open, and then b, before c
 pub first_open : next_var (general late) [] ≡ Some (package_var main)
-unfolding next_var
+unfolding open_vars
 first_open = refl
 
 pub a_opens : next_var (general late) (choice main 0 ∷ choice b 0 ∷ []) ≡ Some (package_var a)
-unfolding next_var
+unfolding open_vars
 a_opens = refl
 
 pub none_open : next_var (general late) plan_trail ≡ None
-unfolding next_var
+unfolding open_vars
 none_open = refl
 
 -- without a value for a the trail ends before c
@@ -97,7 +97,7 @@ abbrev short : Assignment
 short = by_number (λ n. cond (nat_eq n main || nat_eq n b) (Some 0) (cond (nat_eq n c) (Some 1) None))
 
 pub short_trail : trail_of (general late) short ≡ choice main 0 ∷ choice b 0 ∷ []
-unfolding next_var
+unfolding open_vars
 short_trail = refl
 
 -- b's value 1 asks for c's value 0: the demand is Yes and isn't met
@@ -119,7 +119,7 @@ abbrev worse : Assignment
 worse = by_number (λ n. cond (nat_eq n main || nat_eq n b || nat_eq n c) (Some 0) (cond (nat_eq n a) (Some 1) None))
 
 pub better : ComesBefore (general late) plan worse
-unfolding next_var
+unfolding open_vars
 better = record {
   common = choice main 0 ∷ choice b 0 ∷ choice a 1 ∷ [];
   var = package_var c;
@@ -134,7 +134,7 @@ better = record {
 
 -- the search tries seven values: b's value 1 makes c's value 1 break a demand, and c's value 0 asks for what is gone
 pub late_found : answer_of late Unlimited ≡ record { ended = Found plan_trail; counts = counts_of 7 2 }
-unfolding answer_of least_open reason conflict circular made_active active
+unfolding answer_of open_vars reason conflict circular made_active active
 late_found = refl
 
 -- sets are in goal order, with each variable once
@@ -232,20 +232,20 @@ far = problem_of
 
 -- each value of 0 tries 1, 2 and 3 once: three exhausted points, of which the last is the first one
 pub far_failed : answer_of far Unlimited ≡ record { ended = Failed (package_var 0 ∷ package_var 3 ∷ []); counts = counts_of 8 3 }
-unfolding answer_of least_open reason conflict circular made_active active
+unfolding answer_of open_vars reason conflict circular made_active active
 far_failed = refl
 
 -- without leaving a point early there are more tries
 pub far_plain : plain_count far ≡ 22
-unfolding plain_count least_open reason conflict circular made_active active
+unfolding plain_count open_vars reason conflict circular made_active active
 far_plain = refl
 
 -- the limit 1 is met at the second exhausted point, which isn't counted
 pub far_limit : answer_of far (At 1) ≡ record { ended = GaveUp; counts = counts_of 8 1 }
-unfolding answer_of least_open reason conflict circular made_active active
+unfolding answer_of open_vars reason conflict circular made_active active
 far_limit = refl
 
 -- the limit 2 is met at the first point alone, which never gives up
 pub first_point : outcome_of (answer_of far (At 2)) ≡ outcome.NoPlan (package_var 0 ∷ package_var 3 ∷ []) (counts_of 8 3)
-unfolding answer_of least_open reason conflict circular made_active active
+unfolding answer_of open_vars reason conflict circular made_active active
 first_point = refl

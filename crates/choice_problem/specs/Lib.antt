@@ -2,6 +2,7 @@ pub mod Problem
 pub mod Assignment
 pub mod General
 pub mod Holds
+pub mod Table
 pub mod Trail
 pub mod Valid
 pub mod Joined

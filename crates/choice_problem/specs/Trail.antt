@@ -1,17 +1,28 @@
 -- The trail of an assignment: its choices in the order in which demands open their variables.
-use Rattle.std.specs.Prelude.{ℕ, zero, suc, Bool, cond, ◌&&◌, List, [], ◌∷◌, ◌++◌, Option, Some, None, is_none, filter, map, flat_map}
-use Rattle.std.specs.Ordering.{is_lt}
+use Rattle.std.specs.Prelude.{◌≡◌, ℕ, zero, suc, Bool, cond, ◌&&◌, List, [], ◌∷◌, ◌++◌, Option, Some, None, is_none, filter, map, flat_map}
 use Rattle.qualified_goals.specs.declared.variable.Var.{Var}
 use Rattle.choice_problem.specs.declared.problem.Choice.{Choice}
-use Rattle.qualified_goals.specs.Variable.{var_cmp, same_var}
+use Rattle.qualified_goals.specs.Variable.{same_var}
 use Rattle.choice_problem.specs.Assignment.{Assignment}
 use Rattle.choice_problem.specs.Problem.{ProblemOf}
+use Rattle.choice_problem.specs.Table.{entry}
 use Rattle.choice_problem.specs.General.{Request, General}
+use Rattle.choice_problem.specs.ConflictSet.{first_of, set_of}
 
 -- the choices of a trail as a map
 abbrev pub value_in : List Choice → Assignment
 value_in [] v = None
 value_in (c ∷ trail) v = cond (same_var c.var v) (Some c.val) (value_in trail v)
+
+-- each choice is of a variable that the choices before it leave open to choose
+pub data AreNew : List Choice → Type 0 where
+  before_any : AreNew []
+  one_more : {before : List Choice} {all : List Choice} → AreNew before → (c : Choice) → value_in before c.var ≡ None → all ≡ before ++ c ∷ [] → AreNew all
+
+-- what a trail keeps of its choices: each is of another variable, and the table has their values
+pub record IsTrail (choices : List Choice) (table : List (Var × ℕ)) : Type 0 where
+  pub new : AreNew choices
+  pub values : (v : Var) → entry table v ≡ value_in choices v
 
 -- the demands so far: the roots, and those that the choices own
 abbrev pub demands_after : {D : Type 0} → ProblemOf D → List Choice → List D
@@ -21,19 +32,13 @@ demands_after p trail = p.roots ++ flat_map p.demands trail
 abbrev pub opens : List Choice → Request → Bool
 opens trail r = r.is_yes (value_in trail) && is_none (value_in trail r.target)
 
--- the lesser of two variables in goal order, of which the first may be missing
-abbrev pub lesser : Option Var → Var → Option Var
-lesser None w = Some w
-lesser (Some v) w = cond (is_lt (var_cmp w v)) (Some w) (Some v)
+-- the open variables, in goal order: the targets of demands that are Yes under the choices so far, which aren't chosen yet
+unfoldable pub open_vars : General → List Choice → List Var
+open_vars g trail = set_of (map (λ r. r.target) (filter (opens trail) (demands_after g trail)))
 
--- the least of some variables and one that may be there already
-abbrev pub least_from : Option Var → List Var → Option Var
-least_from best [] = best
-least_from best (v ∷ vars) = least_from (lesser best v) vars
-
--- the least variable that isn't chosen yet and is the target of a demand that is Yes
-unfoldable pub next_var : General → List Choice → Option Var
-next_var g trail = least_from None (map (λ r. r.target) (filter (opens trail) (demands_after g trail)))
+-- the least of them
+abbrev pub next_var : General → List Choice → Option Var
+next_var g trail = first_of (open_vars g trail)
 
 -- a variable with a value
 abbrev pub choice_of : Var → ℕ → Choice

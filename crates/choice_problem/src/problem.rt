@@ -2,7 +2,7 @@
 ghost use Rattle.std.specs.Prelude.{◌≡◌, IfOk, IsTrue, All};
 ghost use Rattle.choice_problem.specs.Problem.{Problem, IsChoice, Lawful};
 
-use crate::Var;
+use crate::{Trail, Var};
 use plan_types::{List, NoMemory};
 use std::alloc::Global;
 
@@ -40,7 +40,7 @@ pub trait Choices {
         ensures { IfOk result (λ found. found ≡ (problem self.now).roots) };
 
     /// The values of a variable, the best first, after the choices of a trail.
-    fn order(&self, alloc: Global, v: Var, trail: &List<Choice>) -> Result<List<u64>, NoMemory>
+    fn order(&self, alloc: Global, v: Var, trail: &Trail) -> Result<List<u64>, NoMemory>
         requires variable { IsTrue ((problem self.now).known v) }
         requires choices { All (IsChoice (problem self.now)) trail.now }
         ensures { IfOk result (λ found. found ≡ (problem self.now).order v trail.now) };
@@ -75,7 +75,7 @@ impl<C: Choices> Choices for &C {
         (**self).roots(alloc)
     }
 
-    fn order(&self, alloc: Global, v: Var, trail: &List<Choice>) -> Result<List<u64>, NoMemory> {
+    fn order(&self, alloc: Global, v: Var, trail: &Trail) -> Result<List<u64>, NoMemory> {
         (**self).order(alloc, v, trail)
     }
 

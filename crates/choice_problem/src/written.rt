@@ -3,7 +3,7 @@ ghost use Rattle.std.specs.Prelude.{◌≡◌, ◌&&◌, IfOk, IsTrue, MatchOpti
 ghost use Rattle.std.specs.List.{list_all};
 ghost use Rattle.choice_problem.specs.Written.{is_among, is_listed, order_of, barred_of, begins_with, problem_of, AreLawful, has_each_below, is_once, is_order, are_listed_once, is_beside, is_empty, is_condition, are_lawful};
 
-use crate::{Choice, Choices, Demand, Var, is_same};
+use crate::{Choice, Choices, Demand, Trail, Var, is_same};
 use plan_types::{List, NoMemory};
 use std::alloc::Global;
 
@@ -270,7 +270,7 @@ impl Choices for Written {
         copied_demands(alloc, self.roots.as_slice())
     }
 
-    fn order(&self, alloc: Global, v: Var, _trail: &List<Choice>) -> Result<List<u64>, NoMemory> {
+    fn order(&self, alloc: Global, v: Var, _trail: &Trail) -> Result<List<u64>, NoMemory> {
         copied(alloc, order_in(self.variables.as_slice(), v))
     }
 

@@ -3,6 +3,7 @@ use Rattle.std.proofs.Common.{◌≡◌, ℕ, true, false, List, ◌∷◌, ◌+
 use Rattle.std.specs.Prelude.{codes, map}
 use Rattle.std.specs.Char.{to_ascii_lowercase}
 use Rattle.std.proofs.lemmas.Bool.{true≢false, false≢true}
+use Rattle.std.proofs.lemmas.Option.{same_Some}
 use Rattle.plan_types.specs.Bytes.{begins_with}
 use Rattle.plan_types.specs.declared.condition.FlagSet.{FlagSet}
 use Rattle.plan_types.specs.declared.constraint.Constraint.{Constraint}
@@ -25,9 +26,6 @@ use Rattle.common_laws.specs.Small.{tail_same}
 use Rattle.constraint_text.specs.Faults.{BadAsNone}
 use Rattle.constraint_text.proofs.OneNamed.{project_settled}
 
-same_some : {A : Type 0} {x y : A} → Some x ≡ Some y → x ≡ y
-same_some e = cc
-
 mark : (byte : ℕ) (text rest : List ℕ) → begins_with byte text ≡ false → text ≡ byte ∷ rest → begins_with byte (byte ∷ rest) ≡ true → ⊥
 mark byte text rest h e is = false≢true (sym h ∙ ap (begins_with byte) e ∙ is)
 
@@ -44,7 +42,7 @@ one_target text s s' p p' r r' (Target.top h i e f g) (Target.setup_of more a b 
 one_target text s s' p p' r r' (Target.word more a b c d) (Target.top h i e f g) = absurd (mark 46 (behind_name text) more h a refl)
 one_target text s s' p p' r r' (Target.word more a b c d) (Target.word more' a' b' c' d') =
     let same : more ≡ more' = tail_same (sym a ∙ a') in
-    (same_some (sym b ∙ b'), c ∙ ap (run is_name_byte) same ∙ sym c', d ∙ ap (behind is_name_byte) same ∙ sym d')
+    (same_Some _ _ (sym b ∙ b'), c ∙ ap (run is_name_byte) same ∙ sym c', d ∙ ap (behind is_name_byte) same ∙ sym d')
 one_target text s s' p p' r r' (Target.word more a b c d) (Target.setup_of more' a' b' c' d' k) = absurd (point_or_colon (behind_name text) more more' a a')
 one_target text s s' p p' r r' (Target.setup_of more a b c d k) (Target.top h i e f g) = absurd (mark 58 (behind_name text) (codes "setup." ++ more) i a refl)
 one_target text s s' p p' r r' (Target.setup_of more a b c d k) (Target.word more' a' b' c' d') = absurd (point_or_colon (behind_name text) more' more a' a)
@@ -74,7 +72,7 @@ no_flags parts set w (entries.more {part = part} {x = flag} is entries.none) h =
 no_flags parts set w (entries.more is (entries.more is' each)) h = some_none w None h refl
 
 one_asked : (parts : List (List ℕ)) (x y : What) → Asked parts x → Asked parts y → x ≡ y
-one_asked parts x y (alone e) (alone f) = same_some (sym e ∙ f)
+one_asked parts x y (alone e) (alone f) = same_Some _ _ (sym e ∙ f)
 one_asked parts x y (alone e) (flags set each is) = absurd (no_flags parts set x each e)
 one_asked parts x y (flags set each is) (alone e) = absurd (no_flags parts set y each e)
 one_asked parts x y (flags set each is) (flags set' each' is') = is ∙ ap what.Flags (one_each Flag one_flag parts set set' each each') ∙ sym is'

@@ -2,6 +2,7 @@
 use Rattle.std.proofs.Common.{◌≡◌, ℕ, Bool, true, false, List, [], ◌∷◌, ◌++◌, Option, Some, None, refl, sym, ap, ◌∙◌, subst}
 use Rattle.std.specs.Prelude.{codes}
 use Rattle.std.proofs.lemmas.Bool.{true≢false, false≢true}
+use Rattle.std.proofs.lemmas.Option.{same_Some}
 use Rattle.std.specs.List.{list_all}
 use Rattle.std.proofs.Common.{◌⊎◌, inl, inr}
 use Rattle.plan_types.specs.Bytes.{begins_with, same_text}
@@ -33,12 +34,6 @@ use Rattle.common_laws.specs.Small.{tail_same}
 use Rattle.constraint_text.specs.Faults.{BadAsNone}
 use Rattle.constraint_text.proofs.OneNamed.{project_settled}
 
-two : (b : Bool) → b ≡ true → b ≡ false → ⊥
-two b h k = true≢false (sym h ∙ k)
-
-same_some : {A : Type 0} {x y : A} → Some x ≡ Some y → x ≡ y
-same_some e = cc
-
 not_empty : (name digits : List ℕ) → [] ≡ name ++ 45 ∷ digits → ⊥
 not_empty [] digits e = absurd (cc)
 not_empty (x ∷ name) digits e = absurd (cc)
@@ -62,9 +57,9 @@ one_owner text a b (Owner.any e f) (Owner.named h g) = absurd (star text e h)
 one_owner text a b (Owner.any e f) (Owner.release n v h r g) = absurd (no_cut n r.digits (sym e ∙ r.cut) r.form)
 one_owner text a b (Owner.named h g) (Owner.any e f) = absurd (star text e h)
 one_owner text a b (Owner.named h g) (Owner.named h' g') = g ∙ sym g'
-one_owner text a b (Owner.named h g) (Owner.release n v k r i) = absurd (two _ h k)
+one_owner text a b (Owner.named h g) (Owner.release n v k r i) = absurd (true≢false (sym h ∙ k))
 one_owner text a b (Owner.release n v h r g) (Owner.any e f) = absurd (no_cut n r.digits (sym e ∙ r.cut) r.form)
-one_owner text a b (Owner.release n v k r i) (Owner.named h g) = absurd (two _ h k)
+one_owner text a b (Owner.release n v k r i) (Owner.named h g) = absurd (true≢false (sym h ∙ k))
 one_owner text a b (Owner.release n v h r g) (Owner.release n' v' h' r' g') =
     let p = one_release text n n' v v' r r' in g ∙ (λ i. owners.Release (p.0 i) (p.1 i)) ∙ sym g'
 
@@ -85,7 +80,7 @@ one_dependency word x y (Dependency.all b' k' f') (Dependency.of o n b w k f) = 
 one_dependency word x y (Dependency.all b k f) (Dependency.all b' k' f') = f ∙ sym f'
 
 true_or_false : (o : Option Bool) → o ≡ Some true → o ≡ Some false → ⊥
-true_or_false o e f = true≢false (same_some (sym e ∙ f))
+true_or_false o e f = true≢false (same_Some _ _ (sym e ∙ f))
 
 some_none : (o : Option Bool) (b : Bool) → o ≡ Some b → o ≡ None → ⊥
 some_none o b e f = absurd cc
@@ -115,7 +110,7 @@ relax_settled = project_settled RelaxEntry one_entry
 pub bad_release : (text name digits : List ℕ) → text ≡ name ++ 45 ∷ digits → list_all is_no_dash digits ≡ true
     → (is_package_name name ≡ false) ⊎ ((ps : List ℕ) → is_version ps ≡ true → digits ≡ version_text ps → ⊥)
     → (n : List ℕ) (v : Version) → Release text n v → ⊥
-bad_release text name digits e h (inl bad) n v r = let p = same_cut name n digits r.digits h r.last (sym e ∙ r.cut) in two (is_package_name n) r.form (ap is_package_name (sym p.0) ∙ bad)
+bad_release text name digits e h (inl bad) n v r = let p = same_cut name n digits r.digits h r.last (sym e ∙ r.cut) in true≢false (sym r.form ∙ ap is_package_name (sym p.0) ∙ bad)
 bad_release text name digits e h (inr bad) n v r = let p = same_cut name n digits r.digits h r.last (sym e ∙ r.cut) in bad v.parts r.numbers (p.1 ∙ r.is)
 
 pub bad_owner : (text : List ℕ) → (text ≡ codes "*" → ⊥) → is_package_name text ≡ false → (cause : Cause) → (cause ≡ BadConstraint) × ((n : List ℕ) (v : Version) → Release text n v → ⊥) → BadAsNone Owner text cause
@@ -123,7 +118,7 @@ bad_owner text s h cause never = record { is = never.0; stands_for_none = λ own
   where
     by : (owner : RelaxOwner) → Owner text owner → ⊥
     by owner (Owner.any e f) = s e
-    by owner (Owner.named k g) = two _ k h
+    by owner (Owner.named k g) = true≢false (sym k ∙ h)
     by owner (Owner.release n v k r g) = never.1 n v r
 
 pub bad_relaxed : (word : List ℕ) → relaxing_word word ≡ None → (cause : Cause) → BadAsNone Dependency word cause → BadAsNone RelaxedBy word cause
@@ -156,7 +151,7 @@ not_all text h e = false≢true (sym h ∙ ap (λ t. pointwise nat_eq t (codes "
 pub never_all : (word : List ℕ) → behind is_no_colon word ≡ codes ":*" → is_package_name (run is_no_colon word) ≡ false → (x : Relax) → Dependency word x → ⊥
 never_all word e h x (Dependency.dep a k f) = nothing_or_colon _ (codes "*") a e
 never_all word e h x (Dependency.of o n b w k f) = star n (tail_same (sym b ∙ e)) k
-never_all word e h x (Dependency.all b k f) = two _ k h
+never_all word e h x (Dependency.all b k f) = true≢false (sym k ∙ h)
 
 pub never_of : (word text name : List ℕ) → text ≡ behind is_no_colon word → text ≡ codes ":" ++ name → same_text text (codes ":*") ≡ false
     → ((o : RelaxOwner) → Owner (run is_no_colon word) o → is_package_name name ≡ true → ⊥) → (x : Relax) → Dependency word x → ⊥

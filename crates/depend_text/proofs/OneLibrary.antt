@@ -1,5 +1,5 @@
 -- An entry of a description has one reading or one fault.
-use Rattle.std.proofs.Common.{◌≡◌, ℕ, Bool, true, false, List, [], ◌∷◌, sym, ap, ◌∙◌, subst}
+use Rattle.std.proofs.Common.{◌≡◌, ℕ, true, false, List, [], ◌∷◌, sym, ap, ◌∙◌, subst}
 use Rattle.std.proofs.lemmas.Bool.{true≢false, false≢true}
 use Rattle.plan_types.specs.Bytes.{begins_with}
 use Rattle.plan_types.specs.Name.{is_component_byte, is_component_name}
@@ -61,9 +61,6 @@ part_or_fault spec «package» text ls r c (main h e f) (broken part i g k none'
 part_or_fault spec «package» text ls r c (named part h e n) (old part' i g k) = old_or_new spec i h
 part_or_fault spec «package» text ls r c (named part h e n) (broken part' i g k none') = none' ls r (subst (λ t. NamedLibraries «package» t ls r) (tail_same (sym e ∙ g)) n)
 
-name_or_not : (b : Bool) → b ≡ true → b ≡ false → ⊥
-name_or_not b h k = true≢false (sym h ∙ k)
-
 module _ (spec : Spec) (kind : DepKind) (line : ℕ) where
   one_entry : (text : List ℕ) (x y : Dep) → LibraryEntry spec kind line text x → LibraryEntry spec kind line text y → x ≡ y
   one_entry text x y e f =
@@ -73,19 +70,19 @@ module _ (spec : Spec) (kind : DepKind) (line : ℕ) where
 
   one_entry_fault : (text : List ℕ) (c d : Cause) → LibraryFault spec text c → LibraryFault spec text d → c ≡ d
   one_entry_fault text c d (LibraryFault.name h e) (LibraryFault.name i f) = e ∙ sym f
-  one_entry_fault text c d (LibraryFault.name h e) (LibraryFault.part i f) = absurd (name_or_not _ i h)
-  one_entry_fault text c d (LibraryFault.name h e) (LibraryFault.range ls r i l f) = absurd (name_or_not _ i h)
-  one_entry_fault text c d (LibraryFault.part h e) (LibraryFault.name i f) = absurd (name_or_not _ h i)
+  one_entry_fault text c d (LibraryFault.name h e) (LibraryFault.part i f) = absurd (true≢false (sym i ∙ h))
+  one_entry_fault text c d (LibraryFault.name h e) (LibraryFault.range ls r i l f) = absurd (true≢false (sym i ∙ h))
+  one_entry_fault text c d (LibraryFault.part h e) (LibraryFault.name i f) = absurd (true≢false (sym h ∙ i))
   one_entry_fault text c d (LibraryFault.part h e) (LibraryFault.part i f) = one_part_fault spec (name_of text) (behind_name text) c d e f
   one_entry_fault text c d (LibraryFault.part h e) (LibraryFault.range ls r i l f) = absurd (part_or_fault spec (name_of text) (behind_name text) ls r c l e)
-  one_entry_fault text c d (LibraryFault.range ls r i l f) (LibraryFault.name h e) = absurd (name_or_not _ i h)
+  one_entry_fault text c d (LibraryFault.range ls r i l f) (LibraryFault.name h e) = absurd (true≢false (sym i ∙ h))
   one_entry_fault text c d (LibraryFault.range ls r i l f) (LibraryFault.part h e) = absurd (part_or_fault spec (name_of text) (behind_name text) ls r d l e)
   one_entry_fault text c d (LibraryFault.range ls r h l e) (LibraryFault.range ms s i m f) =
       let p = one_libraries spec (name_of text) (behind_name text) ls ms r s l m in
       one_fault spec 64 s c d (subst (λ t. FirstFault spec 64 t c) p.1 e) f
 
   entry_or_fault : (text : List ℕ) (x : Dep) (c : Cause) → LibraryEntry spec kind line text x → LibraryFault spec text c → ⊥
-  entry_or_fault text x c e (LibraryFault.name h f) = name_or_not _ e.name h
+  entry_or_fault text x c e (LibraryFault.name h f) = true≢false (sym e.name ∙ h)
   entry_or_fault text x c e (LibraryFault.part h f) = part_or_fault spec (name_of text) (behind_name text) e.libs e.range_text c e.part f
   entry_or_fault text x c e (LibraryFault.range ls r h l f) =
       let p = one_libraries spec (name_of text) (behind_name text) e.libs ls e.range_text r e.part l in
@@ -108,19 +105,19 @@ module _ (spec : Spec) (line : ℕ) where
 
   one_tool_fault : (text : List ℕ) (c d : Cause) → ToolFault spec text c → ToolFault spec text d → c ≡ d
   one_tool_fault text c d (ToolFault.name h e) (ToolFault.name i f) = e ∙ sym f
-  one_tool_fault text c d (ToolFault.name h e) (ToolFault.part i none' f) = absurd (name_or_not _ i h)
-  one_tool_fault text c d (ToolFault.name h e) (ToolFault.range x r i l f) = absurd (name_or_not _ i h)
-  one_tool_fault text c d (ToolFault.part i none' f) (ToolFault.name h e) = absurd (name_or_not _ i h)
+  one_tool_fault text c d (ToolFault.name h e) (ToolFault.part i none' f) = absurd (true≢false (sym i ∙ h))
+  one_tool_fault text c d (ToolFault.name h e) (ToolFault.range x r i l f) = absurd (true≢false (sym i ∙ h))
+  one_tool_fault text c d (ToolFault.part i none' f) (ToolFault.name h e) = absurd (true≢false (sym i ∙ h))
   one_tool_fault text c d (ToolFault.part h none' e) (ToolFault.part i others' f) = e ∙ sym f
   one_tool_fault text c d (ToolFault.part h none' e) (ToolFault.range x r i l f) = absurd (none' x r l)
-  one_tool_fault text c d (ToolFault.range x r i l f) (ToolFault.name h e) = absurd (name_or_not _ i h)
+  one_tool_fault text c d (ToolFault.range x r i l f) (ToolFault.name h e) = absurd (true≢false (sym i ∙ h))
   one_tool_fault text c d (ToolFault.range x r i l f) (ToolFault.part h none' e) = absurd (none' x r l)
   one_tool_fault text c d (ToolFault.range x r h l e) (ToolFault.range x' s i m f) =
       let p = one_executable (behind_name text) x x' r s l m in
       one_fault spec 64 s c d (subst (λ t. FirstFault spec 64 t c) p.1 e) f
 
   tool_or_fault : (text : List ℕ) (x : Dep) (c : Cause) → ToolEntry spec line text x → ToolFault spec text c → ⊥
-  tool_or_fault text x c e (ToolFault.name h f) = name_or_not _ e.name h
+  tool_or_fault text x c e (ToolFault.name h f) = true≢false (sym e.name ∙ h)
   tool_or_fault text x c e (ToolFault.part h none' f) = none' e.exe e.range_text e.part
   tool_or_fault text x c e (ToolFault.range exe r h l f) =
       let p = one_executable (behind_name text) e.exe exe e.range_text r e.part l in

@@ -1,7 +1,9 @@
 -- An entry counts where the stanza is on and its path holds.
 use Rattle.std.proofs.Common.{◌≡◌, ℕ, zero, suc, Bool, true, false, ◌&&◌, ◌||◌, Some, List, [], ◌∷◌, map, refl, sym, ap, ◌∙◌}
 use Rattle.std.specs.List.{list_any, slice_get}
+use Rattle.std.proofs.lemmas.Bool.{and_right}
 use Rattle.std.proofs.lemmas.List.Folds.{list_all-append}
+use Rattle.std.proofs.lemmas.Option.{same_Some}
 use Rattle.plan_types.specs.declared.dependency.Dep.{Dep}
 use Rattle.plan_types.specs.declared.description.CompKind.{CompKind}
 use Rattle.plan_types.specs.declared.index.FlatDep.{FlatDep}
@@ -19,12 +21,8 @@ is_met parts kind dep path =
     list_all-append (λ literal. says (parts literal.part) literal.on) (stanza_of kind) (map literal_of path)
     ∙ ap (λ b. are_met parts (stanza_of kind) && b) (path_is_met parts path)
 
-none : (b : Bool) → false ≡ (b && false)
-none true = refl
-none false = refl
-
 pub any_is_met : (parts : Parts) (kind : CompKind) (dep : Dep) (paths : List Path) → list_any (λ flat. are_met parts flat.when) (map (flat_of kind dep) paths) ≡ (are_met parts (stanza_of kind) && list_any (holds (flags_of parts)) paths)
-any_is_met parts kind dep [] = none (are_met parts (stanza_of kind))
+any_is_met parts kind dep [] = sym (and_right (are_met parts (stanza_of kind)) false refl)
 any_is_met parts kind dep (path ∷ paths) =
     let stanza = are_met parts (stanza_of kind) in
     (λ i. is_met parts kind dep path i || any_is_met parts kind dep paths i)
@@ -36,12 +34,9 @@ pub record IsFrom (kind : CompKind) (dep : Dep) (paths : List Path) (i : ℕ) (f
   pub there : slice_get paths i ≡ Some path
   pub is : flat_of kind dep path ≡ flat
 
-some_is : (one other : FlatDep) → Some one ≡ Some other → one ≡ other
-some_is one other e = cc e
-
 pub from_path : (kind : CompKind) (dep : Dep) (paths : List Path) (i : ℕ) (flat : FlatDep) → slice_get (map (flat_of kind dep) paths) i ≡ Some flat → IsFrom kind dep paths i flat
 from_path kind dep [] i flat e = absurd (cc e)
-from_path kind dep (path ∷ paths) zero flat e = record { path = path; there = refl; is = some_is _ _ e }
+from_path kind dep (path ∷ paths) zero flat e = record { path = path; there = refl; is = same_Some _ _ e }
 from_path kind dep (path ∷ paths) (suc i) flat e =
     let found = from_path kind dep paths i flat e in
     record { path = found.path; there = found.there; is = found.is }

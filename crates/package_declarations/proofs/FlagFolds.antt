@@ -1,5 +1,6 @@
 -- Which flags the parts of a condition name.
 use Rattle.std.proofs.Common.{◌≡◌, Bool, true, false, ◌&&◌, List, ℕ, sym, ap, ◌∙◌, refl}
+use Rattle.std.proofs.lemmas.Bool.{and_right}
 use Rattle.plan_types.specs.declared.condition.Cond.{Cond}
 use Rattle.plan_types.specs.declared.condition.Cond.TheOpen as layer
 use Rattle.plan_types.specs.declared.condition.Cond.TheFolds.{fold-roll-Cond}
@@ -43,19 +44,15 @@ module _ (sections : List Section) where
   and-true true = refl
   and-true false = refl
 
-  and-false : (a : Bool) → false ≡ (a && false)
-  and-false true = refl
-  and-false false = refl
-
   -- where the right side passes, the left side decides; where it doesn't, the whole doesn't
   pub passes-And : (s l r : Cond) → s ≡ And l r → has_flags sections r ≡ true → has_flags sections l ≡ has_flags sections s
   passes-And s l r e right = and-true (has_flags sections l) ∙ ap (λ b. has_flags sections l && b) (sym right) ∙ sym (flagged-And l r) ∙ ap (has_flags sections) (sym e)
 
   pub stops-And : (s l r : Cond) → s ≡ And l r → has_flags sections r ≡ false → false ≡ has_flags sections s
-  stops-And s l r e right = and-false (has_flags sections l) ∙ ap (λ b. has_flags sections l && b) (sym right) ∙ sym (flagged-And l r) ∙ ap (has_flags sections) (sym e)
+  stops-And s l r e right = sym (and_right (has_flags sections l) false refl) ∙ ap (λ b. has_flags sections l && b) (sym right) ∙ sym (flagged-And l r) ∙ ap (has_flags sections) (sym e)
 
   pub passes-Or : (s l r : Cond) → s ≡ Or l r → has_flags sections r ≡ true → has_flags sections l ≡ has_flags sections s
   passes-Or s l r e right = and-true (has_flags sections l) ∙ ap (λ b. has_flags sections l && b) (sym right) ∙ sym (flagged-Or l r) ∙ ap (has_flags sections) (sym e)
 
   pub stops-Or : (s l r : Cond) → s ≡ Or l r → has_flags sections r ≡ false → false ≡ has_flags sections s
-  stops-Or s l r e right = and-false (has_flags sections l) ∙ ap (λ b. has_flags sections l && b) (sym right) ∙ sym (flagged-Or l r) ∙ ap (has_flags sections) (sym e)
+  stops-Or s l r e right = sym (and_right (has_flags sections l) false refl) ∙ ap (λ b. has_flags sections l && b) (sym right) ∙ sym (flagged-Or l r) ∙ ap (has_flags sections) (sym e)

@@ -1,6 +1,6 @@
 -- The name that is said last.
 use Rattle.std.proofs.Common.{◌≡◌, ℕ, List, [], ◌∷◌, ◌++◌, ap, ◌∙◌, refl}
-use Rattle.std.specs.Prelude.{Option, Some, None}
+use Rattle.std.specs.Prelude.{Option}
 use Rattle.std.specs.Option.{option_or}
 use Rattle.text_grammar.specs.Last.{last_said}
 use Rattle.text_grammar.proofs.LastSaid.{last_push}

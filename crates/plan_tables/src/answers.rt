@@ -1,3 +1,4 @@
+// Which text is made, with `;` at the end of a line. A refusal has a line and a detail.
 use crate::packages::{index, names};
 use crate::variables::variable;
 use choice_problem::{Choice, ConflictSet, Counts};
@@ -7,7 +8,6 @@ use qualified_goals::Names;
 use std::alloc::Global;
 use std::test::Fail;
 
-// Which text is made, with `;` at the end of a line. A refusal has a line and a detail.
 pub const CASES: &str = "\
 plan => plan;skipped index/a/3/a.cabal MissingField;skipped index/b/1/b.cabal:10 BadName;warning main.cabal:28 build-tools;choose base 4.17.0 installed base-4.17.0;choose main 1 local;choose main:*test on;choose main:*bench off;choose a 1.0 source;choose main:setup.a 2 source;visited 18446744073709551615 exhausted 0;\n\
 conflict => no plan;skipped index/a/3/a.cabal MissingField;skipped index/b/1/b.cabal:10 BadName;warning main.cabal:28 build-tools;conflict main a main:setup.base a:main:exe.a;visited 7 exhausted 4;\n\

@@ -1,3 +1,6 @@
+// `bar`, a project's constraints, before which `boot|`, `tests|` and `benchmarks|` may stand, a variable and a value of it: whether
+// that is barred. `name`, constraints and a flag: whether some constraint names it on, and off. `relax`, what is relaxed to newer
+// and, behind a `/`, to older versions, who asks, for what, in which range: which of the versions 1 to 5 are let in.
 ghost use Rattle.std.specs.Prelude.{◌≡◌, true, IfOk};
 ghost use Rattle.version_range.specs.Version.{has_versions};
 
@@ -12,9 +15,6 @@ use std::alloc::Global;
 use std::test::Fail;
 use version_range::{Cuts, read_range};
 
-// `bar`, a project's constraints, before which `boot|`, `tests|` and `benchmarks|` may stand, a variable and a value of it: whether
-// that is barred. `name`, constraints and a flag: whether some constraint names it on, and off. `relax`, what is relaxed to newer
-// and, behind a `/`, to older versions, who asks, for what, in which range: which of the versions 1 to 5 are let in.
 pub const CASES: &str = "\
 bar a >=2\ta\t1 source => barred\n\
 bar a >=2\ta\t2 source => free\n\

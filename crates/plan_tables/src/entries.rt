@@ -1,3 +1,5 @@
+// The files of a folder, the entries of a project (`!` stands where there is no `cabal.project`, and a `?` behind one that
+// may match nothing), and the local files or the first refusal.
 use crate::shared::{project, shown};
 use outside_folder::{MemFault, MemFile, MemFolder};
 use plan_types::{Halt, List, NoMemory, ProjectEntry, Text};
@@ -5,8 +7,6 @@ use project_paths::find_packages;
 use std::alloc::Global;
 use std::test::Fail;
 
-// The files of a folder, the entries of a project (`!` stands where there is no `cabal.project`, and a `?` behind one that
-// may match nothing), and the local files or the first refusal.
 pub const CASES: &str = "\
 main.cabal => ! => Ok([main.cabal])\n\
 x/p.cabal => ! => Err(Refused(Refusal { path: ., line: 0, cause: NoPackages, detail:  }))\n\

@@ -1,3 +1,5 @@
+// The policy, the preferred ranges (a least version each), the instances, and the places in order. An instance is the first letter of
+// its origin, its version, and a unit.
 use crate::packages::{instance, version};
 use crate::shared::shown;
 use plan_types::{Instance, List, Range, TextFault};
@@ -5,8 +7,6 @@ use preferences::{Policy, order};
 use std::alloc::Global;
 use std::test::Fail;
 
-// The policy, the preferred ranges (a least version each), the instances, and the places in order. An instance is the first letter of
-// its origin, its version, and a unit.
 pub const CASES: &str = "\
 latest\t\t => []\n\
 latest\t\ts1 s1.0 s2 s1.10 s1.9 => [2, 3, 4, 1, 0]\n\

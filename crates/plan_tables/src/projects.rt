@@ -1,3 +1,4 @@
+// One file or two, with `&` between them and `;` at the end of a line, and what they say together or the first refusal.
 ghost use Rattle.std.specs.Prelude.{IfOk};
 ghost use Rattle.std.specs.List.{AllByRecursion};
 ghost use Rattle.project_file.specs.Read.{IsWithin};
@@ -9,7 +10,6 @@ use std::alloc::Global;
 use std::test::Fail;
 use version_range::read_version;
 
-// One file or two, with `&` between them and `;` at the end of a line, and what they say together or the first refusal.
 pub const CASES: &str = "\
 -- nothing => Ok(Project { entries: [], extra: [], constraints: [], preferences: [], newer: [], older: [], tests: false, benchmarks: false, limit: At(4000), prefer_oldest: false, boot_installs: false, warnings: [] })\n\
 packages: a, ./b,,*/*.cabal;optional-packages: c => Ok(Project { entries: [ProjectEntry { path: e, line: 1, text: a, optional: false }, ProjectEntry { path: e, line: 1, text: ./b, optional: false }, ProjectEntry { path: e, line: 1, text: */*.cabal, optional: false }, ProjectEntry { path: e, line: 2, text: c, optional: true }], extra: [], constraints: [], preferences: [], newer: [], older: [], tests: false, benchmarks: false, limit: At(4000), prefer_oldest: false, boot_installs: false, warnings: [] })\n\

@@ -1,10 +1,10 @@
+// Two variables as they are shown, and their texts in goal order.
 use crate::packages::names;
 use plan_types::{NoMemory, Text};
 use qualified_goals::{Names, Part, Qual, Var, is_before};
 use std::alloc::Global;
 use std::test::Fail;
 
-// Two variables as they are shown, and their texts in goal order.
 pub const CASES: &str = "\
 base\tmain => base before main\n\
 main\tmain:c => main before main:c\n\

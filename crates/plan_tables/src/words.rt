@@ -1,10 +1,10 @@
+// Words, and what they mean.
 use crate::shared::shown;
 use command_line::read_words;
 use plan_types::{List, NoMemory, Text};
 use std::alloc::Global;
 use std::test::Fail;
 
-// Words, and what they mean.
 pub const CASES: &str = "\
 plan => Ok(Plan(Options { places: Places { index: index, installed: installed }, env: Env { os: linux, arch: x86_64, compiler: ghc, compiler_version: [9, 4, 7] }, limit: None }))\n\
 --index=a/b-1 plan --installed=u => Ok(Plan(Options { places: Places { index: a/b-1, installed: u }, env: Env { os: linux, arch: x86_64, compiler: ghc, compiler_version: [9, 4, 7] }, limit: None }))\n\

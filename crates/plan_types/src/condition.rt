@@ -1,6 +1,5 @@
 // Conditions, what they are asked of, and settings of flags.
 ghost use Rattle.std.specs.Prelude.{◌≡◌, IfOk};
-ghost use Rattle.plan_types.specs.declared.condition.Cond.TheVariants.{Impl};
 
 use crate::{NoMemory, Range, Shared, Text, Version};
 use std::alloc::Global;
@@ -55,20 +54,12 @@ impl Cond {
             Cond::Flag(name) => Ok(Cond::Flag(name.copy()?)),
             Cond::Os(name) => Ok(Cond::Os(name.copy()?)),
             Cond::Arch(name) => Ok(Cond::Arch(name.copy()?)),
-            Cond::Impl(name, range) => copy_impl(alloc, name, range),
+            Cond::Impl(name, range) => Ok(Cond::Impl(name.copy()?, range.copy(alloc)?)),
             Cond::Not(inner) => Ok(Cond::Not(inner.copy()?)),
             Cond::And(left, right) => Ok(Cond::And(left.copy()?, right.copy()?)),
             Cond::Or(left, right) => Ok(Cond::Or(left.copy()?, right.copy()?)),
         }
     }
-}
-
-fn copy_impl(alloc: Global, name: &Text, range: &Range) -> Result<Cond, NoMemory>
-    ensures { IfOk result (λ cond. cond ≡ Impl name.now range.now) }
-{
-    let name = name.copy()?;
-    let range = range.copy(alloc)?;
-    Ok(Cond::Impl(name, range))
 }
 
 // Chains group from the left, so that the left side may be as deep as a file is long. What others hold too stays.

@@ -14,10 +14,7 @@ pub fn is_package_name(text: &[u8]) -> bool
 pub fn is_component_name(text: &[u8]) -> bool
     ensures { result ≡ is_component_name text.now }
 {
-    match text {
-        [] => false,
-        bytes => has_component_bytes(bytes),
-    }
+    !text.is_empty() && has_component_bytes(text)
 }
 
 /// Whether a text is a flag's name: that of a component, but for a `-` in front.

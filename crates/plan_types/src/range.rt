@@ -79,14 +79,8 @@ impl Range {
         let mut copied = copy_first(alloc, &mut waiting, self)?;
         while let Some(joined) = waiting.pop() {
             match joined {
-                Joined::Both(right) => {
-                    let right = right.copy(alloc)?;
-                    copied = both(alloc, copied, right)?;
-                }
-                Joined::Either(right) => {
-                    let right = right.copy(alloc)?;
-                    copied = either(alloc, copied, right)?;
-                }
+                Joined::Both(right) => copied = both(alloc, copied, right.copy(alloc)?)?,
+                Joined::Either(right) => copied = either(alloc, copied, right.copy(alloc)?)?,
             }
         }
         Ok(copied)
@@ -156,14 +150,8 @@ impl Drop for Range {
                 Range::AtMost(_) => return,
                 Range::Below(_) => return,
                 Range::Major(_) => return,
-                Range::Both(left, right) => {
-                    let right = right.into_inner();
-                    drop(right);
-                    self = left.into_inner();
-                }
-                Range::Either(left, right) => {
-                    let right = right.into_inner();
-                    drop(right);
+                Range::Both(left, right) | Range::Either(left, right) => {
+                    drop(right.into_inner());
                     self = left.into_inner();
                 }
             }

@@ -55,8 +55,7 @@ impl Text {
         requires { IsAscii bytes.now }
         ensures { IfOk result (λ copied. copied ≡ bytes.now) }
     {
-        let text = ascii_str(bytes);
-        Text::from_str(alloc, text)
+        Text::from_str(alloc, str::from_utf8(bytes).unwrap())
     }
 
     /// Puts ASCII letters in lower case.
@@ -99,13 +98,6 @@ impl Text {
         self.string.push_str(text)?;
         Ok(())
     }
-}
-
-fn ascii_str(bytes: &[u8]) -> &str
-    requires { IsAscii bytes.now }
-    ensures { result.now ≡ bytes.now }
-{
-    str::from_utf8(bytes).unwrap()
 }
 
 impl AsStr for Text {

@@ -1,6 +1,6 @@
 -- The members of an operator are an interval of versions, which begins at a version that is known.
 use Rattle.std.proofs.Common.{◌≡◌, Bool, true, false, not, ◌&&◌, [], ◌∷◌, refl, sym, ap, ◌∙◌, arith}
-use Rattle.std.proofs.lemmas.Bool.{false≢true, not-true, not_from_false, and_parts, and_from}
+use Rattle.std.proofs.lemmas.Bool.{not-true, not_from_false, and_parts, and_from}
 use Rattle.std.proofs.lemmas.List.{length-append}
 use Rattle.plan_types.specs.declared.range.Range.{roll-Range}
 use Rattle.plan_types.specs.declared.range.Range.TheOpen as layer

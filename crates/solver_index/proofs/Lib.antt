@@ -2,7 +2,8 @@ pub mod ListLaws
 mod Made
 pub mod Atoms
 mod Relaxed
-mod UnitRows
+mod RowLaws
+mod DefaultLaws
 mod Insides
 pub mod Allowing
 mod Operators

@@ -1,11 +1,11 @@
 -- Lists: members, tests of all and of some, and numbers that rise.
-use Rattle.std.proofs.Common.{◌≡◌, ℕ, zero, suc, ◌+◌, ◌-◌, ◌<◌, ◌≤◌, Bool, true, false, cond, ◌&&◌, ◌||◌, ◌⊎◌, List, [], ◌∷◌, ◌++◌, map, refl, sym, ap, ◌∙◌, subst, inl, inr, arith, append_assoc, OnOk, Result, Ok, Err}
-use Rattle.std.specs.List.{Contains, filter, list_all, list_any, range_with_len}
-use Rattle.std.proofs.lemmas.Bool.{false≢true, and_parts, or_left, or_right}
+use Rattle.std.proofs.Common.{◌≡◌, ℕ, zero, suc, ◌+◌, ◌-◌, ◌<◌, ◌≤◌, Bool, true, false, cond, List, [], ◌∷◌, ◌++◌, map, refl, sym, ap, ◌∙◌, subst, inl, inr, arith, append_assoc, OnOk, Result, Ok, Err}
+use Rattle.std.specs.List.{Contains, filter, range_with_len}
+use Rattle.std.proofs.lemmas.Bool.{false≢true}
 use Rattle.std.proofs.lemmas.List.{append-nil, map-append}
 use Rattle.std.proofs.lemmas.List.Elements.{filter-append}
 use Rattle.solver_index.specs.Places.{rising, between}
-use Rattle.common_laws.specs.Lists.{contains-head, contains-tail, contains-none, contains-cases}
+use Rattle.common_laws.specs.Lists.{contains-none, contains-cases}
 
 -- ---- numbers that rise
 

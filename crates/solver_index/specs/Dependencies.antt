@@ -21,9 +21,9 @@ use Rattle.solver_index.specs.declared.dependencies.ConditionalDep.{ConditionalD
 use Rattle.solver_index.specs.declared.dependencies.Need.{Need}
 use Rattle.solver_index.specs.declared.dependencies.Setting.{Setting}
 use Rattle.solver_index.specs.declared.dependencies.Target.{Target}
-use Rattle.solver_index.specs.Allowed.{allowed_unit, allowed_for}
+use Rattle.solver_index.specs.Allowed.{allowed_by, allowed_unit}
 use Rattle.solver_index.specs.AllowedVersions.{allowed_versions}
-use Rattle.solver_index.specs.Places.{rising, places, number, flag_number}
+use Rattle.solver_index.specs.Places.{rising, number, flag_number}
 use Rattle.plan_types.specs.Packages.{entries_of, package_at}
 use Rattle.plan_types.specs.declared.description.Description.{Description}
 
@@ -42,16 +42,12 @@ part_of names literal.Benches = Benches
 abbrev pub setting_of : NameTable → Literal → Setting
 setting_of names l = record { part = part_of names l.part; val = bit l.on }
 
--- the package of this name, and the places of the versions that are let in
-abbrev pub target_of : List Package → NameTable → (Version → Bool) → Name → Target
-target_of packages names allows name = record {
-  «package» = number packages names name;
-  inside = places (λ e. allows e.instance.version) (entries_of packages (number packages names name));
-}
-
--- the target of a dependency
+-- the package of a dependency, and the places of its instances that are allowed
 abbrev pub dep_target : List Package → NameTable → (Dep → Version → Bool) → DepKind → Dep → Target
-dep_target packages names allows kind dep = target_of packages names (allowed_for kind (allows dep) dep.range) dep.«package»
+dep_target packages names allows kind dep = record {
+  «package» = number packages names dep.«package»;
+  allowed = allowed_by kind (allows dep) dep (entries_of packages (number packages names dep.«package»));
+}
 
 -- a dependency and what has to be set for it to count
 abbrev pub conditional_dep : List Package → NameTable → (Dep → Version → Bool) → FlatDep → ConditionalDep

@@ -1,4 +1,6 @@
 pub mod Places
+pub mod Rows
+pub mod Defaults
 pub mod PlaceRuns
 pub mod Orders
 pub mod Allowed

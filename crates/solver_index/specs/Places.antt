@@ -7,7 +7,6 @@ use Rattle.plan_types.specs.declared.index.Entry.{Entry}
 use Rattle.plan_types.specs.declared.index.Package.{Package}
 use Rattle.preferences.specs.Places.{no_instance}
 use Rattle.qualified_goals.specs.Names.{Name, NameTable, number_of}
-use Rattle.plan_types.specs.Packages.{no_package}
 
 -- the numbers below n
 abbrev pub rising : ℕ → List ℕ

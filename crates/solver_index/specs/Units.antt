@@ -1,5 +1,5 @@
 -- The places of the units of each package, by their ids.
-use Rattle.std.specs.Prelude.{◌≡◌, ℕ, List, length, Some, slice_get}
+use Rattle.std.specs.Prelude.{◌≡◌, ℕ, List}
 use Rattle.std.specs.declared.hash.FoldHasher.{FoldHasher}
 use Rattle.std.specs.declared.hash.BuildHasherDefault.{BuildHasherDefault}
 use Rattle.indexmap.specs.IndexMap.{IndexMap}
@@ -7,6 +7,7 @@ use Rattle.plan_types.specs.declared.index.Package.{Package}
 use Rattle.qualified_goals.specs.Names.{Name}
 use Rattle.constraint_set.specs.Lists.{items_at}
 use Rattle.solver_index.specs.Allowed.{allowed_unit}
+use Rattle.solver_index.specs.Rows.{AreRows}
 use Rattle.plan_types.specs.Bytes.{same_text}
 use Rattle.plan_types.specs.Packages.{package_at}
 
@@ -19,6 +20,5 @@ abbrev pub AreUnitsOf : Package → UnitPlaces → Type 0
 AreUnitsOf p units = (id : Name) → items_at same_text units id ≡ allowed_unit id p
 
 -- and these those of the first n packages
-pub record AreUnits (packages : List Package) (n : ℕ) (units : List UnitPlaces) : Type 0 where
-  pub count : length units ≡ n
-  pub each : (p : ℕ) (found : UnitPlaces) → slice_get units p ≡ Some found → AreUnitsOf (package_at packages p) found
+abbrev pub AreUnits : List Package → ℕ → List UnitPlaces → Type 0
+AreUnits packages n = AreRows n (λ p. AreUnitsOf (package_at packages p))

@@ -10,11 +10,11 @@ pub struct Setting {
     pub val: u64,
 }
 
-/// The package of a dependency, and the places of its instances whose versions are let in.
+/// The package of a dependency, and the places of its instances that are allowed.
 #[derive(Debug, Drop)]
 pub struct Target {
     pub package: u64,
-    pub inside: PlaceRuns,
+    pub allowed: PlaceRuns,
 }
 
 /// A dependency, and what has to be set for it to count.

@@ -1,10 +1,11 @@
 //! What is made once of an index and a project. In go the packages, their names by numbers and the constraints; out
-//! come the order in which the instances of each package are tried, and what each instance asks for: names as
-//! numbers, and ranges as the places of the instances inside them, so that a choice looks nothing up. The ranges are
-//! relaxed as the project says.
+//! come the order in which the instances of each package are tried, what each instance asks for, and the defaults of
+//! its flags: names as numbers, and dependencies as the places of the instances that they allow, so that a choice
+//! filters nothing. The ranges are relaxed as the project says.
 #![tactic(auto)]
 
 mod blocks;
+mod defaults;
 mod dependencies;
 mod inside_places;
 mod laws;
@@ -17,9 +18,10 @@ mod tables;
 mod turning_places;
 mod units;
 
+pub use defaults::Defaults;
 pub use dependencies::{ConditionalDep, Dependencies, Need, Setting, Target};
 pub use laws::relaxed_ranges;
-pub use offers::{allowed_by, allowed_in};
+pub use offers::allowed_in;
 pub use place_runs::PlaceRuns;
 pub use places::{is_local, number, rising};
 pub use tables::Tables;

@@ -11,13 +11,13 @@ use plan_types::{Body, Dep, DepKind, Entry, LibName, List, NoMemory, Range, Text
 use std::alloc::Global;
 
 /// What a dependency of a kind allows, of the instances whose versions are let in: those that have what it is on.
-pub fn allowed_by(
+pub(crate) fn allowed_by(
     alloc: Global,
     kind: DepKind,
     dep: &Dep,
     inside: &PlaceRuns,
     entries: &[Entry],
-) -> Result<List<u64>, NoMemory>
+) -> Result<PlaceRuns, NoMemory>
     ensures { IfOk result (λ allowed. allowed ≡ filter (has_at kind dep.now entries.now) inside.now) }
 {
     allowed_of(alloc, kind, dep, inside.runs(), entries)
@@ -29,18 +29,19 @@ fn allowed_of(
     dep: &Dep,
     runs: &[Run],
     entries: &[Entry],
-) -> Result<List<u64>, NoMemory>
+) -> Result<PlaceRuns, NoMemory>
     ensures { IfOk result (λ allowed. allowed ≡ filter (has_at kind dep.now entries.now) (places_in runs.now)) }
 {
-    let mut allowed = List::new(alloc);
+    let mut allowed = PlaceRuns::new(alloc);
     for run in runs {
         push_offering(&mut allowed, kind, dep, *run, entries)?;
     }
     Ok(allowed)
 }
 
+// The places from `first` on wait to be pushed as one run.
 fn push_offering(
-    allowed: &mut List<u64>,
+    allowed: &mut PlaceRuns,
     kind: DepKind,
     dep: &Dep,
     run: Run,
@@ -48,12 +49,14 @@ fn push_offering(
 ) -> Result<(), NoMemory>
     ensures { OnOk result (allowed.new ≡ allowed.old ++ filter (has_at kind dep.now entries.now) (between run.from run.to)) }
 {
+    let mut first = run.from;
     for place in run.from..run.to {
-        if offers_at(kind, dep, entries, place) {
-            allowed.push(place)?;
+        if !offers_at(kind, dep, entries, place) {
+            allowed.push_run(first, place)?;
+            first = place + 1;
         }
     }
-    Ok(())
+    allowed.push_run(first, run.to)
 }
 
 fn offers_at(kind: DepKind, dep: &Dep, entries: &[Entry], place: u64) -> bool

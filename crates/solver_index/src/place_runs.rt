@@ -1,5 +1,5 @@
 // Places that are kept as runs.
-ghost use Rattle.std.specs.Prelude.{◌≡◌, ◌++◌, [], OnOk};
+ghost use Rattle.std.specs.Prelude.{◌≡◌, ◌++◌, [], IfOk, OnOk};
 ghost use Rattle.solver_index.specs.Places.{between};
 ghost use Rattle.solver_index.specs.PlaceRuns.{places_in};
 
@@ -14,7 +14,7 @@ pub(crate) struct Run {
     pub to: u64,
 }
 
-/// PlaceRuns of instances, kept as runs.
+/// Places of instances, kept as runs.
 #[derive(Debug, Drop)]
 pub struct PlaceRuns {
     runs: List<Run>,
@@ -38,11 +38,13 @@ impl PlaceRuns {
         }
     }
 
-    /// Appends the places from one up to another.
+    /// Appends the places from one up to another, of which there may be none.
     pub(crate) fn push_run(&mut self, from: u64, to: u64) -> Result<(), NoMemory>
         ensures { OnOk result (self.new ≡ self.old ++ between from to) }
     {
-        self.runs.push(Run { from, to })?;
+        if from < to {
+            self.runs.push(Run { from, to })?;
+        }
         Ok(())
     }
 
@@ -51,4 +53,24 @@ impl PlaceRuns {
     {
         self.runs.as_slice()
     }
+
+    /// The places one by one.
+    pub fn places(&self, alloc: Global) -> Result<List<u64>, NoMemory>
+        ensures { IfOk result (λ places. places ≡ self.now) }
+    {
+        let mut places = List::new(alloc);
+        for run in self.runs() {
+            push_places(&mut places, *run)?;
+        }
+        Ok(places)
+    }
+}
+
+fn push_places(places: &mut List<u64>, run: Run) -> Result<(), NoMemory>
+    ensures { OnOk result (places.new ≡ places.old ++ between run.from run.to) }
+{
+    for place in run.from..run.to {
+        places.push(place)?;
+    }
+    Ok(())
 }

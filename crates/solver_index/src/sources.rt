@@ -8,6 +8,7 @@ ghost use Rattle.solver_index.specs.Versions.{body_has_versions, deps_have_versi
 
 use crate::dependencies::{ConditionalDep, Dependencies, Need, Setting, Target};
 use crate::inside_places::places_inside;
+use crate::offers::allowed_by;
 use crate::places::{flag_number, number};
 use crate::units::{UnitPlaces, places_of};
 use constraint_set::Constraints;
@@ -75,7 +76,8 @@ impl<'a> Sources<'a> {
         let cuts = self.cuts(alloc, owner, kind, dep)?;
         let entries = Package::entries_at(self.packages, package);
         let inside = places_inside(alloc, &cuts, &dep.range, entries)?;
-        Ok(Target { package, inside })
+        let allowed = allowed_by(alloc, kind, dep, &inside, entries)?;
+        Ok(Target { package, allowed })
     }
 
     fn targets(

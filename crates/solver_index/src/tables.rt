@@ -1,11 +1,17 @@
 // All that is made once of an index and a project.
-ghost use Rattle.std.specs.Prelude.{◌≡◌, IfOk, true};
+ghost use Rattle.std.specs.Prelude.{◌≡◌, List, IfOk, true};
+ghost use Rattle.plan_types.specs.declared.index.Package.{Package};
+ghost use Rattle.plan_types.specs.Packages.{entries_of};
+ghost use Rattle.qualified_goals.specs.Names.{NameTable};
 ghost use Rattle.constraint_set.specs.Stands.{StandsFor};
+ghost use Rattle.solver_index.specs.Defaults.{AreDefaults, default_of};
 ghost use Rattle.solver_index.specs.Dependencies.{all_dependencies};
 ghost use Rattle.solver_index.specs.Blocks.{AllAreInBlocks};
 ghost use Rattle.solver_index.specs.Orders.{AreOrders};
+ghost use Rattle.solver_index.specs.Places.{entry_at};
 ghost use Rattle.solver_index.specs.Versions.{packages_have_versions};
 
+use crate::defaults::{Defaults, default_at, defaults_of};
 use crate::dependencies::Dependencies;
 use crate::orders::orders_of;
 use crate::sources::Sources;
@@ -22,6 +28,8 @@ pub struct Tables {
     pub orders: List<List<u64>>,
     /// By package and instance.
     pub dependencies: List<List<Dependencies>>,
+    /// The defaults of flags, by package and instance.
+    pub defaults: List<List<Defaults>>,
 }
 
 impl Tables {
@@ -38,6 +46,7 @@ impl Tables {
         requires blocks { AllAreInBlocks packages.now }
         ensures orders { IfOk result (λ tables. AreOrders project.now packages.now tables.orders) }
         ensures dependencies { IfOk result (λ tables. tables.dependencies ≡ all_dependencies packages.now project.now names.now) }
+        ensures defaults { IfOk result (λ tables. AreDefaults packages.now names.now tables.defaults) }
     {
         let orders = orders_of(alloc, packages, project)?;
         let units = units_of(alloc, packages)?;
@@ -49,9 +58,19 @@ impl Tables {
             units,
         };
         let dependencies = sources.dependencies(alloc)?;
+        let defaults = defaults_of(alloc, packages, names)?;
         Ok(Tables {
             orders,
             dependencies,
+            defaults,
         })
+    }
+
+    /// The default of a flag as an instance declares it, and off where it doesn't.
+    pub fn default_of(&self, p: u64, i: u64, f: u64) -> bool
+        ensures { (packages : List Package) (names : NameTable) → AreDefaults packages names self.now.defaults
+            → result ≡ default_of names f (entry_at (entries_of packages p) i).body }
+    {
+        default_at(self.defaults.as_slice(), p, i, f)
     }
 }

@@ -27,15 +27,8 @@ use Rattle.description.specs.Faults.{of_condition, of_said, unless}
 use Rattle.flatten.specs.Conditions.{asks_well}
 use Rattle.sound_description.proofs.Asking.{asks-Always, asks-And, asks-Not, stands-fits}
 use Rattle.sound_description.proofs.Faultless.{unless-none}
+use Rattle.common_laws.specs.Each.{each-front, each-back}
 use Rattle.common_laws.specs.Passing.{all-append, none-front}
-
-each-front : {A : Type 0} (P : A → Type 0) (xs ys : List A) → AllByRecursion P (xs ++ ys) → AllByRecursion P xs
-each-front P [] ys h = tt
-each-front P (x ∷ xs) ys h = (h.0, each-front P xs ys h.1)
-
-each-back : {A : Type 0} (P : A → Type 0) (xs ys : List A) → AllByRecursion P (xs ++ ys) → AllByRecursion P ys
-each-back P [] ys h = h
-each-back P (x ∷ xs) ys h = each-back P xs ys h.1
 
 module _ (file : File) (known : List ℕ → Bool) (found : (name : List ℕ) → declares is_flag file.sections name ≡ true → known name ≡ true) where
   abbrev Good : List Cond → Type 0

@@ -1,5 +1,5 @@
 -- What holds of each part of components and stanzas holds once imports are replaced.
-use Rattle.std.proofs.Common.{◌≡◌, ℕ, Bool, true, false, ◌&&◌, if◌then◌else◌, List, [], ◌∷◌, ◌++◌, map, refl, ap, ◌∙◌}
+use Rattle.std.proofs.Common.{◌≡◌, ℕ, Bool, true, false, ◌&&◌, if◌then◌else◌, List, [], ◌∷◌, ◌++◌, map, refl, sym, ap, ◌∙◌, subst}
 use Rattle.std.specs.List.{list_all, AllByRecursion}
 use Rattle.std.proofs.lemmas.Bool.{and_parts, and_from}
 use Rattle.plan_types.specs.declared.condition.Cond.{Cond}
@@ -10,7 +10,9 @@ use Rattle.section_syntax.specs.declared.part.Said.TheVariants as said
 use Rattle.section_syntax.specs.declared.part.Section.{Section}
 use Rattle.section_syntax.specs.declared.part.SectionKind.{SectionKind}
 use Rattle.section_syntax.specs.declared.part.SectionKind.TheVariants as kinds
-use Rattle.stanza_imports.specs.Imports.{Stanzas, parts_of, under, replaced, all_replaced, stanzas_behind, sections_from}
+use Rattle.stanza_imports.specs.Imports.{under, with_imports_replaced}
+use Rattle.stanza_imports.specs.KnownStanzas.{Stanzas, parts_of, replaced, all_replaced, stanzas_behind, sections_from}
+use Rattle.stanza_imports.proofs.InOrder.{from-known}
 use Rattle.common_laws.specs.Passing.{all-append, all-map, all-flat, all-any}
 use Rattle.plan_types.specs.Bytes.{same_text}
 use Rattle.stanza_imports.specs.Parts.{deps_said}
@@ -78,9 +80,12 @@ module _ (asks : Cond → Bool) (fits : Dep → Bool) where
   behind-well stanzas all section well kinds.Flag is = rw is all
   behind-well stanzas all section well kinds.Setup is = rw is all
 
-  pub sections-well : (sections : List Section) (stanzas : Stanzas) → list_all are_well stanzas ≡ true → AllByRecursion IsWell sections → AllByRecursion IsWell (sections_from stanzas sections)
-  sections-well [] stanzas all each = tt
-  sections-well (section ∷ sections) stanzas all each = (
+  from-well : (sections : List Section) (stanzas : Stanzas) → list_all are_well stanzas ≡ true → AllByRecursion IsWell sections → AllByRecursion IsWell (sections_from stanzas sections)
+  from-well [] stanzas all each = tt
+  from-well (section ∷ sections) stanzas all each = (
     λ is. all-replaced-well stanzas all section.parts (each.0 is),
-    sections-well sections (stanzas_behind stanzas section) (behind-well stanzas all section each.0 section.kind refl) each.1,
+    from-well sections (stanzas_behind stanzas section) (behind-well stanzas all section each.0 section.kind refl) each.1,
   )
+
+  pub sections-well : (sections : List Section) → AllByRecursion IsWell sections → AllByRecursion IsWell (with_imports_replaced sections)
+  sections-well sections each = subst (AllByRecursion IsWell) (sym (from-known sections)) (from-well sections [] refl each)

@@ -80,7 +80,7 @@ module _ (spec : Spec) (file : File) (known : List ℕ → Bool) (found : (name 
   each-well (section ∷ sections) read faultless = (one-well section read.0 faultless.0, each-well sections read.1 faultless.1)
 
   pub replaced-well : AllByRecursion (IsReadSection spec) file.sections → AllByRecursion (IsFaultless file) file.sections → AllByRecursion (IsWell (asks_well known) (is_stated file)) (with_imports_replaced file.sections)
-  replaced-well read faultless = sections-well (asks_well known) (is_stated file) file.sections [] refl (each-well file.sections read faultless)
+  replaced-well read faultless = sections-well (asks_well known) (is_stated file) file.sections (each-well file.sections read faultless)
 
 -- ---- a component
 

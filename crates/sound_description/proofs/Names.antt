@@ -17,7 +17,9 @@ use Rattle.description.specs.Faults.{unless, at, is_class}
 use Rattle.description.specs.NamesBefore.{names_behind, again}
 use Rattle.description.proofs.RepeatedNames.{repeated_from}
 use Rattle.package_declarations.specs.Flags.{flag_of, declared_flags}
-use Rattle.stanza_imports.specs.Imports.{Stanzas, all_replaced, stanzas_behind, sections_from}
+use Rattle.stanza_imports.specs.Imports.{with_imports_replaced}
+use Rattle.stanza_imports.specs.KnownStanzas.{Stanzas, all_replaced, stanzas_behind, sections_from}
+use Rattle.stanza_imports.proofs.InOrder.{from-known}
 use Rattle.stanza_imports.specs.Names.{has, with_name}
 use Rattle.package_declarations.specs.Declarations.{is_flag}
 use Rattle.description.specs.declared.faults.Class.{Class}
@@ -106,9 +108,12 @@ module _ (file : File) where
   one_component section kinds.Flag is = rw is refl
   one_component section kinds.Setup is = rw is refl
 
-  pub component-names : (sections : List Section) (stanzas : Stanzas) → map (λ component. component.name) (flat_map (component_in file) (sections_from stanzas sections)) ≡ named OfComponent sections
-  component-names [] stanzas = refl
-  component-names (section ∷ sections) stanzas =
+  names-from : (sections : List Section) (stanzas : Stanzas) → map (λ component. component.name) (flat_map (component_in file) (sections_from stanzas sections)) ≡ named OfComponent sections
+  names-from [] stanzas = refl
+  names-from (section ∷ sections) stanzas =
       let here = record section { parts = all_replaced stanzas section.parts } in
       map-append (λ (component : Component). component.name) (component_in file here) (flat_map (component_in file) (sections_from (stanzas_behind stanzas section) sections))
-      ∙ (λ i. one_component here section.kind refl i ++ component-names sections (stanzas_behind stanzas section) i)
+      ∙ (λ i. one_component here section.kind refl i ++ names-from sections (stanzas_behind stanzas section) i)
+
+  pub component-names : (sections : List Section) → map (λ component. component.name) (flat_map (component_in file) (with_imports_replaced sections)) ≡ named OfComponent sections
+  component-names sections = ap (λ replaced. map (λ (component : Component). component.name) (flat_map (component_in file) replaced)) (from-known sections) ∙ names-from sections []

@@ -17,7 +17,9 @@ use Rattle.section_syntax.specs.declared.part.SectionKind.{SectionKind}
 use Rattle.section_syntax.specs.declared.part.SectionKind.TheVariants as kinds
 use Rattle.package_declarations.specs.Components.{component_in}
 use Rattle.package_declarations.specs.Declarations.{declares, is_bare, is_known, is_library, is_executable, is_own, known_by, meaning, meaning_by, meant, meant_as, own_name}
-use Rattle.stanza_imports.specs.Imports.{Stanzas, all_replaced, stanzas_behind, sections_from}
+use Rattle.stanza_imports.specs.Imports.{with_imports_replaced}
+use Rattle.stanza_imports.specs.KnownStanzas.{Stanzas, all_replaced, stanzas_behind, sections_from}
+use Rattle.stanza_imports.proofs.InOrder.{from-known}
 use Rattle.package_declarations.specs.declared.declarations.Meaning.{Meaning}
 use Rattle.package_declarations.specs.declared.declarations.Meaning.TheVariants.{Other, Own, OwnLibrary}
 use Rattle.flatten.specs.OwnComponents.{finds_all, is_exe, is_lib, name_of}
@@ -31,15 +33,18 @@ use Rattle.plan_types.specs.Packages.{library_name}
 
 module _ (file : File) (of_kind : SectionKind → Bool) (test : Component → Bool) (name : List ℕ)
     (one : (section : Section) (kind : SectionKind) → section.kind ≡ kind → (of_kind kind && same_text name section.name) ≡ true → list_any test (component_in file section) ≡ true) where
-  pub declared-found : (sections : List Section) (stanzas : Stanzas) → declares of_kind sections name ≡ true → list_any test (flat_map (component_in file) (sections_from stanzas sections)) ≡ true
-  declared-found [] stanzas e = e
-  declared-found (section ∷ sections) stanzas e =
+  found-from : (sections : List Section) (stanzas : Stanzas) → declares of_kind sections name ≡ true → list_any test (flat_map (component_in file) (sections_from stanzas sections)) ≡ true
+  found-from [] stanzas e = e
+  found-from (section ∷ sections) stanzas e =
       let here = record section { parts = all_replaced stanzas section.parts } in
       let rest = flat_map (component_in file) (sections_from (stanzas_behind stanzas section) sections) in
       elim (or_cases (of_kind section.kind && same_text name section.name) (declares of_kind sections name) e) [
         | inl h ↦ any-front test (component_in file here) rest (one here section.kind refl h)
-        | inr h ↦ any-back test (component_in file here) rest (declared-found sections (stanzas_behind stanzas section) h)
+        | inr h ↦ any-back test (component_in file here) rest (found-from sections (stanzas_behind stanzas section) h)
       ]
+
+  pub declared-found : (sections : List Section) → declares of_kind sections name ≡ true → list_any test (flat_map (component_in file) (with_imports_replaced sections)) ≡ true
+  declared-found sections e = ap (λ replaced. list_any test (flat_map (component_in file) replaced)) (from-known sections) ∙ found-from sections [] e
 
 module _ (file : File) where
   one-lib : (l : LibName) (section : Section) (kind : SectionKind) → section.kind ≡ kind → (is_library kind && same_text (name_of l) section.name) ≡ true → list_any (λ c. is_lib c l) (component_in file section) ≡ true
@@ -66,11 +71,11 @@ module _ (file : File) where
   lib-name lib.Main = refl
   lib-name (lib.Named name) = refl
 
-  pub lib-found : (sections : List Section) (stanzas : Stanzas) (l : LibName) → declares is_library sections (library_name l) ≡ true → list_any (λ c. is_lib c l) (flat_map (component_in file) (sections_from stanzas sections)) ≡ true
-  lib-found sections stanzas l e = declared-found file is_library (λ c. is_lib c l) (name_of l) (one-lib l) sections stanzas (ap (declares is_library sections) (sym (lib-name l)) ∙ e)
+  pub lib-found : (sections : List Section) (l : LibName) → declares is_library sections (library_name l) ≡ true → list_any (λ c. is_lib c l) (flat_map (component_in file) (with_imports_replaced sections)) ≡ true
+  lib-found sections l e = declared-found file is_library (λ c. is_lib c l) (name_of l) (one-lib l) sections (ap (declares is_library sections) (sym (lib-name l)) ∙ e)
 
-  pub exe-found : (sections : List Section) (stanzas : Stanzas) (exe : List ℕ) → declares is_executable sections exe ≡ true → list_any (λ c. is_exe c exe) (flat_map (component_in file) (sections_from stanzas sections)) ≡ true
-  exe-found sections stanzas exe e = declared-found file is_executable (λ c. is_exe c exe) exe (one-exe exe) sections stanzas e
+  pub exe-found : (sections : List Section) (exe : List ℕ) → declares is_executable sections exe ≡ true → list_any (λ c. is_exe c exe) (flat_map (component_in file) (with_imports_replaced sections)) ≡ true
+  exe-found sections exe e = declared-found file is_executable (λ c. is_exe c exe) exe (one-exe exe) sections e
 
 -- ---- what a dependency is meant as
 

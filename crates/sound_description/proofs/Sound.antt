@@ -68,7 +68,7 @@ module _ (spec : Spec) (file : File) (digest name : List ℕ) (version : Version
   kept dep e =
       let both = and_parts (is_read is_of_components dep) (is_known file dep) e in
       let parts = read-parts (is_of_components dep.kind) (not dep.internal) (is_package_name dep.«package») (has_versions dep.range) both.0 in
-      meant-kept file name named formed all_components (lib-found file file.sections []) (exe-found file file.sections [])
+      meant-kept file name named formed all_components (lib-found file file.sections) (exe-found file file.sections)
       dep (parts.0, parts.2, parts.3) (not-true dep.internal parts.1) both.1
 
   abbrev is_well : Component → Bool
@@ -103,7 +103,7 @@ module _ (spec : Spec) (file : File) (digest name : List ℕ) (version : Version
   setup-is = setup-read spec file read
 
   components-distinct : IsDistinct same_text (map (λ component. component.name) all_components)
-  components-distinct = subst (IsDistinct same_text) (sym (component-names file file.sections [])) (once OfComponent file.sections components_once)
+  components-distinct = subst (IsDistinct same_text) (sym (component-names file file.sections)) (once OfComponent file.sections components_once)
 
   conditions-well : list_all (asks_well (declares_flag whole)) (conditions whole) ≡ true
   conditions-well =
@@ -118,7 +118,7 @@ module _ (spec : Spec) (file : File) (digest name : List ℕ) (version : Version
     flags_rise = flags_rise file.sections flags flags_are flags_once;
     flag_names = flag_names file file.sections flags flags_are faultless;
     components_once = components-distinct;
-    libraries_apart = libraries_apart file name named file.sections [] faultless;
+    libraries_apart = libraries_apart file name named file.sections faultless;
     component_kinds = all-less (is_kept name all_components) (λ dep. is_of_components dep.kind) (λ dep e. (kept-parts dep e).0) (component_deps whole) deps-kept;
     setup_kinds = all-less (is_read is_of_setup) (λ dep. is_of_setup dep.kind && not dep.internal)
         (λ dep e. let parts = setup-parts dep e in and_from (is_of_setup dep.kind) (not dep.internal) parts.0 parts.1) (setup file) setup-is;

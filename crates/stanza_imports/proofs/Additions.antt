@@ -11,7 +11,8 @@ use Rattle.section_syntax.specs.declared.part.Said.TheVariants as said
 use Rattle.section_syntax.specs.declared.part.Section.{Section}
 use Rattle.section_syntax.specs.declared.part.SectionKind.{SectionKind}
 use Rattle.section_syntax.specs.declared.part.SectionKind.TheVariants as kinds
-use Rattle.stanza_imports.specs.Imports.{Stanzas, all_replaced, parts_of, sections_from, stanzas_behind, under}
+use Rattle.stanza_imports.specs.Imports.{under}
+use Rattle.stanza_imports.specs.KnownStanzas.{Stanzas, all_replaced, parts_of, sections_from, stanzas_behind}
 use Rattle.stanza_imports.specs.Names.{has, with_name}
 use Rattle.stanza_imports.specs.Standing.{IsMore, Means, Knows, Standing, all_behind, is_within}
 use Rattle.stanza_imports.specs.declared.stanzas.Body.{Body}
@@ -21,6 +22,7 @@ use Rattle.stanza_imports.specs.declared.stanzas.Stanzas as tables
 use Rattle.stanza_imports.proofs.StanzaLookups.{has_already, found_already, found_too, has_too}
 use Rattle.stanza_imports.proofs.BodyMeanings.{both, steps_kept, steps_below}
 use Rattle.stanza_imports.proofs.BodyTurns.{in_turn-append}
+use Rattle.stanza_imports.proofs.InOrder.{from-known}
 use Rattle.std.proofs.lemmas.Bool.{and_parts}
 use Rattle.stanza_imports.specs.Bodies.{body_parts, table, summary, built_component, shown_in, Stand}
 
@@ -134,7 +136,7 @@ nothing_yet bodies knows none = record {
 }
 
 pub stands : (sections : List Section) (bodies : Bodies) → Standing sections bodies → Stand sections bodies
-stands sections bodies standing = record { shown = standing.shown }
+stands sections bodies standing = record { shown = standing.shown ∙ ap (flat_map shown_in) (sym (from-known sections)) }
 
 module _ (sections : List Section) (section : Section) (old new : Bodies) (standing : Standing sections old) where
   pub common : section.kind ≡ kinds.Common → Knows (all_behind [] sections ++ (section.name, all_replaced (all_behind [] sections) section.parts) ∷ []) new.stanzas →

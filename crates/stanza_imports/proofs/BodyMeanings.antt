@@ -11,7 +11,8 @@ use Rattle.std.proofs.lemmas.Option.{slice_get_read}
 use Rattle.plan_types.specs.declared.condition.Cond.{Cond}
 use Rattle.section_syntax.specs.declared.part.SectionPart.{SectionPart}
 use Rattle.stanza_imports.specs.Lines.{first_line, lesser}
-use Rattle.stanza_imports.specs.Imports.{Stanzas, parts_of, under}
+use Rattle.stanza_imports.specs.Imports.{under}
+use Rattle.stanza_imports.specs.KnownStanzas.{Stanzas, parts_of}
 use Rattle.stanza_imports.specs.Names.{number_of}
 use Rattle.stanza_imports.specs.Standing.{Means, Knows, is_below, joined, summary_under}
 use Rattle.stanza_imports.specs.declared.stanzas.Body.{Body}

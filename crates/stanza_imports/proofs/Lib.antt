@@ -1,5 +1,6 @@
 pub mod Additions
 pub mod BadVisibilities
+pub mod InOrder
 pub mod FirstLines
 pub mod StanzaLookups
 pub mod BodyMeanings

@@ -6,7 +6,7 @@ use Rattle.std.proofs.lemmas.List.{map-append, length-map, get_or_past}
 use Rattle.std.proofs.lemmas.List.Folds.{list_any-append}
 use Rattle.std.proofs.lemmas.Grind.{common_steps}
 use Rattle.section_syntax.specs.declared.part.SectionPart.{SectionPart}
-use Rattle.stanza_imports.specs.Imports.{Stanzas, parts_of}
+use Rattle.stanza_imports.specs.KnownStanzas.{Stanzas, parts_of}
 use Rattle.stanza_imports.specs.Names.{has, number_of}
 use Rattle.plan_types.specs.Bytes.{same_text}
 use Rattle.common_laws.specs.Small.{same-is}

@@ -5,7 +5,7 @@ use Rattle.plan_types.specs.declared.condition.Cond.{Cond}
 use Rattle.section_syntax.specs.declared.part.SectionPart.{SectionPart}
 use Rattle.section_syntax.specs.declared.part.Section.{Section}
 use Rattle.stanza_imports.specs.Lines.{lesser}
-use Rattle.stanza_imports.specs.Imports.{Stanzas, all_replaced, parts_of, sections_from, stanzas_behind}
+use Rattle.stanza_imports.specs.KnownStanzas.{Stanzas, all_replaced, parts_of, sections_from, stanzas_behind}
 use Rattle.stanza_imports.specs.Names.{has}
 use Rattle.stanza_imports.specs.declared.stanzas.Body.{Body}
 use Rattle.stanza_imports.specs.Parts.{is_named_library}

@@ -4,7 +4,8 @@ ghost use Rattle.std.specs.Prelude.{◌≡◌, ℕ, ◌+◌, ◌<◌, ◌≤◌,
 ghost use Rattle.section_syntax.specs.declared.part.SectionPart.{SectionPart};
 ghost use Rattle.section_syntax.specs.declared.part.Section.{Section};
 ghost use Rattle.stanza_imports.specs.Lines.{first_line, lesser};
-ghost use Rattle.stanza_imports.specs.Imports.{all_replaced, imported, under, with_imports_replaced};
+ghost use Rattle.stanza_imports.specs.Imports.{under, with_imports_replaced};
+ghost use Rattle.stanza_imports.specs.KnownStanzas.{all_replaced, imported};
 ghost use Rattle.stanza_imports.specs.Standing.{Adds, Grows, IsBodyOf, IsMore, Knows, Means, Standing, joined, summary_under, bad_in};
 ghost use Rattle.stanza_imports.specs.Bodies.{body_parts, table, weight, capped, summary, total_weight, placed_part, Stand};
 ghost use Rattle.stanza_imports.specs.Walk.{left_parts, frames_parts, costs, left_cost, frames_cost};

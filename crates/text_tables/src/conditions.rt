@@ -1,3 +1,6 @@
+// `read`, the cabal-version and a text: what it is read as, or its fault. `ask`, a condition and what is known of the flags `a`
+// and `b`: the value, and the number of paths and the paths that are left, wanted true and wanted false. `chain`: the same of
+// `flag(a)` with this behind it a hundred thousand times, where `a` is on.
 ghost use Rattle.std.specs.Prelude.{◌≡◌, true, IfOk};
 ghost use Rattle.conditionals.specs.Value.{each_once};
 
@@ -8,9 +11,6 @@ use plan_types::{Cond, Env, FlagSet, List, NoMemory, Spec, Text, TextFault};
 use std::alloc::Global;
 use std::test::Fail;
 
-// `read`, the cabal-version and a text: what it is read as, or its fault. `ask`, a condition and what is known of the flags `a`
-// and `b`: the value, and the number of paths and the paths that are left, wanted true and wanted false. `chain`: the same of
-// `flag(a)` with this behind it a hundred thousand times, where `a` is on.
 pub const CASES: &str = "\
 read 2.4 true => Ok(Always)\n\
 read 3.0 FALSE => Ok(Never)\n\

@@ -1,3 +1,6 @@
+// The components of a description, and behind `=>` what they ask for, a bar, and what the package offers. A component is its
+// kind, its name and when it is buildable, and then its dependencies with their branches, of which those on
+// the package itself begin with `=`. Each component and each dependency is a line of its file.
 use crate::shared::{environment, shown};
 use condition_text::read_cond;
 use flatten::{demands_of, exposed};
@@ -8,9 +11,6 @@ use plan_types::{
 use std::alloc::Global;
 use std::test::Fail;
 
-// The components of a description, and behind `=>` what they ask for, a bar, and what the package offers. A component is its
-// kind, its name and when it is buildable, and then its dependencies with their branches, of which those on
-// the package itself begin with `=`. Each component and each dependency is a line of its file.
 pub const CASES: &str = "\
 library - if true => | Exposed { libs: [Main], exes: [] }\n\
 library - if true,x if flag(a) || flag(b) => x [a+] x [a- b+] | Exposed { libs: [Main], exes: [] }\n\

@@ -1,3 +1,4 @@
+// The call, with `old` for dependencies in 2.4, `new` in 3.0 and `newest` in 3.4; a text; what it stands for, or its fault.
 use crate::shared::shown;
 use constraint_text::{read_constraints, read_named, read_relax};
 use depend_text::{read_depends, read_tools};
@@ -5,7 +6,6 @@ use plan_types::{DepKind, Spec};
 use std::alloc::Global;
 use std::test::Fail;
 
-// The call, with `old` for dependencies in 2.4, `new` in 3.0 and `newest` in 3.4; a text; what it stands for, or its fault.
 pub const CASES: &str = "\
 new  => Ok([])\n\
 new , => Ok([])\n\

@@ -1,11 +1,11 @@
+// `read` and a file, with `;` at the end of a line: its first fault, or its dependencies with the conditions of their branches.
+// `doubled`: so many stanzas which each import the one before twice, so that the dependencies would fill any machine.
 use cabal_lexer::read_elements;
 use description::read_description;
 use plan_types::{Description, Fault, Text};
 use std::alloc::Global;
 use std::test::Fail;
 
-// `read` and a file, with `;` at the end of a line: its first fault, or its dependencies with the conditions of their branches.
-// `doubled`: so many stanzas which each import the one before twice, so that the dependencies would fill any machine.
 pub const CASES: &str = "\
 read  => At { line: 0, cause: MissingField }\n\
 read name: main;cabal-version: 2.4 => At { line: 0, cause: MissingField }\n\

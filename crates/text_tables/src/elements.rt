@@ -1,12 +1,12 @@
+// In texts `;` stands for the end of a line, `~` for a byte that begins a character which doesn't follow, and `^` for one that
+// begins none. `read` and a text: its canonical text, which stands for itself, or its first fault. `below`: so many sections,
+// each in the one before it, and a last line one deeper; `long`: lines that are repeated as often as 1 MiB holds them behind a
+// first line: how many elements are in none. `lines`: the numbers of the lines on which the elements begin.
 use cabal_lexer::{print_elements, read_elements};
 use plan_types::{Element, Fault, List};
 use std::alloc::Global;
 use std::test::Fail;
 
-// In texts `;` stands for the end of a line, `~` for a byte that begins a character which doesn't follow, and `^` for one that
-// begins none. `read` and a text: its canonical text, which stands for itself, or its first fault. `below`: so many sections,
-// each in the one before it, and a last line one deeper; `long`: lines that are repeated as often as 1 MiB holds them behind a
-// first line: how many elements are in none. `lines`: the numbers of the lines on which the elements begin.
 pub const CASES: &str = "\
 read  => \n\
 read Name : x;\ty;flag F {;Default: True;}; => name: x;    y;flag F;  default: True;\n\

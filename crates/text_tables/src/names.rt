@@ -1,8 +1,8 @@
+// A text, and what it may name.
 use plan_types::{is_component_name, is_flag_name, is_package_name};
 use std::alloc::Global;
 use std::test::Fail;
 
-// A text, and what it may name.
 pub const CASES: &str = "\
 main => package true, component true, flag true\n\
 A1-b2-3c => package true, component true, flag true\n\

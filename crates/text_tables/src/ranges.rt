@@ -1,3 +1,6 @@
+// `read`, the cabal-version and a text: how the range prints, or its first fault. `members`, a range and versions: which of them
+// are members, which of them the cuts have, and whether these are empty. `newer` and `older`, the same with relaxed cuts.
+// `chain`: so many versions joined.
 ghost use Rattle.std.specs.Prelude.{◌≡◌, true, IfOk};
 ghost use Rattle.version_range.specs.Version.{has_versions};
 
@@ -7,9 +10,6 @@ use std::alloc::Global;
 use std::test::Fail;
 use version_range::{Cuts, print_range, print_version, read_range, read_version};
 
-// `read`, the cabal-version and a text: how the range prints, or its first fault. `members`, a range and versions: which of them
-// are members, which of them the cuts have, and whether these are empty. `newer` and `older`, the same with relaxed cuts.
-// `chain`: so many versions joined.
 pub const CASES: &str = "\
 read 3.0  => Ok(-any)\n\
 read 3.0  \t => Ok(-any)\n\

@@ -1,10 +1,10 @@
+// A text, in which a bar stands for the end of a line, and its record, or nothing where it is that of a sublibrary, or its fault.
 use crate::shared::shown;
 use plan_types::{Fault, UnitRecord};
 use std::alloc::Global;
 use std::test::Fail;
 use unit_record::read_record;
 
-// A text, in which a bar stands for the end of a line, and its record, or nothing where it is that of a sublibrary, or its fault.
 pub const CASES: &str = "\
 name: a|version: 1.2|id: a-1|depends: => Ok(Some(UnitRecord { name: a, version: [1, 2], id: a-1, depends: [] }))\n\
 name: a|version: 1|id: a-1|abi: x|depends: b-2, c_3  d|  e-\u{fc},f => Ok(Some(UnitRecord { name: a, version: [1], id: a-1, depends: [b-2, c_3, d, e-\u{fc}, f] }))\n\

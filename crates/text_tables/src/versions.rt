@@ -1,10 +1,10 @@
+// `read` and a text: how the version prints, or the fault. `compare` and two versions: how they stand, one way and the other.
 use crate::shared::shown;
 use plan_types::{Text, TextFault, Version};
 use std::alloc::Global;
 use std::test::Fail;
 use version_range::{print_version, read_version};
 
-// `read` and a text: how the version prints, or the fault. `compare` and two versions: how they stand, one way and the other.
 pub const CASES: &str = "\
 read 0 => Ok(0)\n\
 read 1.0 => Ok(1.0)\n\

@@ -7,7 +7,8 @@ use Rattle.qualified_goals.specs.SameVariable.{same_var-is}
 use Rattle.choice_problem.specs.ConflictSet.{has}
 use Rattle.choice_problem.proofs.Sets.{has-append}
 use Rattle.validation.specs.declared.mentions.Mention.{Mention}
-use Rattle.validation.specs.Table.{entry}
+use Rattle.choice_problem.specs.declared.problem.Choice.{Choice}
+use Rattle.choice_problem.specs.Trail.{value_in}
 use Rattle.validation.specs.Mentions.{last_from, last_of}
 use Rattle.validation.specs.Stack.{vars_at, AreOpen}
 use Rattle.std.proofs.Math.Bool.{or-true, and-false}
@@ -36,67 +37,67 @@ other true n = refl
 other false n = refl
 
 -- one active demand less whose target has a value
-pub less-valued : (front : List Mention) (m : Mention) (table : List (Var × ℕ)) (vars : List Var) → AreOpen (front ++ m ∷ []) table vars
-    → is_some (entry table m.var) ≡ true → AreOpen front table vars
-less-valued front m table vars h valued v =
-    h v ∙ ap (λ b. b && is_none (entry table v)) (vars-push front m v)
-    ∙ elim (same_var m.var v) as (λ b. same_var m.var v ≡ b → (has (vars_at front) v || (b || false)) && is_none (entry table v) ≡ has (vars_at front) v && is_none (entry table v)) [
+pub less-valued : (front : List Mention) (m : Mention) (trail : List Choice) (vars : List Var) → AreOpen (front ++ m ∷ []) trail vars
+    → is_some (value_in trail m.var) ≡ true → AreOpen front trail vars
+less-valued front m trail vars h valued v =
+    h v ∙ ap (λ b. b && is_none (value_in trail v)) (vars-push front m v)
+    ∙ elim (same_var m.var v) as (λ b. same_var m.var v ≡ b → (has (vars_at front) v || (b || false)) && is_none (value_in trail v) ≡ has (vars_at front) v && is_none (value_in trail v)) [
       | true ↦ λ e.
-          let none : is_none (entry table v) ≡ false = ap (λ w. is_none (entry table w)) (sym (same_var-is m.var v e)) ∙ some-none (entry table m.var) true valued in
+          let none : is_none (value_in trail v) ≡ false = ap (λ w. is_none (value_in trail w)) (sym (same_var-is m.var v e)) ∙ some-none (value_in trail m.var) true valued in
           ap (λ n. (has (vars_at front) v || true) && n) none ∙ and-false (has (vars_at front) v || true)
           ∙ sym (ap (λ n. has (vars_at front) v && n) none ∙ and-false (has (vars_at front) v))
-      | false ↦ λ e. other (has (vars_at front) v) (is_none (entry table v))
+      | false ↦ λ e. other (has (vars_at front) v) (is_none (value_in trail v))
     ] refl
 
 -- whose target is asked for still
-pub less-again : (front : List Mention) (m : Mention) (table : List (Var × ℕ)) (vars : List Var) → AreOpen (front ++ m ∷ []) table vars
-    → has (vars_at front) m.var ≡ true → AreOpen front table vars
-less-again front m table vars h again v =
-    h v ∙ ap (λ b. b && is_none (entry table v)) (vars-push front m v)
-    ∙ elim (same_var m.var v) as (λ b. same_var m.var v ≡ b → (has (vars_at front) v || (b || false)) && is_none (entry table v) ≡ has (vars_at front) v && is_none (entry table v)) [
+pub less-again : (front : List Mention) (m : Mention) (trail : List Choice) (vars : List Var) → AreOpen (front ++ m ∷ []) trail vars
+    → has (vars_at front) m.var ≡ true → AreOpen front trail vars
+less-again front m trail vars h again v =
+    h v ∙ ap (λ b. b && is_none (value_in trail v)) (vars-push front m v)
+    ∙ elim (same_var m.var v) as (λ b. same_var m.var v ≡ b → (has (vars_at front) v || (b || false)) && is_none (value_in trail v) ≡ has (vars_at front) v && is_none (value_in trail v)) [
       | true ↦ λ e.
           let there : has (vars_at front) v ≡ true = ap (has (vars_at front)) (sym (same_var-is m.var v e)) ∙ again in
-          ap (λ b. b && is_none (entry table v)) (or-true (has (vars_at front) v)) ∙ sym (ap (λ b. b && is_none (entry table v)) there)
-      | false ↦ λ e. other (has (vars_at front) v) (is_none (entry table v))
+          ap (λ b. b && is_none (value_in trail v)) (or-true (has (vars_at front) v)) ∙ sym (ap (λ b. b && is_none (value_in trail v)) there)
+      | false ↦ λ e. other (has (vars_at front) v) (is_none (value_in trail v))
     ] refl
 
 -- the last that asked for its target
-pub less-open : (front : List Mention) (m : Mention) (table : List (Var × ℕ)) (vars less : List Var) → AreOpen (front ++ m ∷ []) table vars
-    → has (vars_at front) m.var ≡ false → ((v : Var) → has less v ≡ (not (same_var m.var v) && has vars v)) → AreOpen front table less
-less-open front m table vars less h once less_is v =
-    less_is v ∙ ap (λ b. not (same_var m.var v) && b) (h v ∙ ap (λ b. b && is_none (entry table v)) (vars-push front m v))
+pub less-open : (front : List Mention) (m : Mention) (trail : List Choice) (vars less : List Var) → AreOpen (front ++ m ∷ []) trail vars
+    → has (vars_at front) m.var ≡ false → ((v : Var) → has less v ≡ (not (same_var m.var v) && has vars v)) → AreOpen front trail less
+less-open front m trail vars less h once less_is v =
+    less_is v ∙ ap (λ b. not (same_var m.var v) && b) (h v ∙ ap (λ b. b && is_none (value_in trail v)) (vars-push front m v))
     ∙ elim (same_var m.var v) as (λ b. same_var m.var v ≡ b
-    → not b && ((has (vars_at front) v || (b || false)) && is_none (entry table v)) ≡ has (vars_at front) v && is_none (entry table v)) [
+    → not b && ((has (vars_at front) v || (b || false)) && is_none (value_in trail v)) ≡ has (vars_at front) v && is_none (value_in trail v)) [
       | true ↦ λ e.
           let there : has (vars_at front) v ≡ false = ap (has (vars_at front)) (sym (same_var-is m.var v e)) ∙ once in
-          sym (ap (λ b. b && is_none (entry table v)) there)
-      | false ↦ λ e. other (has (vars_at front) v) (is_none (entry table v))
+          sym (ap (λ b. b && is_none (value_in trail v)) there)
+      | false ↦ λ e. other (has (vars_at front) v) (is_none (value_in trail v))
     ] refl
 
 -- one active demand more whose target has a value
-pub more-valued : (front after : List Mention) (m : Mention) (table : List (Var × ℕ)) (vars : List Var) → AreOpen front table vars
-    → after ≡ front ++ m ∷ [] → is_some (entry table m.var) ≡ true → AreOpen after table vars
-more-valued front after m table vars h is valued v =
+pub more-valued : (front after : List Mention) (m : Mention) (trail : List Choice) (vars : List Var) → AreOpen front trail vars
+    → after ≡ front ++ m ∷ [] → is_some (value_in trail m.var) ≡ true → AreOpen after trail vars
+more-valued front after m trail vars h is valued v =
     h v
-    ∙ elim (same_var m.var v) as (λ b. same_var m.var v ≡ b → has (vars_at front) v && is_none (entry table v) ≡ (has (vars_at front) v || (b || false)) && is_none (entry table v)) [
+    ∙ elim (same_var m.var v) as (λ b. same_var m.var v ≡ b → has (vars_at front) v && is_none (value_in trail v) ≡ (has (vars_at front) v || (b || false)) && is_none (value_in trail v)) [
       | true ↦ λ e.
-          let none : is_none (entry table v) ≡ false = ap (λ w. is_none (entry table w)) (sym (same_var-is m.var v e)) ∙ some-none (entry table m.var) true valued in
+          let none : is_none (value_in trail v) ≡ false = ap (λ w. is_none (value_in trail w)) (sym (same_var-is m.var v e)) ∙ some-none (value_in trail m.var) true valued in
           ap (λ n. has (vars_at front) v && n) none ∙ and-false (has (vars_at front) v)
           ∙ sym (ap (λ n. (has (vars_at front) v || true) && n) none ∙ and-false (has (vars_at front) v || true))
-      | false ↦ λ e. sym (other (has (vars_at front) v) (is_none (entry table v)))
+      | false ↦ λ e. sym (other (has (vars_at front) v) (is_none (value_in trail v)))
     ] refl
-    ∙ sym (ap (λ b. b && is_none (entry table v)) (ap (λ ms. has (vars_at ms) v) is ∙ vars-push front m v))
+    ∙ sym (ap (λ b. b && is_none (value_in trail v)) (ap (λ ms. has (vars_at ms) v) is ∙ vars-push front m v))
 
 -- whose target has none
-pub more-open : (front after : List Mention) (m : Mention) (table : List (Var × ℕ)) (vars more : List Var) → AreOpen front table vars
-    → after ≡ front ++ m ∷ [] → is_some (entry table m.var) ≡ false → ((v : Var) → has more v ≡ (same_var m.var v || has vars v)) → AreOpen after table more
-more-open front after m table vars more h is free more_is v =
+pub more-open : (front after : List Mention) (m : Mention) (trail : List Choice) (vars more : List Var) → AreOpen front trail vars
+    → after ≡ front ++ m ∷ [] → is_some (value_in trail m.var) ≡ false → ((v : Var) → has more v ≡ (same_var m.var v || has vars v)) → AreOpen after trail more
+more-open front after m trail vars more h is free more_is v =
     more_is v ∙ ap (λ b. same_var m.var v || b) (h v)
     ∙ elim (same_var m.var v) as (λ b. same_var m.var v ≡ b
-    → b || (has (vars_at front) v && is_none (entry table v)) ≡ (has (vars_at front) v || (b || false)) && is_none (entry table v)) [
+    → b || (has (vars_at front) v && is_none (value_in trail v)) ≡ (has (vars_at front) v || (b || false)) && is_none (value_in trail v)) [
       | true ↦ λ e.
-          let none : is_none (entry table v) ≡ true = ap (λ w. is_none (entry table w)) (sym (same_var-is m.var v e)) ∙ some-none (entry table m.var) false free in
-          sym (ap (λ b. b && is_none (entry table v)) (or-true (has (vars_at front) v)) ∙ none)
-      | false ↦ λ e. sym (other (has (vars_at front) v) (is_none (entry table v)))
+          let none : is_none (value_in trail v) ≡ true = ap (λ w. is_none (value_in trail w)) (sym (same_var-is m.var v e)) ∙ some-none (value_in trail m.var) false free in
+          sym (ap (λ b. b && is_none (value_in trail v)) (or-true (has (vars_at front) v)) ∙ none)
+      | false ↦ λ e. sym (other (has (vars_at front) v) (is_none (value_in trail v)))
     ] refl
-    ∙ sym (ap (λ b. b && is_none (entry table v)) (ap (λ ms. has (vars_at ms) v) is ∙ vars-push front m v))
+    ∙ sym (ap (λ b. b && is_none (value_in trail v)) (ap (λ ms. has (vars_at ms) v) is ∙ vars-push front m v))

@@ -1,5 +1,5 @@
 -- What a trail stands for with its last choice taken back.
-use Rattle.std.proofs.Common.{◌≡◌, ℕ, zero, suc, ◌≤◌, arith, length, take, Bool, true, false, cond, ◌&&◌, ◌||◌, List, [], ◌∷◌, ◌++◌, filter, refl, sym, ap, ◌∙◌, subst, length-append}
+use Rattle.std.proofs.Common.{◌≡◌, ℕ, zero, suc, ◌≤◌, arith, length, take, Bool, true, false, cond, ◌&&◌, ◌||◌, List, [], ◌∷◌, ◌++◌, filter, refl, sym, ap, ◌∙◌, subst, length-append, None}
 use Rattle.std.specs.List.{Contains, All, list_any}
 use Rattle.std.proofs.lemmas.Bool.{false≢true, and_parts, and_from}
 use Rattle.std.proofs.lemmas.Grind.{flat_map-append}
@@ -9,15 +9,16 @@ use Rattle.choice_problem.specs.declared.problem.Choice.{Choice}
 use Rattle.choice_problem.specs.declared.problem.Demand.{Demand}
 use Rattle.qualified_goals.specs.Variable.{same_var}
 use Rattle.choice_problem.specs.Problem.{Problem, IsChoice}
-use Rattle.choice_problem.specs.Trail.{demands_after}
+use Rattle.choice_problem.specs.Trail.{AreNew, demands_after}
 use Rattle.choice_problem.specs.Active.{active, made_active}
-use Rattle.choice_problem.specs.Conflict.{Edge, edges_by, edges_of, leads, lies_on_cycle, circular}
+use Rattle.choice_problem.specs.Conflict.{Edge, edges_by, edges_of, leads, lies_on_cycle, circular, cycle_set, set_of_all, first_set, lasting_sets, lasting_set}
 use Rattle.common_laws.specs.Lists.{contains-head, contains-tail, contains-left, filter-none}
 use Rattle.choice_problem.proofs.Active.{active-push}
-use Rattle.validation.specs.View.{View, Represents, AreNew, listed_counts, counts_before, view_of}
-use Rattle.validation.specs.View.AreNew.{none, on}
+use Rattle.choice_problem.proofs.Conflicts.{none-named}
+use Rattle.choice_problem.proofs.Rules.{each-none}
+use Rattle.choice_problem.proofs.TrailEnds.{new-split, new-front}
+use Rattle.validation.specs.View.{View, Represents, listed_counts, counts_before, view_of}
 use Rattle.validation.specs.Stack.{undone, front_of, last_number}
-use Rattle.validation.proofs.MentionLinks.{snoc-none, snoc-same}
 use Rattle.validation.proofs.Stacks.{front-of, last-number}
 use Rattle.validation.proofs.Views.{after-push, counts-push, listed-push, all-front}
 use Rattle.validation.proofs.Verdicts.{shown-same}
@@ -74,15 +75,9 @@ acyclic-front xs ys h = none-kept (lies_on_cycle (edges_of xs)) xs (λ d k.
       | false ↦ λ e. refl
     ] refl)
 
--- the last choice of a trail of new ones
-
-pub new-front : {trail : List Choice} → AreNew trail → (front : List Choice) (c : Choice) → trail ≡ front ++ c ∷ [] → AreNew front
-new-front none front c e = absurd (snoc-none front c [] e)
-new-front (on {before = before} new d free is) front c e = subst (λ (t : List Choice). AreNew t) (snoc-same before d front c (sym is ∙ e)).0 new
-
-pub new-split : {trail : List Choice} → AreNew trail → (trail ≡ [] → ⊥) → (front : List Choice) × (c : Choice) × (trail ≡ front ++ c ∷ [])
-new-split none some = absurd (some refl)
-new-split (on {before = before} new d free is) some = (before, d, is)
+pub lasting-front : (trail front : List Choice) (xs ys : List Demand) → lasting_set trail (xs ++ ys) ≡ None → lasting_set front xs ≡ None
+lasting-front trail front xs ys h =
+    ap (λ ds. first_set (set_of_all ds ∷ [])) (acyclic-front xs ys (none-named (circular (xs ++ ys)) (each-none (lasting_sets trail (xs ++ ys)) (cycle_set (xs ++ ys)) h (contains-head (cycle_set (xs ++ ys)) []))))
 
 pub stands-undone : (p : Problem) (x y : View) → Represents p x → (x.trail ≡ [] → ⊥) → y ≡ undone x → Represents p y
 stands-undone p x y h some e =
@@ -113,5 +108,7 @@ stands-undone p x y h some e =
           (all-front p (IsChoice p) front (c ∷ []) (subst (λ (t : List Choice). All (IsChoice p) t) split.2 h.choices));
       new = subst (λ (t : List Choice). AreNew t) (sym trail) (new-front h.new front c split.2);
       same = same ∙ ap (view_of p) (sym trail);
-      acyclic = ap circular acts ∙ acyclic-front (active p front) (made_active p front c) (ap circular (sym all_active) ∙ h.acyclic);
+      lasting =
+          ap (λ ds. lasting_set y.trail ds) acts
+          ∙ lasting-front x.trail y.trail (active p front) (made_active p front c) (ap (λ ds. lasting_set x.trail ds) (sym all_active) ∙ h.lasting);
     }

@@ -1,13 +1,16 @@
 -- The edges of the active demands, by their targets and by what they wait for.
-use Rattle.std.proofs.Common.{◌≡◌, ℕ, zero, suc, ◌<◌, arith, length, get_or, Bool, true, false, cond, ◌||◌, List, [], ◌∷◌, Some, is_some, map, filter, refl, sym, ap, ◌∙◌, subst, inl, inr}
+use Rattle.std.proofs.Common.{◌≡◌, ℕ, zero, suc, ◌<◌, arith, length, get_or, Bool, true, false, cond, ◌&&◌, ◌||◌, List, [], ◌∷◌, Some, is_some, map, filter, refl, sym, ap, ◌∙◌, subst, inl, inr}
 use Rattle.std.specs.List.{Contains, list_any, slice_get}
 use Rattle.std.specs.Option.{option_to_list}
+use Rattle.std.proofs.lemmas.Bool.{and_parts, and_from}
 use Rattle.std.proofs.lemmas.List.{map-append}
 use Rattle.qualified_goals.specs.declared.variable.Var.{Var}
 use Rattle.choice_problem.specs.declared.problem.Choice.{Choice}
 use Rattle.choice_problem.specs.declared.problem.Demand.{Demand}
 use Rattle.qualified_goals.specs.Variable.{same_var}
 use Rattle.qualified_goals.specs.SameVariable.{same_var-is, same_var-refl}
+use Rattle.choice_problem.specs.Assignment.{is_yes}
+use Rattle.choice_problem.specs.Trail.{value_in}
 use Rattle.choice_problem.specs.Active.{asks_for}
 use Rattle.choice_problem.specs.Conflict.{Edge, edges_from, edges_by, edges_of}
 use Rattle.choice_problem.specs.ConflictSet.{has}
@@ -16,7 +19,8 @@ use Rattle.choice_problem.proofs.Sets.{has-append}
 use Rattle.validation.specs.declared.mentions.Mention.{Mention}
 use Rattle.validation.specs.Mentions.{places_on, last_of}
 use Rattle.validation.specs.Cycles.{HasEdge, first_of_condition, owner_of}
-use Rattle.validation.specs.Stack.{demand_at, demands_at, places_of, vars_at, mention_of, are_naming, names, watchers_by, watchers_from, owners_of, AreTargets}
+use Rattle.validation.specs.Stack.{demand_at, demands_at, places_of, vars_at, mention_of, are_naming, names, watchers_by, watchers_from, owners_of, turned, is_first, is_owned_by, target_by, targets_by, AreTargets, IsSettled}
+use Rattle.validation.specs.View.{View}
 use Rattle.validation.proofs.Asked.{last-has}
 use Rattle.validation.proofs.Stacks.{targets-tail}
 use Rattle.std.proofs.Math.Bool.{or-true}
@@ -58,6 +62,11 @@ owner-of-edge (owner ∷ others) d e is h =
     let one : mine ≡ e =
     elim (contains-cases mine [] e (subst (λ w. Contains (edges_from w d.target) e) is h)) [ inl k ↦ k | inr k ↦ absurd (contains-none e k) ] in
     record { owner = owner; others = others; condition = is; from = ap (λ (x : Edge). x.from) one; to = ap (λ (x : Edge). x.to) one }
+
+-- the owner's variable stands in the condition
+naming-owner : (d : Demand) (e : Edge) (v : Var) → IsOwner d e → e.from ≡ v → names v d ≡ true
+naming-owner d e v owns leaves =
+    ap (are_naming v) owns.condition ∙ ap (λ b. b || are_naming v owns.others) (ap (λ u. same_var u v) (owns.from ∙ leaves) ∙ same_var-refl v)
 
 pub sources-edge : (listed : List Demand) (ms : List Mention) (to v : Var) → AreTargets listed ms → Contains (owners_of (demands_at listed (places_on to ms))) v → HasEdge (edges_of (demands_at listed (places_of ms))) v to
 sources-edge listed ms to v h k =
@@ -127,10 +136,49 @@ edge-chosen listed ms watchers v w h waiting (e, within, from, target) =
     let all = demands_at listed (places_of ms) in
     let found = contains-flat_map edges_by all e within in
     let owns = owner-of-edge found.0.when found.0 e refl found.2 in
-    let named : names v found.0 ≡ true = ap (are_naming v) owns.condition ∙ ap (λ b. b || are_naming v owns.others) (ap (λ u. same_var u v) (owns.from ∙ from) ∙ same_var-refl v) in
+    let named = naming-owner found.0 e v owns from in
     last-has v watchers ∙ ap (λ ws. has (vars_at ws) v) waiting ∙ waits-has 0 v listed ∙ any-contains (names v) listed found.0 (active-listed listed ms found.0 h found.1) named
 
 pub active-at : (listed : List Demand) (ms : List Mention) (k : ℕ) (m : Mention) → k < length ms → m ≡ get_or ms k m → slice_get (demands_at listed (places_of ms)) k ≡ Some (demand_at listed m.place)
 active-at listed [] k m h e = absurd (omega (arith, h))
 active-at listed (x ∷ ms) zero m h e = ap (λ (y : Mention). Some (demand_at listed y.place)) (sym e)
 active-at listed (x ∷ ms) (suc k) m h e = active-at listed ms k m (omega (arith, h)) e
+
+-- what edges from a variable enter
+
+target-edge : (when : List Choice) (target from v : Var) → Contains (cond (is_first from when) (target ∷ []) []) v → (let e : Edge = record { from = from; to = v } in Contains (edges_from when target) e)
+target-edge [] target from v h = absurd (contains-none v h)
+target-edge (owner ∷ others) target from v h =
+    let mine : Edge = record { from = owner.var; to = target } in
+    elim (same_var owner.var from) as (λ b. same_var owner.var from ≡ b → Contains (cond b (target ∷ []) []) v → Contains {X = Edge} (mine ∷ []) (record { from = from; to = v })) [
+      | true ↦ λ e k.
+          let to : target ≡ v = elim (contains-cases target [] v k) [ inl same ↦ same | inr none ↦ absurd (contains-none v none) ] in
+          subst (λ (u : Var). Contains {X = Edge} (mine ∷ []) (record { from = u; to = v })) (same_var-is owner.var from e)
+          (subst (λ (u : Var). Contains {X = Edge} (mine ∷ []) (record { from = owner.var; to = u })) to (contains-head mine []))
+      | false ↦ λ e k. absurd (contains-none v k)
+    ] refl h
+
+edge-target : (d : Demand) (e : Edge) (from v : Var) → IsOwner d e → e.from ≡ from → e.to ≡ v → Contains (target_by from d) v
+edge-target d e from v owns leaves enters =
+    let first : is_owned_by from d ≡ true = ap (is_first from) owns.condition ∙ ap (λ u. same_var u from) (owns.from ∙ leaves) ∙ same_var-refl from in
+    subst (λ b. Contains (cond b (d.target ∷ []) []) v) (sym first) (subst (λ u. Contains (d.target ∷ []) u) (owns.to ∙ enters) (contains-head d.target []))
+
+pub targets-edge : (x : View) (from v : Var) → IsSettled x → Contains (targets_by from (turned x.trail from x.listed)) v → HasEdge (edges_of x.active) from v
+targets-edge x from v settled h =
+    let test = λ (d : Demand). names from d && is_yes (value_in x.trail) d in
+    let found = contains-flat_map (target_by from) (turned x.trail from x.listed) v h in
+    let d = found.0 in
+    let kept = contains-filter test x.listed d found.1 in
+    let now_active = (settled d).1 (kept.0, (and_parts (names from d) (is_yes (value_in x.trail) d) kept.1).1) in
+    let mine : Edge = record { from = from; to = v } in
+    (mine, flat_map-contains edges_by x.active d mine now_active (target-edge d.when d.target from v found.2), refl, refl)
+
+pub edge-targets : (x : View) (from v : Var) → IsSettled x → HasEdge (edges_of x.active) from v → Contains (targets_by from (turned x.trail from x.listed)) v
+edge-targets x from v settled (e, within, leaves, enters) =
+    let test = λ (d : Demand). names from d && is_yes (value_in x.trail) d in
+    let found = contains-flat_map edges_by x.active e within in
+    let d = found.0 in
+    let owns = owner-of-edge d.when d e refl found.2 in
+    let known = (settled d).0 found.1 in
+    let kept = filter-contains test x.listed d known.0 (and_from (names from d) (is_yes (value_in x.trail) d) (naming-owner d e from owns leaves) known.1) in
+    flat_map-contains (target_by from) (turned x.trail from x.listed) d v kept (edge-target d e from v owns leaves enters)

@@ -1,5 +1,5 @@
 -- Keys, each of which stands once.
-use Rattle.std.proofs.Common.{◌≡◌, ℕ, ◌+◌, ◌<◌, ◌≤◌, Bool, true, false, cond, not, ◌&&◌, ◌||◌, List, [], ◌∷◌, ◌++◌, length, drop, get_or, refl, sym, ap, ◌∙◌, arith, append_assoc, append-nil, add-one, drop-cons, rules}
+use Rattle.std.proofs.Common.{◌≡◌, ℕ, ◌+◌, ◌<◌, ◌≤◌, Bool, true, false, cond, not, ◌||◌, List, [], ◌∷◌, ◌++◌, length, drop, get_or, refl, sym, ap, ◌∙◌, arith, append_assoc, append-nil, add-one, drop-cons, rules}
 use Rattle.std.specs.List.{Contains, list_any}
 use Rattle.std.specs.Prelude.{if◌then◌else◌}
 use Rattle.std.specs.Ordering.{is_eq}
@@ -16,14 +16,9 @@ use Rattle.choice_problem.specs.ConflictSet.{has}
 use Rattle.qualified_goals.specs.SameVariable.{same_var-is, same_var-refl}
 use Rattle.common_laws.specs.Lists.{without}
 use Rattle.choice_problem.proofs.Sets.{has-append}
-use Rattle.validation.specs.Cycles.{with_key, with_keys}
+use Rattle.validation.specs.Cycles.{are_once, with_key, with_keys}
 use Rattle.std.proofs.Math.Bool.{or-false}
 use Rattle.common_laws.specs.Small.{both-ways, or-assoc}
-
--- no key stands twice
-abbrev pub are_once : List Var → Bool
-are_once [] = true
-are_once (v ∷ keys) = not (has keys v) && are_once keys
 
 one-more : (keys : List Var) (v : Var) → are_once keys ≡ true → has keys v ≡ false → are_once (keys ++ v ∷ []) ≡ true
 one-more [] v h k = refl

@@ -1,7 +1,5 @@
-pub mod Tables
 pub mod MentionLinks
 pub mod Walks
-pub mod Opens
 pub mod Stacks
 pub mod Asked
 pub mod Below
@@ -9,8 +7,10 @@ pub mod Turned
 pub mod Queries
 pub mod Keys
 pub mod Reached
+pub mod Sides
 pub mod Rings
 pub mod Graphs
 pub mod Views
 pub mod Verdicts
+pub mod Settles
 pub mod Backs

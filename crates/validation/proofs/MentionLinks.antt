@@ -1,12 +1,12 @@
 -- Chains: the last place of a variable, a mention more or less, and the walk from the last to the first.
-use Rattle.std.proofs.Common.{◌≡◌, ℕ, zero, suc, ◌+◌, ◌<◌, true, false, cond, List, [], ◌∷◌, ◌++◌, length, get_or, Option, Some, None, IsSome, MatchOption, refl, sym, ap, ◌∙◌, subst, inl, inr, ◌⊎◌, arith, append_assoc}
+use Rattle.std.proofs.Common.{◌≡◌, ℕ, suc, ◌+◌, ◌<◌, true, false, cond, List, [], ◌∷◌, ◌++◌, length, Option, Some, None, IsSome, MatchOption, refl, sym, ap, ◌∙◌, subst, inl, inr, ◌⊎◌, arith, append_assoc}
 use Rattle.std.proofs.lemmas.List.{map-append}
 use Rattle.qualified_goals.specs.declared.variable.Var.{Var}
 use Rattle.qualified_goals.specs.Variable.{same_var}
 use Rattle.qualified_goals.specs.SameVariable.{same_var-is, same_var-refl}
 use Rattle.validation.specs.declared.mentions.Mention.{Mention}
 use Rattle.validation.specs.declared.mentions.Link.{Link}
-use Rattle.validation.specs.Table.{entry, with_entry}
+use Rattle.choice_problem.specs.Table.{entry, with_entry}
 use Rattle.validation.specs.Mentions.{mentions, last_from, last_of, IsLinked}
 
 -- a list with one item more, split
@@ -80,19 +80,6 @@ popped links front l table new h e updates = record {
         | false ↦ λ same. refl
       ] refl;
 }
-
-pub snoc-none : {A : Type 0} (front : List A) (x : A) (rest : List A) → [] ≡ front ++ x ∷ rest → ⊥
-snoc-none [] x rest h = cc h
-snoc-none (f ∷ front) x rest h = cc h
-
-pub snoc-same : {A : Type 0} (xs : List A) (x : A) (ys : List A) (y : A) → xs ++ x ∷ [] ≡ ys ++ y ∷ [] → (xs ≡ ys) × (x ≡ y)
-snoc-same [] x [] y h = (refl, cc)
-snoc-same [] x (z ∷ ys) y h = absurd (snoc-none ys y [] cc)
-snoc-same (w ∷ xs) x [] y h = absurd (snoc-none xs x [] cc)
-snoc-same (w ∷ xs) x (z ∷ ys) y h =
-    let e : w ≡ z = cc in
-    let more = snoc-same xs x ys y cc in
-    (ap (λ k. k ∷ xs) e ∙ ap (λ l. z ∷ l) more.0, more.1)
 
 pub last-split : {A : Type 0} (xs : List A) → 0 < length xs → (front : List A) × (x : A) × (xs ≡ front ++ x ∷ [])
 last-split [] h = absurd (omega (arith, h))

@@ -1,5 +1,5 @@
 -- What a stack is asked: the demands on a variable, the first that passes a test, and the least that is open.
-use Rattle.std.proofs.Common.{◌≡◌, ℕ, zero, suc, ◌<◌, arith, length, get_or, drop, Bool, true, false, not, cond, ◌&&◌, ◌||◌, List, [], ◌∷◌, Some, None, is_none, is_some, find, map, filter, refl, sym, ap, ◌∙◌, subst}
+use Rattle.std.proofs.Common.{◌≡◌, ℕ, zero, suc, ◌<◌, arith, length, get_or, drop, Bool, true, false, not, cond, ◌&&◌, ◌||◌, List, [], ◌∷◌, Some, is_none, find, map, filter, refl, sym, ap, ◌∙◌, subst}
 use Rattle.std.specs.List.{slice_get}
 use Rattle.qualified_goals.specs.declared.variable.Var.{Var}
 use Rattle.choice_problem.specs.declared.problem.Choice.{Choice}
@@ -7,17 +7,15 @@ use Rattle.choice_problem.specs.declared.problem.Demand.{Demand}
 use Rattle.qualified_goals.specs.Variable.{same_var}
 use Rattle.qualified_goals.specs.SameVariable.{same_var-is}
 use Rattle.choice_problem.specs.Assignment.{is_one_of}
-use Rattle.choice_problem.specs.Trail.{value_in, least_from}
-use Rattle.choice_problem.specs.Active.{is_waited_for, asks_for}
+use Rattle.choice_problem.specs.Trail.{value_in}
+use Rattle.choice_problem.specs.Active.{is_waited_for, asks_for, waiting}
 use Rattle.choice_problem.specs.Conflict.{is_broken, refuses}
-use Rattle.choice_problem.specs.ConflictSet.{has}
-use Rattle.choice_problem.proofs.Order.{least-same}
-use Rattle.choice_problem.proofs.Sets.{has-contains, contains-has}
+use Rattle.choice_problem.specs.ConflictSet.{has, is_rising}
+use Rattle.choice_problem.proofs.Sets.{set-same, set_of-rising}
 use Rattle.validation.specs.declared.mentions.Mention.{Mention}
-use Rattle.validation.specs.Table.{entry}
 use Rattle.validation.specs.Mentions.{places_on}
 use Rattle.validation.specs.Checks.{is_broken_in}
-use Rattle.validation.specs.Stack.{demand_at, demands_at, places_of, vars_at, AllBelow, AreTargets, AreOpen, least_waiting}
+use Rattle.validation.specs.Stack.{demand_at, demands_at, places_of, vars_at, AllBelow, AreTargets, AreOpen}
 use Rattle.validation.proofs.Stacks.{targets-tail}
 
 pub targets-below : (listed : List Demand) (ms : List Mention) → AreTargets listed ms → AllBelow (length listed) (places_of ms)
@@ -65,23 +63,14 @@ find-asks listed v (m ∷ ms) h =
 pub refuses-only : (c : Choice) (d : Demand) → same_var d.target c.var ≡ false → refuses c d ≡ false
 refuses-only c d h = ap (λ b. b && not (is_one_of (Some c.val) d.allowed)) h
 
-pub find-same : (p q : Demand → Bool) → ((d : Demand) → p d ≡ q d) → (ds : List Demand) → find p ds ≡ find q ds
-find-same p q h [] = refl
-find-same p q h (d ∷ ds) = ap (λ b. cond b (Some d) (find p ds)) (h d) ∙ ap (λ o. cond (q d) (Some d) o) (find-same p q h ds)
-
 demands-drop : (n : ℕ) (listed : List Demand) (ms : List Mention) → demands_at listed (places_of (drop n ms)) ≡ drop n (demands_at listed (places_of ms))
 demands-drop zero listed ms = refl
 demands-drop (suc n) listed [] = refl
 demands-drop (suc n) listed (m ∷ ms) = demands-drop n listed ms
 
-broken-same : (table : List (Var × ℕ)) (trail : List Choice) → ((v : Var) → entry table v ≡ value_in trail v) → (d : Demand) → is_broken trail d ≡ is_broken_in (entry table) d
-broken-same table trail h d = ap (λ o. is_some o && not (is_one_of o d.allowed)) (sym (h d.target))
-
-pub find-broken : (n : ℕ) (listed : List Demand) (ms : List Mention) (table : List (Var × ℕ)) (trail : List Choice) → ((v : Var) → entry table v ≡ value_in trail v)
-    → find (is_broken trail) (drop n (demands_at listed (places_of ms))) ≡ find (is_broken_in (entry table)) (demands_at listed (places_of (drop n ms)))
-find-broken n listed ms table trail h =
-    ap (find (is_broken trail)) (sym (demands-drop n listed ms))
-    ∙ find-same (is_broken trail) (is_broken_in (entry table)) (broken-same table trail h) (demands_at listed (places_of (drop n ms)))
+pub find-broken : (n : ℕ) (listed : List Demand) (ms : List Mention) (trail : List Choice)
+    → find (is_broken trail) (drop n (demands_at listed (places_of ms))) ≡ find (is_broken_in (value_in trail)) (demands_at listed (places_of (drop n ms)))
+find-broken n listed ms trail = ap (find (is_broken trail)) (sym (demands-drop n listed ms))
 
 -- the targets that are waited for
 
@@ -114,12 +103,12 @@ waiting-has trail listed (m ∷ ms) v h =
           ]
     ] refl
 
-pub least-open-is : (trail : List Choice) (listed : List Demand) (ms : List Mention) (table : List (Var × ℕ)) (vars : List Var) → AreTargets listed ms
-    → ((v : Var) → entry table v ≡ value_in trail v) → AreOpen ms table vars → least_from None vars ≡ least_waiting trail (demands_at listed (places_of ms))
-least-open-is trail listed ms table vars h values opened =
+-- rising variables that are open are those that are waited for
+pub waiting-is : (trail : List Choice) (listed : List Demand) (ms : List Mention) (vars : List Var) → AreTargets listed ms → AreOpen ms trail vars → is_rising vars ≡ true
+    → vars ≡ waiting trail (demands_at listed (places_of ms))
+waiting-is trail listed ms vars h opened rising =
     let targets = map (λ (d : Demand). d.target) (filter (is_waited_for trail) (demands_at listed (places_of ms))) in
-    let same : (v : Var) → has vars v ≡ has targets v = λ v. opened v ∙ ap (λ o. has (vars_at ms) v && is_none o) (values v) ∙ sym (waiting-has trail listed ms v h) in
-    least-same vars targets (λ v k. has-contains targets v (sym (same v) ∙ contains-has vars v k)) (λ v k. has-contains vars v (same v ∙ contains-has targets v k))
+    sym (set_of-rising vars rising) ∙ set-same vars targets (λ v. opened v ∙ sym (waiting-has trail listed ms v h))
 
 pub places-below : (v : Var) (listed seen : List Demand) (ms : List Mention) (places : List ℕ) → AreTargets listed ms → seen ≡ listed → places ≡ places_on v ms → AllBelow (length seen) places
 places-below v listed seen ms places h e is =

@@ -11,22 +11,14 @@ use Rattle.qualified_goals.specs.SameVariable.{same_var-is}
 use Rattle.common_laws.specs.Lists.{contains-head, contains-tail, contains-left, contains-right, map-contains, any-from, any-at}
 use Rattle.choice_problem.proofs.Sets.{has-contains, contains-has}
 use Rattle.choice_problem.proofs.Paths.{Way, start, step, leads-way, way-leads}
-use Rattle.validation.specs.Cycles.{HasEdge, AreAncestors, leads_to_any, with_keys}
-use Rattle.validation.proofs.Keys.{are_once, with_keys-once, has-with_keys, with_keys-front, once-within}
+use Rattle.validation.specs.Cycles.{HasEdge, AreAncestors, IsPartReached, leads_to_any, with_keys}
+use Rattle.validation.proofs.Keys.{with_keys-once, has-with_keys, with_keys-front, once-within}
 use Rattle.common_laws.specs.Small.{both-ways}
 
--- all keys lead to goals, all goals are keys, and what edges to the keys before a place leave are keys
-pub record IsPartReached (edges : List Edge) (goals keys : List Var) (place : ℕ) : Type 0 where
-  pub within : place ≤ length keys
-  pub once : are_once keys ≡ true
-  pub sound : (v : Var) → has keys v ≡ true → leads_to_any edges goals v ≡ true
-  pub begun : (v : Var) → has goals v ≡ true → has keys v ≡ true
-  pub closed : (w u : Var) → has (take place keys) w ≡ true → HasEdge edges u w → has keys u ≡ true
-
-leads-goal : (edges : List Edge) (goals : List Var) (v w : Var) → Contains goals w → Way edges v w → leads_to_any edges goals v ≡ true
+pub leads-goal : (edges : List Edge) (goals : List Var) (v w : Var) → Contains goals w → Way edges v w → leads_to_any edges goals v ≡ true
 leads-goal edges goals v w h way = any-from (λ (w : Var). leads (length edges) edges v w) goals w h (way-leads edges v w way)
 
-goal-of : (edges : List Edge) (goals : List Var) (v : Var) → leads_to_any edges goals v ≡ true → (w : Var) × Contains goals w × Way edges v w
+pub goal-of : (edges : List Edge) (goals : List Var) (v : Var) → leads_to_any edges goals v ≡ true → (w : Var) × Contains goals w × Way edges v w
 goal-of edges goals v h =
     let found = any-at (λ (w : Var). leads (length edges) edges v w) goals h in
     (found.0, found.1, leads-way (length edges) edges v found.0 found.2)

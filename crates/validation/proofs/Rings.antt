@@ -55,15 +55,14 @@ sources-of demands to v = (
       (subst (λ x. Contains (option_to_list (owner_of d)) x) leaves (edge-owner d.when d.target e from.2)),
 )
 
--- what the keys of a search say of a demand
-
 lies-by : (edges : List Edge) (when : List Choice) (target owner : Var) → first_of_condition when ≡ Some owner
     → leads_to_any edges (owner ∷ []) target ≡ list_any (λ (e : Edge). leads (length edges) edges e.to e.from) (edges_from when target)
 lies-by edges [] target owner h = absurd (cc h)
 lies-by edges (c ∷ others) target owner h = ap (λ v. leads_to_any edges (v ∷ []) target) (sym (cc h))
 
-pub lies-found : (edges : List Edge) (d : Demand) (owner : Var) (keys : List Var) → owner_of d ≡ Some owner → AreAncestors edges (owner ∷ []) keys → has keys d.target ≡ lies_on_cycle edges d
-lies-found edges d owner keys h all = all d.target ∙ lies-by edges d.when d.target owner h
+-- a demand lies on a cycle where its target leads to its owner
+pub lies-led : (edges : List Edge) (d : Demand) (owner : Var) → owner_of d ≡ Some owner → leads_to_any edges (owner ∷ []) d.target ≡ lies_on_cycle edges d
+lies-led edges d owner h = lies-by edges d.when d.target owner h
 
 -- an edge of a demand, and a way back
 record Ring (edges : List Edge) (d : Demand) : Type 0 where

@@ -1,6 +1,5 @@
 -- Stacks: choices with their marks, and what opens.
 use Rattle.std.proofs.Common.{◌≡◌, ℕ, zero, suc, ◌+◌, ◌-◌, ◌<◌, arith, length, get_or, take, drop, true, false, not, cond, ◌&&◌, ◌||◌, List, [], ◌∷◌, ◌++◌, Some, None, is_none, Result, Ok, Err, OnOk, OnErr, map, refl, sym, ap, ◌∙◌, subst, inl, inr, append_assoc, append-nil, length-append}
-use Rattle.std.proofs.lemmas.Bool.{false≢true}
 use Rattle.std.proofs.lemmas.List.{map-append, take-append-le, take-append-drop}
 use Rattle.std.proofs.Math.ListN.{get_or-append}
 use Rattle.std.proofs.Math.Seq.{take-length, take-append_seam, get_or-append_seam}
@@ -13,45 +12,11 @@ use Rattle.choice_problem.specs.Trail.{value_in}
 use Rattle.choice_problem.specs.ConflictSet.{has}
 use Rattle.validation.specs.declared.mentions.Mention.{Mention}
 use Rattle.validation.specs.declared.stack.Mark.{Mark}
-use Rattle.validation.specs.Table.{entry, with_entry, without_entry}
+use Rattle.choice_problem.proofs.TrailEnds.{snoc-none, snoc-same, value-push, value-pop}
 use Rattle.validation.specs.View.{View}
 use Rattle.validation.specs.Stack.{front_of, last_number, undone, with_listed, with_active, no_demand, demand_at, demands_at, places_of, vars_at, watchers_by, watchers_from, AreTargets, AreOpen, IsMark, AreMarks, AreParts}
 use Rattle.validation.specs.Stack.AreMarks.{none, on}
-use Rattle.validation.proofs.MentionLinks.{snoc-split, snoc-none, snoc-same}
-
--- values
-
--- what the first choice of a variable has is what counts
-none-tail : (x : Choice) (trail : List Choice) (v : Var) → value_in (x ∷ trail) v ≡ None → (same_var x.var v ≡ false) × (value_in trail v ≡ None)
-none-tail x trail v h =
-    elim (same_var x.var v) as (λ b. cond b (Some x.val) (value_in trail v) ≡ None → (b ≡ false) × (value_in trail v ≡ None)) [
-      | true ↦ λ k. absurd (cc k)
-      | false ↦ λ k. (refl, k)
-    ] h
-
-pub value-push : (front : List Choice) (c : Choice) (v : Var) → value_in front c.var ≡ None
-    → value_in (front ++ c ∷ []) v ≡ cond (same_var c.var v) (Some c.val) (value_in front v)
-value-push [] c v h = refl
-value-push (x ∷ front) c v h =
-    let tail = none-tail x front c.var h in
-    ap (λ o. cond (same_var x.var v) (Some x.val) o) (value-push front c v tail.1)
-    ∙ elim (same_var x.var v) as (λ b. same_var x.var v ≡ b
-    → cond b (Some x.val) (cond (same_var c.var v) (Some c.val) (value_in front v)) ≡ cond (same_var c.var v) (Some c.val) (cond b (Some x.val) (value_in front v))) [
-      | true ↦ λ e. elim (same_var c.var v) as (λ b. same_var c.var v ≡ b → Some x.val ≡ cond b (Some c.val) (Some x.val)) [
-        | true ↦ λ f. absurd (false≢true (sym tail.0 ∙ ap (same_var x.var) (same_var-is c.var v f) ∙ e))
-        | false ↦ λ f. refl
-      ] refl
-      | false ↦ λ e. refl
-    ] refl
-
--- with the value taken out again the map is that of the choices before
-pub value-pop : (front : List Choice) (c : Choice) (v : Var) → value_in front c.var ≡ None → cond (same_var c.var v) None (value_in (front ++ c ∷ []) v) ≡ value_in front v
-value-pop front c v h =
-    ap (λ o. cond (same_var c.var v) None o) (value-push front c v h)
-    ∙ elim (same_var c.var v) as (λ b. same_var c.var v ≡ b → cond b None (cond b (Some c.val) (value_in front v)) ≡ value_in front v) [
-      | true ↦ λ e. sym (ap (value_in front) (sym (same_var-is c.var v e)) ∙ h)
-      | false ↦ λ e. refl
-    ] refl
+use Rattle.validation.proofs.MentionLinks.{snoc-split}
 
 -- targets
 
@@ -142,48 +107,46 @@ marks-hold {trail = trail} {marks = marks} {listed = listed} {active = active} c
     (marks-targets levels)
 
 -- what is open once a variable has a value
-pub open-hold : (active : List Mention) (old new : List (Var × ℕ)) (vars less : List Var) (c : Choice) → AreOpen active old vars
-    → ((v : Var) → entry new v ≡ with_entry c.var c.val (entry old) v) → ((v : Var) → has less v ≡ (not (same_var c.var v) && has vars v)) → AreOpen active new less
-open-hold active old new vars less c h updates less_is v =
+pub open-hold : (active : List Mention) (trail : List Choice) (vars less : List Var) (c : Choice) → AreOpen active trail vars → value_in trail c.var ≡ None
+    → ((v : Var) → has less v ≡ (not (same_var c.var v) && has vars v)) → AreOpen active (trail ++ c ∷ []) less
+open-hold active trail vars less c h free less_is v =
     less_is v ∙ ap (λ b. not (same_var c.var v) && b) (h v)
-    ∙ elim (same_var c.var v) as (λ b. not b && (has (vars_at active) v && is_none (entry old v)) ≡ has (vars_at active) v && is_none (cond b (Some c.val) (entry old v))) [
+    ∙ elim (same_var c.var v) as (λ b. not b && (has (vars_at active) v && is_none (value_in trail v)) ≡ has (vars_at active) v && is_none (cond b (Some c.val) (value_in trail v))) [
       | true ↦ elim (has (vars_at active) v) as (λ b. false ≡ b && false) [ true ↦ refl | false ↦ refl ]
       | false ↦ refl
     ]
-    ∙ ap (λ o. has (vars_at active) v && is_none o) (sym (updates v))
+    ∙ ap (λ o. has (vars_at active) v && is_none o) (sym (value-push trail c v free))
 
-pub parts-open : (trail : List Choice) (marks : List Mark) (listed : List Demand) (active watchers : List Mention) (table : List (Var × ℕ)) (vars : List Var) (held : ℕ) (v : Var)
-    → AreParts trail marks listed active watchers table vars held → value_in trail v ≡ None → has (vars_at active) v ≡ true → has vars v ≡ true
-parts-open trail marks listed active watchers table vars held v h free asked =
-    h.opened v ∙ ap (λ b. b && is_none (entry table v)) asked ∙ ap is_none (h.values v ∙ free)
+pub parts-open : (trail : List Choice) (marks : List Mark) (listed : List Demand) (active watchers : List Mention) (vars : List Var) (held : ℕ) (v : Var)
+    → AreParts trail marks listed active watchers vars held → value_in trail v ≡ None → has (vars_at active) v ≡ true → has vars v ≡ true
+parts-open trail marks listed active watchers vars held v h free asked =
+    h.opened v ∙ ap (λ b. b && is_none (value_in trail v)) asked ∙ ap is_none free
 
-pub parts-hold : (trail after : List Choice) (marks above : List Mark) (listed : List Demand) (active watchers : List Mention) (old new : List (Var × ℕ)) (vars less : List Var) (held more : ℕ)
-    (c : Choice) (m : Mark) → AreParts trail marks listed active watchers old vars held → value_in trail c.var ≡ None → has (vars_at active) c.var ≡ true
+pub parts-hold : (trail after : List Choice) (marks above : List Mark) (listed : List Demand) (active watchers : List Mention) (vars less : List Var) (held more : ℕ)
+    (c : Choice) (m : Mark) → AreParts trail marks listed active watchers vars held → value_in trail c.var ≡ None → has (vars_at active) c.var ≡ true
     → m.listed ≡ length listed → m.active ≡ length active → m.watchers ≡ length watchers → after ≡ trail ++ c ∷ [] → above ≡ marks ++ m ∷ []
-    → ((v : Var) → entry new v ≡ with_entry c.var c.val (entry old) v) → ((v : Var) → has less v ≡ (not (same_var c.var v) && has vars v)) → more ≡ held + 1
-    → AreParts after above listed active watchers new less more
-parts-hold trail after marks above listed active watchers old new vars less held more c m h free asked l a w after_is above_is updates less_is room = record {
+    → ((v : Var) → has less v ≡ (not (same_var c.var v) && has vars v)) → more ≡ held + 1
+    → AreParts after above listed active watchers less more
+parts-hold trail after marks above listed active watchers vars less held more c m h free asked l a w after_is above_is less_is room = record {
   levels =
       subst (λ (cs : List Choice). AreMarks cs above listed active) (sym after_is)
       (subst (λ (ms : List Mark). AreMarks (trail ++ c ∷ []) ms listed active) (sym above_is) (marks-hold c m h.levels free asked l a (w ∙ ap length h.waiting)));
-  values = λ v. updates v ∙ ap (λ o. cond (same_var c.var v) (Some c.val) o) (h.values v) ∙ sym (value-push trail c v free) ∙ ap (λ cs. value_in cs v) (sym after_is);
   waiting = h.waiting;
-  opened = open-hold active old new vars less c h.opened updates less_is;
+  opened = subst (λ (cs : List Choice). AreOpen active cs less) (sym after_is) (open-hold active trail vars less c h.opened free less_is);
   room = omega (arith, room, h.room, ap length after_is, length-append trail (c ∷ []));
 }
 
-pub parts-none : (trail : List Choice) (marks : List Mark) (listed : List Demand) (active watchers : List Mention) (table : List (Var × ℕ)) (vars : List Var) (held : ℕ)
-    → trail ≡ [] → marks ≡ [] → listed ≡ [] → active ≡ [] → watchers ≡ [] → ((v : Var) → entry table v ≡ None) → vars ≡ [] → held ≡ 0
-    → AreParts trail marks listed active watchers table vars held
-parts-none trail marks listed active watchers table vars held t m l a w h v k = record {
+pub parts-none : (trail : List Choice) (marks : List Mark) (listed : List Demand) (active watchers : List Mention) (vars : List Var) (held : ℕ)
+    → trail ≡ [] → marks ≡ [] → listed ≡ [] → active ≡ [] → watchers ≡ [] → vars ≡ [] → held ≡ 0
+    → AreParts trail marks listed active watchers vars held
+parts-none trail marks listed active watchers vars held t m l a w v k = record {
   levels =
       subst (λ (cs : List Choice). AreMarks cs marks listed active) (sym t) (subst (λ (ms : List Mark). AreMarks [] ms listed active) (sym m) (none (record {
         within = λ front x rest e. absurd (snoc-none front x rest (sym a ∙ e));
         target = λ front x rest e. absurd (snoc-none front x rest (sym a ∙ e));
       })));
-  values = λ x. h x ∙ ap (λ cs. value_in cs x) (sym t);
   waiting = w ∙ ap (watchers_from 0) (sym l);
-  opened = λ x. ap (λ vs. has vs x) v ∙ sym (ap (λ ms. has (vars_at ms) x && is_none (entry table x)) a);
+  opened = λ x. ap (λ vs. has vs x) v ∙ sym (ap (λ ms. has (vars_at ms) x && is_none (value_in trail x)) a);
   room = k ∙ ap length (sym t);
 }
 
@@ -206,12 +169,11 @@ waits-cut k listed =
     ∙ ap (take (length (watchers_from 0 (take k listed)))) (waits-append 0 (take k listed) (drop k listed))
     ∙ take-append_seam (watchers_from 0 (take k listed)) (watchers_from (0 + length (take k listed)) (drop k listed))
 
-pub parts-list : (trail : List Choice) (marks : List Mark) (listed after : List Demand) (active watchers more : List Mention) (table : List (Var × ℕ)) (vars : List Var) (held : ℕ) (d : Demand)
-    → AreParts trail marks listed active watchers table vars held → after ≡ listed ++ d ∷ [] → more ≡ watchers ++ watchers_by (length listed) d.when
-    → AreParts trail marks after active more table vars held
-parts-list trail marks listed after active watchers more table vars held d h after_is more_is = record {
+pub parts-list : (trail : List Choice) (marks : List Mark) (listed after : List Demand) (active watchers more : List Mention) (vars : List Var) (held : ℕ) (d : Demand)
+    → AreParts trail marks listed active watchers vars held → after ≡ listed ++ d ∷ [] → more ≡ watchers ++ watchers_by (length listed) d.when
+    → AreParts trail marks after active more vars held
+parts-list trail marks listed after active watchers more vars held d h after_is more_is = record {
   levels = subst (λ (ds : List Demand). AreMarks trail marks ds active) (sym after_is) (marks-grow (d ∷ []) h.levels);
-  values = h.values;
   waiting = more_is ∙ ap (λ ws. ws ++ watchers_by (length listed) d.when) h.waiting ∙ sym (waits-push listed d) ∙ ap (watchers_from 0) (sym after_is);
   opened = h.opened;
   room = h.room;
@@ -225,19 +187,17 @@ demands-grow listed more (m ∷ ms) h =
 
 -- one active demand more
 
-pub parts-ask : {E : Type 0} (r : Result (Unit {0}) E) (trail : List Choice) (marks : List Mark) (listed : List Demand) (active after watchers : List Mention) (table : List (Var × ℕ)) (vars more : List Var) (held same : ℕ) (m : Mention)
-    → AreParts trail marks listed active watchers table vars held → m.place < length listed → m.var ≡ (demand_at listed m.place).target
-    → OnOk r (after ≡ active ++ m ∷ []) → OnErr r (after ≡ active) → AreOpen after table more → same ≡ held → AreParts trail marks listed after watchers table more same
-parts-ask (Ok u) trail marks listed active after watchers table vars more held same m h within target ok err opened room = record {
+pub parts-ask : {E : Type 0} (r : Result (Unit {0}) E) (trail : List Choice) (marks : List Mark) (listed : List Demand) (active after watchers : List Mention) (vars more : List Var) (held same : ℕ) (m : Mention)
+    → AreParts trail marks listed active watchers vars held → m.place < length listed → m.var ≡ (demand_at listed m.place).target
+    → OnOk r (after ≡ active ++ m ∷ []) → OnErr r (after ≡ active) → AreOpen after trail more → same ≡ held → AreParts trail marks listed after watchers more same
+parts-ask (Ok u) trail marks listed active after watchers vars more held same m h within target ok err opened room = record {
   levels = subst (λ (ms : List Mention). AreMarks trail marks listed ms) (sym ok) (marks-push m h.levels (targets-push listed active m (marks-targets h.levels) within target));
-  values = h.values;
   waiting = h.waiting;
   opened = opened;
   room = room ∙ h.room;
 }
-parts-ask (Err e) trail marks listed active after watchers table vars more held same m h within target ok err opened room = record {
+parts-ask (Err e) trail marks listed active after watchers vars more held same m h within target ok err opened room = record {
   levels = subst (λ (ms : List Mention). AreMarks trail marks listed ms) (sym err) h.levels;
-  values = h.values;
   waiting = h.waiting;
   opened = opened;
   room = room ∙ h.room;
@@ -265,31 +225,31 @@ pub marks-some : {trail : List Choice} {marks : List Mark} {listed : List Demand
 marks-some front c (none targets) e = absurd (snoc-none front c [] e)
 marks-some front c (on {less = less} c' m levels e' f is targets) e = (less, m, f)
 
-pub parts-undo : (trail front : List Choice) (marks less : List Mark) (listed fewer : List Demand) (active asked watchers left : List Mention) (table new : List (Var × ℕ)) (vars kept more : List Var) (held same one : ℕ)
-    (c : Choice) (m : Mark) → AreParts trail marks listed active watchers table vars held → trail ≡ front ++ c ∷ [] → marks ≡ less ++ m ∷ []
-    → asked ≡ take m.active active → AreOpen asked table kept → same ≡ held → left ≡ take m.watchers watchers → fewer ≡ take m.listed listed
-    → ((v : Var) → entry new v ≡ without_entry c.var (entry table) v) → ((v : Var) → has more v ≡ (same_var c.var v || has kept v)) → one + 1 ≡ same
-    → AreParts front less fewer asked left new more one
-parts-undo trail front marks less listed fewer active asked watchers left table new vars kept more held same one c m h e f asked_is opened same_is left_is fewer_is updates more_is room =
+pub parts-undo : (trail front : List Choice) (marks less : List Mark) (listed fewer : List Demand) (active asked watchers left : List Mention) (vars kept more : List Var) (held same one : ℕ)
+    (c : Choice) (m : Mark) → AreParts trail marks listed active watchers vars held → trail ≡ front ++ c ∷ [] → marks ≡ less ++ m ∷ []
+    → asked ≡ take m.active active → AreOpen asked trail kept → same ≡ held → left ≡ take m.watchers watchers → fewer ≡ take m.listed listed
+    → ((v : Var) → has more v ≡ (same_var c.var v || has kept v)) → one + 1 ≡ same
+    → AreParts front less fewer asked left more one
+parts-undo trail front marks less listed fewer active asked watchers left vars kept more held same one c m h e f asked_is opened same_is left_is fewer_is more_is room =
     let level = marks-undo front c less m h.levels e f in
     record {
       levels =
           subst (λ (ms : List Mention). AreMarks front less fewer ms) (sym asked_is)
           (subst (λ (ds : List Demand). AreMarks front less ds (take m.active active)) (sym fewer_is) level.0);
-      values = λ v. updates v ∙ ap (λ o. cond (same_var c.var v) None o) (h.values v ∙ ap (λ cs. value_in cs v) e) ∙ value-pop front c v level.1.new;
       waiting =
           left_is ∙ ap (take m.watchers) h.waiting ∙ ap (λ n. take n (watchers_from 0 listed)) level.1.watchers ∙ waits-cut m.listed listed
           ∙ ap (watchers_from 0) (sym fewer_is);
       opened = λ v.
           more_is v ∙ ap (λ b. same_var c.var v || b) (opened v)
           ∙ elim (same_var c.var v) as (λ b. same_var c.var v ≡ b
-          → b || (has (vars_at asked) v && is_none (entry table v)) ≡ has (vars_at asked) v && is_none (cond b None (entry table v))) [
+          → b || (has (vars_at asked) v && is_none (value_in trail v)) ≡ has (vars_at asked) v && is_none (cond b None (value_in trail v))) [
             | true ↦ λ k.
                 let there : has (vars_at asked) v ≡ true = ap (has (vars_at asked)) (sym (same_var-is c.var v k)) ∙ ap (λ ms. has (vars_at ms) c.var) asked_is ∙ level.1.asked in
                 sym (ap (λ b. b && true) there)
             | false ↦ λ k. refl
           ] refl
-          ∙ ap (λ o. has (vars_at asked) v && is_none o) (sym (updates v));
+          ∙ ap (λ o. has (vars_at asked) v && is_none o)
+          (ap (λ cs. cond (same_var c.var v) None (value_in cs v)) e ∙ value-pop front c v level.1.new);
       room = omega (arith, room, same_is, h.room, ap length e, length-append front (c ∷ []));
     }
 

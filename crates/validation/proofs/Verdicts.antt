@@ -7,32 +7,17 @@ use Rattle.qualified_goals.specs.declared.variable.Var.{Var}
 use Rattle.choice_problem.specs.declared.problem.Choice.{Choice}
 use Rattle.choice_problem.specs.declared.problem.Demand.{Demand}
 use Rattle.choice_problem.specs.Problem.{Problem, IsChoice, Lawful}
-use Rattle.choice_problem.specs.Trail.{value_in, demands_after}
-use Rattle.choice_problem.specs.Active.{made_active, active, least_open}
-use Rattle.choice_problem.specs.Conflict.{barred_set, refuses, refused_set, is_broken, broken_set, circular, cycle_set, set_of_first, set_of_all, first_set, conflict}
+use Rattle.choice_problem.specs.Trail.{value_in, AreNew, demands_after}
+use Rattle.choice_problem.specs.Trail.AreNew.{before_any, one_more}
+use Rattle.choice_problem.specs.Active.{made_active, active, is_open}
+use Rattle.choice_problem.specs.Conflict.{barred_set, refuses, refused_set, is_broken, broken_set, set_of_first, lasting_sets, lasting_set, first_set, conflict}
 use Rattle.choice_problem.specs.ConflictSet.{has}
 use Rattle.choice_problem.proofs.Active.{active-push}
-use Rattle.validation.specs.View.{View, Represents, AreNew, listed_counts, counts_before, view_of}
-use Rattle.validation.specs.View.AreNew.{none, on}
+use Rattle.choice_problem.proofs.Ends.{lasting-start}
+use Rattle.choice_problem.proofs.Rules.{front-some, front-none, rest-none}
+use Rattle.validation.specs.View.{View, Represents, listed_counts, counts_before, view_of}
 use Rattle.validation.specs.Stack.{made, turned}
-use Rattle.validation.proofs.Views.{after-push, made-turned, counts-push, listed-push, least-known, roots-acyclic}
-
--- the first of four sets is the first of two, or else of the other two
-
-early-some : (a b c d : Option (List Var)) (set : List Var) → first_set (a ∷ b ∷ []) ≡ Some set → first_set (a ∷ b ∷ c ∷ d ∷ []) ≡ Some set
-early-some None None c d set h = absurd (cc h)
-early-some None (Some s) c d set h = h
-early-some (Some s) b c d set h = h
-
-early-none : (a b c d : Option (List Var)) → first_set (a ∷ b ∷ []) ≡ None → first_set (a ∷ b ∷ c ∷ d ∷ []) ≡ first_set (c ∷ d ∷ [])
-early-none None None c d h = refl
-early-none None (Some s) c d h = absurd (cc h)
-early-none (Some s) b c d h = absurd (cc h)
-
-none-last : (a : Option (List Var)) (ds : List Demand) → first_set (a ∷ set_of_all ds ∷ []) ≡ None → ds ≡ []
-none-last None [] h = refl
-none-last None (d ∷ ds) h = absurd (cc h)
-none-last (Some s) ds h = absurd (cc h)
+use Rattle.validation.proofs.Views.{after-push, made-turned, counts-push, listed-push, known-open}
 
 abbrev pub shown : List Choice → List Demand → List Demand → List ℕ → List ℕ → View
 shown trail listed active listed_before active_before =
@@ -52,12 +37,11 @@ pub record Ready (p : Problem) (x : View) (c : Choice) : Type 0 where
 pub active-is : (p : Problem) (x : View) → Represents p x → x.active ≡ active p x.trail
 active-is p x h = ap (λ (s : View). s.active) h.same
 
-pub ready : (p : Problem) (x : View) (now : View) (c : Choice) → Lawful p → x ≡ now → Represents p now → least_open p now.trail ≡ Some c.var
+pub ready : (p : Problem) (x : View) (now : View) (c : Choice) → Lawful p → x ≡ now → Represents p now → is_open p now.trail c.var ≡ true
     → c.val < p.domain c.var → Ready p x c
-ready p x now c lawful is stands least value =
+ready p x now c lawful is stands asked value =
     let mine : Represents p x = subst (λ (s : View). Represents p s) (sym is) stands in
-    let first : least_open p x.trail ≡ Some c.var = ap (λ (s : View). least_open p s.trail) is ∙ least in
-    let found = least-known p x.trail c.var lawful mine.choices first in
+    let found = known-open p x.trail c.var lawful mine.choices (ap (λ (s : View). is_open p s.trail c.var) is ∙ asked) in
     record {
       stands = mine;
       choice = record { variable = found.known; value = value };
@@ -81,8 +65,8 @@ pub fresh-is : (p : Problem) (x y : View) (c : Choice) (demands : List Demand) (
 fresh-is p x y c demands before h d e count =
     ap (drop before) (made-active p x y c demands h d e) ∙ ap (λ n. drop n (x.active ++ made_active p x.trail c)) count ∙ drop-append_seam x.active (made_active p x.trail c)
 
-pub stands-made : (p : Problem) (x y : View) (c : Choice) (demands : List Demand) → Ready p x c → demands ≡ p.demands c → y ≡ made x c demands → circular y.active ≡ [] → Represents p y
-stands-made p x y c demands h d e acyclic =
+pub stands-made : (p : Problem) (x y : View) (c : Choice) (demands : List Demand) → Ready p x c → demands ≡ p.demands c → y ≡ made x c demands → lasting_set y.trail y.active ≡ None → Represents p y
+stands-made p x y c demands h d e lasting =
     let trail : y.trail ≡ x.trail ++ c ∷ [] = ap (λ (s : View). s.trail) e in
     let listed : y.listed ≡ demands_after p (x.trail ++ c ∷ []) =
     ap (λ (s : View). s.listed) e ∙ ap (λ l. l ++ demands) (ap (λ (s : View). s.listed) h.stands.same) ∙ ap (λ l. demands_after p x.trail ++ l) d
@@ -99,33 +83,45 @@ stands-made p x y c demands h d e acyclic =
     (listed_counts p [] (x.trail ++ c ∷ [])) y.active_before (counts_before p [] (x.trail ++ c ∷ [])) trail listed after were counts in
     record {
       choices = subst (λ (t : List Choice). All (IsChoice p) t) (sym trail) (All-push (IsChoice p) x.trail c h.stands.choices h.choice);
-      new = on {before = x.trail} h.stands.new c h.free trail;
+      new = one_more {before = x.trail} h.stands.new c h.free trail;
       same = same ∙ ap (view_of p) (sym trail);
-      acyclic = acyclic;
+      lasting = lasting;
     }
 
-pub conflict-early : (p : Problem) (x : View) (c : Choice) (set : List Var) → Ready p x c
-    → Some set ≡ first_set (barred_set p c ∷ set_of_first (find (refuses c) x.active) ∷ []) → conflict p x.trail c ≡ Some set
+-- the set of the rules on the value and on the demands before it
+abbrev pub early : Problem → View → Choice → List (Option (List Var))
+early p x c = barred_set p c ∷ set_of_first (find (refuses c) x.active) ∷ []
+
+-- the sets of the rules on what came with it
+abbrev pub late : View → ℕ → List (Option (List Var))
+late y before = set_of_first (find (is_broken y.trail) (drop before y.active)) ∷ lasting_sets y.trail y.active
+
+early-is : (p : Problem) (x : View) (c : Choice) → Ready p x c → early p x c ≡ barred_set p c ∷ refused_set p x.trail c ∷ []
+early-is p x c h = ap (λ (l : List Demand). barred_set p c ∷ set_of_first (find (refuses c) l) ∷ []) (active-is p x h.stands)
+
+late-is : (p : Problem) (x y : View) (c : Choice) (demands : List Demand) (before : ℕ) → Ready p x c → demands ≡ p.demands c → y ≡ made x c demands → before ≡ length x.active
+    → late y before ≡ broken_set p x.trail c ∷ lasting_sets (x.trail ++ c ∷ []) (active p (x.trail ++ c ∷ []))
+late-is p x y c demands before h d e count =
+    ap (λ (t : List Choice). set_of_first (find (is_broken t) (drop before y.active)) ∷ lasting_sets t y.active) (ap (λ (s : View). s.trail) e)
+    ∙ ap (λ (l : List Demand). set_of_first (find (is_broken (x.trail ++ c ∷ [])) l) ∷ lasting_sets (x.trail ++ c ∷ []) y.active) (fresh-is p x y c demands before h d e count)
+    ∙ ap (λ (l : List Demand). broken_set p x.trail c ∷ lasting_sets (x.trail ++ c ∷ []) l) (after-is p x y c demands h d e)
+
+pub conflict-early : (p : Problem) (x : View) (c : Choice) (set : List Var) → Ready p x c → Some set ≡ first_set (early p x c) → conflict p x.trail c ≡ Some set
 unfolding conflict
 conflict-early p x c set h e =
-    early-some (barred_set p c) (refused_set p x.trail c) (broken_set p x.trail c) (cycle_set p x.trail c) set
-    (ap (λ (l : List Demand). first_set (barred_set p c ∷ set_of_first (find (refuses c) l) ∷ [])) (sym (active-is p x h.stands)) ∙ sym e)
+    front-some (barred_set p c ∷ refused_set p x.trail c ∷ []) (broken_set p x.trail c ∷ lasting_sets (x.trail ++ c ∷ []) (active p (x.trail ++ c ∷ []))) set
+    (ap first_set (sym (early-is p x c h)) ∙ sym e)
 
 pub conflict-late : (p : Problem) (x y : View) (c : Choice) (demands : List Demand) (before : ℕ) (o : Option (List Var)) → Ready p x c → demands ≡ p.demands c → y ≡ made x c demands
-    → before ≡ length x.active → None ≡ first_set (barred_set p c ∷ set_of_first (find (refuses c) x.active) ∷ [])
-    → o ≡ first_set (set_of_first (find (is_broken y.trail) (drop before y.active)) ∷ set_of_all (circular y.active) ∷ []) → conflict p x.trail c ≡ o
+    → before ≡ length x.active → None ≡ first_set (early p x c) → o ≡ first_set (late y before) → conflict p x.trail c ≡ o
 unfolding conflict
-conflict-late p x y c demands before o h d e count early late =
-    let trail : y.trail ≡ x.trail ++ c ∷ [] = ap (λ (s : View). s.trail) e in
-    early-none (barred_set p c) (refused_set p x.trail c) (broken_set p x.trail c) (cycle_set p x.trail c)
-    (ap (λ (l : List Demand). first_set (barred_set p c ∷ set_of_first (find (refuses c) l) ∷ [])) (sym (active-is p x h.stands)) ∙ sym early)
-    ∙ sym (late
-    ∙ ap (λ (t : List Choice). first_set (set_of_first (find (is_broken t) (drop before y.active)) ∷ set_of_all (circular y.active) ∷ [])) trail
-    ∙ ap (λ (l : List Demand). first_set (set_of_first (find (is_broken (x.trail ++ c ∷ [])) l) ∷ set_of_all (circular y.active) ∷ [])) (fresh-is p x y c demands before h d e count)
-    ∙ ap (λ (l : List Demand). first_set (broken_set p x.trail c ∷ set_of_all (circular l) ∷ [])) (after-is p x y c demands h d e))
+conflict-late p x y c demands before o h d e count none is =
+    front-none (barred_set p c ∷ refused_set p x.trail c ∷ []) (broken_set p x.trail c ∷ lasting_sets (x.trail ++ c ∷ []) (active p (x.trail ++ c ∷ [])))
+    (ap first_set (sym (early-is p x c h)) ∙ sym none)
+    ∙ sym (is ∙ ap first_set (late-is p x y c demands before h d e count))
 
-pub none-circular : (a : Option (List Var)) (ds : List Demand) → None ≡ first_set (a ∷ set_of_all (circular ds) ∷ []) → circular ds ≡ []
-none-circular a ds h = none-last a (circular ds) (sym h)
+pub none-lasting : (y : View) (before : ℕ) → None ≡ first_set (late y before) → lasting_set y.trail y.active ≡ None
+none-lasting y before h = rest-none (set_of_first (find (is_broken y.trail) (drop before y.active)) ∷ []) (lasting_sets y.trail y.active) (sym h)
 
 -- before any choice
 
@@ -142,9 +138,11 @@ stands-new p x roots lawful is e =
     shown-same x.trail [] x.listed (p.roots ++ []) x.active (p.roots ++ []) x.listed_before [] x.active_before [] trail listed acts were counts in
     record {
       choices = subst (λ (t : List Choice). All (IsChoice p) t) (sym trail) (All-nil (IsChoice p));
-      new = subst (λ (t : List Choice). AreNew t) (sym trail) none;
+      new = subst (λ (t : List Choice). AreNew t) (sym trail) before_any;
       same = same ∙ ap (view_of p) (sym trail);
-      acyclic = ap circular (ap (λ (s : View). s.active) e ∙ is) ∙ roots-acyclic p lawful;
+      lasting =
+          ap (λ (t : List Choice). lasting_set t x.active) trail
+          ∙ ap (λ (ds : List Demand). lasting_set [] ds) acts ∙ lasting-start p lawful;
     }
 
 pub none-from : {X : Type 0} (o : Option X) → ((x : X) → o ≡ Some x → ⊥) → o ≡ None

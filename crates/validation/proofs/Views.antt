@@ -1,6 +1,6 @@
 -- What a trail with one choice more stands for.
 use Rattle.std.proofs.Common.{◌≡◌, arith, length, Bool, true, false, not, cond, ◌&&◌, ◌||◌, IsTrue, List, [], ◌∷◌, ◌++◌, Some, None, map, filter, refl, sym, ap, ◌∙◌, subst, inl, inr, append_assoc, append-nil, length-append}
-use Rattle.std.specs.List.{Contains, All, flat_map, list_all, list_any}
+use Rattle.std.specs.List.{Contains, All, flat_map, list_all}
 use Rattle.std.proofs.lemmas.Bool.{false≢true, and_parts}
 use Rattle.std.proofs.Math.ListN.{get_or-append}
 use Rattle.std.proofs.lemmas.Grind.{flat_map-append}
@@ -13,15 +13,16 @@ use Rattle.qualified_goals.specs.SameVariable.{same_var-is, same_var-refl}
 use Rattle.choice_problem.specs.Problem.{Problem, IsChoice, IsDemand, IsRoot, IsOwned, Lawful}
 use Rattle.choice_problem.specs.Assignment.{is_one_of, is_made, is_yes}
 use Rattle.choice_problem.specs.Trail.{value_in, demands_after}
-use Rattle.choice_problem.specs.Active.{turns_yes, made_active, active, least_open}
-use Rattle.choice_problem.specs.Conflict.{Edge, edges_from, edges_of, leads, lies_on_cycle, circular}
+use Rattle.choice_problem.specs.Active.{turns_yes, made_active, active, is_open, least_open}
 use Rattle.choice_problem.specs.ConflictSet.{has}
-use Rattle.common_laws.specs.Lists.{contains-head, contains-tail, map-contains, filter-alike}
-use Rattle.choice_problem.proofs.Active.{active-demand, least-open}
+use Rattle.common_laws.specs.Lists.{map-contains, filter-alike}
+use Rattle.choice_problem.specs.General.{general}
+use Rattle.choice_problem.proofs.Active.{active-demand, open-plain}
+use Rattle.choice_problem.proofs.Trails.{next-open}
 use Rattle.choice_problem.proofs.Sets.{contains-has}
 use Rattle.validation.specs.View.{listed_counts, counts_before}
 use Rattle.validation.specs.Stack.{are_naming, names, turned}
-use Rattle.validation.proofs.Stacks.{value-push}
+use Rattle.choice_problem.proofs.TrailEnds.{value-push}
 
 -- demands that a choice makes active name its variable
 
@@ -98,15 +99,15 @@ module _ (p : Problem) where
   pub all-front : {X : Type 0} (P : X → Type 0) (xs ys : List X) → All P (xs ++ ys) → All P xs
   all-front P xs ys h = λ k d within. subst P (get_or-append xs ys d k within) (h k d (omega (arith, within, length-append xs ys)))
 
-  -- the least open variable is known, has no value, and is the target of an active demand
+  -- an open variable is known, has no value, and is the target of an active demand
   pub record IsOpen (trail : List Choice) (v : Var) : Type 0 where
     pub known : IsTrue (p.known v)
     pub free : value_in trail v ≡ None
     pub asked : has (map (λ d. d.target) (active p trail)) v ≡ true
 
-  pub least-known : (trail : List Choice) (v : Var) → Lawful p → All (IsChoice p) trail → least_open p trail ≡ Some v → IsOpen trail v
-  least-known trail v lawful choices h =
-      let found = least-open p lawful trail v h in
+  pub known-open : (trail : List Choice) (v : Var) → Lawful p → All (IsChoice p) trail → is_open p trail v ≡ true → IsOpen trail v
+  known-open trail v lawful choices h =
+      let found = open-plain p lawful trail v choices h in
       record {
         known = subst (λ w. IsTrue (p.known w)) found.target (demand-known found.demand lawful (active-demand p lawful trail found.demand choices found.member));
         free = found.unchosen;
@@ -115,17 +116,5 @@ module _ (p : Problem) where
             (map-contains (λ (d : Demand). d.target) (active p trail) found.demand found.member));
       }
 
--- roots have no edges
-
-rootless : (edges : List Edge) (d : Demand) (when : List Choice) → d.when ≡ when → when ≡ [] → lies_on_cycle edges d ≡ false
-rootless edges d when e h = ap (λ w. list_any (λ x. leads (length edges) edges x.to x.from) (edges_from w d.target)) (e ∙ h)
-
-filter-nothing : (edges : List Edge) (ds : List Demand) → ((d : Demand) → Contains ds d → d.when ≡ []) → filter (lies_on_cycle edges) ds ≡ []
-filter-nothing edges [] h = refl
-filter-nothing edges (d ∷ ds) h =
-    ap (λ b. cond b (d ∷ filter (lies_on_cycle edges) ds) (filter (lies_on_cycle edges) ds)) (rootless edges d d.when refl (h d (contains-head d ds)))
-    ∙ filter-nothing edges ds (λ x k. h x (contains-tail d ds x k))
-
-pub roots-acyclic : (p : Problem) → Lawful p → circular p.roots ≡ []
-unfolding circular
-roots-acyclic p lawful = filter-nothing (edges_of p.roots) p.roots (λ d k. (All-contains (IsRoot p) p.roots d lawful.roots k).condition)
+  pub least-known : (trail : List Choice) (v : Var) → Lawful p → All (IsChoice p) trail → least_open p trail ≡ Some v → IsOpen trail v
+  least-known trail v lawful choices h = known-open trail v lawful choices (next-open (general p) trail v h)

@@ -1,6 +1,5 @@
 pub mod View
 pub mod Verdict
-pub mod Table
 pub mod Mentions
 pub mod Open
 pub mod Stack

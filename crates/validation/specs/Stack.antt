@@ -1,6 +1,6 @@
 -- What a stack of choices stands for, and how what it holds hangs together.
-use Rattle.std.specs.Prelude.{◌≡◌, ℕ, suc, ◌-◌, ◌<◌, ◌≤◌, Bool, true, cond, ◌&&◌, List, [], ◌∷◌, ◌++◌, length, take, map, filter, Option, None, is_none, slice_index_or, option_to_list, flat_map, find}
-use Rattle.std.specs.List.{list_any}
+use Rattle.std.specs.Prelude.{◌≡◌, ◌↔◌, ℕ, suc, ◌-◌, ◌<◌, ◌≤◌, Bool, true, false, cond, ◌&&◌, List, [], ◌∷◌, ◌++◌, length, take, map, filter, Option, None, is_none, slice_index_or, option_to_list, flat_map, find}
+use Rattle.std.specs.List.{Contains, list_any}
 use Rattle.qualified_goals.specs.declared.variable.Var.{Var}
 use Rattle.qualified_goals.specs.declared.variable.Qual.TheVariants.{Top}
 use Rattle.qualified_goals.specs.declared.variable.Part.TheVariants.{Package}
@@ -8,13 +8,11 @@ use Rattle.choice_problem.specs.declared.problem.Choice.{Choice}
 use Rattle.choice_problem.specs.declared.problem.Demand.{Demand}
 use Rattle.qualified_goals.specs.Variable.{same_var}
 use Rattle.choice_problem.specs.Assignment.{is_yes}
-use Rattle.choice_problem.specs.Trail.{value_in, least_from}
-use Rattle.choice_problem.specs.Active.{is_waited_for}
+use Rattle.choice_problem.specs.Trail.{value_in}
 use Rattle.choice_problem.specs.ConflictSet.{has}
 use Rattle.validation.specs.declared.mentions.Mention.{Mention}
 use Rattle.validation.specs.declared.stack.Mark.{Mark}
 use Rattle.validation.specs.View.{View}
-use Rattle.validation.specs.Table.{entry}
 use Rattle.validation.specs.Checks.{is_broken_in}
 use Rattle.validation.specs.Cycles.{owner_of}
 
@@ -62,8 +60,8 @@ pub record AreTargets (listed : List Demand) (active : List Mention) : Type 0 wh
   pub target : (front : List Mention) (m : Mention) (rest : List Mention) → active ≡ front ++ m ∷ rest → m.var ≡ (demand_at listed m.place).target
 
 -- the variables are those of active demands that have no value
-abbrev pub AreOpen : List Mention → List (Var × ℕ) → List Var → Type 0
-AreOpen active table vars = (v : Var) → has vars v ≡ (has (vars_at active) v && is_none (entry table v))
+abbrev pub AreOpen : List Mention → List Choice → List Var → Type 0
+AreOpen active trail vars = (v : Var) → has vars v ≡ (has (vars_at active) v && is_none (value_in trail v))
 
 -- the mark of a choice, of an open variable
 pub record IsMark (front : List Choice) (c : Choice) (m : Mark) (listed : List Demand) (active : List Mention) : Type 0 where
@@ -81,11 +79,10 @@ pub data AreMarks : List Choice → List Mark → List Demand → List Mention �
       → IsMark front c m listed active → AreTargets listed active → AreMarks trail marks listed active
 
 -- what the parts of a stack have to do with each other
-pub record AreParts (trail : List Choice) (marks : List Mark) (listed : List Demand) (active watchers : List Mention) (table : List (Var × ℕ)) (vars : List Var) (held : ℕ) : Type 0 where
+pub record AreParts (trail : List Choice) (marks : List Mark) (listed : List Demand) (active watchers : List Mention) (vars : List Var) (held : ℕ) : Type 0 where
   pub levels : AreMarks trail marks listed active
-  pub values : (v : Var) → entry table v ≡ value_in trail v
   pub waiting : watchers ≡ watchers_from 0 listed
-  pub opened : AreOpen active table vars
+  pub opened : AreOpen active trail vars
   pub room : held ≡ length trail
 
 -- all but the last
@@ -161,10 +158,27 @@ first_broken values listed active = find (is_broken_in values) (demands_at liste
 abbrev pub made : View → Choice → List Demand → View
 made s c demands = with_active (with_listed (held s c) demands) (turned (s.trail ++ c ∷ []) c.var (s.listed ++ demands))
 
--- the least variable that has no value and is the target of one of these
-abbrev pub least_waiting : List Choice → List Demand → Option Var
-least_waiting trail active = least_from None (map (λ d. d.target) (filter (is_waited_for trail) active))
-
 -- the owners of some demands
 abbrev pub owners_of : List Demand → List Var
 owners_of demands = flat_map (λ d. option_to_list (owner_of d)) demands
+
+-- whether a variable is that of the first choice of a condition
+abbrev pub is_first : Var → List Choice → Bool
+is_first v [] = false
+is_first v (owner ∷ others) = same_var owner.var v
+
+-- whether a variable owns a demand
+abbrev pub is_owned_by : Var → Demand → Bool
+is_owned_by v d = is_first v d.when
+
+-- the target of a demand that the variable owns
+abbrev pub target_by : Var → Demand → List Var
+target_by v d = cond (is_owned_by v d) (d.target ∷ []) []
+
+-- the targets of those of some demands that the variable owns
+abbrev pub targets_by : Var → List Demand → List Var
+targets_by v demands = flat_map (target_by v) demands
+
+-- those listed demands are active that are Yes
+abbrev pub IsSettled : View → Type 0
+IsSettled s = (d : Demand) → (Contains s.active d) ↔ (Contains s.listed d × (is_yes (value_in s.trail) d ≡ true))

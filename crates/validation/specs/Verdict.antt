@@ -4,7 +4,7 @@ use Rattle.qualified_goals.specs.declared.variable.Var.{Var}
 use Rattle.choice_problem.specs.declared.problem.Choice.{Choice}
 use Rattle.choice_problem.specs.declared.problem.Demand.{Demand}
 use Rattle.choice_problem.specs.Problem.{Problem}
-use Rattle.choice_problem.specs.Conflict.{barred_set, refuses, is_broken, circular, set_of_first, set_of_all, first_set}
+use Rattle.choice_problem.specs.Conflict.{barred_set, refuses, is_broken, set_of_first, lasting_sets, first_set}
 use Rattle.validation.specs.declared.verdict.Verdict.{Verdict}
 use Rattle.validation.specs.declared.verdict.Verdict.TheVariants.{Accepted, Conflict}
 use Rattle.validation.specs.View.{View, Represents}
@@ -18,9 +18,9 @@ verdict_of (Some set) = Conflict set
 abbrev pub set_before : Problem → Choice → List Demand → Option (List Var)
 set_before p c active = first_set (barred_set p c ∷ set_of_first (find (refuses c) active) ∷ [])
 
--- the set of the first demand that became active behind a place and is broken, or of those on a cycle
+-- the set of the first demand that became active behind a place and is broken, or of the first lasting rule
 abbrev pub set_after : List Choice → ℕ → List Demand → Option (List Var)
-set_after trail before active = first_set (set_of_first (find (is_broken trail) (drop before active)) ∷ set_of_all (circular active) ∷ [])
+set_after trail before active = first_set (set_of_first (find (is_broken trail) (drop before active)) ∷ lasting_sets trail active)
 
 -- what a verdict leaves: an accepted choice stands behind the others, and a conflict changes nothing
 abbrev pub Leaves : Problem → View → View → Choice → Verdict → Type 0

@@ -3,9 +3,9 @@ use Rattle.std.specs.Prelude.{◌≡◌, ℕ, List, [], ◌∷◌, ◌++◌, len
 use Rattle.choice_problem.specs.declared.problem.Choice.{Choice}
 use Rattle.choice_problem.specs.declared.problem.Demand.{Demand}
 use Rattle.choice_problem.specs.Problem.{Problem, IsChoice}
-use Rattle.choice_problem.specs.Trail.{value_in, demands_after}
+use Rattle.choice_problem.specs.Trail.{AreNew, demands_after}
 use Rattle.choice_problem.specs.Active.{active}
-use Rattle.choice_problem.specs.Conflict.{circular}
+use Rattle.choice_problem.specs.Conflict.{lasting_set}
 
 -- what contracts see of a state, and of its stack
 pub record View : Type 0 where
@@ -39,15 +39,10 @@ view_of p trail = record {
   active_before = counts_before p [] trail;
 }
 
--- each choice is of a variable that the choices before it leave open to choose
-pub data AreNew : List Choice → Type 0 where
-  none : AreNew []
-  on : {before : List Choice} {all : List Choice} → AreNew before → (c : Choice) → value_in before c.var ≡ None → all ≡ before ++ c ∷ [] → AreNew all
-
 -- the state is that of its choices, which are of different variables of the problem
 pub record Represents (p : Problem) (state : View) : Type 0 where
   pub choices : All (IsChoice p) state.trail
   pub new : AreNew state.trail
   pub same : state ≡ view_of p state.trail
-  -- no choice was accepted that makes a cycle
-  pub acyclic : circular state.active ≡ []
+  -- the lasting rules give no set so far
+  pub lasting : lasting_set state.trail state.active ≡ None

@@ -1,4 +1,4 @@
-// What is asked of demands under a table of values.
+// What is asked of demands under the choices so far.
 ghost use Rattle.std.specs.Prelude.{◌≡◌, ◌<◌, Some, None, IfOk, IfSome, OnOk, List, ◌++◌, length, filter, find, slice_get, option_to_list};
 ghost use Rattle.std.specs.Option.{option_map};
 ghost use Rattle.choice_problem.specs.declared.problem.Demand.{Demand};
@@ -6,14 +6,13 @@ ghost use Rattle.choice_problem.specs.Assignment.{is_made, is_yes};
 ghost use Rattle.choice_problem.specs.Active.{vars_of, vars_of_first};
 ghost use Rattle.choice_problem.specs.Conflict.{named_by, refuses, set_of_first};
 ghost use Rattle.choice_problem.specs.ConflictSet.{set_of};
-ghost use Rattle.validation.specs.Table.{entry};
-ghost use Rattle.validation.specs.Stack.{demand_at, demands_at, owners_of, AllBelow};
+ghost use Rattle.choice_problem.specs.Trail.{value_in};
+ghost use Rattle.validation.specs.Stack.{demand_at, demands_at, owners_of, is_owned_by, target_by, targets_by, AllBelow};
 ghost use Rattle.validation.specs.Checks.{is_broken_in};
 ghost use Rattle.validation.specs.Cycles.{owner_of};
 
 use crate::cycles::push_owner;
-use crate::table::Table;
-use choice_problem::{Choice, ConflictSet, Demand, Var, is_same};
+use choice_problem::{Choice, ConflictSet, Demand, Trail, Var, is_same};
 use plan_types::NoMemory;
 use std::alloc::Global;
 
@@ -23,10 +22,10 @@ pub(crate) fn refuses(c: Choice, d: &Demand) -> bool
     is_same(d.target, c.var) && !d.allowed.as_slice().contains(&c.val)
 }
 
-pub(crate) fn is_broken(values: &Table, d: &Demand) -> bool
-    ensures { result ≡ is_broken_in (entry values.now) d.now }
+pub(crate) fn is_broken(trail: &Trail, d: &Demand) -> bool
+    ensures { result ≡ is_broken_in (value_in trail.now) d.now }
 {
-    match values.get(d.target) {
+    match trail.value_of(d.target) {
         Some(n) => !d.allowed.as_slice().contains(&n),
         None => false,
     }
@@ -53,11 +52,11 @@ fn refuses_at(listed: &[Demand], place: usize, c: Choice) -> bool
     refuses(c, &listed[place])
 }
 
-pub(crate) fn is_broken_at(values: &Table, listed: &[Demand], place: usize) -> bool
+pub(crate) fn is_broken_at(trail: &Trail, listed: &[Demand], place: usize) -> bool
     requires { place < length listed.now }
-    ensures { result ≡ is_broken_in (entry values.now) (demand_at listed.now place) }
+    ensures { result ≡ is_broken_in (value_in trail.now) (demand_at listed.now place) }
 {
-    is_broken(values, &listed[place])
+    is_broken(trail, &listed[place])
 }
 
 /// The set of the variables that the demand at a place names, where there is one.
@@ -116,38 +115,38 @@ pub(crate) fn reason_at(
 pub(crate) fn yes_among(
     alloc: Global,
     listed: &[Demand],
-    values: &Table,
+    trail: &Trail,
     places: &[usize],
 ) -> Result<Vec<usize>, NoMemory>
     requires { AllBelow (length listed.now) places.now }
-    ensures { IfOk result (λ found. found.items ≡ filter (λ k. is_yes (entry values.now) (demand_at listed.now k)) places.now) }
+    ensures { IfOk result (λ found. found.items ≡ filter (λ k. is_yes (value_in trail.now) (demand_at listed.now k)) places.now) }
 {
     let mut found = Vec::new(alloc);
     for place in places {
-        if is_yes_at(values, listed, *place) {
+        if is_yes_at(trail, listed, *place) {
             found.push(*place)?;
         }
     }
     Ok(found)
 }
 
-fn is_yes_at(values: &Table, listed: &[Demand], place: usize) -> bool
+fn is_yes_at(trail: &Trail, listed: &[Demand], place: usize) -> bool
     requires { place < length listed.now }
-    ensures { result ≡ is_yes (entry values.now) (demand_at listed.now place) }
+    ensures { result ≡ is_yes (value_in trail.now) (demand_at listed.now place) }
 {
-    is_yes(values, &listed[place])
+    is_yes(trail, &listed[place])
 }
 
-fn is_yes(values: &Table, d: &Demand) -> bool
-    ensures { result ≡ is_yes (entry values.now) d.now }
+fn is_yes(trail: &Trail, d: &Demand) -> bool
+    ensures { result ≡ is_yes (value_in trail.now) d.now }
 {
-    d.when.as_slice().iter().all(|c| is_made(values, *c))
+    d.when.as_slice().iter().all(|c| is_made(trail, *c))
 }
 
-fn is_made(values: &Table, c: Choice) -> bool
-    ensures { result ≡ is_made (entry values.now) c }
+fn is_made(trail: &Trail, c: Choice) -> bool
+    ensures { result ≡ is_made (value_in trail.now) c }
 {
-    match values.get(c.var) {
+    match trail.value_of(c.var) {
         Some(n) => n == c.val,
         None => false,
     }
@@ -174,6 +173,48 @@ fn push_owner_at(owners: &mut Vec<Var>, listed: &[Demand], place: usize) -> Resu
 {
     push_owner(owners, &listed[place])?;
     Ok(())
+}
+
+/// The targets of those of the demands at some places that a variable owns.
+pub(crate) fn targets_at(
+    alloc: Global,
+    listed: &[Demand],
+    places: &[usize],
+    owner: Var,
+) -> Result<Vec<Var>, NoMemory>
+    requires { AllBelow (length listed.now) places.now }
+    ensures { IfOk result (λ targets. targets.items ≡ targets_by owner (demands_at listed.now places.now)) }
+{
+    let mut targets = Vec::new(alloc);
+    for place in places {
+        push_target_at(&mut targets, listed, *place, owner)?;
+    }
+    Ok(targets)
+}
+
+fn push_target_at(
+    targets: &mut Vec<Var>,
+    listed: &[Demand],
+    place: usize,
+    owner: Var,
+) -> Result<(), NoMemory>
+    requires { place < length listed.now }
+    ensures { OnOk result (targets.new.items ≡ targets.old.items ++ target_by owner (demand_at listed.now place)) }
+{
+    let demand = &listed[place];
+    if is_owned_by(demand, owner) {
+        targets.push(demand.target)?;
+    }
+    Ok(())
+}
+
+fn is_owned_by(demand: &Demand, owner: Var) -> bool
+    ensures { result ≡ is_owned_by owner demand.now }
+{
+    match demand.when.as_slice() {
+        [first, ..] => is_same(first.var, owner),
+        [] => false,
+    }
 }
 
 pub(crate) fn demand_in(listed: &[Demand], place: usize) -> &Demand

@@ -1,12 +1,13 @@
 // The cycles among demands.
-ghost use Rattle.std.specs.Prelude.{◌≡◌, ◌<◌, ◌↔◌, [], ◌∷◌, ◌++◌, true, Some, IfOk, OnOk, IfSome, List, length, take, drop, slice_get, option_to_list, flat_map};
+ghost use Rattle.std.specs.Prelude.{◌≡◌, ◌+◌, ◌<◌, ◌↔◌, [], ◌∷◌, ◌++◌, true, Some, IfOk, OnOk, IfSome, List, length, take, drop, slice_get, option_to_list, flat_map};
 ghost use Rattle.std.specs.List.{Contains};
 ghost use Rattle.qualified_goals.specs.declared.variable.Var.{Var};
 ghost use Rattle.choice_problem.specs.declared.problem.Demand.{Demand};
 ghost use Rattle.choice_problem.specs.ConflictSet.{has};
-ghost use Rattle.choice_problem.specs.Conflict.{edges_of, named_by, lies_on_cycle, circular, set_of_all};
-ghost use Rattle.validation.specs.Cycles.{HasEdge, AreAncestors, owner_of, owners_on_cycles, with_keys};
+ghost use Rattle.choice_problem.specs.Conflict.{Edge, edges_of, named_by, lies_on_cycle, circular, set_of_all};
+ghost use Rattle.validation.specs.Cycles.{HasEdge, AreAncestors, IsSide, leads_to_any, owner_of, owners_on_cycles, reversed};
 
+use crate::side::{Side, add_keys, are_apart, have_met, is_around};
 use choice_problem::{ConflictSet, Demand, Var, is_same};
 use indexmap::IndexSet;
 use plan_types::{List, NoMemory};
@@ -27,6 +28,10 @@ pub(crate) trait Graph {
     /// The variables that edges to this one leave.
     fn sources(&self, alloc: Global, to: Var) -> Result<List<Var>, NoMemory>
         ensures { IfOk result (λ found. (v : Var) → (Contains found v) ↔ (HasEdge (edges_of (demands self.now)) v to)) };
+
+    /// The variables that edges from this one enter.
+    fn targets(&self, alloc: Global, from: Var) -> Result<List<Var>, NoMemory>
+        ensures { IfOk result (λ found. (v : Var) → (Contains found v) ↔ (HasEdge (edges_of (demands self.now)) from v)) };
 
     /// Whether a variable is chosen. Edges leave only those.
     fn is_chosen(&self, v: Var) -> bool
@@ -120,30 +125,17 @@ fn owner_of(demand: &Demand) -> Option<Var>
     }
 }
 
-fn is_around(found: &IndexSet<Var>, v: Var) -> bool
-    ensures { result ≡ has found.now.keys v }
-{
-    found.contains(&v)
-}
-
-/// The variables that lead to a goal.
-#[derive(Drop)]
-struct Reach {
-    goal: Var,
-    found: IndexSet<Var>,
-}
-
-// Whether the edge of a demand lies on a cycle. The last reach that was found serves again where the owner is its goal.
+// Whether the edge of a demand lies on a cycle. The side of the owner before serves again where this demand has the same.
 fn is_on_cycle<G: Graph>(
     alloc: Global,
     graph: &G,
-    last: &mut Option<Reach>,
+    last: &mut Option<Side>,
     demand: &Demand,
 ) -> Result<bool, NoMemory>
     requires listed { Contains (G.demands graph.now) demand.now }
-    requires last { IfSome last.old (λ reach. AreAncestors (edges_of (G.demands graph.now)) (reach.goal ∷ []) reach.found.keys) }
+    requires last { IfSome last.old (IsSide (edges_of (G.demands graph.now))) }
     ensures lies { IfOk result (λ lies. lies ≡ lies_on_cycle (edges_of (G.demands graph.now)) demand.now) }
-    ensures last { IfSome last.new (λ reach. AreAncestors (edges_of (G.demands graph.now)) (reach.goal ∷ []) reach.found.keys) }
+    ensures last { IfSome last.new (IsSide (edges_of (G.demands graph.now))) }
 {
     let Some(owner) = owner_of(demand) else {
         return Ok(false);
@@ -151,29 +143,68 @@ fn is_on_cycle<G: Graph>(
     if !graph.is_chosen(demand.target) {
         return Ok(false);
     }
-    let reach = reach_for(alloc, graph, last.take(), owner)?;
-    let lies = is_around(&reach.found, demand.target);
-    *last = Some(reach);
+    let mut back = side_of(alloc, last.take(), owner)?;
+    let lies = is_led_to(alloc, graph, &mut back, demand.target)?;
+    *last = Some(back);
     Ok(lies)
 }
 
-fn reach_for<G: Graph>(
-    alloc: Global,
-    graph: &G,
-    last: Option<Reach>,
-    goal: Var,
-) -> Result<Reach, NoMemory>
-    requires { IfSome last (λ reach. AreAncestors (edges_of (G.demands graph.now)) (reach.goal ∷ []) reach.found.keys) }
-    ensures goal { IfOk result (λ reach. reach.goal ≡ goal) }
-    ensures found { IfOk result (λ reach. AreAncestors (edges_of (G.demands graph.now)) (goal ∷ []) reach.found.keys) }
+fn side_of(alloc: Global, last: Option<Side>, end: Var) -> Result<Side, NoMemory>
+    ensures end { IfOk result (λ side. side.end ≡ end) }
+    ensures side { (edges : List Edge) → IfSome last (IsSide edges) → IfOk result (IsSide edges) }
 {
     match last {
-        Some(reach) if is_same(reach.goal, goal) => Ok(reach),
-        _ => {
-            let found = ancestors(alloc, graph, &[goal])?;
-            Ok(Reach { goal, found })
+        Some(side) if is_same(side.end, end) => Ok(side),
+        _ => Side::new(alloc, end),
+    }
+}
+
+// Whether edges lead from a variable to the end of a side, which goes on as far as it takes to tell. The other side goes
+// first, so that what leads to much and needs little costs little.
+fn is_led_to<G: Graph>(
+    alloc: Global,
+    graph: &G,
+    back: &mut Side,
+    from: Var,
+) -> Result<bool, NoMemory>
+    requires { IsSide (edges_of (G.demands graph.now)) back.old }
+    ensures is_led { IfOk result (λ is_led. is_led ≡ leads_to_any (edges_of (G.demands graph.now)) (back.old.end ∷ []) from) }
+    ensures back { OnOk result (IsSide (edges_of (G.demands graph.now)) back.new) }
+{
+    let mut ahead = Side::new(alloc, from)?;
+    while are_apart(&ahead, back) {
+        step_ahead(alloc, graph, &mut ahead)?;
+        if are_apart(&ahead, back) {
+            step_back(alloc, graph, back)?;
         }
     }
+    Ok(have_met(&ahead, back))
+}
+
+// Goes on along the edges.
+fn step_ahead<G: Graph>(alloc: Global, graph: &G, ahead: &mut Side) -> Result<(), NoMemory>
+    requires side { IsSide (reversed (edges_of (G.demands graph.now))) ahead.old }
+    requires more { ahead.old.place < length ahead.old.found.keys }
+    ensures side { OnOk result (IsSide (reversed (edges_of (G.demands graph.now))) ahead.new) }
+    ensures end { OnOk result (ahead.new.end ≡ ahead.old.end) }
+    ensures place { OnOk result (ahead.new.place ≡ ahead.old.place + 1) }
+{
+    let targets = graph.targets(alloc, ahead.next())?;
+    ahead.add(targets.as_slice())?;
+    Ok(())
+}
+
+// Goes on against the edges.
+fn step_back<G: Graph>(alloc: Global, graph: &G, back: &mut Side) -> Result<(), NoMemory>
+    requires side { IsSide (edges_of (G.demands graph.now)) back.old }
+    requires more { back.old.place < length back.old.found.keys }
+    ensures side { OnOk result (IsSide (edges_of (G.demands graph.now)) back.new) }
+    ensures end { OnOk result (back.new.end ≡ back.old.end) }
+    ensures place { OnOk result (back.new.place ≡ back.old.place + 1) }
+{
+    let sources = graph.sources(alloc, back.next())?;
+    back.add(sources.as_slice())?;
+    Ok(())
 }
 
 // The variables that lead to one of some goals: the goals, and again and again what edges to those found leave.
@@ -189,13 +220,4 @@ fn ancestors<G: Graph>(alloc: Global, graph: &G, goals: &[Var]) -> Result<IndexS
         place += 1;
     }
     Ok(found)
-}
-
-fn add_keys(found: &mut IndexSet<Var>, vars: &[Var]) -> Result<(), NoMemory>
-    ensures { OnOk result (found.new.keys ≡ with_keys found.old.keys vars.now) }
-{
-    for v in vars {
-        found.insert(*v)?;
-    }
-    Ok(())
 }

@@ -1,14 +1,15 @@
-//! The state of a search: the choices so far, and what they ask for. A choice of the least open variable is accepted,
-//! or answered with the set of its conflict, and the last accepted choice can be taken back.
+//! The state of a search: the choices so far, and what they ask for. A choice of an open variable is accepted, or
+//! answered with the set of its conflict, and the last accepted choice can be taken back.
 #![tactic(auto)]
 
 mod checks;
 mod cycles;
 mod mentions;
 mod open;
+mod settled;
+mod side;
 mod stack;
 mod state;
-mod table;
 mod verdict;
 
 pub use state::State;

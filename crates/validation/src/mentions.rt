@@ -2,11 +2,10 @@
 ghost use Rattle.std.specs.Prelude.{◌≡◌, ◌<◌, ◌++◌, [], ◌∷◌, Some, None, IfOk, OnOk, OnErr, IsSome, MatchOption, cond, length, take, map, filter, slice_index_or};
 ghost use Rattle.qualified_goals.specs.declared.variable.Var.{Var};
 ghost use Rattle.qualified_goals.specs.Variable.{same_var};
-ghost use Rattle.validation.specs.Table.{entry};
+ghost use Rattle.choice_problem.specs.Table.{entry};
 ghost use Rattle.validation.specs.Mentions.{last_of, places_on};
 
-use crate::table::Table;
-use choice_problem::Var;
+use choice_problem::{Table, Var};
 use plan_types::NoMemory;
 use std::alloc::Global;
 use std::marker::Model;

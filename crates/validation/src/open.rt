@@ -1,8 +1,7 @@
 // The open variables, in goal order.
-ghost use Rattle.std.specs.Prelude.{◌≡◌, ◌+◌, ◌<◌, ◌||◌, ◌&&◌, not, [], IsTrue, OnOk, OnErr, false, ◌≤◌, vec_len, vec_capacity};
+ghost use Rattle.std.specs.Prelude.{◌≡◌, ◌+◌, ◌<◌, ◌||◌, ◌&&◌, not, [], IsTrue, OnOk, OnErr, ◌≤◌, vec_len, vec_capacity};
 ghost use Rattle.qualified_goals.specs.declared.variable.Var.{Var};
 ghost use Rattle.qualified_goals.specs.Variable.{same_var, is_before};
-ghost use Rattle.choice_problem.specs.Trail.{least_from};
 ghost use Rattle.choice_problem.specs.ConflictSet.{is_rising, has, with_var, place_of, without};
 ghost use Rattle.validation.specs.Open.{Room};
 
@@ -40,10 +39,12 @@ impl OpenVars {
         }
     }
 
-    pub(crate) fn least(&self) -> Option<Var>
-        ensures { result ≡ least_from None self.now.vars }
+    /// The variables, in goal order.
+    pub(crate) fn vars(&self) -> &[Var]
+        ensures vars { result.now ≡ self.now.vars }
+        ensures rising { IsTrue (is_rising result.now) }
     {
-        self.vars.first().copied()
+        self.vars.as_slice()
     }
 
     pub(crate) fn add(&mut self, v: Var) -> Result<(), NoMemory>

@@ -1,24 +1,24 @@
 // What a state keeps of its choices, and how it is taken back.
-ghost use Rattle.std.specs.Prelude.{◌≡◌, ◌≢◌, ◌<◌, ◌++◌, [], ◌∷◌, None, IfOk, OnOk, OnErr, IsTrue, IfSome, List, length, take, drop, map, find};
+ghost use Rattle.std.specs.Prelude.{◌≡◌, ◌≢◌, ◌<◌, ◌↔◌, ◌++◌, [], ◌∷◌, true, None, Some, IfOk, OnOk, OnErr, IsTrue, IfSome, List, length, take, drop, map, find, slice_get};
+ghost use Rattle.std.specs.List.{Contains};
 ghost use Rattle.std.specs.Option.{option_map};
+ghost use Rattle.qualified_goals.specs.declared.variable.Var.{Var};
 ghost use Rattle.choice_problem.specs.Trail.{value_in};
-ghost use Rattle.validation.specs.Table.{entry};
-ghost use Rattle.choice_problem.specs.Active.{asks_for, vars_of_first};
-ghost use Rattle.choice_problem.specs.Conflict.{refuses, is_broken, set_of_first};
-ghost use Rattle.choice_problem.specs.ConflictSet.{has, set_of};
+ghost use Rattle.choice_problem.specs.Active.{asks_for, vars_of_first, waiting};
+ghost use Rattle.choice_problem.specs.Conflict.{edges_of, refuses, is_broken, set_of_first};
+ghost use Rattle.choice_problem.specs.ConflictSet.{has, is_rising, set_of};
 ghost use Rattle.validation.specs.Checks.{is_broken_in};
+ghost use Rattle.validation.specs.Cycles.{HasEdge};
 ghost use Rattle.validation.specs.declared.mentions.Mention.{Mention};
 ghost use Rattle.validation.specs.View.{View};
-ghost use Rattle.validation.specs.Stack.{AreOpen, demand_at, are_naming, watchers_by, undone, held, with_listed, with_active, HasListed, HasActivated, HasGrown, AllBelow, grown, first_broken, turned, made, demands_at, places_of, least_waiting};
+ghost use Rattle.validation.specs.Stack.{AreOpen, IsSettled, demand_at, are_naming, watchers_by, undone, held, with_listed, with_active, HasListed, HasActivated, HasGrown, AllBelow, grown, first_broken, turned, made, demands_at, places_of};
 
 use crate::checks::{
-    demand_in, first_refusing, is_broken_at, owners_at, reason_at, set_at, yes_among,
+    demand_in, first_refusing, is_broken_at, owners_at, reason_at, set_at, targets_at, yes_among,
 };
-use crate::cycles::Graph;
 use crate::mentions::{Mention, Mentions};
 use crate::open::OpenVars;
-use crate::table::Table;
-use choice_problem::{Choice, ConflictSet, Demand, Var, is_same};
+use choice_problem::{Choice, ConflictSet, Demand, Trail, Var, is_same};
 use plan_types::{List, NoMemory};
 use std::alloc::Global;
 use std::marker::Model;
@@ -34,14 +34,13 @@ pub(crate) struct Mark {
 /// Choices, with the demands that are listed and those of them that are active.
 #[derive(Drop)]
 pub(crate) struct Stack {
-    trail: List<Choice>,
+    trail: Trail,
     marks: List<Mark>,
     listed: List<Demand>,
     // The mentions of the targets of active demands.
     active: Mentions,
     // The mentions of the variables of each listed demand's condition.
     watchers: Mentions,
-    values: Table,
     opens: OpenVars,
 }
 
@@ -60,7 +59,7 @@ impl Model for Stack {
       active_before = map (λ m. m.active) s.marks;
     } };
 
-    ghost invariant = { λ s. AreParts s.trail s.marks s.listed s.active s.watchers s.values s.opens.vars s.opens.held };
+    ghost invariant = { λ s. AreParts s.trail s.marks s.listed s.active s.watchers s.opens.vars s.opens.held };
 }
 
 impl Stack {
@@ -68,17 +67,16 @@ impl Stack {
         ensures { result ≡ record { trail = []; listed = []; active = []; listed_before = []; active_before = [] } }
     {
         Stack {
-            trail: List::new(alloc),
+            trail: Trail::new(alloc),
             marks: List::new(alloc),
             listed: List::new(alloc),
             active: Mentions::new(alloc),
             watchers: Mentions::new(alloc),
-            values: Table::new(alloc),
             opens: OpenVars::new(alloc),
         }
     }
 
-    pub(crate) fn trail(&self) -> &List<Choice>
+    pub(crate) fn trail(&self) -> &Trail
         ensures { result.now ≡ self.now.trail }
     {
         &self.trail
@@ -87,7 +85,7 @@ impl Stack {
     pub(crate) fn into_trail(self) -> List<Choice>
         ensures { result ≡ self.trail }
     {
-        self.trail
+        self.trail.into_choices()
     }
 
     /// Makes a choice of an open variable.
@@ -103,11 +101,6 @@ impl Stack {
             active: self.active.len(),
         };
         add_level(&mut self.trail, &mut self.marks, c, mark)?;
-        if self.values.set(c.var, c.val).is_err() {
-            self.trail.pop();
-            self.marks.pop();
-            return Err(NoMemory);
-        }
         self.opens.hold(c.var);
         Ok(())
     }
@@ -119,12 +112,11 @@ impl Stack {
         requires { self.old.trail ≢ [] }
         ensures { self.new ≡ undone self.old }
     {
-        let c = self.trail.pop().unwrap();
         let mark = self.marks.pop().unwrap();
-        forget(&mut self.active, &mut self.opens, &self.values, mark.active);
+        forget(&mut self.active, &mut self.opens, &self.trail, mark.active);
         self.watchers.cut(mark.watchers);
         self.listed.truncate(mark.listed);
-        self.values.remove(c.var);
+        let c = self.trail.pop().unwrap();
         self.opens.put_back(c.var);
     }
 
@@ -151,7 +143,7 @@ impl Stack {
         ask(
             &mut self.active,
             &mut self.opens,
-            &self.values,
+            &self.trail,
             Mention { var, place },
         )
     }
@@ -188,7 +180,7 @@ impl Stack {
         let found = yes_among(
             alloc,
             self.listed.as_slice(),
-            &self.values,
+            &self.trail,
             places.as_slice(),
         )?;
         Ok(found)
@@ -238,11 +230,12 @@ impl Stack {
 }
 
 impl Stack {
-    /// The least variable that has no value and is the target of an active demand.
-    pub(crate) fn least(&self) -> Option<Var>
-        ensures { result ≡ least_waiting self.now.trail self.now.active }
+    /// The variables that have no value and are targets of active demands, in goal order.
+    pub(crate) fn waiting(&self) -> &[Var]
+        ensures waiting { result.now ≡ waiting self.now.trail self.now.active }
+        ensures rising { IsTrue (is_rising result.now) }
     {
-        self.opens.least()
+        self.opens.vars()
     }
 
     /// The set of the condition of the first active demand on a variable.
@@ -268,45 +261,65 @@ impl Stack {
     pub(crate) fn broken(&self, alloc: Global, from: usize) -> Result<Option<ConflictSet>, NoMemory>
         ensures { IfOk result (λ set. set ≡ set_of_first (find (is_broken self.now.trail) (drop from self.now.active))) }
     {
-        let first = first_broken(&self.active, self.listed.as_slice(), &self.values, from);
+        let first = first_broken(&self.active, self.listed.as_slice(), &self.trail, from);
         let set = set_at(alloc, self.listed.as_slice(), first)?;
         Ok(set)
     }
 }
 
-impl Graph for Stack {
-    ghost demands = { λ s. s.active };
-
-    fn count(&self) -> usize {
+// The graph of the active demands, with an edge from the owner of each to its target.
+impl Stack {
+    /// How many demands are active.
+    pub(crate) fn count(&self) -> usize
+        ensures { result ≡ length self.now.active }
+    {
         self.active.len()
     }
 
-    fn demand(&self, place: usize) -> &Demand {
+    pub(crate) fn demand(&self, place: usize) -> &Demand
+        requires { place < length self.now.active }
+        ensures { slice_get self.now.active place ≡ Some result.now }
+    {
         let listed = self.active.at(place).place;
         demand_in(self.listed.as_slice(), listed)
     }
 
-    fn sources(&self, alloc: Global, to: Var) -> Result<List<Var>, NoMemory> {
+    /// The variables that edges to this one leave.
+    pub(crate) fn sources(&self, alloc: Global, to: Var) -> Result<List<Var>, NoMemory>
+        ensures { IfOk result (λ found. (v : Var) → (Contains found v) ↔ (HasEdge (edges_of self.now.active) v to)) }
+    {
         let places = self.active.places(alloc, to)?;
         let owners = owners_at(alloc, self.listed.as_slice(), places.as_slice())?;
         Ok(List::from_vec(owners))
     }
 
-    // A variable that no listed demand waits for owns none.
-    fn is_chosen(&self, v: Var) -> bool {
+    /// The variables that edges from this one enter.
+    pub(crate) fn targets(&self, alloc: Global, from: Var) -> Result<List<Var>, NoMemory>
+        requires { IsSettled self.now }
+        ensures { IfOk result (λ found. (v : Var) → (Contains found v) ↔ (HasEdge (edges_of self.now.active) from v)) }
+    {
+        let places = self.turned(alloc, from)?;
+        let targets = targets_at(alloc, self.listed.as_slice(), places.as_slice(), from)?;
+        Ok(List::from_vec(targets))
+    }
+
+    /// Whether a variable is chosen. Edges leave only those, since a variable that no listed demand waits for owns none.
+    pub(crate) fn is_chosen(&self, v: Var) -> bool
+        ensures { (w : Var) → HasEdge (edges_of self.now.active) v w → result ≡ true }
+    {
         self.watchers.last(v).is_some()
     }
 }
 
-fn first_broken(active: &Mentions, listed: &[Demand], values: &Table, from: usize) -> Option<usize>
+fn first_broken(active: &Mentions, listed: &[Demand], trail: &Trail, from: usize) -> Option<usize>
     requires { AllBelow (length listed.now) (places_of active.now) }
-    ensures found { first_broken (entry values.now) listed.now (drop from active.now) ≡ option_map (demand_at listed.now) result }
+    ensures found { first_broken (value_in trail.now) listed.now (drop from active.now) ≡ option_map (demand_at listed.now) result }
     ensures within { IfSome result (λ place. place < length listed.now) }
 {
     let count = active.len();
     for index in from..count {
         let place = active.at(index).place;
-        if is_broken_at(values, listed, place) {
+        if is_broken_at(trail, listed, place) {
             return Some(place);
         }
     }
@@ -314,27 +327,27 @@ fn first_broken(active: &Mentions, listed: &[Demand], values: &Table, from: usiz
 }
 
 // Cuts the mentions of active demands back, with what they opened.
-fn forget(active: &mut Mentions, opens: &mut OpenVars, values: &Table, len: usize)
-    requires { AreOpen active.old values.now opens.old.vars }
+fn forget(active: &mut Mentions, opens: &mut OpenVars, trail: &Trail, len: usize)
+    requires { AreOpen active.old trail.now opens.old.vars }
     ensures active { active.new ≡ take len active.old }
-    ensures opened { AreOpen active.new values.now opens.new.vars }
+    ensures opened { AreOpen active.new trail.now opens.new.vars }
     ensures held { opens.new.held ≡ opens.old.held }
 {
     while active.len() > len {
-        forget_last(active, opens, values);
+        forget_last(active, opens, trail);
     }
 }
 
-fn forget_last(active: &mut Mentions, opens: &mut OpenVars, values: &Table)
-    requires { AreOpen active.old values.now opens.old.vars }
+fn forget_last(active: &mut Mentions, opens: &mut OpenVars, trail: &Trail)
+    requires { AreOpen active.old trail.now opens.old.vars }
     ensures active { (front : List Mention) (m : Mention) → active.old ≡ front ++ m ∷ [] → active.new ≡ front }
-    ensures opened { AreOpen active.new values.now opens.new.vars }
+    ensures opened { AreOpen active.new trail.now opens.new.vars }
     ensures held { opens.new.held ≡ opens.old.held }
 {
     let Some(mention) = active.pop() else {
         return;
     };
-    if values.has(mention.var) {
+    if trail.has(mention.var) {
         return;
     }
     if active.last(mention.var).is_some() {
@@ -347,16 +360,16 @@ fn forget_last(active: &mut Mentions, opens: &mut OpenVars, values: &Table)
 fn ask(
     active: &mut Mentions,
     opens: &mut OpenVars,
-    values: &Table,
+    trail: &Trail,
     mention: Mention,
 ) -> Result<(), NoMemory>
-    requires { AreOpen active.old values.now opens.old.vars }
+    requires { AreOpen active.old trail.now opens.old.vars }
     ensures ok { OnOk result (active.new ≡ active.old ++ mention ∷ []) }
     ensures err { OnErr result (active.new ≡ active.old) }
-    ensures opened { AreOpen active.new values.now opens.new.vars }
+    ensures opened { AreOpen active.new trail.now opens.new.vars }
     ensures held { opens.new.held ≡ opens.old.held }
 {
-    if values.has(mention.var) {
+    if trail.has(mention.var) {
         active.push(mention)?;
         return Ok(());
     }
@@ -402,11 +415,12 @@ fn are_naming(choices: &[Choice], v: Var) -> bool
 }
 
 fn add_level(
-    trail: &mut List<Choice>,
+    trail: &mut Trail,
     marks: &mut List<Mark>,
     c: Choice,
     mark: Mark,
 ) -> Result<(), NoMemory>
+    requires { value_in trail.old c.var ≡ None }
     ensures ok { OnOk result ((trail.new ≡ trail.old ++ c ∷ []) × (marks.new ≡ marks.old ++ mark ∷ [])) }
     ensures err { OnErr result ((trail.new ≡ trail.old) × (marks.new ≡ marks.old)) }
 {

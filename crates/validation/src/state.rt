@@ -1,17 +1,19 @@
 // The state of a search, and the verdict on one choice more.
-ghost use Rattle.std.specs.Prelude.{◌≡◌, ◌≢◌, ◌+◌, ◌<◌, List, ◌∷◌, [], ◌++◌, IfOk, OnErr, Some, None, take, drop, find};
+ghost use Rattle.std.specs.Prelude.{◌≡◌, ◌≢◌, ◌+◌, ◌<◌, List, ◌∷◌, [], ◌++◌, IfOk, IsTrue, OnErr, Some, None, take};
 ghost use Rattle.choice_problem.specs.declared.problem.Choice.{Choice};
 ghost use Rattle.choice_problem.specs.Problem.{Problem, IsChoice, Lawful};
-ghost use Rattle.choice_problem.specs.Active.{least_open, reason};
-ghost use Rattle.choice_problem.specs.Conflict.{barred_set, refuses, is_broken, circular, set_of_first, set_of_all, first_set, conflict};
-ghost use Rattle.choice_problem.specs.ConflictSet.{set_of};
+ghost use Rattle.choice_problem.specs.Active.{is_open, least_open, open_after, reason};
+ghost use Rattle.choice_problem.specs.Conflict.{lasting_set, conflict};
+ghost use Rattle.choice_problem.specs.ConflictSet.{first_behind, is_rising, set_of};
 ghost use Rattle.validation.specs.View.{View, Represents, view_of};
+ghost use Rattle.validation.specs.Stack.{front_of, IsSettled};
 ghost use Rattle.validation.specs.Verdict.{verdict_of, Leaves, set_before, set_after};
 
 use crate::Verdict;
-use crate::cycles::{Graph, cycle_set_of};
+use crate::cycles::cycle_set_of;
+use crate::settled::Settled;
 use crate::stack::Stack;
-use choice_problem::{Choice, Choices, ConflictSet, Steps, Var};
+use choice_problem::{Choice, Choices, ConflictSet, Steps, Trail, Var, place_behind};
 use plan_types::{List, NoMemory};
 use std::alloc::Global;
 use std::marker::Model;
@@ -47,7 +49,14 @@ impl State {
     pub fn least(&self) -> Option<Var>
         ensures { (p : Problem) → Lawful p → Represents p self.now → result ≡ least_open p self.now.trail }
     {
-        self.stack.least()
+        self.open_after(None)
+    }
+
+    /// The least open variable above one, or the least of all where none is given.
+    pub fn open_after(&self, v: Option<Var>) -> Option<Var>
+        ensures { (p : Problem) → Lawful p → Represents p self.now → result ≡ open_after p self.now.trail v }
+    {
+        first_behind(self.stack.waiting(), v)
     }
 
     /// Why an open variable is so: the variables of the condition of the first demand on it that became active.
@@ -59,7 +68,7 @@ impl State {
     }
 
     /// The choices, in the order in which they were made.
-    pub fn trail(&self) -> &List<Choice>
+    pub fn trail(&self) -> &Trail
         ensures { result.now ≡ self.now.trail }
     {
         self.stack.trail()
@@ -81,6 +90,25 @@ impl State {
     ) -> Result<Verdict, NoMemory>
         requires stands { Represents (C.problem choices.now) self.old }
         requires open { least_open (C.problem choices.now) self.old.trail ≡ Some c.var }
+        requires value { c.val < (C.problem choices.now).domain c.var }
+        ensures ticks { steps.new ≡ steps.old + 1 }
+        ensures verdict { IfOk result (λ verdict. verdict ≡ verdict_of (conflict (C.problem choices.now) self.old.trail c)) }
+        ensures leaves { IfOk result (λ verdict. Leaves (C.problem choices.now) self.old self.new c verdict) }
+        ensures err { OnErr result (self.new ≡ self.old) }
+    {
+        self.choose_open(alloc, choices, c, steps)
+    }
+
+    /// Makes a choice of an open variable, or answers its conflict and leaves all as it was.
+    pub fn choose_open<C: Choices, L: Ledger>(
+        &mut self,
+        alloc: Global,
+        choices: &C,
+        c: Choice,
+        steps: &mut Steps<L>,
+    ) -> Result<Verdict, NoMemory>
+        requires stands { Represents (C.problem choices.now) self.old }
+        requires open { IsTrue (is_open (C.problem choices.now) self.old.trail c.var) }
         requires value { c.val < (C.problem choices.now).domain c.var }
         ensures ticks { steps.new ≡ steps.old + 1 }
         ensures verdict { IfOk result (λ verdict. verdict ≡ verdict_of (conflict (C.problem choices.now) self.old.trail c)) }
@@ -135,14 +163,41 @@ fn fault_before<C: Choices>(
     Ok(set)
 }
 
-// The set of a demand that became active and is broken, or of those on a cycle.
+// The set of a demand that became active and is broken, or of the first lasting rule.
 fn fault_after(alloc: Global, stack: &Stack, before: usize) -> Result<Option<ConflictSet>, NoMemory>
-    requires { circular (take before stack.now.active) ≡ [] }
+    requires lasting { lasting_set (front_of stack.now.trail) (take before stack.now.active) ≡ None }
+    requires settled { IsSettled stack.now }
     ensures { IfOk result (λ set. set ≡ set_after stack.now.trail before stack.now.active) }
 {
     if let Some(set) = stack.broken(alloc, before)? {
         return Ok(Some(set));
     }
-    let set = cycle_set_of(alloc, stack, before)?;
+    let set = lasting_fault(alloc, stack, before)?;
     Ok(set)
+}
+
+// The set of the first lasting rule, where these gave none before the last choice.
+fn lasting_fault(
+    alloc: Global,
+    stack: &Stack,
+    before: usize,
+) -> Result<Option<ConflictSet>, NoMemory>
+    requires lasting { lasting_set (front_of stack.now.trail) (take before stack.now.active) ≡ None }
+    requires settled { IsSettled stack.now }
+    ensures { IfOk result (λ set. set ≡ lasting_set stack.now.trail stack.now.active) }
+{
+    let set = cycle_set_of(alloc, &Settled::of(stack), before)?;
+    Ok(set)
+}
+
+// The first of some variables, or of those behind one.
+fn first_behind(vars: &[Var], v: Option<Var>) -> Option<Var>
+    requires { IsTrue (is_rising vars.now) }
+    ensures { result ≡ first_behind v vars.now }
+{
+    let place = match v {
+        Some(v) => place_behind(vars, v),
+        None => 0,
+    };
+    vars.get(place).copied()
 }

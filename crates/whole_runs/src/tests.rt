@@ -1,5 +1,8 @@
+// Each run is written as a text: its words, its files, and what it answers.
+mod made;
 mod runs;
 
+use made::made;
 use outside_folder::{MemFile, MemFolder, MemSink};
 use plan_command::{code_of, run};
 use plan_types::{List, Text};
@@ -190,5 +193,30 @@ fn too_many_records(rt: HostRuntime) -> Result<(), Fail> {
     let folder = folder(alloc, many_records(alloc)?, 0)?;
     let found = answer(alloc, &words, folder, sink(alloc, 2000, 0)?)?;
     assert_eq!(rt; found.as_str(), "3\nrefused installed TooMany\n");
+    Ok(())
+}
+
+// How many choices a plan has, and its last line.
+fn summary(alloc: Global, printed: &str) -> Result<String, Fail> {
+    let choices = printed
+        .lines()
+        .filter(|line| line.starts_with("choose "))
+        .count();
+    let last = printed.lines().last().unwrap_or("");
+    Ok(format!(in alloc; "{choices} choices, {last}")?)
+}
+
+#[test]
+fn many_packages(rt: HostRuntime) -> Result<(), Fail> {
+    let alloc = rt.alloc();
+    let words = words(alloc, "$ cabal-plan plan")?;
+    let folder = folder(alloc, made(alloc, 700)?, 0)?;
+    let out = MemSink::new(alloc, 100_000, 100_000, List::new(alloc))?;
+    let found = answer(alloc, &words, folder, out)?;
+    let summary = summary(alloc, found.as_str())?;
+    assert_eq!(rt;
+        summary.as_str(),
+        "801 choices, visited 40501 exhausted 100"
+    );
     Ok(())
 }

@@ -1,7 +1,7 @@
 -- the dependencies so far
-use Rattle.std.proofs.Common.{◌≡◌, ◌++◌, take}
-use Rattle.cabal_problem.specs.Rows.{in_pairs, setup_row}
+use Rattle.std.proofs.Common.{◌≡◌, ◌++◌, map, take}
+use Rattle.cabal_problem.specs.Rows.{setup_demand_to}
 use Rattle.cabal_problem.proofs.demands.push_setup.Given as goal
 
-abbrev pub invariant-loop-place : goal.invariant-loop-place
-invariant-loop-place l = l.found ≡ l.fn.found ++ in_pairs (setup_row l.packages l.owner) (take l.place l.deps) (take l.place l.targets)
+abbrev pub invariant-loop-target : goal.invariant-loop-target
+invariant-loop-target l = l.found ≡ l.fn.found ++ map (setup_demand_to l.owner) (take l.target-index l.targets)

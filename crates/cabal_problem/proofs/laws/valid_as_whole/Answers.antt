@@ -12,4 +12,4 @@ returns c env index project names orders sound numbers made extra =
     let p = problem_of index.packages project names orders in
     c.valid_alike.ensures (whole_problem env index.packages project names orders) (general p)
     (whole-lawful env index project names orders sound numbers lawful) (c.general_is_lawful.ensures p lawful)
-    (c.listed_as_whole.ensures env index project names orders sound numbers)
+    (c.listed_as_whole.ensures.together env index project names orders sound numbers)

@@ -1,6 +1,6 @@
 use Rattle.std.proofs.Common.{List, [], ◌∷◌, ◌++◌, subst, refl, inl, inr}
 use Rattle.section_syntax.specs.declared.part.SectionPart.{SectionPart}
-use Rattle.stanza_imports.specs.Imports.{all_replaced}
+use Rattle.stanza_imports.specs.KnownStanzas.{all_replaced}
 use Rattle.stanza_imports.specs.Standing.{Knows, Means, all_behind}
 use Rattle.stanza_imports.proofs.Additions.{common, component, flag, setup}
 use Rattle.stanza_imports.proofs.stanzas.add.Goals as goal

@@ -1,6 +1,6 @@
 use Rattle.std.proofs.Common.{◌∙◌, ap}
 use Rattle.choice_problem.specs.Assignment.{is_yes}
-use Rattle.validation.specs.Table.{entry}
+use Rattle.choice_problem.specs.Trail.{value_in}
 use Rattle.validation.specs.Stack.{no_demand}
 use Rattle.common_laws.specs.Lists.{get-any}
 use Rattle.validation.proofs.checks.is_yes_at.Goals as goal
@@ -8,4 +8,4 @@ use Rattle.validation.proofs.checks.is_yes_at.Goals as goal
 pub returns : goal.returns
 returns c =
     c.is_yes.ensures
-    ∙ ap (is_yes (entry c.args.values.now)) (c.index-listed-place.is ∙ get-any c.args.listed.now c.args.place c.index-listed-place.result no_demand c.requires)
+    ∙ ap (is_yes (value_in c.args.trail.now)) (c.index-listed-place.is ∙ get-any c.args.listed.now c.args.place c.index-listed-place.result no_demand c.requires)

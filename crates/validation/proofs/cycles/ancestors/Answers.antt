@@ -1,7 +1,7 @@
 use Rattle.std.proofs.Common.{◌≡◌, ◌+◌, [], subst, sym, ap, ◌∙◌, arith}
 use Rattle.choice_problem.specs.Conflict.{edges_of}
-use Rattle.validation.specs.Cycles.{with_keys}
-use Rattle.validation.proofs.Reached.{IsPartReached, reached-none, reached-more, reached-all, reached-short}
+use Rattle.validation.specs.Cycles.{IsPartReached, with_keys}
+use Rattle.validation.proofs.Reached.{reached-none, reached-more, reached-all, reached-short}
 use Rattle.validation.proofs.cycles.ancestors.Goals as goal
 
 pub loop-place-init : goal.loop-place-init

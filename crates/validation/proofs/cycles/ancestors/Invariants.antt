@@ -1,7 +1,7 @@
 -- the keys lead to goals, and what edges to the keys before the place leave are keys
 use Rattle.std.proofs.Common.{◌+◌, ◌-◌, length}
 use Rattle.choice_problem.specs.Conflict.{edges_of}
-use Rattle.validation.proofs.Reached.{IsPartReached}
+use Rattle.validation.specs.Cycles.{IsPartReached}
 use Rattle.validation.proofs.cycles.ancestors.Given as goal
 
 abbrev pub invariant-loop-place : goal.invariant-loop-place

@@ -1,7 +1,8 @@
-use Rattle.std.proofs.Common.{sym, ◌∙◌}
+use Rattle.std.proofs.Common.{◌∷◌, [], sym, ap, ◌∙◌}
 use Rattle.std.proofs.lemmas.Bool.{false≢true}
 use Rattle.choice_problem.specs.Conflict.{edges_of}
-use Rattle.validation.proofs.Rings.{lies-ended, lies-found}
+use Rattle.validation.specs.Cycles.{leads_to_any}
+use Rattle.validation.proofs.Rings.{lies-ended, lies-led}
 use Rattle.validation.proofs.cycles.is_on_cycle.Goals as goal
 
 pub returns-then-not-is_chosen-clause-lies : goal.returns-then-not-is_chosen-clause-lies
@@ -10,5 +11,6 @@ returns-then-not-is_chosen-clause-lies g c =
 
 pub returns-clause-lies : goal.returns-clause-lies
 returns-clause-lies g c =
-    c.is_around-lies.ensures
-    ∙ lies-found (edges_of (g.G.Graph.demands c.args.graph.now)) c.args.demand.now c.in-Some.owner c.in_ok-reach.reach.found.keys (sym c.in-Some.ensures) c.in_ok-reach.ensures.found
+    let edges = edges_of (g.G.Graph.demands c.args.graph.now) in
+    c.in_ok-lies.ensures.is_led ∙ ap (λ v. leads_to_any edges (v ∷ []) c.args.demand.now.target) c.in_ok-back.ensures.end
+    ∙ lies-led edges c.args.demand.now c.in-Some.owner (sym c.in-Some.ensures)

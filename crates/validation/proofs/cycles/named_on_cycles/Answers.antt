@@ -1,16 +1,16 @@
-use Rattle.std.proofs.Common.{◌≡◌, ◌+◌, List, [], ◌∷◌, ◌++◌, Option, IfSome, drop, sym, ap, ◌∙◌, arith, subst}
+use Rattle.std.proofs.Common.{◌≡◌, ◌+◌, List, ◌++◌, Option, IfSome, drop, sym, ap, ◌∙◌, arith, subst}
 use Rattle.std.specs.Prelude.{flat_map, filter}
 use Rattle.choice_problem.specs.declared.problem.Demand.{Demand}
 use Rattle.choice_problem.specs.Conflict.{edges_of, named_by, lies_on_cycle, circular}
-use Rattle.validation.specs.declared.cycles.Reach.{Reach}
-use Rattle.validation.specs.Cycles.{AreAncestors}
+use Rattle.validation.specs.declared.side.Side.{Side}
+use Rattle.validation.specs.Cycles.{IsSide}
 use Rattle.validation.proofs.Reached.{get-contains}
 use Rattle.validation.proofs.Rings.{kept-one, left-one, kept-all, lies-around}
 use Rattle.validation.proofs.cycles.named_on_cycles.Goals as goal
 use Rattle.validation.proofs.cycles.named_on_cycles.Goals.{then-is_around+in_ok-is_on_cycle+then-branch+in_ok-push_named, then-is_around+in_ok-is_on_cycle+else-branch, else-is_around}
 
-abbrev Known : List Demand → Option Reach → Type 0
-Known demands last = IfSome last (λ reach. AreAncestors (edges_of demands) (reach.goal ∷ []) reach.found.keys)
+abbrev Known : List Demand → Option Side → Type 0
+Known demands last = IfSome last (IsSide (edges_of demands))
 
 pub loop-place-init : goal.loop-place-init
 unfolding circular

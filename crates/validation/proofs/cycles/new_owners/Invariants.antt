@@ -1,10 +1,10 @@
-use Rattle.std.proofs.Common.{◌≡◌, ◌++◌, drop, IfSome, [], ◌∷◌}
+use Rattle.std.proofs.Common.{◌≡◌, ◌++◌, drop, IfSome}
 use Rattle.choice_problem.specs.Conflict.{edges_of}
-use Rattle.validation.specs.Cycles.{AreAncestors, owners_on_cycles}
+use Rattle.validation.specs.Cycles.{IsSide, owners_on_cycles}
 use Rattle.validation.proofs.cycles.new_owners.Given as goal
 
 abbrev pub invariant-loop-place : goal.invariant-loop-place
 invariant-loop-place g l = let demands = g.G.Graph.demands l.graph in record {
   owners : l.owners.items ++ owners_on_cycles (edges_of demands) (drop l.place demands) ≡ owners_on_cycles (edges_of demands) (drop l.fn.before demands);
-  last : IfSome l.last (λ reach. AreAncestors (edges_of demands) (reach.goal ∷ []) reach.found.keys);
+  last : IfSome l.last (IsSide (edges_of demands));
 }

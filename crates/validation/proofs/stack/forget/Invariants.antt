@@ -5,7 +5,7 @@ use Rattle.validation.proofs.stack.forget.Given as goal
 abbrev pub invariant-loop-active : goal.invariant-loop-active
 invariant-loop-active l = record {
   first : take l.len l.active ≡ take l.len l.initial.active;
-  opened : AreOpen l.active l.values l.opens.vars;
+  opened : AreOpen l.active l.trail l.opens.vars;
   held : l.opens.held ≡ l.initial.opens.held;
 }
 

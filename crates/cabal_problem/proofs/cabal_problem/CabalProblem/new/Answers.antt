@@ -1,5 +1,6 @@
 use Rattle.std.proofs.Common.{◌≡◌, true, sym, subst}
 use Rattle.solver_index.specs.Blocks.{AllAreInBlocks}
+use Rattle.solver_index.specs.Defaults.{AreDefaults}
 use Rattle.solver_index.specs.Orders.{AreOrders}
 use Rattle.solver_index.specs.Versions.{packages_have_versions}
 use Rattle.cabal_problem.proofs.NewProblem.{made-lawful}
@@ -19,3 +20,7 @@ invariant_of-result-clause-lawful c =
     let project = c.args.settings.now.project in
     made-lawful c.args.settings.now.env c.args.index project c.in_ok-names.names c.in_ok-tables.tables.orders c.requires.sound c.requires.extra c.in_ok-names.ensures.names
     (subst (λ ps. AreOrders project ps c.in_ok-tables.tables.orders) c.as_slice-packages.ensures c.in_ok-tables.ensures.orders)
+
+pub invariant_of-result-clause-defaults : goal.invariant_of-result-clause-defaults
+invariant_of-result-clause-defaults c =
+    ∣ subst (λ ps. AreDefaults ps c.in_ok-names.names c.in_ok-tables.tables.defaults) c.as_slice-packages.ensures c.in_ok-tables.ensures.defaults ∣₁

@@ -12,7 +12,7 @@ copy-requires t c =
 pub loop-joined-preserved-in-Both : goal.loop-joined-preserved-in-Both
 loop-joined-preserved-in-Both t c =
     taken_up c.loop-joined.waiting.items c.pop.new.self.items c.in-Some.joined (joined.Both c.in-Both.right) c.loop-joined.copied c.in_ok-copied-in-Both.copied _ c.in-Some.ensures.items c.in-Both.is
-    (c.in_ok-copied-in-Both.ensures ∙ (λ i. Both c.loop-joined.copied (c.in_ok-right-in-Both.ensures i))) c.loop-joined.invariant
+    (c.in_ok-copied-in-Both.ensures ∙ (λ i. Both c.loop-joined.copied (c.in_ok-copy-in-Both.ensures i))) c.loop-joined.invariant
 
 pub copy-requires-in-Either : goal.copy-requires-in-Either
 copy-requires-in-Either t c =
@@ -22,4 +22,4 @@ copy-requires-in-Either t c =
 pub loop-joined-preserved : goal.loop-joined-preserved
 loop-joined-preserved t c =
     taken_up c.loop-joined.waiting.items c.pop.new.self.items c.in-Some.joined (joined.Either c.in-Either.right) c.loop-joined.copied c.in_ok-copied-in-Either.copied _ c.in-Some.ensures.items c.in-Either.is
-    (c.in_ok-copied-in-Either.ensures ∙ (λ i. Either c.loop-joined.copied (c.in_ok-right-in-Either.ensures i))) c.loop-joined.invariant
+    (c.in_ok-copied-in-Either.ensures ∙ (λ i. Either c.loop-joined.copied (c.in_ok-copy-in-Either.ensures i))) c.loop-joined.invariant

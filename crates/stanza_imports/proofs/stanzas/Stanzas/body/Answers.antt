@@ -2,7 +2,7 @@ use Rattle.std.proofs.Common.{List, [], ◌∷◌, take, subst, ap, ◌∙◌, s
 use Rattle.std.proofs.lemmas.Grind.{flat_map-append}
 use Rattle.std.proofs.lemmas.List.{take_all}
 use Rattle.section_syntax.specs.declared.part.SectionPart.{SectionPart}
-use Rattle.stanza_imports.specs.Imports.{all_replaced, replaced}
+use Rattle.stanza_imports.specs.KnownStanzas.{all_replaced, replaced}
 use Rattle.stanza_imports.specs.Standing.{Means}
 use Rattle.common_laws.specs.Lists.{take_at}
 use Rattle.stanza_imports.proofs.stanzas.Stanzas.body.Goals as goal

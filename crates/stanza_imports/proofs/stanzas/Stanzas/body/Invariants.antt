@@ -1,5 +1,5 @@
 use Rattle.std.proofs.Common.{take}
-use Rattle.stanza_imports.specs.Imports.{Stanzas, all_replaced}
+use Rattle.stanza_imports.specs.KnownStanzas.{Stanzas, all_replaced}
 use Rattle.stanza_imports.specs.Standing.{Knows, Means}
 use Rattle.stanza_imports.proofs.stanzas.Stanzas.body.Given as goal
 

@@ -1,7 +1,8 @@
 use Rattle.std.proofs.Common.{ℕ, List, ◌++◌, map, flat_map, subst, ap, arith}
 use Rattle.std.proofs.lemmas.List.{take_all}
 use Rattle.section_syntax.specs.declared.part.SectionPart.{SectionPart}
-use Rattle.stanza_imports.specs.Imports.{parts_of, under}
+use Rattle.stanza_imports.specs.Imports.{under}
+use Rattle.stanza_imports.specs.KnownStanzas.{parts_of}
 use Rattle.stanza_imports.specs.Standing.{Means}
 use Rattle.stanza_imports.proofs.PushedParts.{more_taken}
 use Rattle.stanza_imports.proofs.stanzas.Stanzas.import.Goals as goal

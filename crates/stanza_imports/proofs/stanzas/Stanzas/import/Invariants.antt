@@ -1,6 +1,7 @@
 use Rattle.std.proofs.Common.{List, ◌++◌, take, map, flat_map}
 use Rattle.section_syntax.specs.declared.part.SectionPart.{SectionPart}
-use Rattle.stanza_imports.specs.Imports.{Stanzas, parts_of, under}
+use Rattle.stanza_imports.specs.Imports.{under}
+use Rattle.stanza_imports.specs.KnownStanzas.{Stanzas, parts_of}
 use Rattle.stanza_imports.specs.Standing.{Knows, Means}
 use Rattle.stanza_imports.proofs.stanzas.Stanzas.import.Given as goal
 

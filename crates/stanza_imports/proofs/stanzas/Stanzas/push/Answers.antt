@@ -1,6 +1,7 @@
 use Rattle.std.proofs.Common.{ℕ, List, ◌++◌, map, flat_map, subst, ap, ◌∙◌, refl}
 use Rattle.section_syntax.specs.declared.part.SectionPart.{SectionPart}
-use Rattle.stanza_imports.specs.Imports.{parts_of, under}
+use Rattle.stanza_imports.specs.Imports.{under}
+use Rattle.stanza_imports.specs.KnownStanzas.{parts_of}
 use Rattle.stanza_imports.specs.Standing.{Means}
 use Rattle.stanza_imports.proofs.Additions.{imported, itself}
 use Rattle.stanza_imports.proofs.stanzas.Stanzas.push.Goals as goal

@@ -1,6 +1,6 @@
 use Rattle.std.proofs.Common.{◌≡◌, ◌∙◌, sym, ap, subst, length, List, [], ◌∷◌, ◌++◌, arith}
 use Rattle.validation.specs.declared.mentions.Link.{Link}
-use Rattle.validation.specs.Table.{entry, with_entry}
+use Rattle.choice_problem.specs.Table.{entry, with_entry}
 use Rattle.validation.specs.Mentions.{IsLinked}
 use Rattle.validation.proofs.MentionLinks.{pushed}
 use Rattle.validation.proofs.mentions.Mentions.push.Goals as goal

@@ -4,7 +4,7 @@ use Rattle.choice_problem.specs.ConflictSet.{is_rising, has, with_var}
 use Rattle.choice_problem.proofs.Sets.{has-with_var, rising-with_var}
 use Rattle.validation.specs.Open.{Room}
 use Rattle.choice_problem.proofs.InOrder.{length-with_var}
-use Rattle.validation.proofs.Opens.{ok-of}
+use Rattle.choice_problem.proofs.Results.{ok-of}
 use Rattle.validation.proofs.open.OpenVars.put_back.Goals as goal
 
 pub invariant_of-self : goal.invariant_of-self

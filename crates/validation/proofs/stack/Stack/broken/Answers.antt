@@ -2,7 +2,7 @@ use Rattle.std.proofs.Common.{◌≡◌, ◌∙◌, List, sym, ap, subst, length
 use Rattle.std.specs.Option.{option_map}
 use Rattle.choice_problem.specs.declared.problem.Demand.{Demand}
 use Rattle.choice_problem.specs.Conflict.{is_broken, set_of_first}
-use Rattle.validation.specs.Table.{entry}
+use Rattle.choice_problem.specs.Trail.{value_in}
 use Rattle.validation.specs.Checks.{is_broken_in}
 use Rattle.validation.specs.View.{View}
 use Rattle.validation.specs.Stack.{AllBelow, demand_at, demands_at, places_of}
@@ -23,6 +23,6 @@ returns c =
     c.in_ok-set.ensures
     ∙ ap (λ (ds : List Demand). set_of_first (option_map (demand_at ds) c.first_broken-first.result)) same
     ∙ ap set_of_first (sym c.first_broken-first.ensures.found)
-    ∙ ap (λ (ds : List Demand). set_of_first (find (is_broken_in (entry s.values)) (demands_at ds (places_of (drop c.args.from s.active))))) c.as_slice.ensures
-    ∙ ap set_of_first (sym (find-broken c.args.from s.listed s.active s.values s.trail c.self.invariant.values))
+    ∙ ap (λ (ds : List Demand). set_of_first (find (is_broken_in (value_in s.trail)) (demands_at ds (places_of (drop c.args.from s.active))))) c.as_slice.ensures
+    ∙ ap set_of_first (sym (find-broken c.args.from s.listed s.active s.trail))
     ∙ ap (λ (x : View). set_of_first (find (is_broken x.trail) (drop c.args.from x.active))) c.self.view_is

@@ -2,7 +2,7 @@ use Rattle.std.proofs.Common.{◌++◌, ◌∷◌, [], ◌∙◌, sym, ap, lengt
 use Rattle.validation.specs.declared.stack.Mark.{Mark}
 use Rattle.validation.specs.View.{View}
 use Rattle.validation.specs.Stack.{with_listed, watchers_by}
-use Rattle.validation.proofs.Opens.{ok-where}
+use Rattle.choice_problem.proofs.Results.{ok-where}
 use Rattle.validation.proofs.Stacks.{parts-list, listed-seen, marks-targets}
 use Rattle.validation.proofs.stack.Stack.list.Goals as goal
 
@@ -10,7 +10,7 @@ pub invariant_of-self-else-is_err : goal.invariant_of-self-else-is_err
 invariant_of-self-else-is_err c =
     let s = c.self.inside in
     let push = ok-where c.push.result c.push.ensures.ok (sym c.is_err.ensures.value ∙ c.if-is_err.false) in
-    parts-list s.trail s.marks s.listed c.push.new.self s.active s.watchers c.watch.new.watchers s.values s.opens.vars s.opens.held c.args.d c.self.invariant push
+    parts-list s.trail s.marks s.listed c.push.new.self s.active s.watchers c.watch.new.watchers s.opens.vars s.opens.held c.args.d c.self.invariant push
     (c.in_ok-watch.ensures.ok ∙ ap (λ n. s.watchers ++ watchers_by n c.as_slice.result.now) c.len-place.ensures
     ∙ ap (λ when. s.watchers ++ watchers_by (length s.listed) when) c.as_slice.ensures)
 

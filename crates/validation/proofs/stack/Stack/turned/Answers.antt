@@ -1,6 +1,6 @@
 use Rattle.std.proofs.Common.{◌≡◌, ℕ, sym, ap, subst, length, filter}
 use Rattle.choice_problem.specs.Assignment.{is_yes}
-use Rattle.validation.specs.Table.{entry}
+use Rattle.choice_problem.specs.Trail.{value_in}
 use Rattle.validation.specs.View.{View}
 use Rattle.validation.specs.Stack.{AllBelow, demand_at, demands_at, turned}
 use Rattle.validation.proofs.Below.{below-filter}
@@ -15,13 +15,13 @@ yes_among-requires c =
 pub returns-clause-demands : goal.returns-clause-demands
 returns-clause-demands c =
     subst (λ (x : View). demands_at x.listed c.in_ok-found.found.items ≡ turned x.trail c.args.v x.listed) c.self.view_is
-    (turned-seen c.args.v c.self.inside.trail c.self.inside.listed c.as_slice.result.now c.self.inside.watchers c.self.inside.values c.in_ok-places.places.items
-    c.as_slice-2.result.now c.in_ok-found.found.items c.self.invariant.values c.self.invariant.waiting c.in_ok-places.ensures c.as_slice.ensures
+    (turned-seen c.args.v c.self.inside.trail c.self.inside.listed c.as_slice.result.now c.self.inside.watchers c.in_ok-places.places.items
+    c.as_slice-2.result.now c.in_ok-found.found.items c.self.invariant.waiting c.in_ok-places.ensures c.as_slice.ensures
     c.as_slice-2.ensures.value c.in_ok-found.ensures)
 
 pub returns-clause-within : goal.returns-clause-within
 returns-clause-within c =
-    let test = λ (k : ℕ). is_yes (entry c.self.inside.values) (demand_at c.as_slice.result.now k) in
+    let test = λ (k : ℕ). is_yes (value_in c.self.inside.trail) (demand_at c.as_slice.result.now k) in
     let below =
     turned-below c.args.v c.self.inside.listed c.as_slice.result.now c.self.inside.watchers c.in_ok-places.places.items c.as_slice-2.result.now
     c.self.invariant.waiting c.in_ok-places.ensures c.as_slice.ensures c.as_slice-2.ensures.value in

@@ -1,0 +1,64 @@
+// A table of numbers by variable.
+ghost use Rattle.std.specs.Prelude.{◌≡◌, Some, None, OnOk, OnErr, is_some};
+ghost use Rattle.qualified_goals.specs.declared.variable.Var.{Var};
+ghost use Rattle.choice_problem.specs.Table.{entry, with_entry, without_entry};
+
+use crate::Var;
+use plan_types::NoMemory;
+use std::alloc::Global;
+use std::collections::BTreeMap;
+use std::marker::Model;
+
+/// A number for some variables, seen as its entries.
+#[derive(Drop)]
+pub struct Table {
+    entries: BTreeMap<Var, u64>,
+}
+
+impl Model for Table {
+    ghost use Rattle.std.specs.Prelude.{ℕ, List};
+    ghost use Rattle.qualified_goals.specs.declared.variable.Var.{Var};
+
+    ghost Value = { List (Var × ℕ) };
+
+    ghost view = { λ t. t.entries.entries };
+}
+
+impl Table {
+    pub fn new(alloc: Global) -> Table
+        ensures { (v : Var) → entry result v ≡ None }
+    {
+        Table {
+            entries: BTreeMap::new(alloc),
+        }
+    }
+
+    pub fn get(&self, v: Var) -> Option<u64>
+        ensures { result ≡ entry self.now v }
+    {
+        self.entries.get(&v).copied()
+    }
+
+    pub fn has(&self, v: Var) -> bool
+        ensures { result ≡ is_some (entry self.now v) }
+    {
+        self.entries.contains_key(&v)
+    }
+
+    pub fn set(&mut self, v: Var, n: u64) -> Result<(), NoMemory>
+        ensures ok { OnOk result ((w : Var) → entry self.new w ≡ with_entry v n (entry self.old) w) }
+        ensures err { OnErr result (self.new ≡ self.old) }
+        ensures absent { OnErr result (entry self.old v ≡ None) }
+    {
+        match self.entries.insert(v, n) {
+            Ok(_) => Ok(()),
+            Err(_) => Err(NoMemory),
+        }
+    }
+
+    pub fn remove(&mut self, v: Var)
+        ensures { (w : Var) → entry self.new w ≡ without_entry v (entry self.old) w }
+    {
+        let _ = self.entries.remove(&v);
+    }
+}

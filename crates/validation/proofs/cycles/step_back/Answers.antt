@@ -1,0 +1,15 @@
+use Rattle.std.proofs.Common.{◌∷◌, [], ap, ◌∙◌}
+use Rattle.choice_problem.specs.Conflict.{edges_of}
+use Rattle.validation.specs.Cycles.{with_keys}
+use Rattle.validation.proofs.Reached.{reached-more}
+use Rattle.validation.proofs.Sides.{side-at}
+use Rattle.validation.proofs.cycles.step_back.Goals as goal
+
+pub returns-clause-side : goal.returns-clause-side
+returns-clause-side g c =
+    let edges = edges_of (g.G.Graph.demands c.args.graph.now) in
+    let old = c.args.back.now in
+    let sources = c.in_ok-sources.sources in
+    side-at edges old.end c.add.new.self.end old.found.keys c.add.new.self.found.keys old.place c.add.new.self.place sources c.in_ok-add.ensures.end
+    (c.in_ok-add.ensures.found ∙ ap (with_keys old.found.keys) c.as_slice.ensures) c.in_ok-add.ensures.place
+    (reached-more edges (old.end ∷ []) old.found.keys old.place c.next.result sources c.requires.side c.next.ensures c.in_ok-sources.ensures)

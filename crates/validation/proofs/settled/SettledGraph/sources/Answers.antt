@@ -1,0 +1,10 @@
+use Rattle.std.proofs.Common.{◌↔◌, IfOk, subst}
+use Rattle.std.specs.List.{Contains}
+use Rattle.qualified_goals.specs.declared.variable.Var.{Var}
+use Rattle.choice_problem.specs.Conflict.{edges_of}
+use Rattle.validation.specs.Cycles.{HasEdge}
+use Rattle.validation.specs.View.{View}
+use Rattle.validation.proofs.settled.SettledGraph.sources.Goals as goal
+
+pub returns : goal.returns
+returns c = subst (λ (x : View). IfOk c.sources.result (λ found. (v : Var) → (Contains found v) ↔ (HasEdge (edges_of x.active) v c.args.to))) c.self.view_is c.sources.ensures

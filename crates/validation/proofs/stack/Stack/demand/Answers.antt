@@ -1,0 +1,30 @@
+use Rattle.std.proofs.Common.{◌<◌, ◌∙◌, List, Some, sym, ap, subst, length, arith}
+use Rattle.std.specs.List.{slice_get}
+use Rattle.choice_problem.specs.declared.problem.Demand.{Demand}
+use Rattle.validation.specs.declared.mentions.Mention.{Mention}
+use Rattle.validation.specs.View.{View}
+use Rattle.validation.specs.Stack.{demand_at}
+use Rattle.validation.proofs.Stacks.{marks-targets, length-active}
+use Rattle.validation.proofs.Queries.{targets-below, place-below}
+use Rattle.validation.proofs.Graphs.{active-at}
+use Rattle.validation.proofs.stack.Stack.demand.Goals as goal
+
+pub at-listed-requires : goal.at-listed-requires
+at-listed-requires c =
+    let s = c.self.inside in
+    omega (arith, c.requires, ap (λ (x : View). length x.active) c.self.view_is, length-active s.listed s.active)
+
+pub demand_in-requires : goal.demand_in-requires
+demand_in-requires c =
+    let s = c.self.inside in
+    let within : c.args.place < length s.active = omega (arith, c.requires, ap (λ (x : View). length x.active) c.self.view_is, length-active s.listed s.active) in
+    subst (λ (ds : List Demand). c.at-listed.result.place < length ds) (sym c.as_slice.ensures)
+    (subst (λ (x : Mention). x.place < length s.listed) (sym c.at-listed.ensures)
+    (place-below (length s.listed) s.active c.args.place c.at-listed.result (targets-below s.listed s.active (marks-targets c.self.invariant.levels)) within))
+
+pub returns : goal.returns
+returns c =
+    let s = c.self.inside in
+    let within : c.args.place < length s.active = omega (arith, c.requires, ap (λ (x : View). length x.active) c.self.view_is, length-active s.listed s.active) in
+    ap (λ (x : View). slice_get x.active c.args.place) (sym c.self.view_is) ∙ active-at s.listed s.active c.args.place c.at-listed.result within c.at-listed.ensures
+    ∙ ap (λ (ds : List Demand). Some (demand_at ds c.at-listed.result.place)) (sym c.as_slice.ensures) ∙ ap Some (sym c.demand_in.ensures)

@@ -1,8 +1,0 @@
-use Rattle.std.proofs.Common.{None}
-use Rattle.validation.proofs.Tables.{updated}
-use Rattle.validation.proofs.table.Table.remove.Goals as goal
-
-pub returns : goal.returns
-returns c w =
-    updated c.self.inside.entries.entries c.remove.new.self.entries c.args.self.now c.args.v w None c.self.view_is
-    (c.remove.ensures.updates.0 w)
