@@ -77,7 +77,13 @@ fn plain_values_and_folders(rt: HostRuntime) -> Result<(), Fail> {
 
 #[test]
 fn graphs_and_searches(rt: HostRuntime) -> Result<(), Fail> {
-    for table in [Table::Cycles, Table::Units, Table::Links, Table::Searches, Table::States] {
+    for table in [
+        Table::Cycles,
+        Table::Units,
+        Table::Links,
+        Table::Searches,
+        Table::States,
+    ] {
         assert_eq!(rt; others(rt.alloc(), table)?.as_str(), "");
     }
     Ok(())

@@ -363,5 +363,5 @@ pub outside-all : (ends nodes : List Node) (cells : List Cell) → AreChains end
 outside-all ends nodes cells h entry fits =
     ap (λ (l : List ℕ). has_node l (length cells)) (chain-is ends nodes entry fits)
     ∙ not-in (ring_of (ends_at ends entry) nodes) (length cells) (λ c.
-      let within = ring-within (ends_at ends entry) nodes (ring_of (ends_at ends entry) nodes) (h.rings entry fits) (length cells) c in
-      omega (arith, within, h.paired))
+    let within = ring-within (ends_at ends entry) nodes (ring_of (ends_at ends entry) nodes) (h.rings entry fits) (length cells) c in
+    omega (arith, within, h.paired))

@@ -469,15 +469,22 @@ may-return s n was =
     let part = parted s.linked v (has-in s.linked v was.linked) in
     let rising = ap is_rising (sym part.2) ∙ was.rising in
     let before : (u : Var) → Contains part.0 u → same_var v u ≡ false = λ u c. same-back v u ∙ before-not-same u v (front-before part.0 v part.1 u rising c) in
-    let after : (u : Var) → Contains part.1 u → same_var v u ≡ false = λ u c. before-not-same v u (rising-below v part.1 u (rising-rest part.0 v part.1 rising) c) in
-    (beside (same_var v) s.linked, slice_get-set s.kept n (Some (beside (same_var v) s.linked)) None was.kept,
-    (part.0, part.1, ap (without v) part.2 ∙ without-here part.0 v part.1 before after,
-    ap (λ o. o.0) (sym (beside-here None part.0 v part.1 before)) ∙ ap (λ l. (beside (same_var v) l).0) (sym part.2),
-    ap (λ o. o.1) (sym (beside-here None part.0 v part.1 before)) ∙ ap (λ l. (beside (same_var v) l).1) (sym part.2)))
+    let after : (u : Var) → Contains part.1 u → same_var v u ≡ false = λ u c. before-not-same v u (rising-below v part.1 u (rising-rest part.0 v part.1 rising) c) in (
+      beside (same_var v) s.linked,
+      slice_get-set s.kept n (Some (beside (same_var v) s.linked)) None was.kept,
+      (
+        part.0,
+        part.1,
+        ap (without v) part.2 ∙ without-here part.0 v part.1 before after,
+        ap (λ o. o.0) (sym (beside-here None part.0 v part.1 before)) ∙ ap (λ l. (beside (same_var v) l).0) (sym part.2),
+        ap (λ o. o.1) (sym (beside-here None part.0 v part.1 before)) ∙ ap (λ l. (beside (same_var v) l).1) (sym part.2),
+      ),
+    )
   where
     rising-rest : (xs : List Var) (v : Var) (ys : List Var) → is_rising (xs ++ v ∷ ys) ≡ true → is_rising (v ∷ ys) ≡ true
     rising-rest [] v ys h = h
     rising-rest (x ∷ xs) v ys h = rising-rest xs v ys (rising-tail x (xs ++ v ∷ ys) h)
+
     front-before : (xs : List Var) (v : Var) (ys : List Var) (u : Var) → is_rising (xs ++ v ∷ ys) ≡ true → Contains xs u → is_before u v ≡ true
     front-before [] v ys u h c = absurd (contains-none u c)
     front-before (x ∷ xs) v ys u h c =
@@ -485,22 +492,26 @@ may-return s n was =
           | inl e ↦ subst (λ w. is_before w v ≡ true) e (rising-below x (xs ++ v ∷ ys) v h (contains-right xs (v ∷ ys) v (contains-head v ys)))
           | inr r ↦ front-before xs v ys u (rising-tail x (xs ++ v ∷ ys) h) r
         ]
+
     without-all : (xs : List Var) (v : Var) → ((u : Var) → Contains xs u → same_var v u ≡ false) → without v xs ≡ xs
     without-all [] v h = refl
     without-all (x ∷ xs) v h =
         ap (λ b. cond (not b) (x ∷ without v xs) (without v xs)) (h x (contains-head x xs)) ∙ ap (λ l. x ∷ l) (without-all xs v (λ u c. h u (contains-tail x xs u c)))
+
     without-here : (xs : List Var) (v : Var) (ys : List Var) → ((u : Var) → Contains xs u → same_var v u ≡ false) → ((u : Var) → Contains ys u → same_var v u ≡ false)
         → without v (xs ++ v ∷ ys) ≡ xs ++ ys
     without-here [] v ys h k = ap (λ b. cond (not b) (v ∷ without v ys) (without v ys)) (same_var-refl v) ∙ without-all ys v k
     without-here (x ∷ xs) v ys h k =
         ap (λ b. cond (not b) (x ∷ without v (xs ++ v ∷ ys)) (without v (xs ++ v ∷ ys))) (h x (contains-head x xs))
         ∙ ap (λ l. x ∷ l) (without-here xs v ys (λ u c. h u (contains-tail x xs u c)) k)
+
     beside-here : (before : Option Var) (xs : List Var) (v : Var) (ys : List Var) → ((u : Var) → Contains xs u → same_var v u ≡ false)
         → beside_from (same_var v) before (xs ++ v ∷ ys) ≡ pair (last_from before xs) (first_of ys)
     beside-here before [] v ys h = ap (λ b. cond b (pair before (first_of ys)) (beside_from (same_var v) (Some v) ys)) (same_var-refl v)
     beside-here before (x ∷ xs) v ys h =
         ap (λ b. cond b (pair before (first_of (xs ++ v ∷ ys))) (beside_from (same_var v) (Some x) (xs ++ v ∷ ys))) (h x (contains-head x xs))
         ∙ beside-here (Some x) xs v ys (λ u c. h u (contains-tail x xs u c))
+
     slice_get-set : {X : Type 0} (xs : List X) (i : ℕ) (x y : X) → slice_get xs i ≡ Some y → slice_get (set xs i x) i ≡ Some x
     slice_get-set [] i x y h = absurd (cc h)
     slice_get-set (z ∷ xs) zero x y h = refl
