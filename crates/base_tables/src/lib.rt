@@ -15,6 +15,8 @@ mod files;
 #[cfg(test)]
 mod graphs;
 #[cfg(test)]
+mod links;
+#[cfg(test)]
 mod lists;
 #[cfg(test)]
 mod memory;

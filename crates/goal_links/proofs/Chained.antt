@@ -14,7 +14,7 @@ use Rattle.goal_links.specs.Row.{has_node, without_node, behind}
 use Rattle.goal_links.specs.Chains.{Chained, no_cell, cell_at, chain_at, chain_with, without_last, ends_at, chains_of, AreChains}
 use Rattle.goal_links.proofs.Paths.{path-stays, path-last, path-first, last-contains, not-last, not-first}
 use Rattle.goal_links.proofs.Rings.{has-contains, ring-once, ring-within, ring-is}
-use Rattle.goal_links.proofs.Nodes.{contains-has, without-parted, apart-front, apart-back}
+use Rattle.goal_links.proofs.Nodes.{not-in, contains-has, without-parted, apart-front, apart-back}
 use Rattle.goal_links.proofs.Rows.{row-linked, row-unlinked, written, AreSame, same-elsewhere, gap-within, node-parted, sides-within, linked-next, ring-pushed}
 
 pub map-length : {X Y : Type 0} (f : X → Y) (xs : List X) → length (map f xs) ≡ length xs
@@ -350,3 +350,18 @@ behind-in (k ∷ ns) m n c =
 pub some-more : (o : Option ℕ) (P Q : ℕ → Type 0) → ((n : ℕ) → P n → Q n) → IfSome o P → IfSome o Q
 some-more None P Q f h = tt
 some-more (Some n) P Q f h = f n h
+
+pub cell-owner : (ends nodes : List Node) (cells : List Cell) → AreChains ends nodes cells → (entry : ℕ) → entry < length ends → (now : Chained)
+    → chained cells (chains_of ends nodes) ≡ now → (o : Option ℕ) → IfSome o (λ n. Contains (ring_of (ends_at ends entry) nodes) n)
+    → IfSome o (λ n. (cell_at now.cells n).entry ≡ entry)
+cell-owner ends nodes cells h entry fits now is None c = tt
+cell-owner ends nodes cells h entry fits now is (Some n) c = ap (λ (v : Chained). (cell_at v.cells n).entry) (sym is) ∙ h.owned entry n fits c
+
+-- a cell that comes next is in no chain
+pub outside-all : (ends nodes : List Node) (cells : List Cell) → AreChains ends nodes cells → (entry : ℕ) → entry < length ends
+    → has_node (chain_at (chains_of ends nodes) entry) (length cells) ≡ false
+outside-all ends nodes cells h entry fits =
+    ap (λ (l : List ℕ). has_node l (length cells)) (chain-is ends nodes entry fits)
+    ∙ not-in (ring_of (ends_at ends entry) nodes) (length cells) (λ c.
+    let within = ring-within (ends_at ends entry) nodes (ring_of (ends_at ends entry) nodes) (h.rings entry fits) (length cells) c in
+    omega (arith, within, h.paired))

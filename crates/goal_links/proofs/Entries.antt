@@ -6,19 +6,19 @@ use Rattle.std.proofs.Math.ListN.{set}
 use Rattle.std.proofs.lemmas.List.{length-set, map-append, map-set, get_or_append_left, length-append}
 use Rattle.std.proofs.lemmas.Option.{slice_get-map, slice_get_within, get_or_from_slice_get, slice_get-get_or}
 use Rattle.std.proofs.lemmas.Bool.{false≢true, and_parts, and_from, cases_lt}
-use Rattle.common_laws.specs.Lists.{contains-head, contains-tail, contains-cases, contains-left, contains-right, contains-append, contains-none, contains-filter, map-contains}
+use Rattle.common_laws.specs.Lists.{contains-head, contains-tail, contains-cases, contains-left, contains-right, contains-append, contains-none, contains-filter, contains-map, map-contains}
 use Rattle.qualified_goals.specs.declared.variable.Var.{Var}
 use Rattle.qualified_goals.specs.Variable.{is_before, same_var}
 use Rattle.qualified_goals.specs.SameVariable.{same_var-is, same_var-refl}
 use Rattle.qualified_goals.proofs.Order.{before-itself, before-trans, before-back, before-neither}
 use Rattle.choice_problem.specs.ConflictSet.{is_rising, has, with_var, without}
-use Rattle.choice_problem.proofs.Sets.{same-not, before-not-same, same-back, rising-tail, rising-with_var, rising-below, rising-same, has-with_var, contains-has}
+use Rattle.choice_problem.proofs.Sets.{same-not, before-not-same, same-back, rising-tail, rising-with_var, rising-below, rising-same, has-with_var, contains-has, has-contains as has-in}
 use Rattle.choice_problem.proofs.InOrder.{rising-without, has-without}
 use Rattle.goal_links.specs.Beside.{last_from, last_of, first_of, beside_from, beside, behind_first}
 use Rattle.goal_links.specs.Row.{Line, has_node, without_node, behind, StandsIn, AreBelow, with_node, unlinked}
 use Rattle.goal_links.specs.Chains.{Chained, with_chain}
 use Rattle.goal_links.specs.Links.{Entries, no_var, var_at, sides_in, entries_of, AreAround, AreLinks, MayReturn, WasLinked, registered, linked as put, unlinked as taken}
-use Rattle.goal_links.proofs.Paths.{AreOnce, last-contains}
+use Rattle.goal_links.proofs.Paths.{AreOnce, parted, last-contains}
 use Rattle.goal_links.proofs.Rings.{has-contains}
 use Rattle.goal_links.proofs.Nodes.{contains-has as node-has, hasn't, has-itself, behind-front}
 use Rattle.goal_links.proofs.Mapped.{any-mapped, filter-mapped, behind-mapped, first-mapped, last-mapped, beside-mapped, map-parted, map-alike, get-contains, get-set, get-push, get-last}
@@ -449,3 +449,76 @@ pub found-linked : (vars : List Var) (row : Line) (hint : Option ℕ) (chains : 
 found-linked vars row hint chains h now is None k = tt
 found-linked vars row hint chains h now is (Some n) k =
     sym (linked-number vars row hint chains h now is n (subst (λ (s : Entries). n < length s.vars) is (h.below n k))) ∙ k
+
+-- what has no entry isn't linked
+pub unknown-unlinked : (vars : List Var) (row : Line) (hint : Option ℕ) (chains : Chained) → AreLinks vars row hint chains → (v : Var) → has vars v ≡ false
+    → has (map (var_at vars) row.linked) v ≡ false
+unknown-unlinked vars row hint chains h v fresh =
+    elim (has (map (var_at vars) row.linked) v) as (λ b. has (map (var_at vars) row.linked) v ≡ b → b ≡ false) [
+      | true ↦ λ e.
+          let from = contains-map (var_at vars) row.linked v (has-in (map (var_at vars) row.linked) v e) in
+          let below = h.below from.0 (node-has row.linked from.0 from.1) in
+          absurd (false≢true (sym fresh ∙ contains-has vars v (subst (λ w. Contains vars w) from.2 (get-contains vars from.0 (var_at vars from.0) (slice_get-get_or vars from.0 no_var below)))))
+      | false ↦ λ e. refl
+    ] refl
+
+-- an entry that was linked may return where it was taken out
+pub may-return : (s : Entries) (n : ℕ) → WasLinked s n → MayReturn (taken s n) n
+may-return s n was =
+    let v = var_at s.vars n in
+    let part = parted s.linked v (has-in s.linked v was.linked) in
+    let rising = ap is_rising (sym part.2) ∙ was.rising in
+    let before : (u : Var) → Contains part.0 u → same_var v u ≡ false = λ u c. same-back v u ∙ before-not-same u v (front-before part.0 v part.1 u rising c) in
+    let after : (u : Var) → Contains part.1 u → same_var v u ≡ false = λ u c. before-not-same v u (rising-below v part.1 u (rising-rest part.0 v part.1 rising) c) in (
+      beside (same_var v) s.linked,
+      slice_get-set s.kept n (Some (beside (same_var v) s.linked)) None was.kept,
+      (
+        part.0,
+        part.1,
+        ap (without v) part.2 ∙ without-here part.0 v part.1 before after,
+        ap (λ o. o.0) (sym (beside-here None part.0 v part.1 before)) ∙ ap (λ l. (beside (same_var v) l).0) (sym part.2),
+        ap (λ o. o.1) (sym (beside-here None part.0 v part.1 before)) ∙ ap (λ l. (beside (same_var v) l).1) (sym part.2),
+      ),
+    )
+  where
+    rising-rest : (xs : List Var) (v : Var) (ys : List Var) → is_rising (xs ++ v ∷ ys) ≡ true → is_rising (v ∷ ys) ≡ true
+    rising-rest [] v ys h = h
+    rising-rest (x ∷ xs) v ys h = rising-rest xs v ys (rising-tail x (xs ++ v ∷ ys) h)
+
+    front-before : (xs : List Var) (v : Var) (ys : List Var) (u : Var) → is_rising (xs ++ v ∷ ys) ≡ true → Contains xs u → is_before u v ≡ true
+    front-before [] v ys u h c = absurd (contains-none u c)
+    front-before (x ∷ xs) v ys u h c =
+        elim (contains-cases x xs u c) [
+          | inl e ↦ subst (λ w. is_before w v ≡ true) e (rising-below x (xs ++ v ∷ ys) v h (contains-right xs (v ∷ ys) v (contains-head v ys)))
+          | inr r ↦ front-before xs v ys u (rising-tail x (xs ++ v ∷ ys) h) r
+        ]
+
+    without-all : (xs : List Var) (v : Var) → ((u : Var) → Contains xs u → same_var v u ≡ false) → without v xs ≡ xs
+    without-all [] v h = refl
+    without-all (x ∷ xs) v h =
+        ap (λ b. cond (not b) (x ∷ without v xs) (without v xs)) (h x (contains-head x xs)) ∙ ap (λ l. x ∷ l) (without-all xs v (λ u c. h u (contains-tail x xs u c)))
+
+    without-here : (xs : List Var) (v : Var) (ys : List Var) → ((u : Var) → Contains xs u → same_var v u ≡ false) → ((u : Var) → Contains ys u → same_var v u ≡ false)
+        → without v (xs ++ v ∷ ys) ≡ xs ++ ys
+    without-here [] v ys h k = ap (λ b. cond (not b) (v ∷ without v ys) (without v ys)) (same_var-refl v) ∙ without-all ys v k
+    without-here (x ∷ xs) v ys h k =
+        ap (λ b. cond (not b) (x ∷ without v (xs ++ v ∷ ys)) (without v (xs ++ v ∷ ys))) (h x (contains-head x xs))
+        ∙ ap (λ l. x ∷ l) (without-here xs v ys (λ u c. h u (contains-tail x xs u c)) k)
+
+    beside-here : (before : Option Var) (xs : List Var) (v : Var) (ys : List Var) → ((u : Var) → Contains xs u → same_var v u ≡ false)
+        → beside_from (same_var v) before (xs ++ v ∷ ys) ≡ pair (last_from before xs) (first_of ys)
+    beside-here before [] v ys h = ap (λ b. cond b (pair before (first_of ys)) (beside_from (same_var v) (Some v) ys)) (same_var-refl v)
+    beside-here before (x ∷ xs) v ys h =
+        ap (λ b. cond b (pair before (first_of (xs ++ v ∷ ys))) (beside_from (same_var v) (Some x) (xs ++ v ∷ ys))) (h x (contains-head x xs))
+        ∙ beside-here (Some x) xs v ys (λ u c. h u (contains-tail x xs u c))
+
+    slice_get-set : {X : Type 0} (xs : List X) (i : ℕ) (x y : X) → slice_get xs i ≡ Some y → slice_get (set xs i x) i ≡ Some x
+    slice_get-set [] i x y h = absurd (cc h)
+    slice_get-set (z ∷ xs) zero x y h = refl
+    slice_get-set (z ∷ xs) (suc i) x y h = slice_get-set xs i x y h
+
+-- a registration links nothing
+pub registered-linked : (s : Entries) (v : Var) → has (registered s v).linked v ≡ has s.linked v
+registered-linked s v =
+    let more : Entries = record s { vars = s.vars ++ v ∷ []; kept = s.kept ++ Some (None, None) ∷ []; chains = s.chains ++ [] ∷ [] } in
+    elim (has s.vars v) as (λ b. has (cond b s more).linked v ≡ has s.linked v) [ true ↦ refl | false ↦ refl ]

@@ -60,6 +60,7 @@ impl Chains {
         requires { cell.entry < length self.old.chains }
         ensures ok { OnOk result (self.new ≡ with_cell self.old cell) }
         ensures place { IfOk result (λ place. place ≡ length self.old.cells) }
+        ensures new { IfOk result (λ place. has_node (chain_at self.old.chains cell.entry) place ≡ false) }
         ensures err { OnErr result (self.new ≡ self.old) }
     {
         let place = self.cells.len();
@@ -81,6 +82,7 @@ impl Chains {
         ensures first { result ≡ first_of (chain_at self.now.chains entry) }
         ensures within { IfSome result (λ cell. cell < length self.now.cells) }
         ensures linked { IfSome result (λ cell. IsTrue (has_node (chain_with self.now cell) cell)) }
+        ensures owner { IfSome result (λ cell. (cell_at self.now.cells cell).entry ≡ entry) }
     {
         self.ends[entry].next
     }
@@ -90,6 +92,7 @@ impl Chains {
         ensures last { result ≡ last_of (chain_at self.now.chains entry) }
         ensures within { IfSome result (λ cell. cell < length self.now.cells) }
         ensures linked { IfSome result (λ cell. IsTrue (has_node (chain_with self.now cell) cell)) }
+        ensures owner { IfSome result (λ cell. (cell_at self.now.cells cell).entry ≡ entry) }
     {
         self.ends[entry].prev
     }
@@ -100,6 +103,7 @@ impl Chains {
         ensures next { result ≡ first_of (behind (Some cell) (chain_with self.now cell)) }
         ensures within { IfSome result (λ next. next < length self.now.cells) }
         ensures linked { IfSome result (λ next. IsTrue (has_node (chain_with self.now next) next)) }
+        ensures owner { IfSome result (λ next. (cell_at self.now.cells next).entry ≡ (cell_at self.now.cells cell).entry) }
     {
         self.nodes[cell].next
     }

@@ -62,6 +62,7 @@ impl Links {
     pub fn register(&mut self, v: Var) -> Result<u64, NoMemory>
         ensures ok { OnOk result (self.new ≡ registered self.old v) }
         ensures entry { IfOk result (λ entry. slice_get self.new.vars entry ≡ Some v) }
+        ensures new { OnOk result (has self.old.vars v ≡ false → has self.new.linked v ≡ false) }
         ensures err { OnErr result (self.new ≡ self.old) }
     {
         if let Some(entry) = self.vars.find(v) {
@@ -86,6 +87,7 @@ impl Links {
         requires { entry < length self.old.vars }
         ensures ok { OnOk result (self.new ≡ with_cell self.old (record { entry = entry; demand = demand })) }
         ensures cell { IfOk result (λ cell. cell ≡ length self.old.cells) }
+        ensures new { IfOk result (λ cell. has_node (chain_at self.old.chains entry) cell ≡ false) }
         ensures err { OnErr result (self.new ≡ self.old) }
     {
         let entry = entry as usize;
@@ -192,6 +194,7 @@ impl Links {
         ensures first { result ≡ first_of (chain_at self.now.chains entry) }
         ensures within { IfSome result (λ cell. cell < length self.now.cells) }
         ensures linked { IfSome result (λ cell. IsTrue (has_node (chain_with self.now cell) cell)) }
+        ensures owner { IfSome result (λ cell. (cell_at self.now.cells cell).entry ≡ entry) }
     {
         number(self.chains.first(entry as usize))
     }
@@ -202,6 +205,7 @@ impl Links {
         ensures last { result ≡ last_of (chain_at self.now.chains entry) }
         ensures within { IfSome result (λ cell. cell < length self.now.cells) }
         ensures linked { IfSome result (λ cell. IsTrue (has_node (chain_with self.now cell) cell)) }
+        ensures owner { IfSome result (λ cell. (cell_at self.now.cells cell).entry ≡ entry) }
     {
         number(self.chains.last(entry as usize))
     }
@@ -213,6 +217,7 @@ impl Links {
         ensures next { result ≡ first_of (behind (Some cell) (chain_with self.now cell)) }
         ensures within { IfSome result (λ next. next < length self.now.cells) }
         ensures linked { IfSome result (λ next. IsTrue (has_node (chain_with self.now next) next)) }
+        ensures owner { IfSome result (λ next. (cell_at self.now.cells next).entry ≡ (cell_at self.now.cells cell).entry) }
     {
         number(self.chains.next(cell as usize))
     }

@@ -1,13 +1,17 @@
-use Rattle.std.proofs.Common.{◌≡◌, ◌<◌, ℕ, List, [], ◌∷◌, ◌++◌, length, ap, ◌∙◌, arith}
+use Rattle.std.proofs.Common.{◌≡◌, ◌<◌, ℕ, List, [], ◌∷◌, ◌++◌, length, sym, ap, ◌∙◌, arith}
 use Rattle.goal_links.specs.declared.ring.Node.{Node}
 use Rattle.goal_links.specs.declared.chains.Cell.{Cell}
 use Rattle.goal_links.specs.Ring.{ring_of}
-use Rattle.goal_links.specs.Chains.{Chained, with_cell, chains_of}
-use Rattle.goal_links.proofs.Chained.{cell-pushed, chained-is, map-length}
+use Rattle.goal_links.specs.Chains.{Chained, with_cell, chain_at, chains_of}
+use Rattle.goal_links.specs.Row.{has_node}
+use Rattle.goal_links.proofs.Chained.{cell-pushed, chained-is, map-length, outside-all}
 use Rattle.goal_links.proofs.chains.Chains.add_cell.Goals as goal
 
 fits : (ends nodes : List Node) (chains : List (List ℕ)) (entry : ℕ) → chains_of ends nodes ≡ chains → entry < length chains → entry < length ends
 fits ends nodes chains entry e h = omega (arith, h, ap length e, map-length (λ (x : Node). ring_of x nodes) ends)
+
+place-is : (cells : List Cell) (n len : ℕ) → n ≡ len → len ≡ length cells → n ≡ length cells
+place-is cells n len e f = e ∙ f
 
 pub invariant_of-self-2 : goal.invariant_of-self-2
 invariant_of-self-2 c =
@@ -29,3 +33,10 @@ returns-clause-ok c =
     chained-is c.push-2.new.self.items (c.self.inside.cells.items ++ c.args.cell ∷ []) (chains_of c.self.inside.ends.items c.push.new.self.items)
     (chains_of c.self.inside.ends.items c.self.inside.nodes.items) cells same
     ∙ ap (λ (v : Chained). with_cell v c.args.cell) c.self.view_is
+
+pub returns-clause-new : goal.returns-clause-new
+returns-clause-new c =
+    let in' = fits c.self.inside.ends.items c.self.inside.nodes.items c.args.self.now.chains c.args.cell.entry (ap (λ (v : Chained). v.chains) c.self.view_is) c.requires in
+    ap (λ (v : Chained). has_node (chain_at v.chains c.args.cell.entry) c.len-place.result) (sym c.self.view_is)
+    ∙ ap (has_node (chain_at (chains_of c.self.inside.ends.items c.self.inside.nodes.items) c.args.cell.entry)) (place-is c.self.inside.cells.items c.len-place.result c.self.inside.cells.len c.len-place.ensures c.self.inside.cells.ok.0)
+    ∙ outside-all c.self.inside.ends.items c.self.inside.nodes.items c.self.inside.cells.items c.self.invariant c.args.cell.entry in'

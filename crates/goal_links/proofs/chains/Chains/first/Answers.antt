@@ -4,7 +4,7 @@ use Rattle.goal_links.specs.declared.ring.Node.{Node}
 use Rattle.goal_links.specs.Beside.{first_of}
 use Rattle.goal_links.specs.Ring.{ring_of, no_node}
 use Rattle.goal_links.specs.Chains.{Chained, chains_of, ends_at}
-use Rattle.goal_links.proofs.Chained.{map-length, chain-first, first-within, chain-is, in-own-chain, first-in}
+use Rattle.goal_links.proofs.Chained.{map-length, chain-first, first-within, chain-is, in-own-chain, cell-owner, first-in}
 use Rattle.goal_links.proofs.chains.Chains.first.Goals as goal
 
 fits : (ends nodes : List Node) (chains : List (List ℕ)) (entry : ℕ) → chains_of ends nodes ≡ chains → entry < length chains → entry < length ends
@@ -24,5 +24,14 @@ returns-clause-linked c =
     let is = c.index.ensures ∙ get-any c.self.inside.ends.items c.args.entry c.index.result.now no_node in' in
     let chain = chain-first c.self.inside.ends.items c.self.inside.nodes.items c.self.inside.cells.items c.self.invariant c.args.entry in' in
     in-own-chain c.self.inside.ends.items c.self.inside.nodes.items c.self.inside.cells.items c.self.invariant c.args.entry in' c.args.self.now c.self.view_is c.index.result.now.next
+    (first-in c.index.result.now.next (ring_of (ends_at c.self.inside.ends.items c.args.entry) c.self.inside.nodes.items)
+    (ap (λ (n : Node). n.next) is ∙ chain ∙ ap first_of (chain-is c.self.inside.ends.items c.self.inside.nodes.items c.args.entry in')))
+
+pub returns-clause-owner : goal.returns-clause-owner
+returns-clause-owner c =
+    let in' = fits c.self.inside.ends.items c.self.inside.nodes.items c.args.self.now.chains c.args.entry (ap (λ (v : Chained). v.chains) c.self.view_is) c.requires in
+    let is = c.index.ensures ∙ get-any c.self.inside.ends.items c.args.entry c.index.result.now no_node in' in
+    let chain = chain-first c.self.inside.ends.items c.self.inside.nodes.items c.self.inside.cells.items c.self.invariant c.args.entry in' in
+    cell-owner c.self.inside.ends.items c.self.inside.nodes.items c.self.inside.cells.items c.self.invariant c.args.entry in' c.args.self.now c.self.view_is c.index.result.now.next
     (first-in c.index.result.now.next (ring_of (ends_at c.self.inside.ends.items c.args.entry) c.self.inside.nodes.items)
     (ap (λ (n : Node). n.next) is ∙ chain ∙ ap first_of (chain-is c.self.inside.ends.items c.self.inside.nodes.items c.args.entry in')))

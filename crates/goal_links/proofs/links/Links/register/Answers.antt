@@ -1,12 +1,15 @@
 use Rattle.std.proofs.Common.{◌≡◌, ◌∷◌, [], ◌++◌, List, Result, Ok, Err, OnOk, false, ap, ◌∙◌, sym, subst}
 use Rattle.std.specs.Result.{is_err}
 use Rattle.std.specs.List.{slice_get}
+use Rattle.std.proofs.lemmas.Bool.{false≢true}
 use Rattle.qualified_goals.specs.declared.variable.Var.{Var}
+use Rattle.choice_problem.proofs.Sets.{contains-has}
+use Rattle.choice_problem.specs.ConflictSet.{has}
 use Rattle.goal_links.specs.Row.{Line, with_node}
 use Rattle.goal_links.specs.Chains.{Chained, with_chain}
 use Rattle.goal_links.specs.Links.{Entries, AreLinks, entries_of, registered}
-use Rattle.goal_links.proofs.Mapped.{get-last}
-use Rattle.goal_links.proofs.Entries.{links-registered, view-registered, registered-again}
+use Rattle.goal_links.proofs.Mapped.{get-contains, get-last}
+use Rattle.goal_links.proofs.Entries.{links-registered, view-registered, registered-again, registered-linked, unknown-unlinked}
 use Rattle.goal_links.proofs.links.Links.register.Goals as goal
 
 ok-of : {A E : Type 0} (P : Type 0) (r : Result A E) → false ≡ is_err r → OnOk r P → P
@@ -43,3 +46,15 @@ pub returns-clause-entry : goal.returns-clause-entry
 returns-clause-entry c =
     ap (λ (l : List Var). slice_get l c.len-entry.result) c.in_ok-add.ensures.ok ∙ ap (slice_get (c.self.inside.vars ++ c.args.v ∷ [])) c.len-entry.ensures
     ∙ get-last c.self.inside.vars c.args.v
+
+pub returns-in-Some-clause-new : goal.returns-in-Some-clause-new
+returns-in-Some-clause-new c fresh =
+    let at = ap (λ (s : Entries). slice_get s.vars c.in-Some.entry) (sym c.self.view_is) ∙ c.in-Some.ensures in
+    absurd (false≢true (sym fresh ∙ contains-has c.args.self.now.vars c.args.v (get-contains c.args.self.now.vars c.in-Some.entry c.args.v at)))
+
+pub returns-clause-new : goal.returns-clause-new
+returns-clause-new c fresh =
+    let now = returns-clause-ok c in
+    ap (λ (s : Entries). has s.linked c.args.v) (now ∙ sym (ap (λ (s : Entries). registered s c.args.v) c.self.view_is))
+    ∙ registered-linked (entries_of c.self.inside.vars c.self.inside.row c.self.inside.chains) c.args.v
+    ∙ unknown-unlinked c.self.inside.vars c.self.inside.row c.self.inside.recent c.self.inside.chains c.self.invariant c.args.v c.in_default.ensures
