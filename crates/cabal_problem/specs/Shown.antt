@@ -5,7 +5,7 @@ use Rattle.cabal_problem.specs.declared.cabal_problem.CabalProblem.{CabalProblem
 
 -- the index of which it was made
 abbrev pub index_in : CabalProblem → Index
-index_in problem = problem.index
+index_in problem = problem.index.now
 
 -- the names of the index, by their numbers
 abbrev pub names_in : CabalProblem → NameTable

@@ -29,15 +29,15 @@ use std::alloc::Global;
 /// The problem of an index and settings.
 #[derive(Debug, Drop)]
 pub struct CabalProblem<'a> {
-    index: Index,
+    index: &'a Index,
     settings: &'a Settings,
     names: Names,
     constraints: Constraints,
     tables: Tables,
-    ghost lawful: { IsTrue (is_lawful index.packages settings.now.project names tables.orders) },
+    ghost lawful: { IsTrue (is_lawful index.now.packages settings.now.project names tables.orders) },
     ghost stands: { ∥ StandsFor settings.now.project names constraints ∥₁ },
-    ghost defaults: { ∥ AreDefaults index.packages names tables.defaults ∥₁ },
-    ghost dependencies: { tables.dependencies ≡ all_dependencies index.packages settings.now.project names },
+    ghost defaults: { ∥ AreDefaults index.now.packages names tables.defaults ∥₁ },
+    ghost dependencies: { tables.dependencies ≡ all_dependencies index.now.packages settings.now.project names },
 }
 
 impl<'a> CabalProblem<'a> {
@@ -47,16 +47,16 @@ impl<'a> CabalProblem<'a> {
     /// The problem of an index that is sound in the environment, and has each package that is asked for besides.
     pub fn new(
         alloc: Global,
-        index: Index,
+        index: &'a Index,
         settings: &'a Settings,
     ) -> Result<CabalProblem<'a>, NoMemory>
-        requires sound { IsSound settings.now.env index }
-        requires extra { list_all (λ named. has_package index named.name) settings.now.project.extra ≡ true }
-        ensures index { IfOk result (λ made. index_in made ≡ index) }
-        ensures problem { IfOk result (λ made. IsProblemOf index settings.now.project (names_in made)
+        requires sound { IsSound settings.now.env index.now }
+        requires extra { list_all (λ named. has_package index.now named.name) settings.now.project.extra ≡ true }
+        ensures index { IfOk result (λ made. index_in made ≡ index.now) }
+        ensures problem { IfOk result (λ made. IsProblemOf index.now settings.now.project (names_in made)
             (⟦<CabalProblem<'a> as Choices>⟧.problem made)) }
     {
-        let names = Names::of(alloc, &index)?;
+        let names = Names::of(alloc, index)?;
         let constraints = Constraints::of(alloc, &settings.project, &names)?;
         let packages = index.packages.as_slice();
         let tables = Tables::of(alloc, packages, &settings.project, &names, &constraints)?;
@@ -73,7 +73,7 @@ impl<'a> CabalProblem<'a> {
     pub fn index(&self) -> &Index
         ensures { result.now ≡ index_in self.now }
     {
-        &self.index
+        self.index
     }
 
     /// The names of the index, by their numbers.
@@ -81,6 +81,13 @@ impl<'a> CabalProblem<'a> {
         ensures { result.now ≡ names_in self.now }
     {
         &self.names
+    }
+
+    /// The names, where the problem isn't needed any more.
+    pub fn into_names(self) -> Names
+        ensures { result ≡ names_in self }
+    {
+        self.names
     }
 
     fn bars(&self, v: Var, instance: &Instance) -> bool
@@ -102,9 +109,9 @@ impl<'a> CabalProblem<'a> {
     }
 
     fn bars_instance(&self, c: Choice) -> bool
-        requires { c.val < length (entries_of self.now.index.packages c.var.«package») }
+        requires { c.val < length (entries_of self.now.index.now.packages c.var.«package») }
         ensures { result ≡ bars self.now.settings.now.project self.now.names c.var
-            (entry_at (entries_of self.now.index.packages c.var.«package») c.val).instance }
+            (entry_at (entries_of self.now.index.now.packages c.var.«package») c.val).instance }
     {
         let entries = Package::entries_at(self.index.packages.as_slice(), c.var.package);
         self.bars(c.var, &entries[c.val as usize].instance)
@@ -175,7 +182,7 @@ impl<'a> CabalProblem<'a> {
     ) -> Result<List<Demand>, NoMemory>
         requires flags { length dependencies.now.flags ≡ length d.now.flags }
         requires deps { length dependencies.now.deps ≡ length flats.now }
-        ensures { IfOk result (λ found. found ≡ source_rows self.now.index.packages self.now.settings.now.project
+        ensures { IfOk result (λ found. found ≡ source_rows self.now.index.now.packages self.now.settings.now.project
             self.now.names owner dependencies.now d.now flats.now) }
     {
         let packages = self.index.packages.as_slice();
@@ -207,8 +214,8 @@ impl<'a> CabalProblem<'a> {
         entry: &Entry,
         dependencies: &Dependencies,
     ) -> Result<List<Demand>, NoMemory>
-        requires { dependencies.now ≡ entry_dependencies self.now.index.packages self.now.settings.now.project self.now.names entry.now }
-        ensures { IfOk result (λ found. found ≡ entry_demands self.now.index.packages self.now.settings.now.project
+        requires { dependencies.now ≡ entry_dependencies self.now.index.now.packages self.now.settings.now.project self.now.names entry.now }
+        ensures { IfOk result (λ found. found ≡ entry_demands self.now.index.now.packages self.now.settings.now.project
             self.now.names owner entry.now) }
     {
         match &entry.body {
@@ -222,10 +229,10 @@ impl<'a> CabalProblem<'a> {
     }
 
     fn package_demands(&self, alloc: Global, owner: Choice) -> Result<List<Demand>, NoMemory>
-        requires { owner.val < length (entries_of self.now.index.packages owner.var.«package») }
+        requires { owner.val < length (entries_of self.now.index.now.packages owner.var.«package») }
         ensures { IfOk result (λ found. found
-            ≡ entry_demands self.now.index.packages self.now.settings.now.project self.now.names owner
-            (entry_at (entries_of self.now.index.packages owner.var.«package») owner.val)) }
+            ≡ entry_demands self.now.index.now.packages self.now.settings.now.project self.now.names owner
+            (entry_at (entries_of self.now.index.now.packages owner.var.«package») owner.val)) }
     {
         let entries = Package::entries_at(self.index.packages.as_slice(), owner.var.package);
         let row = self.asked_by(owner.var.package);
@@ -235,8 +242,8 @@ impl<'a> CabalProblem<'a> {
 
     // What each instance of a package asks for.
     fn asked_by(&self, p: u64) -> &[Dependencies]
-        ensures { result.now ≡ map (entry_dependencies self.now.index.packages self.now.settings.now.project
-            self.now.names) (entries_of self.now.index.packages p) }
+        ensures { result.now ≡ map (entry_dependencies self.now.index.now.packages self.now.settings.now.project
+            self.now.names) (entries_of self.now.index.now.packages p) }
     {
         match self.tables.dependencies.as_slice().get(p as usize) {
             Some(row) => row.as_slice(),
@@ -246,7 +253,7 @@ impl<'a> CabalProblem<'a> {
 
     // The default of a flag as the instance declares it that was chosen.
     fn default_after(&self, f: u64, p: u64, instance: Option<u64>) -> bool
-        ensures { result ≡ chosen_default self.now.names f (entries_of self.now.index.packages p) instance }
+        ensures { result ≡ chosen_default self.now.names f (entries_of self.now.index.now.packages p) instance }
     {
         match instance {
             Some(i) => self.default_of(f, p, i),
@@ -255,7 +262,7 @@ impl<'a> CabalProblem<'a> {
     }
 
     fn default_of(&self, f: u64, p: u64, i: u64) -> bool
-        ensures { result ≡ default_of self.now.names f (entry_at (entries_of self.now.index.packages p) i).body }
+        ensures { result ≡ default_of self.now.names f (entry_at (entries_of self.now.index.now.packages p) i).body }
     {
         self.tables.default_of(p, i, f)
     }
@@ -274,9 +281,9 @@ impl<'a> Choices for CabalProblem<'a> {
     ghost use Rattle.cabal_problem.specs.Problem.{problem_of};
     ghost use Rattle.cabal_problem.specs.Laws.{cabal_lawful};
 
-    ghost problem = { λ w. problem_of w.index.packages w.settings.now.project w.names w.tables.orders };
+    ghost problem = { λ w. problem_of w.index.now.packages w.settings.now.project w.names w.tables.orders };
 
-    ghost lawful = { λ w. cabal_lawful w.index.packages w.settings.now.project w.names w.tables.orders w.lawful };
+    ghost lawful = { λ w. cabal_lawful w.index.now.packages w.settings.now.project w.names w.tables.orders w.lawful };
 
     fn known(&self, v: Var) -> bool {
         is_known(self.index.packages.as_slice(), &self.names, v)

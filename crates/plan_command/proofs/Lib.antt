@@ -1,6 +1,3 @@
 pub mod OneAnswer
-pub mod Outcomes
-pub mod Planned
-pub mod Tasks
-pub mod Whole
+pub mod Outputs
 pub mod Words

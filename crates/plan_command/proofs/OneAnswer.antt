@@ -3,12 +3,7 @@ use Rattle.std.proofs.Common.{◌≡◌, List, Result, Ok, Err, Option, Some, No
 use Rattle.plan_types.specs.declared.condition.Env.{Env}
 use Rattle.plan_types.specs.declared.dependency.Named.{Named}
 use Rattle.plan_types.specs.declared.index.Index.{Index}
-use Rattle.plan_types.specs.declared.project.Project.{Project}
 use Rattle.plan_types.specs.declared.refusal.Refusal.{Refusal}
-use Rattle.qualified_goals.specs.Names.{NameTable}
-use Rattle.choice_problem.specs.Problem.{Problem}
-use Rattle.choice_problem.specs.Answer.{answer_of, outcome_of}
-use Rattle.cabal_problem.specs.Problem.{IsProblemOf}
 use Rattle.plan_types.specs.declared.index.Places.{Places}
 use Rattle.project_config.specs.Project.{IsFolderProject}
 use Rattle.project_config.specs.declared.project.FolderProject.{FolderProject}
@@ -19,11 +14,12 @@ use Rattle.command_line.specs.declared.reading.Command.{Command}
 use Rattle.command_line.specs.declared.reading.Command.TheVariants.{Plan}
 use Rattle.command_line.specs.declared.reading.Options.{Options}
 use Rattle.plan_command.specs.declared.output.Output.{Output}
-use Rattle.plan_command.specs.declared.task.Task.{Task}
+use Rattle.plan_task.specs.Task.{IsTask, IsTaskOf, task_or_refusal}
+use Rattle.plan_task.specs.declared.task.Task.{Task}
+use Rattle.plan_search.specs.Finding.{IsFindingOf}
+use Rattle.plan_search.specs.declared.search.Finding.{Finding}
 use Rattle.plan_command.specs.Output.{output_of_outcome}
-use Rattle.plan_command.specs.Plan.{IsOutputOfTask}
-use Rattle.plan_command.specs.Run.{IsOutputOf, IsOutputOfCommand, IsOutputOfPlan, IsOutputOfRead}
-use Rattle.plan_command.specs.Task.{IsTask, IsTaskOf, task_or_refusal}
+use Rattle.plan_command.specs.Run.{IsOutputOf, IsOutputOfCommand, IsOutputOfPlan, IsOutputOfRead, IsOutputOfTask}
 
 abbrev pub OneProject : Type 0
 OneProject = (env : Env) (files : Files) (a b : Result FolderProject Refusal) → IsFolderProject env files a → IsFolderProject env files b → a ≡ b
@@ -32,15 +28,14 @@ abbrev pub OneIndex : Type 0
 OneIndex = (env : Env) (places : Places) (extra : List Named) (paths : List Bytes) (files : Files) (a b : Result Index Refusal)
     → IsFolderIndex env places extra paths files a → IsFolderIndex env places extra paths files b → a ≡ b
 
-abbrev pub OneProblem : Type 0
-OneProblem = (index : Index) (project : Project) (names others : NameTable) (p q : Problem)
-    → IsProblemOf index project names p → IsProblemOf index project others q → (names ≡ others) × (p ≡ q)
+abbrev pub OneFinding : Type 0
+OneFinding = (task : Task) (a b : Finding) → IsFindingOf task a → IsFindingOf task b → a ≡ b
 
-module _ (project : OneProject) (one : OneIndex) (alike : OneProblem) where
+module _ (project : OneProject) (one : OneIndex) (alike : OneFinding) where
   of_task : (task : Task) (a b : Output) → IsOutputOfTask task a → IsOutputOfTask task b → a ≡ b
   of_task task a b h k =
-      let same = alike task.index task.settings.project h.names k.names h.problem k.problem h.problem_is k.problem_is in
-      h.output_is ∙ (λ i. output_of_outcome task.index (same.0 i) (outcome_of (answer_of (same.1 i) task.settings.limit))) ∙ sym k.output_is
+      let same = alike task h.finding k.finding h.found k.found in
+      h.output_is ∙ ap (λ (f : Finding). output_of_outcome task.index f.names f.outcome) same ∙ sym k.output_is
 
   of_read : (read : Result Task Refusal) (a b : Output) → IsOutputOfRead read a → IsOutputOfRead read b → a ≡ b
   of_read (Ok task) a b h k = of_task task a b h k

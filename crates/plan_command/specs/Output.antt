@@ -29,6 +29,12 @@ usage_text = codes "usage: cabal-plan plan or generate, with options" ++ 10 ∷ 
 abbrev pub usage : Output
 usage = record { status = status.Usage; text = usage_text }
 
+-- an output's form: the line of a refusal, the lines of what a search found, or the usage line
+pub data HasForm : Output → Type 0 where
+  of_refusal : (refusal : Refusal) → HasForm (refused refusal)
+  of_outcome : (index : Index) (names : NameTable) (outcome : Outcome) → HasForm (output_of_outcome index names outcome)
+  of_usage : HasForm usage
+
 -- a status of an output that is made, not that of a run that failed
 abbrev pub IsMade : Status → Type 0
 IsMade status.Planned = Unit {0}

@@ -1,24 +1,28 @@
 -- The output of words over a folder, and what a run leaves in the sink.
 use Rattle.std.specs.Prelude.{◌≡◌, Result, Ok, Err, Option, Some, None, List}
-use Rattle.plan_types.specs.declared.index.Index.{Index}
 use Rattle.plan_types.specs.declared.refusal.Refusal.{Refusal}
-use Rattle.qualified_goals.specs.Names.{NameTable}
-use Rattle.choice_problem.specs.declared.outcome.Outcome.{Outcome}
 use Rattle.outside_folder.specs.Files.{Bytes, Files}
 use Rattle.outside_folder.specs.Sink.{Appends, AppendsPrefix}
 use Rattle.command_line.specs.Reading.{reading}
 use Rattle.command_line.specs.declared.reading.Command.{Command}
 use Rattle.command_line.specs.declared.reading.Command.TheVariants.{Plan}
 use Rattle.command_line.specs.declared.reading.Options.{Options}
+use Rattle.plan_task.specs.Task.{IsTask}
+use Rattle.plan_task.specs.declared.task.Task.{Task}
+use Rattle.plan_search.specs.Finding.{IsFindingOf}
+use Rattle.plan_search.specs.declared.search.Finding.{Finding}
 use Rattle.plan_command.specs.declared.status.Status.{Status}
 use Rattle.plan_command.specs.declared.status.Status.TheVariants as status
 use Rattle.plan_command.specs.declared.output.Output.{Output}
-use Rattle.plan_command.specs.declared.task.Task.{Task}
 use Rattle.plan_command.specs.Output.{output_of_outcome, refused, usage}
-use Rattle.plan_command.specs.Plan.{IsOutputOfTask}
-use Rattle.plan_command.specs.Task.{IsTask}
 
 -- ---- the output of words over a folder
+
+-- what a search over a task finds, as it is printed
+pub record IsOutputOfTask (task : Task) (output : Output) : Type 0 where
+  pub finding : Finding
+  pub found : IsFindingOf task finding
+  pub output_is : output ≡ output_of_outcome task.index finding.names finding.outcome
 
 -- the output of a task, or of the refusal that came instead
 abbrev pub IsOutputOfRead : Result Task Refusal → Output → Type 0
@@ -38,13 +42,12 @@ IsOutputOfCommand (Some (Plan options)) files output = IsOutputOfPlan options fi
 abbrev pub IsOutputOf : List Bytes → Files → Output → Type 0
 IsOutputOf words files output = IsOutputOfCommand (reading words) files output
 
--- ---- what is left in the sink
+-- The files that are read for a command: those that the folder tells, or any where none is read, as for words without a reading.
+abbrev pub Reads : Option Command → Option Files → Files → Type 0
+Reads None tells files = Unit {0}
+Reads (Some (Plan options)) tells files = tells ≡ Some files
 
--- an output's form: the line of a refusal, the lines of what a search found, or the usage line
-pub data HasForm : Output → Type 0 where
-  of_refusal : (refusal : Refusal) → HasForm (refused refusal)
-  of_outcome : (index : Index) (names : NameTable) (outcome : Outcome) → HasForm (output_of_outcome index names outcome)
-  of_usage : HasForm usage
+-- ---- what is left in the sink
 
 -- What a run leaves in the sink: nothing after a failed read or for want of memory, a prefix of an output's
 -- text after a failed write, and else the whole text, with the output's status.

@@ -4,8 +4,8 @@ ghost use Rattle.outside_folder.specs.Files.{Bytes, Files};
 ghost use Rattle.plan_command.specs.declared.output.Output.{Output};
 ghost use Rattle.plan_command.specs.Run.{IsOutputOf};
 
-use cabal_problem::one_problem;
 use package_index::one_folder_index;
+use plan_search::one_finding;
 use project_config::one_folder_project;
 
 /// Words and a folder's files have one answer: one status and one text.
@@ -14,5 +14,5 @@ pub fn one_answer()
 {
     one_folder_project();
     one_folder_index();
-    one_problem();
+    one_finding();
 }

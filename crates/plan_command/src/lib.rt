@@ -7,7 +7,6 @@ mod laws;
 mod output;
 mod plan;
 mod status;
-mod task;
 
 pub use command::{print_usage, run};
 pub use laws::one_answer;

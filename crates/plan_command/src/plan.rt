@@ -1,53 +1,50 @@
-// From packages to their output: the problem that they make is searched.
-ghost use Rattle.std.specs.Prelude.{◌≡◌, ◌≢◌, ◌<◌, IfOk};
-ghost use Rattle.choice_problem.specs.Answer.{answer_of, outcome_of};
-ghost use Rattle.choice_problem.specs.Problem.{Lawful};
-ghost use Rattle.plan_command.specs.Output.{IsMade};
-ghost use Rattle.plan_command.specs.Plan.{IsOutputOfTask};
-ghost use Rattle.plan_command.specs.Task.{IsReady};
+// The command `plan`: what a search finds for the packages of a folder.
+ghost use Rattle.std.specs.Prelude.{◌≡◌, ◌≢◌, IfOk, IsErrOf, Some};
+ghost use Rattle.outside_folder.specs.Calls.{Leaves};
+ghost use Rattle.outside_folder.specs.Files.{Files};
+ghost use Rattle.plan_task.specs.Task.{IsReady};
+ghost use Rattle.plan_command.specs.Output.{HasForm, IsMade};
+ghost use Rattle.plan_command.specs.Meaning.{Means, MeansTask};
+ghost use Rattle.plan_command.specs.Run.{IsOutputOfPlan, IsOutputOfTask};
 
 use crate::Status;
-use crate::output::{Output, output_of_outcome};
-use crate::task::Task;
-use backjump::search;
-use cabal_problem::CabalProblem;
-use choice_problem::{Choices, Limit, Outcome, Steps};
-use plan_types::NoMemory;
+use crate::output::{Output, output_of_outcome, refused};
+use command_line::Options;
+use outside_folder::{Folder, Trouble};
+use plan_search::search_task;
+use plan_task::{Task, read_task};
+use plan_types::{Halt, NoMemory};
 use std::alloc::Global;
-use std::marker::Brand;
-use std::sync::ledger::{Blank, Ledger};
 
-/// The output of a search over packages.
-pub(crate) fn planned(alloc: Global, task: Task) -> Result<Output, NoMemory>
-    requires { IsReady task }
-    ensures output { IfOk result (IsOutputOfTask task) }
+/// The output of the command `plan`.
+pub(crate) fn output_of_plan<F: Folder>(
+    alloc: Global,
+    options: Options,
+    folder: &mut F,
+) -> Result<Output, Trouble>
+    ensures headline { (files : Files) → F.tells folder.old ≡ Some files → IfOk result (Means options files) }
+    ensures told { (files : Files) → F.tells folder.old ≡ Some files → IfOk result (IsOutputOfPlan options files) }
+    ensures form { IfOk result HasForm }
+    ensures made { IfOk result (λ output. IsMade output.status) }
+    ensures read { IfOk result (λ output. output.status ≢ Status.Usage) }
+    ensures folder { Leaves F.tells F.faults folder.old folder.new (IsErrOf result Trouble.Failed) }
+{
+    match read_task(alloc, options, folder) {
+        Ok(task) => Ok(planned(alloc, &task)?),
+        Err(Halt::Refused(refusal)) => Ok(refused(alloc, &refusal)?),
+        Err(Halt::Failed) => Err(Trouble::Failed),
+        Err(Halt::NoMemory) => Err(Trouble::NoMemory),
+    }
+}
+
+// The output of a search over a task.
+fn planned(alloc: Global, task: &Task) -> Result<Output, NoMemory>
+    requires { IsReady task.now }
+    ensures headline { IfOk result (MeansTask task.now) }
+    ensures output { IfOk result (IsOutputOfTask task.now) }
     ensures made { IfOk result (λ output. IsMade output.status) }
     ensures read { IfOk result (λ output. output.status ≢ Status.Usage) }
 {
-    let Task { settings, index } = task;
-    let problem = CabalProblem::new(alloc, index, &settings)?;
-    let outcome = outcome_of::<CabalProblem<'_>, Brand>(
-        alloc,
-        &problem,
-        settings.limit,
-        Blank::new(1),
-    )?;
-    output_of_outcome(alloc, problem.index(), problem.names(), &outcome)
-}
-
-// The tries are counted over a ledger of the search's own.
-fn outcome_of<C: Choices, L: Ledger>(
-    alloc: Global,
-    problem: &C,
-    limit: Limit,
-    blank: Blank,
-) -> Result<Outcome, NoMemory>
-    requires name { blank.name ≡ L.name }
-    requires parts { blank.parts ≡ L.parts }
-    requires some { 0 < L.parts }
-    ensures outcome { IfOk result (λ outcome. outcome ≡ outcome_of (answer_of (C.problem problem.now) limit)) }
-    ensures lawful { Lawful (C.problem problem.now) }
-{
-    let mut steps = Steps::<L>::open(blank);
-    search(alloc, problem, limit, &mut steps)
+    let finding = search_task(alloc, task)?;
+    output_of_outcome(alloc, &task.index, &finding.names, &finding.outcome)
 }

@@ -6,13 +6,21 @@ use Rattle.plan_types.specs.declared.index.Index.{Index}
 use Rattle.plan_print.specs.Cause.{cause_name}
 use Rattle.plan_print.specs.Place.{where_of}
 
--- the line of a file that was skipped
-abbrev pub skipped_line : Skipped → List ℕ
-skipped_line file = codes "skipped " ++ where_of file.path file.line ++ codes " " ++ cause_name file.cause ++ 10 ∷ []
+-- what is said of a file that was skipped
+abbrev pub skipped_note : Skipped → List ℕ
+skipped_note file = where_of file.path file.line ++ codes " " ++ cause_name file.cause
 
--- the line of something that was accepted unread
+-- its line
+abbrev pub skipped_line : Skipped → List ℕ
+skipped_line file = codes "skipped " ++ skipped_note file ++ 10 ∷ []
+
+-- what is said of something that was accepted unread
+abbrev pub warning_note : Warning → List ℕ
+warning_note warning = where_of warning.path warning.line ++ codes " " ++ warning.word
+
+-- its line
 abbrev pub warning_line : Warning → List ℕ
-warning_line warning = codes "warning " ++ where_of warning.path warning.line ++ codes " " ++ warning.word ++ 10 ∷ []
+warning_line warning = codes "warning " ++ warning_note warning ++ 10 ∷ []
 
 -- all of the one, then all of the other
 abbrev pub notes_text : Index → List ℕ

@@ -1,6 +1,6 @@
 // The lines of what a user should know of an index.
 ghost use Rattle.std.specs.Prelude.{◌≡◌, ◌++◌, OnOk, flat_map};
-ghost use Rattle.plan_print.specs.Note.{skipped_line, warning_line, notes_text};
+ghost use Rattle.plan_print.specs.Note.{skipped_line, skipped_note, warning_line, warning_note, notes_text};
 
 use crate::cause::cause_name;
 use crate::place::push_where;
@@ -28,10 +28,16 @@ fn push_skipped(alloc: Global, text: &mut Text, file: &Skipped) -> Result<(), No
     ensures { OnOk result (text.new ≡ text.old ++ skipped_line file.now) }
 {
     text.push_str("skipped ")?;
+    push_skipped_note(alloc, text, file)?;
+    text.push_str("\n")
+}
+
+fn push_skipped_note(alloc: Global, text: &mut Text, file: &Skipped) -> Result<(), NoMemory>
+    ensures { OnOk result (text.new ≡ text.old ++ skipped_note file.now) }
+{
     push_where(alloc, text, file.path.as_str(), file.line)?;
     text.push_str(" ")?;
-    text.push_str(cause_name(file.cause))?;
-    text.push_str("\n")
+    text.push_str(cause_name(file.cause))
 }
 
 fn push_warning_lines(alloc: Global, text: &mut Text, warnings: &[Warning]) -> Result<(), NoMemory>
@@ -47,8 +53,14 @@ fn push_warning(alloc: Global, text: &mut Text, warning: &Warning) -> Result<(),
     ensures { OnOk result (text.new ≡ text.old ++ warning_line warning.now) }
 {
     text.push_str("warning ")?;
+    push_warning_note(alloc, text, warning)?;
+    text.push_str("\n")
+}
+
+fn push_warning_note(alloc: Global, text: &mut Text, warning: &Warning) -> Result<(), NoMemory>
+    ensures { OnOk result (text.new ≡ text.old ++ warning_note warning.now) }
+{
     push_where(alloc, text, warning.path.as_str(), warning.line)?;
     text.push_str(" ")?;
-    text.push_str(warning.word.as_str())?;
-    text.push_str("\n")
+    text.push_str(warning.word.as_str())
 }

@@ -1,10 +1,16 @@
-use Rattle.std.proofs.Common.{Some, ap, ◌∙◌}
-use Rattle.plan_command.proofs.Words.{formed-usage, told-for}
+use Rattle.std.proofs.Common.{Some, sym, ◌∙◌}
+use Rattle.plan_command.proofs.Words.{formed-usage, read-for, told-for}
 use Rattle.plan_command.proofs.command.run.Goals as goal
 
+pub returns-in-Ok-clause-headline : goal.returns-in-Ok-clause-headline
+returns-in-Ok-clause-headline g c = λ options files asked t. c.perform.ensures.headline options files (cc (sym c.in-Ok.ensures.command ∙ asked)) t
+
 pub returns-in-Ok-clause-told : goal.returns-in-Ok-clause-told
-returns-in-Ok-clause-told g c =
-    told-for c.args.words.now c.options_in.result (c.in-Ok.ensures.command ∙ ap Some c.options_in.ensures) (g.F.Folder.tells c.args.folder.now) _ _ _ c.plan.ensures.told
+returns-in-Ok-clause-told g c = λ files read.
+    let words = c.args.words.now in
+    let command = Some c.in-Ok.command in
+    told-for words command c.in-Ok.ensures.command files _ _ _
+    (c.perform.ensures.told files (read-for words command c.in-Ok.ensures.command (g.F.Folder.tells c.args.folder.now) files read))
 
 pub returns-in-Err-Usage-clause-one_text : goal.returns-in-Err-Usage-clause-one_text
 returns-in-Err-Usage-clause-one_text g c = formed-usage _ _ _ c.print_usage.ensures.prints

@@ -12,7 +12,7 @@ use Rattle.cabal_problem.proofs.cabal_problem.CabalProblem.entry_demands.Goals a
 
 pub returns-in-Source : goal.returns-in-Source
 returns-in-Source c =
-    let packages = c.args.self.now.index.packages in
+    let packages = c.args.self.now.index.now.packages in
     let project = c.args.self.now.settings.now.project in
     let names = c.args.self.now.names in
     let owner = c.args.owner in
@@ -29,7 +29,7 @@ returns-in-Source c =
 
 pub returns-in-Installed : goal.returns-in-Installed
 returns-in-Installed c =
-    let packages = c.args.self.now.index.packages in
+    let packages = c.args.self.now.index.now.packages in
     let project = c.args.self.now.settings.now.project in
     let names = c.args.self.now.names in
     let owner = c.args.owner in

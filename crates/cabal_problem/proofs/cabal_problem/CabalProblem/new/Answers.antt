@@ -10,15 +10,15 @@ use Rattle.cabal_problem.proofs.cabal_problem.CabalProblem.new.Goals as goal
 
 pub of-requires-3-clause-versions : goal.of-requires-3-clause-versions
 of-requires-3-clause-versions c =
-    subst (λ ps. packages_have_versions ps ≡ true) (sym c.as_slice-packages.ensures) (all-versions c.args.settings.now.env c.args.index c.requires.sound)
+    subst (λ ps. packages_have_versions ps ≡ true) (sym c.as_slice-packages.ensures) (all-versions c.args.settings.now.env c.args.index.now c.requires.sound)
 
 pub of-requires-3-clause-blocks : goal.of-requires-3-clause-blocks
-of-requires-3-clause-blocks c = subst (λ ps. AllAreInBlocks ps) (sym c.as_slice-packages.ensures) (all-in-blocks c.args.settings.now.env c.args.index c.requires.sound)
+of-requires-3-clause-blocks c = subst (λ ps. AllAreInBlocks ps) (sym c.as_slice-packages.ensures) (all-in-blocks c.args.settings.now.env c.args.index.now c.requires.sound)
 
 pub invariant_of-result-clause-lawful : goal.invariant_of-result-clause-lawful
 invariant_of-result-clause-lawful c =
     let project = c.args.settings.now.project in
-    made-lawful c.args.settings.now.env c.args.index project c.in_ok-names.names c.in_ok-tables.tables.orders c.requires.sound c.requires.extra c.in_ok-names.ensures.names
+    made-lawful c.args.settings.now.env c.args.index.now project c.in_ok-names.names c.in_ok-tables.tables.orders c.requires.sound c.requires.extra c.in_ok-names.ensures.names
     (subst (λ ps. AreOrders project ps c.in_ok-tables.tables.orders) c.as_slice-packages.ensures c.in_ok-tables.ensures.orders)
 
 pub invariant_of-result-clause-defaults : goal.invariant_of-result-clause-defaults

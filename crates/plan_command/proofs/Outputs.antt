@@ -1,0 +1,65 @@
+-- What an output is and means, and what is printed of it.
+use Rattle.std.proofs.Common.{◌≡◌, Result, Ok, Err, Option, refl, sym, subst}
+use Rattle.plan_types.specs.declared.refusal.Refusal.{Refusal}
+use Rattle.qualified_goals.specs.Names.{NameTable}
+use Rattle.choice_problem.specs.declared.outcome.Outcome.{Outcome}
+use Rattle.choice_problem.specs.declared.outcome.Outcome.TheVariants as outcome
+use Rattle.outside_folder.specs.Files.{Bytes, Files}
+use Rattle.command_line.specs.declared.reading.Options.{Options}
+use Rattle.plan_task.specs.Task.{IsTask}
+use Rattle.plan_task.specs.declared.task.Task.{Task}
+use Rattle.plan_search.specs.Meaning.{MeansOutcome}
+use Rattle.plan_command.specs.declared.output.Output.{Output}
+use Rattle.plan_command.specs.declared.status.Status.{Status}
+use Rattle.plan_command.specs.declared.status.Status.TheVariants as status
+use Rattle.plan_command.specs.Output.{HasForm, of_outcome, of_refusal, output_of_outcome, refused}
+use Rattle.plan_command.specs.Meaning.{Means, MeansTask}
+use Rattle.plan_command.specs.Run.{IsOutputOfPlan, IsOutputOfTask, Prints}
+
+-- an output has the form of one
+
+pub formed-task : (task : Task) (output : Output) → IsOutputOfTask task output → HasForm output
+formed-task task output is = subst HasForm (sym is.output_is) (of_outcome task.index is.finding.names is.finding.outcome)
+
+pub formed-refusal : (refusal : Refusal) (output : Output) → output ≡ refused refusal → HasForm output
+formed-refusal refusal output is = subst HasForm (sym is) (of_refusal refusal)
+
+-- the output of what a folder comes to is that of the options over its files, and means what it says of them
+module _ (options : Options) (files : Files) where
+  pub planned-output : (task : Task) (output : Output) → IsTask options files (Ok task) → IsOutputOfTask task output → IsOutputOfPlan options files output
+  unfolding IsOutputOfPlan
+  planned-output task output made is = (Ok task, made, is)
+
+  pub refused-output : (refusal : Refusal) (output : Output) → IsTask options files (Err refusal) → output ≡ refused refusal → IsOutputOfPlan options files output
+  unfolding IsOutputOfPlan
+  refused-output refusal output made is = (Err refusal, made, is)
+
+  module _ (task : Task) (made : IsTask options files (Ok task)) where
+    means-outcome : (names : NameTable) (found : Outcome) → MeansOutcome task names found → Means options files (output_of_outcome task.index names found)
+    means-outcome names (outcome.Found trail counts) h =
+        record { task = task; made = made; names = names; trail = trail; first = h; counts = counts; text_is = refl }
+    means-outcome names (outcome.NoPlan set counts) h =
+        record { task = task; made = made; names = names; set = set; to_blame = h; counts = counts; text_is = refl }
+    means-outcome names (outcome.GaveUp counts) h =
+        record { task = task; made = made; names = names; met = h; counts = counts; text_is = refl }
+
+    pub planned-means : (output : Output) → MeansTask task output → Means options files output
+    planned-means output h = subst (Means options files) (sym h.output_is) (means-outcome h.finding.names h.finding.outcome h.means)
+
+  pub refused-means : (refusal : Refusal) (output : Output) → IsTask options files (Err refusal) → output ≡ refused refusal → Means options files output
+  refused-means refusal output made is = subst (Means options files) (sym is) (record { refusal = refusal; made = made; text_is = refl })
+
+-- what is printed by one relation is printed by a wider one
+pub prints-wider : (P Q : Output → Type 0) → ((o : Output) → P o → Q o) → (old new : Option Bytes) (result : Status) → Prints P old new result → Prints Q old new result
+prints-wider P Q wider old new status.ReadFault h = h
+prints-wider P Q wider old new status.NoMemory h = h
+prints-wider P Q wider old new status.WriteFault h = (h.0, wider h.0 h.1, h.2)
+prints-wider P Q wider old new status.Planned h = (h.0, wider h.0 h.1, h.2, h.3)
+prints-wider P Q wider old new status.NoPlan h = (h.0, wider h.0 h.1, h.2, h.3)
+prints-wider P Q wider old new status.GaveUp h = (h.0, wider h.0 h.1, h.2, h.3)
+prints-wider P Q wider old new status.Refused h = (h.0, wider h.0 h.1, h.2, h.3)
+prints-wider P Q wider old new status.Usage h = (h.0, wider h.0 h.1, h.2, h.3)
+
+-- so is one output of which the relation is known
+pub prints-this : (P : Output → Type 0) (output : Output) → P output → (old new : Option Bytes) (result : Status) → Prints (λ printed. printed ≡ output) old new result → Prints P old new result
+prints-this P output h old new result prints = prints-wider (λ printed. printed ≡ output) P (λ o e. subst P (sym e) h) old new result prints

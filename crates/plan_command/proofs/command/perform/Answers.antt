@@ -1,0 +1,17 @@
+use Rattle.std.proofs.Common.{Some}
+use Rattle.plan_command.specs.Output.{HasForm}
+use Rattle.plan_command.specs.Meaning.{Means}
+use Rattle.plan_command.specs.Run.{IsOutputOfCommand}
+use Rattle.plan_command.proofs.Outputs.{prints-this}
+use Rattle.plan_command.proofs.command.perform.Goals as goal
+
+pub returns-in-Ok-clause-headline : goal.returns-in-Ok-clause-headline
+returns-in-Ok-clause-headline g c = λ options files asked t.
+    prints-this (Means options files) c.in-Ok.output (c.in-Ok.ensures.headline options files asked t) _ _ _ c.print.ensures.prints
+
+pub returns-in-Ok-clause-told : goal.returns-in-Ok-clause-told
+returns-in-Ok-clause-told g c = λ files read.
+    prints-this (IsOutputOfCommand (Some c.args.command) files) c.in-Ok.output (c.in-Ok.ensures.told files read) _ _ _ c.print.ensures.prints
+
+pub returns-in-Ok-clause-one_text : goal.returns-in-Ok-clause-one_text
+returns-in-Ok-clause-one_text g c = prints-this HasForm c.in-Ok.output c.in-Ok.ensures.form _ _ _ c.print.ensures.prints

@@ -1,6 +1,0 @@
-use Rattle.std.proofs.Common.{◌≡◌, take}
-use Rattle.plan_command.proofs.task.copied.Given as goal
-
--- the warnings so far
-abbrev pub invariant-loop-warning : goal.invariant-loop-warning
-invariant-loop-warning l = l.copied ≡ take l.warning-index l.warnings

@@ -1,5 +1,0 @@
-use Rattle.plan_command.proofs.Tasks.{ready-with}
-use Rattle.plan_command.proofs.task.task_of.Goals as goal
-
-pub returns-clause-ready : goal.returns-clause-ready
-returns-clause-ready c = ready-with c.args.options c.args.project c.args.index c.requires.sound c.requires.extra c.unwrap_or-limit.result c.in_ok-index.index c.in_ok-index.ensures

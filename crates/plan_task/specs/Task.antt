@@ -1,0 +1,47 @@
+-- What is to be planned: the packages of a folder, and what for.
+use Rattle.std.specs.Prelude.{◌≡◌, ◌++◌, Result, Ok, Err, unwrap_or}
+use Rattle.plan_types.specs.declared.index.Index.{Index}
+use Rattle.plan_types.specs.declared.project.Project.{Project}
+use Rattle.plan_types.specs.declared.project.Settings.{Settings}
+use Rattle.plan_types.specs.declared.refusal.Refusal.{Refusal}
+use Rattle.flatten.specs.Sound.{IsSound}
+use Rattle.outside_folder.specs.Files.{Files}
+use Rattle.project_config.specs.Project.{IsFolderProject}
+use Rattle.project_config.specs.declared.project.FolderProject.{FolderProject}
+use Rattle.index_assembly.specs.Folder.{IsFolderIndex}
+use Rattle.package_index.specs.Extra.{AreMarked, AreThere}
+use Rattle.command_line.specs.declared.reading.Options.{Options}
+use Rattle.plan_task.specs.declared.task.Task.{Task}
+
+-- the limit of the words stands before that of the project
+abbrev pub settings_of : Options → Project → Settings
+settings_of options project = record { env = options.env; project = project; limit = unwrap_or options.limit project.limit }
+
+-- the warnings of project files stand in front of those of local files
+abbrev pub warned : Project → Index → Index
+warned project index = record { packages = index.packages; skipped = index.skipped; warnings = project.warnings ++ index.warnings }
+
+-- the task of a project with its index
+abbrev pub task_of : Options → Project → Index → Task
+task_of options project index = record { settings = settings_of options project; index = warned project index }
+
+-- the same, where there may be a refusal in place of the index
+abbrev pub task_or_refusal : Options → Project → Result Index Refusal → Result Task Refusal
+task_or_refusal options project (Ok index) = Ok (task_of options project index)
+task_or_refusal options project (Err refusal) = Err refusal
+
+-- the packages of a project
+abbrev pub IsTaskOf : Options → Files → Result FolderProject Refusal → Result Task Refusal → Type 0
+IsTaskOf options files (Ok found) task =
+    (index : Result Index Refusal) × IsFolderIndex options.env options.places found.project.extra found.locals files index × (task ≡ task_or_refusal options found.project index)
+IsTaskOf options files (Err refusal) task = task ≡ Err refusal
+
+-- what is to be planned of a folder with these options, or the first refusal
+abbrev pub IsTask : Options → Files → Result Task Refusal → Type 0
+IsTask options files task = (found : Result FolderProject Refusal) × IsFolderProject options.env files found × IsTaskOf options files found task
+
+-- the index is sound, and each package that is asked for besides is there and marked
+pub record IsReady (task : Task) : Type 0 where
+  pub sound : IsSound task.settings.env task.index
+  pub there : AreThere task.settings.project.extra task.index
+  pub marked : AreMarked task.settings.project.extra task.index
