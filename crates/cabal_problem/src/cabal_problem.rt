@@ -85,7 +85,7 @@ impl<'a> CabalProblem<'a> {
 
     /// The names, where the problem isn't needed any more.
     pub fn into_names(self) -> Names
-        ensures { result ≡ names_in self }
+        ensures { result ≡ names_in self.entry }
     {
         self.names
     }

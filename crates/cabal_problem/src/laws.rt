@@ -7,7 +7,7 @@ ghost use Rattle.plan_types.specs.declared.project.Project.{Project};
 ghost use Rattle.qualified_goals.specs.Names.{AreNumbers, NameTable};
 ghost use Rattle.choice_problem.specs.General.{general};
 ghost use Rattle.choice_problem.specs.Joined.{AreOne, AreYesTogether};
-ghost use Rattle.choice_problem.specs.Problem.{Problem};
+ghost use Rattle.choice_problem.specs.Problem.{Lawful, Problem};
 ghost use Rattle.flatten.specs.Sound.{IsSound, has_package};
 ghost use Rattle.solver_index.specs.Orders.{AreOrders};
 ghost use Rattle.cabal_problem.specs.Groups.{IsInGroups};
@@ -44,6 +44,13 @@ pub fn valid_as_whole()
     general_is_lawful();
     valid_alike();
 }
+
+/// The problem of a sound index that has each package asked for besides keeps the laws of problems.
+pub fn problem_is_lawful()
+    ensures { (env : Env) (index : Index) (project : Project) (names : NameTable) (p : Problem)
+        → IsSound env index → list_all (λ named. has_package index named.name) project.extra ≡ true
+        → IsProblemOf index project names p → Lawful p }
+{}
 
 /// An index and a project have one problem, by one table of names.
 pub fn one_problem()

@@ -11,4 +11,4 @@ mod values;
 mod variables;
 
 pub use cabal_problem::CabalProblem;
-pub use laws::{listed_as_whole, one_problem, valid_as_whole};
+pub use laws::{listed_as_whole, one_problem, problem_is_lawful, valid_as_whole};

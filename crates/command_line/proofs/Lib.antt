@@ -1,3 +1,4 @@
 pub mod Walk
 pub mod Parsed
 pub mod Forms
+pub mod Table

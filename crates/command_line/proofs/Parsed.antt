@@ -11,12 +11,12 @@ use Rattle.clap.specs.Walk.{Text, first_of, nothing_held, walk}
 use Rattle.clap.specs.Simple.{matches_of}
 use Rattle.clap.specs.Takes.{takes}
 use Rattle.command_line.specs.declared.option_name.OptionName.{OptionName}
-use Rattle.command_line.specs.declared.option_name.OptionName.TheVariants.{Index, Installed, Os, Arch, Compiler, MaxBackjumps}
 use Rattle.command_line.specs.OptionName.{gives, name_of, prefix_of, value_in}
 use Rattle.command_line.specs.Form.{has_form}
 use Rattle.command_line.specs.Words.{given, has_reading, is_known, is_plan, is_well_given, options}
 use Rattle.command_line.specs.Parser.{parser}
-use Rattle.command_line.proofs.Walk.{Given, Once, word_of, words_around, rows_around, words_taken, values_given, counts_alike, finished_rows, walks, rules}
+use Rattle.command_line.proofs.Table.{each_option, rules}
+use Rattle.command_line.proofs.Walk.{Given, Once, word_of, words_around, rows_around, words_taken, values_given, counts_alike, finished_rows, walks}
 
 is_given_word : (option : OptionName) (word : Text) → gives option word ≡ true → word ≡ word_of (option, value_in option word)
 is_given_word option word gives_it =
@@ -67,24 +67,6 @@ around (word ∷ words) known one =
         let parts = more (omega arith) in
         let here = known_option word known_word is in
         (here.0 ∷ parts.0, parts.1, ap₂ (λ w ws. w ∷ ws) here.1 parts.2)
-
-and_six : (a b c d e f : Bool) → (a && (b && (c && (d && (e && (f && true)))))) ≡ true → (a ≡ true) × (b ≡ true) × (c ≡ true) × (d ≡ true) × (e ≡ true) × (f ≡ true)
-and_six a b c d e f h =
-    let p = and_parts a (b && (c && (d && (e && (f && true))))) h in
-    let q = and_parts b (c && (d && (e && (f && true)))) p.1 in
-    let r = and_parts c (d && (e && (f && true))) q.1 in
-    let s = and_parts d (e && (f && true)) r.1 in
-    let t = and_parts e (f && true) s.1 in
-    (p.0, q.0, r.0, s.0, t.0, (and_parts f true t.1).0)
-
--- what holds of all options holds of each
-pub each_option : (test : OptionName → Bool) → list_all test options ≡ true → (option : OptionName) → test option ≡ true
-each_option test all Index = (and_six (test Index) (test Installed) (test Os) (test Arch) (test Compiler) (test MaxBackjumps) all).0
-each_option test all Installed = (and_six (test Index) (test Installed) (test Os) (test Arch) (test Compiler) (test MaxBackjumps) all).1
-each_option test all Os = (and_six (test Index) (test Installed) (test Os) (test Arch) (test Compiler) (test MaxBackjumps) all).2
-each_option test all Arch = (and_six (test Index) (test Installed) (test Os) (test Arch) (test Compiler) (test MaxBackjumps) all).3
-each_option test all Compiler = (and_six (test Index) (test Installed) (test Os) (test Arch) (test Compiler) (test MaxBackjumps) all).4
-each_option test all MaxBackjumps = (and_six (test Index) (test Installed) (test Os) (test Arch) (test Compiler) (test MaxBackjumps) all).5
 
 -- the parts of the test
 record Reads (words : List Text) : Type 0 where

@@ -6,8 +6,9 @@ use Rattle.std.specs.Option.{option_map, option_map_or}
 use Rattle.std.specs.Prelude.{option_and_then, slice_get}
 use Rattle.std.specs.Str.{bytes_eq}
 use Rattle.clap.specs.Facts.{explicit_source}
-use Rattle.clap.specs.Walk.{Held, Row, Rule, Text, Walk, idle, at_row, has_row, more_values, walk, walked, walk_from, nothing_held, with_values, without, first_of, settled, finished, default_rows, with_default, is_empty, reading_by}
-use Rattle.clap.specs.Simple.{Shape, built}
+use Rattle.clap.specs.Lexer.{long_of}
+use Rattle.clap.specs.Walk.{arg_by_long, Held, Row, Rule, Text, Walk, idle, at_row, has_row, more_values, walk, walked, walk_from, nothing_held, with_values, without, first_of, settled, finished, default_rows, with_default, is_empty, reading_by}
+use Rattle.clap.specs.Simple.{built}
 use Rattle.clap.specs.Takes.{walk_passes, turn_passes, takes, settle_passes, is_given, is_valid}
 use Rattle.clap.specs.declared.builder.value_parser.Reading.{Reading}
 use Rattle.clap.specs.declared.parser.matches.ValueSource.TheVariants.{CommandLine}
@@ -15,16 +16,10 @@ use Rattle.clap.proofs.TakesLemmas.{leaf_takes}
 use Rattle.clap.proofs.SimpleLemmas.{is_nil}
 use Rattle.clap.proofs.WalkLemmas.{both}
 use Rattle.command_line.specs.declared.option_name.OptionName.{OptionName}
-use Rattle.command_line.specs.declared.option_name.OptionName.TheVariants.{Index, Installed, Os, Arch, Compiler, MaxBackjumps}
 use Rattle.command_line.specs.OptionName.{gives, name_of, prefix_of, value_in}
 use Rattle.command_line.specs.Words.{given}
 use Rattle.command_line.specs.Parser.{command_rule, parser}
-
-abbrev pub shape : Shape
-shape = (built parser).top
-
-abbrev pub rules : List Rule
-rules = shape.rules
+use Rattle.command_line.proofs.Table.{built_option, command_not, long_is, not_command, not_dashes, rule_is, rules, same_name, same_test, same_value, shape}
 
 -- ---- rows
 
@@ -53,24 +48,30 @@ between rows position = record { held = record { rows = rows; pending = None; sk
 abbrev behind : List Row → Walk
 behind rows = record { held = record { rows = rows; pending = Some (codes "command", codes "plan" ∷ []); skip = 0 }; waiting = idle; position = 2; is_trailing = false; stopped = None }
 
+-- a word that is cut into the name of an option and a value
+record IsCut (word name v : Text) : Type 0 where
+  no_dashes : bytes_eq word (45 ∷ 45 ∷ []) ≡ false
+  long : long_of word ≡ Some (name, Some v)
+  rule : arg_by_long rules name ≡ Some (built_option name)
+
+cut : (option : OptionName) (v : Text) → IsCut (prefix_of option ++ v) (name_of option) v
+cut option v = record { no_dashes = not_dashes option v; long = long_is option v; rule = rule_is option }
+
+cut_walked : (word name v : Text) (rows : List Row) (p : ℕ) → IsCut word name v
+    → walked rules [] (between rows p) word ≡ between (with_values name (reading_by command_rule) CommandLine (v ∷ []) (without name rows)) p
+unfolding walked
+cut_walked word name v rows p is = rw (is.no_dashes, is.long, is.rule) refl
+
+cut_passes : (word name v : Text) (rows : List Row) (p : ℕ) → IsCut word name v → has_row name rows ≡ false → turn_passes shape [] (between rows p) word ≡ true
+cut_passes word name v rows p is fresh = rw (is.no_dashes, is.long, is.rule, fresh) refl
+
 option_walked : (option : OptionName) (v : Text) (rows : List Row) (p : ℕ)
     → walked rules [] (between rows p) (prefix_of option ++ v) ≡ between (with_values (name_of option) (reading_by command_rule) CommandLine (v ∷ []) (without (name_of option) rows)) p
-unfolding walked
-option_walked Index v rows p = refl
-option_walked Installed v rows p = refl
-option_walked Os v rows p = refl
-option_walked Arch v rows p = refl
-option_walked Compiler v rows p = refl
-option_walked MaxBackjumps v rows p = refl
+option_walked option v rows p = cut_walked (prefix_of option ++ v) (name_of option) v rows p (cut option v)
 
 option_passes : (option : OptionName) (v : Text) (rows : List Row) (p : ℕ) → has_row (name_of option) rows ≡ false
     → turn_passes shape [] (between rows p) (prefix_of option ++ v) ≡ true
-option_passes Index v rows p fresh = rw fresh refl
-option_passes Installed v rows p fresh = rw fresh refl
-option_passes Os v rows p fresh = rw fresh refl
-option_passes Arch v rows p fresh = rw fresh refl
-option_passes Compiler v rows p fresh = rw fresh refl
-option_passes MaxBackjumps v rows p fresh = rw fresh refl
+option_passes option v rows p fresh = cut_passes (prefix_of option ++ v) (name_of option) v rows p (cut option v) fresh
 
 plan_walked : (rows : List Row) → walked rules [] (between rows 1) (codes "plan") ≡ behind rows
 unfolding walked
@@ -79,27 +80,28 @@ plan_walked rows = refl
 plan_passes : (rows : List Row) → turn_passes shape [] (between rows 1) (codes "plan") ≡ true
 plan_passes rows = refl
 
+behind_cut_walked : (word name v : Text) (rows : List Row) → IsCut word name v
+    → walked rules [] (behind rows) word
+    ≡ between (with_values name (reading_by command_rule) CommandLine (v ∷ []) (without name
+    (with_values (codes "command") (reading_by command_rule) CommandLine (codes "plan" ∷ []) (without (codes "command") rows)))) 2
+unfolding walked
+behind_cut_walked word name v rows is = rw (is.no_dashes, is.long, is.rule) refl
+
+behind_cut_passes : (word name v : Text) (rows : List Row) → IsCut word name v → has_row (codes "command") rows ≡ false
+    → has_row name (with_values (codes "command") (reading_by command_rule) CommandLine (codes "plan" ∷ []) (without (codes "command") rows)) ≡ false
+    → turn_passes shape [] (behind rows) word ≡ true
+behind_cut_passes word name v rows is fresh other = rw (is.no_dashes, is.long, is.rule, fresh, other) refl
+
 behind_walked : (option : OptionName) (v : Text) (rows : List Row)
     → walked rules [] (behind rows) (prefix_of option ++ v)
     ≡ between (with_values (name_of option) (reading_by command_rule) CommandLine (v ∷ []) (without (name_of option)
     (with_values (codes "command") (reading_by command_rule) CommandLine (codes "plan" ∷ []) (without (codes "command") rows)))) 2
-unfolding walked
-behind_walked Index v rows = refl
-behind_walked Installed v rows = refl
-behind_walked Os v rows = refl
-behind_walked Arch v rows = refl
-behind_walked Compiler v rows = refl
-behind_walked MaxBackjumps v rows = refl
+behind_walked option v rows = behind_cut_walked (prefix_of option ++ v) (name_of option) v rows (cut option v)
 
 behind_passes : (option : OptionName) (v : Text) (rows : List Row) → has_row (codes "command") rows ≡ false
     → has_row (name_of option) (with_values (codes "command") (reading_by command_rule) CommandLine (codes "plan" ∷ []) (without (codes "command") rows)) ≡ false
     → turn_passes shape [] (behind rows) (prefix_of option ++ v) ≡ true
-behind_passes Index v rows fresh other = rw (fresh, other) refl
-behind_passes Installed v rows fresh other = rw (fresh, other) refl
-behind_passes Os v rows fresh other = rw (fresh, other) refl
-behind_passes Arch v rows fresh other = rw (fresh, other) refl
-behind_passes Compiler v rows fresh other = rw (fresh, other) refl
-behind_passes MaxBackjumps v rows fresh other = rw (fresh, other) refl
+behind_passes option v rows fresh other = behind_cut_passes (prefix_of option ++ v) (name_of option) v rows (cut option v) fresh other
 
 -- ---- words as options with their values, around the command
 
@@ -121,14 +123,6 @@ is_row option r = bytes_eq r.id (name_of option)
 -- no option has two rows
 abbrev pub Once : List Row → Type 0
 Once rows = (option : OptionName) → count_by (is_row option) rows ≤ 1
-
-same_name : (option : OptionName) → bytes_eq (name_of option) (name_of option) ≡ true
-same_name Index = refl
-same_name Installed = refl
-same_name Os = refl
-same_name Arch = refl
-same_name Compiler = refl
-same_name MaxBackjumps = refl
 
 none_counted : {X : Type 0} (p : X → Bool) (xs : List X) → count_by p xs ≡ 0 → list_any p xs ≡ false
 none_counted p [] e = refl
@@ -182,22 +176,6 @@ passes_append w [] ys = refl
 passes_append w (x ∷ xs) ys = and_more (turn_passes shape [] w x) _ _ _ (passes_append (walked rules [] w x) xs ys)
 
 -- ---- behind the command
-
-not_command : (option : OptionName) → bytes_eq (name_of option) (codes "command") ≡ false
-not_command Index = refl
-not_command Installed = refl
-not_command Os = refl
-not_command Arch = refl
-not_command Compiler = refl
-not_command MaxBackjumps = refl
-
-command_not : (option : OptionName) → bytes_eq (codes "command") (name_of option) ≡ false
-command_not Index = refl
-command_not Installed = refl
-command_not Os = refl
-command_not Arch = refl
-command_not Compiler = refl
-command_not MaxBackjumps = refl
 
 no_plan_row : (gs : List Given) → has_row (codes "command") (map row_of gs) ≡ false
 no_plan_row [] = refl
@@ -312,83 +290,6 @@ words_taken before after once =
 
 -- ---- the values
 
--- a word gives an option a value where the names are one
-same_test : (option other : OptionName) (v : Text) → gives option (prefix_of other ++ v) ≡ bytes_eq (name_of other) (name_of option)
-same_test Index Index v = refl
-same_test Index Installed v = refl
-same_test Index Os v = refl
-same_test Index Arch v = refl
-same_test Index Compiler v = refl
-same_test Index MaxBackjumps v = refl
-same_test Installed Index v = refl
-same_test Installed Installed v = refl
-same_test Installed Os v = refl
-same_test Installed Arch v = refl
-same_test Installed Compiler v = refl
-same_test Installed MaxBackjumps v = refl
-same_test Os Index v = refl
-same_test Os Installed v = refl
-same_test Os Os v = refl
-same_test Os Arch v = refl
-same_test Os Compiler v = refl
-same_test Os MaxBackjumps v = refl
-same_test Arch Index v = refl
-same_test Arch Installed v = refl
-same_test Arch Os v = refl
-same_test Arch Arch v = refl
-same_test Arch Compiler v = refl
-same_test Arch MaxBackjumps v = refl
-same_test Compiler Index v = refl
-same_test Compiler Installed v = refl
-same_test Compiler Os v = refl
-same_test Compiler Arch v = refl
-same_test Compiler Compiler v = refl
-same_test Compiler MaxBackjumps v = refl
-same_test MaxBackjumps Index v = refl
-same_test MaxBackjumps Installed v = refl
-same_test MaxBackjumps Os v = refl
-same_test MaxBackjumps Arch v = refl
-same_test MaxBackjumps Compiler v = refl
-same_test MaxBackjumps MaxBackjumps v = refl
-
-same_value : (option other : OptionName) (v : Text) → cond (bytes_eq (name_of other) (name_of option)) (value_in option (prefix_of other ++ v)) v ≡ v
-same_value Index Index v = refl
-same_value Index Installed v = refl
-same_value Index Os v = refl
-same_value Index Arch v = refl
-same_value Index Compiler v = refl
-same_value Index MaxBackjumps v = refl
-same_value Installed Index v = refl
-same_value Installed Installed v = refl
-same_value Installed Os v = refl
-same_value Installed Arch v = refl
-same_value Installed Compiler v = refl
-same_value Installed MaxBackjumps v = refl
-same_value Os Index v = refl
-same_value Os Installed v = refl
-same_value Os Os v = refl
-same_value Os Arch v = refl
-same_value Os Compiler v = refl
-same_value Os MaxBackjumps v = refl
-same_value Arch Index v = refl
-same_value Arch Installed v = refl
-same_value Arch Os v = refl
-same_value Arch Arch v = refl
-same_value Arch Compiler v = refl
-same_value Arch MaxBackjumps v = refl
-same_value Compiler Index v = refl
-same_value Compiler Installed v = refl
-same_value Compiler Os v = refl
-same_value Compiler Arch v = refl
-same_value Compiler Compiler v = refl
-same_value Compiler MaxBackjumps v = refl
-same_value MaxBackjumps Index v = refl
-same_value MaxBackjumps Installed v = refl
-same_value MaxBackjumps Os v = refl
-same_value MaxBackjumps Arch v = refl
-same_value MaxBackjumps Compiler v = refl
-same_value MaxBackjumps MaxBackjumps v = refl
-
 -- what a row of the option or a word for it says, in front of more
 value_found : (option : OptionName) (gs : List Given) (rows : List Row) (words : List Text) → first_of (name_of option) rows ≡ given option words
     → first_of (name_of option) (map row_of gs ++ rows) ≡ given option (map word_of gs ++ words)
@@ -403,12 +304,7 @@ value_found option (g ∷ gs) rows words same =
     go false e more = more
 
 plan_gives_none : (option : OptionName) → gives option (codes "plan") ≡ false
-plan_gives_none Index = refl
-plan_gives_none Installed = refl
-plan_gives_none Os = refl
-plan_gives_none Arch = refl
-plan_gives_none Compiler = refl
-plan_gives_none MaxBackjumps = refl
+plan_gives_none option = refl
 
 pub values_given : (option : OptionName) (before after : List Given) → first_of (name_of option) (rows_around before after) ≡ given option (words_around before after)
 values_given option before after =

@@ -1,11 +1,11 @@
 -- The parser: one required command, and an argument for each option, without help and version flags.
-use Rattle.std.specs.Prelude.{true, Some, codes}
+use Rattle.std.specs.Prelude.{true, Some, codes, fold}
 use Rattle.clap.specs.Walk.{Rule}
 use Rattle.clap.specs.Simple.{App, new_app, new_rule, on_top, with_rule}
 use Rattle.clap.specs.declared.builder.action.ArgAction.TheVariants.{Set}
 use Rattle.command_line.specs.declared.option_name.OptionName.{OptionName}
-use Rattle.command_line.specs.declared.option_name.OptionName.TheVariants.{Index, Installed, Os, Arch, Compiler, MaxBackjumps}
 use Rattle.command_line.specs.OptionName.{name_of}
+use Rattle.command_line.specs.Words.{options}
 
 -- one word is the command
 abbrev pub command_rule : Rule
@@ -25,4 +25,4 @@ with_option app option = with_rule app (option_rule option)
 
 -- the parser of all words
 abbrev pub parser : App
-parser = with_option (with_option (with_option (with_option (with_option (with_option (with_rule bare command_rule) Index) Installed) Os) Arch) Compiler) MaxBackjumps
+parser = fold with_option (with_rule bare command_rule) options

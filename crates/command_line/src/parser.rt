@@ -7,6 +7,7 @@ ghost use Rattle.command_line.specs.Words.{given, has_reading};
 ghost use Rattle.command_line.specs.Parser.{bare, command_rule, parser, with_option};
 
 use crate::option_name::{OptionName, name_of};
+use crate::words::options;
 use clap::error::ErrorKind;
 use clap::{Arg, ArgAction, ArgMatches, Command, Error};
 use plan_types::Text;
@@ -26,13 +27,11 @@ pub fn parsed<'a>(alloc: Global, words: &'a [Text]) -> Result<ArgMatches<'a>, Er
 fn parser<'a>(alloc: Global) -> Result<Command<'a>, AllocError>
     ensures { IfOk result (λ command. app_of command ≡ parser) }
 {
-    let command = with_command(alloc, bare(alloc))?;
-    let command = with_option(alloc, command, OptionName::Index)?;
-    let command = with_option(alloc, command, OptionName::Installed)?;
-    let command = with_option(alloc, command, OptionName::Os)?;
-    let command = with_option(alloc, command, OptionName::Arch)?;
-    let command = with_option(alloc, command, OptionName::Compiler)?;
-    with_option(alloc, command, OptionName::MaxBackjumps)
+    let mut command = with_command(alloc, bare(alloc))?;
+    for option in options() {
+        command = with_option(alloc, command, option)?;
+    }
+    Ok(command)
 }
 
 fn bare<'a>(alloc: Global) -> Command<'a>

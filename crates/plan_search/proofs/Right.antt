@@ -11,9 +11,9 @@ use Rattle.qualified_goals.specs.Names.{AreNumbers, NameTable}
 use Rattle.qualified_goals.specs.declared.variable.Var.{Var}
 use Rattle.choice_problem.specs.declared.problem.Choice.{Choice}
 use Rattle.choice_problem.specs.declared.outcome.Counts.{Counts}
+use Rattle.choice_problem.specs.declared.outcome.Outcome.{Outcome}
 use Rattle.choice_problem.specs.Assignment.{Assignment}
 use Rattle.choice_problem.specs.General.{General, general}
-use Rattle.choice_problem.specs.Holds.{AdmitsNone}
 use Rattle.choice_problem.specs.Joined.{AreOne}
 use Rattle.choice_problem.specs.Problem.{Problem, Lawful}
 use Rattle.choice_problem.specs.Trail.{AreNew, choice_of, next_var, trail_from, trail_of, value_in, with_next, with_value}
@@ -25,10 +25,8 @@ use Rattle.choice_problem.specs.Sound.{IsRightEnd}
 use Rattle.choice_problem.proofs.First.{passes-all}
 use Rattle.choice_problem.proofs.Trails.{Passes, next-unchosen, passes-trail}
 use Rattle.common_laws.specs.Lists.{contains-none}
-use Rattle.cabal_problem.specs.Laws.{cabal_lawful}
 use Rattle.cabal_problem.specs.Problem.{IsProblemOf, problem_of}
 use Rattle.cabal_problem.specs.WholeDemands.{whole_problem}
-use Rattle.cabal_problem.proofs.NewProblem.{made-lawful}
 use Rattle.solver_index.specs.Orders.{AreOrders}
 use Rattle.plan_task.specs.Task.{IsReady}
 use Rattle.plan_task.specs.declared.task.Task.{Task}
@@ -49,6 +47,10 @@ ValidAsWhole = (env : Env) (index : Index) (project : Project) (names : NameTabl
     → IsSound env index → AreNumbers index.packages names → AreOrders project index.packages orders
     → list_all (λ named. has_package index named.name) project.extra ≡ true
     → AreOne (whole_problem env index.packages project names orders) (general (problem_of index.packages project names orders))
+
+abbrev pub IsLawful : Type 0
+IsLawful = (env : Env) (index : Index) (project : Project) (names : NameTable) (p : Problem)
+    → IsSound env index → list_all (λ named. has_package index named.name) project.extra ≡ true → IsProblemOf index project names p → Lawful p
 
 abbrev pub OneProblem : Type 0
 OneProblem = (index : Index) (project : Project) (names others : NameTable) (p q : Problem)
@@ -74,7 +76,7 @@ module _ (g : General) (A : Assignment) (trail : List Choice) (valid : IsWholeVa
   as-map : A ≡ value_in trail
   as-map = passes-all A trail passes (λ v some. subst (λ (t : List Choice). Contains (map (λ (c : Choice). c.var) t) v) (sym is) ((valid.reached v).0 some))
 
-module _ (right : EndsRight) (alike : LimitGivesUp) (valid : ValidAsWhole) (task : Task) (ready : IsReady task) (names : NameTable) (p : Problem)
+module _ (right : EndsRight) (alike : LimitGivesUp) (valid : ValidAsWhole) (keeps : IsLawful) (task : Task) (ready : IsReady task) (names : NameTable) (p : Problem)
     (is : IsProblemOf task.index task.settings.project names p) where
   abbrev whole : General
   whole = whole_problem task.settings.env task.index.packages task.settings.project names is.orders
@@ -88,10 +90,7 @@ module _ (right : EndsRight) (alike : LimitGivesUp) (valid : ValidAsWhole) (task
   }
 
   lawful : Lawful p
-  lawful =
-      subst (λ q. Lawful q) (sym is.problem_is)
-      (cabal_lawful task.index.packages task.settings.project names is.orders
-      (made-lawful task.settings.env task.index task.settings.project names is.orders ready.sound ready.there is.numbers is.orders_are))
+  lawful = keeps task.settings.env task.index task.settings.project names p ready.sound ready.there is
 
   one : AreOne whole (general p)
   one =
@@ -153,12 +152,20 @@ module _ (right : EndsRight) (alike : LimitGivesUp) (valid : ValidAsWhole) (task
   pub right-outcome : MeansOutcome task names (outcome_of (answer_of p task.settings.limit))
   right-outcome = let answer = answer_of p task.settings.limit in right-by answer.ended (printed answer.counts) refl
 
-pub found-right : EndsRight → LimitGivesUp → ValidAsWhole → (task : Task) (finding : Finding) → IsReady task → IsFindingOf task finding → Means task finding
-found-right right alike valid task finding ready h =
-    subst (MeansOutcome task finding.names) (sym h.outcome_is) (right-outcome right alike valid task ready finding.names h.problem h.problem_is)
+pub found-right : EndsRight → LimitGivesUp → ValidAsWhole → IsLawful → (task : Task) (finding : Finding) → IsReady task → IsFindingOf task finding → Means task finding
+found-right right alike valid keeps task finding ready h =
+    subst (MeansOutcome task finding.names) (sym h.outcome_is) (right-outcome right alike valid keeps task ready finding.names h.problem h.problem_is)
 
 pub found-one : OneProblem → (task : Task) (a b : Finding) → IsFindingOf task a → IsFindingOf task b → a ≡ b
 found-one alike task a b h k =
     let same = alike task.index task.settings.project a.names b.names h.problem k.problem h.problem_is k.problem_is in
     let outcome = h.outcome_is ∙ ap (λ (p : Problem). outcome_of (answer_of p task.settings.limit)) same.1 ∙ sym k.outcome_is in
     λ i. record { names = same.0 i; outcome = outcome i }
+
+pub finding-is : (task : Task) (p : Problem) (names table : NameTable) (outcome : Outcome) → IsProblemOf task.index task.settings.project names p → table ≡ names
+    → outcome ≡ outcome_of (answer_of p task.settings.limit) → IsFindingOf task (record { names = table; outcome = outcome })
+finding-is task p names table outcome is same found = record {
+  problem = p;
+  problem_is = subst (λ (t : NameTable). IsProblemOf task.index task.settings.project t p) (sym same) is;
+  outcome_is = found;
+}

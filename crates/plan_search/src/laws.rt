@@ -6,7 +6,7 @@ ghost use Rattle.plan_search.specs.Finding.{IsFindingOf};
 ghost use Rattle.plan_search.specs.Meaning.{Means};
 ghost use Rattle.plan_search.specs.declared.search.Finding.{Finding};
 
-use cabal_problem::{one_problem, valid_as_whole};
+use cabal_problem::{one_problem, problem_is_lawful, valid_as_whole};
 use choice_problem::{ends_right, limit_only_gives_up};
 
 /// By the problem with whole conditions: a trail that is found is the first whole valid assignment, a set admits none where
@@ -17,6 +17,7 @@ pub fn what_is_found_is_right()
     ends_right();
     limit_only_gives_up();
     valid_as_whole();
+    problem_is_lawful();
 }
 
 /// A search over a task finds one thing, by one table of names.

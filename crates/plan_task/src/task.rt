@@ -23,11 +23,7 @@ pub struct Task {
 }
 
 /// What is to be planned of a folder with these options, or the first refusal.
-pub fn read_task<F: Folder>(
-    alloc: Global,
-    options: Options,
-    folder: &mut F,
-) -> Result<Task, Halt>
+pub fn read_task<F: Folder>(alloc: Global, options: Options, folder: &mut F) -> Result<Task, Halt>
     ensures told { IfSome (F.tells folder.old) (λ files. Answers (IsTask options files) result) }
     ensures ready { IfOk result IsReady }
     ensures folder { Leaves F.tells F.faults folder.old folder.new (IsErrOf result Halt.Failed) }
