@@ -3,6 +3,7 @@ use Rattle.std.proofs.Common.{◌≡◌, List, Result, Ok, Err, Option, Some, No
 use Rattle.plan_types.specs.declared.condition.Env.{Env}
 use Rattle.plan_types.specs.declared.dependency.Named.{Named}
 use Rattle.plan_types.specs.declared.index.Index.{Index}
+use Rattle.plan_types.specs.declared.project.Settings.{Settings}
 use Rattle.plan_types.specs.declared.refusal.Refusal.{Refusal}
 use Rattle.plan_types.specs.declared.index.Places.{Places}
 use Rattle.project_config.specs.Project.{IsFolderProject}
@@ -29,12 +30,12 @@ OneIndex = (env : Env) (places : Places) (extra : List Named) (paths : List Byte
     → IsFolderIndex env places extra paths files a → IsFolderIndex env places extra paths files b → a ≡ b
 
 abbrev pub OneFinding : Type 0
-OneFinding = (task : Task) (a b : Finding) → IsFindingOf task a → IsFindingOf task b → a ≡ b
+OneFinding = (index : Index) (settings : Settings) (a b : Finding) → IsFindingOf index settings a → IsFindingOf index settings b → a ≡ b
 
 module _ (project : OneProject) (one : OneIndex) (alike : OneFinding) where
   of_task : (task : Task) (a b : Output) → IsOutputOfTask task a → IsOutputOfTask task b → a ≡ b
   of_task task a b h k =
-      let same = alike task h.finding k.finding h.found k.found in
+      let same = alike task.index task.settings h.finding k.finding h.found k.found in
       h.output_is ∙ ap (λ (f : Finding). output_of_outcome task.index f.names f.outcome) same ∙ sym k.output_is
 
   of_read : (read : Result Task Refusal) (a b : Output) → IsOutputOfRead read a → IsOutputOfRead read b → a ≡ b

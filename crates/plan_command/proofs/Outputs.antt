@@ -1,5 +1,5 @@
 -- What an output is and means, and what is printed of it.
-use Rattle.std.proofs.Common.{◌≡◌, Result, Ok, Err, Option, refl, sym, subst}
+use Rattle.std.proofs.Common.{◌≡◌, Ok, Err, Option, refl, sym, subst}
 use Rattle.plan_types.specs.declared.refusal.Refusal.{Refusal}
 use Rattle.qualified_goals.specs.Names.{NameTable}
 use Rattle.choice_problem.specs.declared.outcome.Outcome.{Outcome}
@@ -35,7 +35,7 @@ module _ (options : Options) (files : Files) where
   refused-output refusal output made is = (Err refusal, made, is)
 
   module _ (task : Task) (made : IsTask options files (Ok task)) where
-    means-outcome : (names : NameTable) (found : Outcome) → MeansOutcome task names found → Means options files (output_of_outcome task.index names found)
+    means-outcome : (names : NameTable) (found : Outcome) → MeansOutcome task.index task.settings names found → Means options files (output_of_outcome task.index names found)
     means-outcome names (outcome.Found trail counts) h =
         record { task = task; made = made; names = names; trail = trail; first = h; counts = counts; text_is = refl }
     means-outcome names (outcome.NoPlan set counts) h =

@@ -1,5 +1,5 @@
 -- What is printed for words, by what is printed for the command that they mean.
-use Rattle.std.proofs.Common.{◌≡◌, List, Option, Some, None, sym, subst}
+use Rattle.std.proofs.Common.{◌≡◌, List, Option, sym, subst}
 use Rattle.outside_folder.specs.Files.{Bytes, Files}
 use Rattle.command_line.specs.Reading.{reading}
 use Rattle.command_line.specs.declared.reading.Command.{Command}

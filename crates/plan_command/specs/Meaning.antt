@@ -23,7 +23,7 @@ pub record PlansFirst (options : Options) (files : Files) (text : Bytes) : Type 
   pub made : IsTask options files (Ok task)
   pub names : NameTable
   pub trail : List Choice
-  pub first : IsFirstTrail task names trail
+  pub first : IsFirstTrail task.index task.settings names trail
   pub counts : Counts
   pub text_is : text ≡ plan_text task.index names trail counts
 
@@ -34,7 +34,7 @@ pub record HasNone (options : Options) (files : Files) (text : Bytes) : Type 0 w
   pub made : IsTask options files (Ok task)
   pub names : NameTable
   pub set : List Var
-  pub to_blame : AreToBlame task names set
+  pub to_blame : AreToBlame task.index task.settings names set
   pub counts : Counts
   pub text_is : text ≡ conflict_text task.index names set counts
 
@@ -43,7 +43,7 @@ pub record GivesUp (options : Options) (files : Files) (text : Bytes) : Type 0 w
   pub task : Task
   pub made : IsTask options files (Ok task)
   pub names : NameTable
-  pub met : MeetsLimit task names
+  pub met : MeetsLimit task.index task.settings names
   pub counts : Counts
   pub text_is : text ≡ gave_up_text task.index counts
 
@@ -71,5 +71,5 @@ Means options files output = MeansWith output.status options files output.text
 -- what the output of a search over a task means
 pub record MeansTask (task : Task) (output : Output) : Type 0 where
   pub finding : Finding
-  pub means : MeansFinding task finding
+  pub means : MeansFinding task.index task.settings finding
   pub output_is : output ≡ output_of_outcome task.index finding.names finding.outcome

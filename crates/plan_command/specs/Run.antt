@@ -21,7 +21,7 @@ use Rattle.plan_command.specs.Output.{output_of_outcome, refused, usage}
 -- what a search over a task finds, as it is printed
 pub record IsOutputOfTask (task : Task) (output : Output) : Type 0 where
   pub finding : Finding
-  pub found : IsFindingOf task finding
+  pub found : IsFindingOf task.index task.settings finding
   pub output_is : output ≡ output_of_outcome task.index finding.names finding.outcome
 
 -- the output of a task, or of the refusal that came instead

@@ -88,11 +88,7 @@ fn perform<F: Folder, S: Sink>(
 }
 
 // The output of a command.
-fn output_of<F: Folder>(
-    alloc: Global,
-    command: Command,
-    folder: &mut F,
-) -> Result<Output, Trouble>
+fn output_of<F: Folder>(alloc: Global, command: Command, folder: &mut F) -> Result<Output, Trouble>
     ensures headline { (options : PlanOptions) (files : Files) → command ≡ Plan options → F.tells folder.old ≡ Some files
         → IfOk result (Means options files) }
     ensures told { (files : Files) → Reads (Some command) (F.tells folder.old) files

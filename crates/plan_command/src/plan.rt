@@ -11,7 +11,7 @@ use crate::Status;
 use crate::output::{Output, output_of_outcome, refused};
 use command_line::Options;
 use outside_folder::{Folder, Trouble};
-use plan_search::search_task;
+use plan_search::find_plan;
 use plan_task::{Task, read_task};
 use plan_types::{Halt, NoMemory};
 use std::alloc::Global;
@@ -45,6 +45,6 @@ fn planned(alloc: Global, task: &Task) -> Result<Output, NoMemory>
     ensures made { IfOk result (λ output. IsMade output.status) }
     ensures read { IfOk result (λ output. output.status ≢ Status.Usage) }
 {
-    let finding = search_task(alloc, task)?;
+    let finding = find_plan(alloc, &task.index, &task.settings)?;
     output_of_outcome(alloc, &task.index, &finding.names, &finding.outcome)
 }

@@ -6,6 +6,7 @@ use Rattle.plan_types.specs.declared.index.Index.{Index}
 use Rattle.plan_types.specs.declared.limit.Limit.{Limit}
 use Rattle.plan_types.specs.declared.limit.Limit.TheVariants.{Unlimited, At}
 use Rattle.plan_types.specs.declared.project.Project.{Project}
+use Rattle.plan_types.specs.declared.project.Settings.{Settings}
 use Rattle.flatten.specs.Sound.{IsSound, has_package}
 use Rattle.qualified_goals.specs.Names.{AreNumbers, NameTable}
 use Rattle.qualified_goals.specs.declared.variable.Var.{Var}
@@ -28,8 +29,6 @@ use Rattle.common_laws.specs.Lists.{contains-none}
 use Rattle.cabal_problem.specs.Problem.{IsProblemOf, problem_of}
 use Rattle.cabal_problem.specs.WholeDemands.{whole_problem}
 use Rattle.solver_index.specs.Orders.{AreOrders}
-use Rattle.plan_task.specs.Task.{IsReady}
-use Rattle.plan_task.specs.declared.task.Task.{Task}
 use Rattle.plan_search.specs.Finding.{IsFindingOf}
 use Rattle.plan_search.specs.Meaning.{AreToBlame, IsFirstTrail, IsWholeProblem, Means, MeansOutcome, MeetsLimit}
 use Rattle.plan_search.specs.declared.search.Finding.{Finding}
@@ -76,12 +75,13 @@ module _ (g : General) (A : Assignment) (trail : List Choice) (valid : IsWholeVa
   as-map : A ≡ value_in trail
   as-map = passes-all A trail passes (λ v some. subst (λ (t : List Choice). Contains (map (λ (c : Choice). c.var) t) v) (sym is) ((valid.reached v).0 some))
 
-module _ (right : EndsRight) (alike : LimitGivesUp) (valid : ValidAsWhole) (keeps : IsLawful) (task : Task) (ready : IsReady task) (names : NameTable) (p : Problem)
-    (is : IsProblemOf task.index task.settings.project names p) where
+module _ (right : EndsRight) (alike : LimitGivesUp) (valid : ValidAsWhole) (keeps : IsLawful) (index : Index) (settings : Settings) (sound : IsSound settings.env index)
+    (there : list_all (λ named. has_package index named.name) settings.project.extra ≡ true) (names : NameTable) (p : Problem)
+    (is : IsProblemOf index settings.project names p) where
   abbrev whole : General
-  whole = whole_problem task.settings.env task.index.packages task.settings.project names is.orders
+  whole = whole_problem settings.env index.packages settings.project names is.orders
 
-  whole-is : IsWholeProblem task names whole
+  whole-is : IsWholeProblem index settings names whole
   whole-is = record {
     numbers = is.numbers;
     orders = is.orders;
@@ -90,19 +90,19 @@ module _ (right : EndsRight) (alike : LimitGivesUp) (valid : ValidAsWhole) (keep
   }
 
   lawful : Lawful p
-  lawful = keeps task.settings.env task.index task.settings.project names p ready.sound ready.there is
+  lawful = keeps settings.env index settings.project names p sound there is
 
   one : AreOne whole (general p)
   one =
       subst (λ q. AreOne whole (general q)) (sym is.problem_is)
-      (valid task.settings.env task.index task.settings.project names is.orders ready.sound is.numbers is.orders_are ready.there)
+      (valid settings.env index settings.project names is.orders sound is.numbers is.orders_are there)
 
-  right-end : (e : Ended) → (answer_of p task.settings.limit).ended ≡ e → (e ≡ GaveUp → ⊥) → IsRightEnd p e
+  right-end : (e : Ended) → (answer_of p settings.limit).ended ≡ e → (e ≡ GaveUp → ⊥) → IsRightEnd p e
   right-end e ended other =
-      let same = alike p task.settings.limit (λ gave. other (sym ended ∙ gave)) in
+      let same = alike p settings.limit (λ gave. other (sym ended ∙ gave)) in
       subst (IsRightEnd p) (ap (λ a. a.ended) (sym same) ∙ ended) (right p lawful)
 
-  first-found : (trail : List Choice) → (answer_of p task.settings.limit).ended ≡ Found trail → IsFirstTrail task names trail
+  first-found : (trail : List Choice) → (answer_of p settings.limit).ended ≡ Found trail → IsFirstTrail index settings names trail
   first-found trail ended =
       let end = right-end (Found trail) ended (λ gave. cc gave) in
       let first : IsFirst whole end.0 = (one.first end.0).1 end.1 in
@@ -116,7 +116,7 @@ module _ (right : EndsRight) (alike : LimitGivesUp) (valid : ValidAsWhole) (keep
         trail_is = subst (λ (B : Assignment). trail ≡ trail_of whole B) same of;
       }
 
-  none-found : (set : List Var) → (answer_of p task.settings.limit).ended ≡ Failed set → AreToBlame task names set
+  none-found : (set : List Var) → (answer_of p settings.limit).ended ≡ Failed set → AreToBlame index settings names set
   none-found set ended =
       let end = right-end (Failed set) ended (λ gave. cc gave) in
       record {
@@ -133,9 +133,9 @@ module _ (right : EndsRight) (alike : LimitGivesUp) (valid : ValidAsWhole) (keep
       absurd none
   at-limit (At most) ended = (most, refl)
 
-  gave-up : (answer_of p task.settings.limit).ended ≡ GaveUp → MeetsLimit task names
+  gave-up : (answer_of p settings.limit).ended ≡ GaveUp → MeetsLimit index settings names
   gave-up ended =
-      let limited = at-limit task.settings.limit ended in
+      let limited = at-limit settings.limit ended in
       record {
         problem = p;
         problem_is = is;
@@ -144,28 +144,29 @@ module _ (right : EndsRight) (alike : LimitGivesUp) (valid : ValidAsWhole) (keep
         ended = ended;
       }
 
-  right-by : (e : Ended) (counts : Counts) → (answer_of p task.settings.limit).ended ≡ e → MeansOutcome task names (outcome_by e counts)
+  right-by : (e : Ended) (counts : Counts) → (answer_of p settings.limit).ended ≡ e → MeansOutcome index settings names (outcome_by e counts)
   right-by (Found trail) counts ended = first-found trail ended
   right-by (Failed set) counts ended = none-found set ended
   right-by GaveUp counts ended = gave-up ended
 
-  pub right-outcome : MeansOutcome task names (outcome_of (answer_of p task.settings.limit))
-  right-outcome = let answer = answer_of p task.settings.limit in right-by answer.ended (printed answer.counts) refl
+  pub right-outcome : MeansOutcome index settings names (outcome_of (answer_of p settings.limit))
+  right-outcome = let answer = answer_of p settings.limit in right-by answer.ended (printed answer.counts) refl
 
-pub found-right : EndsRight → LimitGivesUp → ValidAsWhole → IsLawful → (task : Task) (finding : Finding) → IsReady task → IsFindingOf task finding → Means task finding
-found-right right alike valid keeps task finding ready h =
-    subst (MeansOutcome task finding.names) (sym h.outcome_is) (right-outcome right alike valid keeps task ready finding.names h.problem h.problem_is)
+pub found-right : EndsRight → LimitGivesUp → ValidAsWhole → IsLawful → (index : Index) (settings : Settings) (finding : Finding) → IsSound settings.env index
+    → list_all (λ named. has_package index named.name) settings.project.extra ≡ true → IsFindingOf index settings finding → Means index settings finding
+found-right right alike valid keeps index settings finding sound there h =
+    subst (MeansOutcome index settings finding.names) (sym h.outcome_is) (right-outcome right alike valid keeps index settings sound there finding.names h.problem h.problem_is)
 
-pub found-one : OneProblem → (task : Task) (a b : Finding) → IsFindingOf task a → IsFindingOf task b → a ≡ b
-found-one alike task a b h k =
-    let same = alike task.index task.settings.project a.names b.names h.problem k.problem h.problem_is k.problem_is in
-    let outcome = h.outcome_is ∙ ap (λ (p : Problem). outcome_of (answer_of p task.settings.limit)) same.1 ∙ sym k.outcome_is in
+pub found-one : OneProblem → (index : Index) (settings : Settings) (a b : Finding) → IsFindingOf index settings a → IsFindingOf index settings b → a ≡ b
+found-one alike index settings a b h k =
+    let same = alike index settings.project a.names b.names h.problem k.problem h.problem_is k.problem_is in
+    let outcome = h.outcome_is ∙ ap (λ (p : Problem). outcome_of (answer_of p settings.limit)) same.1 ∙ sym k.outcome_is in
     λ i. record { names = same.0 i; outcome = outcome i }
 
-pub finding-is : (task : Task) (p : Problem) (names table : NameTable) (outcome : Outcome) → IsProblemOf task.index task.settings.project names p → table ≡ names
-    → outcome ≡ outcome_of (answer_of p task.settings.limit) → IsFindingOf task (record { names = table; outcome = outcome })
-finding-is task p names table outcome is same found = record {
+pub finding-is : (index : Index) (settings : Settings) (p : Problem) (names table : NameTable) (outcome : Outcome) → IsProblemOf index settings.project names p → table ≡ names
+    → outcome ≡ outcome_of (answer_of p settings.limit) → IsFindingOf index settings (record { names = table; outcome = outcome })
+finding-is index settings p names table outcome is same found = record {
   problem = p;
-  problem_is = subst (λ (t : NameTable). IsProblemOf task.index task.settings.project t p) (sym same) is;
+  problem_is = subst (λ (t : NameTable). IsProblemOf index settings.project t p) (sym same) is;
   outcome_is = found;
 }

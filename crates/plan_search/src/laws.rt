@@ -1,7 +1,9 @@
-// What a search over a task finds is right, and it finds one thing.
-ghost use Rattle.std.specs.Prelude.{◌≡◌};
-ghost use Rattle.plan_task.specs.Task.{IsReady};
-ghost use Rattle.plan_task.specs.declared.task.Task.{Task};
+// What a search over an index finds is right, and it finds one thing.
+ghost use Rattle.std.specs.Prelude.{◌≡◌, true};
+ghost use Rattle.std.specs.List.{list_all};
+ghost use Rattle.flatten.specs.Sound.{IsSound, has_package};
+ghost use Rattle.plan_types.specs.declared.index.Index.{Index};
+ghost use Rattle.plan_types.specs.declared.project.Settings.{Settings};
 ghost use Rattle.plan_search.specs.Finding.{IsFindingOf};
 ghost use Rattle.plan_search.specs.Meaning.{Means};
 ghost use Rattle.plan_search.specs.declared.search.Finding.{Finding};
@@ -12,7 +14,9 @@ use choice_problem::{ends_right, limit_only_gives_up};
 /// By the problem with whole conditions: a trail that is found is the first whole valid assignment, a set admits none where
 /// there is no such assignment at all, and a search gives up at a limit alone.
 pub fn what_is_found_is_right()
-    ensures { (task : Task) (finding : Finding) → IsReady task → IsFindingOf task finding → Means task finding }
+    ensures { (index : Index) (settings : Settings) (finding : Finding)
+        → IsSound settings.env index → list_all (λ named. has_package index named.name) settings.project.extra ≡ true
+        → IsFindingOf index settings finding → Means index settings finding }
 {
     ends_right();
     limit_only_gives_up();
@@ -20,9 +24,10 @@ pub fn what_is_found_is_right()
     problem_is_lawful();
 }
 
-/// A search over a task finds one thing, by one table of names.
+/// A search over an index finds one thing, by one table of names.
 pub fn one_finding()
-    ensures { (task : Task) (a b : Finding) → IsFindingOf task a → IsFindingOf task b → a ≡ b }
+    ensures { (index : Index) (settings : Settings) (a b : Finding)
+        → IsFindingOf index settings a → IsFindingOf index settings b → a ≡ b }
 {
     one_problem();
 }

@@ -1,7 +1,8 @@
-// The problem that a task makes is searched.
-ghost use Rattle.std.specs.Prelude.{◌≡◌, ◌<◌, IfOk};
+// The problem that an index and settings make is searched.
+ghost use Rattle.std.specs.Prelude.{◌≡◌, ◌<◌, IfOk, true};
+ghost use Rattle.std.specs.List.{list_all};
+ghost use Rattle.flatten.specs.Sound.{IsSound, has_package};
 ghost use Rattle.choice_problem.specs.Answer.{answer_of, outcome_of};
-ghost use Rattle.plan_task.specs.Task.{IsReady};
 ghost use Rattle.plan_search.specs.Finding.{IsFindingOf};
 ghost use Rattle.plan_search.specs.Meaning.{Means};
 
@@ -9,8 +10,7 @@ use crate::laws::what_is_found_is_right;
 use backjump::search;
 use cabal_problem::CabalProblem;
 use choice_problem::{Choices, Limit, Outcome, Steps};
-use plan_task::Task;
-use plan_types::NoMemory;
+use plan_types::{Index, NoMemory, Settings};
 use qualified_goals::Names;
 use std::alloc::Global;
 use std::marker::Brand;
@@ -23,18 +23,19 @@ pub struct Finding {
     pub outcome: Outcome,
 }
 
-/// Searches for a plan of a task.
-pub fn search_task(alloc: Global, task: &Task) -> Result<Finding, NoMemory>
-    requires { IsReady task.now }
-    ensures finding { IfOk result (IsFindingOf task.now) }
-    ensures means { IfOk result (Means task.now) }
+/// Searches for a plan of the packages of an index, which is sound and has each package that is asked for besides.
+pub fn find_plan(alloc: Global, index: &Index, settings: &Settings) -> Result<Finding, NoMemory>
+    requires sound { IsSound settings.now.env index.now }
+    requires there { list_all (λ named. has_package index.now named.name) settings.now.project.extra ≡ true }
+    ensures finding { IfOk result (IsFindingOf index.now settings.now) }
+    ensures means { IfOk result (Means index.now settings.now) }
 {
     what_is_found_is_right();
-    let problem = CabalProblem::new(alloc, &task.index, &task.settings)?;
+    let problem = CabalProblem::new(alloc, index, settings)?;
     let outcome = outcome_of::<CabalProblem<'_>, Brand>(
         alloc,
         &problem,
-        task.settings.limit,
+        settings.limit,
         Blank::new(1),
     )?;
     let names = problem.into_names();
