@@ -1,6 +1,6 @@
 // Each table has a case a line: what is asked, and behind the last ` => ` the answer. One loop goes over all of them, and no
 // contract of a call that is asked is known where it stands.
-use crate::{answers, bars, entries, orders, projects, variables, words};
+use crate::{answers, bars, entries, links, orders, projects, variables, words};
 use std::alloc::Global;
 use std::test::Fail;
 
@@ -12,6 +12,7 @@ enum Table {
     Variables,
     Bars,
     Orders,
+    Links,
     Answers,
 }
 
@@ -23,6 +24,7 @@ fn cases(table: Table) -> &'static str {
         Table::Variables => variables::CASES,
         Table::Bars => bars::CASES,
         Table::Orders => orders::CASES,
+        Table::Links => links::CASES,
         Table::Answers => answers::CASES,
     }
 }
@@ -35,6 +37,7 @@ fn answer(alloc: Global, table: Table, case: &str) -> Result<String, Fail> {
         Table::Variables => variables::answer(alloc, case),
         Table::Bars => bars::answer(alloc, case),
         Table::Orders => orders::answer(alloc, case),
+        Table::Links => links::answer(alloc, case),
         Table::Answers => answers::answer(alloc, case),
     }
 }
@@ -61,6 +64,7 @@ fn every_table(rt: HostRuntime) -> Result<(), Fail> {
         Table::Variables,
         Table::Bars,
         Table::Orders,
+        Table::Links,
         Table::Answers,
     ] {
         assert_eq!(rt; others(rt.alloc(), table)?.as_str(), "");
