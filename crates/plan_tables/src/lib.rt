@@ -1,4 +1,4 @@
-//! Tests alone: tables of what the calls between a folder's texts and the search answer, of linked variables, and of
+//! Tests alone: tables of what the calls between a folder's texts and the search answer, of linked variables, of identifiers, and of
 //! the texts that are printed.
 #![tactic(auto)]
 
@@ -8,6 +8,8 @@ mod answers;
 mod bars;
 #[cfg(test)]
 mod entries;
+#[cfg(test)]
+mod identifiers;
 #[cfg(test)]
 mod links;
 #[cfg(test)]

@@ -1,6 +1,6 @@
 // Each table has a case a line: what is asked, and behind the last ` => ` the answer. One loop goes over all of them, and no
 // contract of a call that is asked is known where it stands.
-use crate::{answers, bars, entries, links, orders, projects, variables, words};
+use crate::{answers, bars, entries, identifiers, links, orders, projects, variables, words};
 use std::alloc::Global;
 use std::test::Fail;
 
@@ -13,6 +13,7 @@ enum Table {
     Bars,
     Orders,
     Links,
+    Identifiers,
     Answers,
 }
 
@@ -25,6 +26,7 @@ fn cases(table: Table) -> &'static str {
         Table::Bars => bars::CASES,
         Table::Orders => orders::CASES,
         Table::Links => links::CASES,
+        Table::Identifiers => identifiers::CASES,
         Table::Answers => answers::CASES,
     }
 }
@@ -38,6 +40,7 @@ fn answer(alloc: Global, table: Table, case: &str) -> Result<String, Fail> {
         Table::Bars => bars::answer(alloc, case),
         Table::Orders => orders::answer(alloc, case),
         Table::Links => links::answer(alloc, case),
+        Table::Identifiers => identifiers::answer(alloc, case),
         Table::Answers => answers::answer(alloc, case),
     }
 }
@@ -65,6 +68,7 @@ fn every_table(rt: HostRuntime) -> Result<(), Fail> {
         Table::Bars,
         Table::Orders,
         Table::Links,
+        Table::Identifiers,
         Table::Answers,
     ] {
         assert_eq!(rt; others(rt.alloc(), table)?.as_str(), "");
