@@ -16,7 +16,7 @@ use Rattle.choice_problem.specs.Answer.{GaveUp, Answer, cap, counts_of, one_visi
 use Rattle.validation.specs.View.{View, Represents}
 use Rattle.choice_tree.specs.declared.tree.Node.{Node}
 use Rattle.choice_tree.specs.Tree.{fresh, stepped, values_left, choice_at, GivesNext}
-use Rattle.choice_tree.proofs.Path.{snoc-nil, snoc-front, snoc-last}
+use Rattle.choice_problem.proofs.TrailEnds.{snoc-none, snoc-same}
 use Rattle.backjump.specs.declared.walk.Walk.{Walk}
 use Rattle.backjump.specs.declared.walk.Turn.TheVariants.{Look, Try, Back}
 use Rattle.backjump.specs.declared.walk.End.TheVariants.{Whole, NoPlan, Stopped}
@@ -30,8 +30,8 @@ use Rattle.backjump.proofs.Room.{fuel-left}
 -- what a `pop` leaves of a list whose last item is known
 pub popped : {X : Type 0} (old new outer : List X) (x : X) (r : Option X)
     → MatchOption r ((old ≡ []) × (new ≡ [])) (λ last. old ≡ new ++ last ∷ []) → old ≡ outer ++ x ∷ [] → new ≡ outer
-popped old new outer x None h e = absurd (snoc-nil outer x (sym h.0 ∙ e))
-popped old new outer x (Some last) h e = snoc-front new outer last x (sym h ∙ e)
+popped old new outer x None h e = absurd (snoc-none outer x [] (sym h.0 ∙ e))
+popped old new outer x (Some last) h e = (snoc-same new last outer x (sym h ∙ e)).0
 
 -- walks that differ from one in some parts
 abbrev pub with_tree : Walk → List Node → Walk
@@ -56,13 +56,13 @@ lighter-more most more w (Done end) h k = tt
 -- the last of a chain's nodes has given a value
 pub chain-given : (p : Problem) (points : List Point) (prefix : List Choice) (fuel : ℕ) → IsChain p points prefix fuel
     → (outer : List Node) (node : Node) → nodes_of points ≡ outer ++ node ∷ [] → 0 < node.given
-chain-given p [] prefix fuel h outer node e = absurd (snoc-nil outer node e)
-chain-given p (point ∷ rest) prefix fuel h outer node e = subst (λ (n : Node). 0 < n.given) (snoc-last (nodes_of rest) outer point.node node e) h.0.given
+chain-given p [] prefix fuel h outer node e = absurd (snoc-none outer node [] e)
+chain-given p (point ∷ rest) prefix fuel h outer node e = subst (λ (n : Node). 0 < n.given) (snoc-same (nodes_of rest) point.node outer node e).1 h.0.given
 
 -- a chain with points ends a prefix with choices
 pub chain-some : (p : Problem) (outer : List Point) (prefix : List Choice) (fuel : ℕ) → IsChain p outer prefix fuel → (length (nodes_of outer) ≡ 0 → ⊥) → prefix ≡ [] → ⊥
 chain-some p [] prefix fuel h some e = some refl
-chain-some p (point ∷ outer) prefix fuel h some e = snoc-nil point.prefix (choice_at point.node) (sym e ∙ h.0.prefix_is)
+chain-some p (point ∷ outer) prefix fuel h some e = snoc-none point.prefix (choice_at point.node) [] (sym e ∙ h.0.prefix_is)
 
 module _ (p : Problem) (limit : Limit) where
   pub start-at : (w : Walk) → Represents p w.state → w.state.trail ≡ [] → w.tree ≡ [] → w.failed ≡ [] → w.counts ≡ counts_of 0 0 → AtLook p limit w 0

@@ -15,8 +15,6 @@ mod files;
 #[cfg(test)]
 mod graphs;
 #[cfg(test)]
-mod links;
-#[cfg(test)]
 mod lists;
 #[cfg(test)]
 mod memory;

@@ -1,6 +1,6 @@
 // Each table has a case a line: what is asked, and behind the last ` => ` the answer. One loop goes over all of them, and no
 // contract of a call that is asked is known where it stands.
-use crate::{chains, cycles, links, lists, memory, searches, sinks, states, texts, units};
+use crate::{chains, cycles, lists, memory, searches, sinks, states, texts, units};
 use std::alloc::Global;
 use std::test::Fail;
 
@@ -13,7 +13,6 @@ enum Table {
     Sinks,
     Cycles,
     Units,
-    Links,
     Searches,
     States,
 }
@@ -27,7 +26,6 @@ fn cases(table: Table) -> &'static str {
         Table::Sinks => sinks::CASES,
         Table::Cycles => cycles::CASES,
         Table::Units => units::CASES,
-        Table::Links => links::CASES,
         Table::Searches => searches::CASES,
         Table::States => states::CASES,
     }
@@ -42,7 +40,6 @@ fn answer(alloc: Global, table: Table, case: &str) -> Result<String, Fail> {
         Table::Sinks => sinks::answer(alloc, case),
         Table::Cycles => cycles::answer(alloc, case),
         Table::Units => units::answer(alloc, case),
-        Table::Links => links::answer(alloc, case),
         Table::Searches => searches::answer(alloc, case),
         Table::States => states::answer(alloc, case),
     }
@@ -77,13 +74,7 @@ fn plain_values_and_folders(rt: HostRuntime) -> Result<(), Fail> {
 
 #[test]
 fn graphs_and_searches(rt: HostRuntime) -> Result<(), Fail> {
-    for table in [
-        Table::Cycles,
-        Table::Units,
-        Table::Links,
-        Table::Searches,
-        Table::States,
-    ] {
+    for table in [Table::Cycles, Table::Units, Table::Searches, Table::States] {
         assert_eq!(rt; others(rt.alloc(), table)?.as_str(), "");
     }
     Ok(())

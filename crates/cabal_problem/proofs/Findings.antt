@@ -3,7 +3,7 @@ use Rattle.std.proofs.Common.{◌≡◌, ℕ, suc, ◌+◌, ◌<◌, Bool, true,
 use Rattle.std.specs.Prelude.{unwrap_or, Contains}
 use Rattle.std.specs.List.{AllByRecursion, list_all, list_any, position_or_len}
 use Rattle.std.specs.Cmp.Lexicographic.{pointwise}
-use Rattle.std.proofs.lemmas.Bool.{false≢true, eqb-true, eq-eqb, lt-ltb, and_parts, and_from}
+use Rattle.std.proofs.lemmas.Bool.{false≢true, eq-eqb, lt-ltb, and_parts, and_from}
 use Rattle.std.proofs.lemmas.List.{length-map}
 use Rattle.plan_types.specs.declared.condition.Env.{Env}
 use Rattle.plan_types.specs.declared.dependency.Dep.{Dep}
@@ -35,23 +35,17 @@ use Rattle.cabal_problem.specs.Variables.{is_tool, is_tool_of, component_asks, a
 use Rattle.cabal_problem.specs.Values.{is_flag}
 use Rattle.solver_index.specs.Versions.{flats_have_versions, deps_have_versions, body_has_versions, entry_has_versions, entries_have_versions, packages_have_versions}
 use Rattle.cabal_problem.specs.Lawful.{is_found, has_qual_for, flat_finds, body_finds, package_finds, packages_find}
-use Rattle.cabal_problem.specs.Laws.{rising-below}
+use Rattle.solver_index.proofs.ListLaws.{rising-below}
 use Rattle.std.proofs.lemmas.List.Elements.{Contains-get_or}
 use Rattle.plan_types.specs.Bytes.{same_text}
 use Rattle.plan_types.specs.Packages.{declared_by, entries_of, package_at, no_package}
+use Rattle.common_laws.specs.Small.{same-is}
 
 pub each-at : {X : Type 0} (P : X → Type 0) (xs : List X) (x : X) → AllByRecursion P xs → Contains xs x → P x
 each-at P [] x h k = absurd (contains-none x k)
 each-at P (y ∷ xs) x h k = elim (contains-cases y xs x k) [ inl e ↦ subst P e h.0 | inr r ↦ each-at P xs x h.1 r ]
 
 -- ---- names
-
-same-is : (a b : Name) → pointwise nat_eq a b ≡ true → a ≡ b
-same-is [] [] h = refl
-same-is [] (y ∷ b) h = absurd (false≢true h)
-same-is (x ∷ a) [] h = absurd (false≢true h)
-same-is (x ∷ a) (y ∷ b) h =
-    ap (λ n. n ∷ a) (eqb-true x y ((and_parts (nat_eq x y) (pointwise nat_eq a b) h).0)) ∙ ap (λ l. y ∷ l) (same-is a b ((and_parts (nat_eq x y) (pointwise nat_eq a b) h).1))
 
 same-self : (a : Name) → pointwise nat_eq a a ≡ true
 same-self [] = refl

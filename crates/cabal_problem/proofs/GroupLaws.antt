@@ -1,5 +1,5 @@
 -- Groups of demands, one after another.
-use Rattle.std.proofs.Common.{◌≡◌, Bool, true, false, ◌||◌, List, [], ◌∷◌, ◌++◌, refl, sym, ap, ◌∙◌, subst, inl, inr, append_assoc}
+use Rattle.std.proofs.Common.{◌≡◌, true, List, [], ◌∷◌, ◌++◌, refl, sym, ap, ◌∙◌, subst, inl, inr, append_assoc}
 use Rattle.std.specs.Prelude.{Contains}
 use Rattle.choice_problem.specs.declared.problem.Demand.{Demand}
 use Rattle.choice_problem.specs.Assignment.{Assignment, is_yes}
@@ -7,12 +7,9 @@ use Rattle.choice_problem.specs.General.{Request, request_of}
 use Rattle.common_laws.specs.Lists.{contains-head, contains-tail, contains-none, contains-cases, contains-append, contains-left, contains-right, any-at, any-from}
 use Rattle.cabal_problem.specs.Groups.{AreGroups, AsksForSame, IsGroup}
 use Rattle.cabal_problem.specs.WholeDemands.{requests_of}
+use Rattle.std.proofs.Math.Bool.{or-false}
 
 -- ---- groups
-
-or-none : (b : Bool) → b ≡ b || false
-or-none true = refl
-or-none false = refl
 
 -- what holds of its member holds in a group of one
 pub one-same : (r : Request) (d e : Demand) → AsksForSame r d → Contains (d ∷ []) e → AsksForSame r e
@@ -22,7 +19,7 @@ one-same r d e same h = elim (contains-cases d [] e h) [ inl is ↦ subst (AsksF
 itself : (d : Demand) → IsGroup (request_of d) (d ∷ [])
 itself d = record {
   same = λ e h. one-same (request_of d) d e (record { owner = refl; target = refl; allowed = refl }) h;
-  yes = λ A. or-none (is_yes A d);
+  yes = λ A. sym (or-false (is_yes A d));
 }
 
 pub groups-same : (demands : List Demand) → AreGroups (requests_of demands) demands

@@ -17,10 +17,10 @@ use Rattle.choice_problem.specs.Written.{is_order}
 use Rattle.solver_index.specs.Orders.{AreOrders}
 use Rattle.solver_index.specs.Places.{rising}
 use Rattle.cabal_problem.specs.Lawful.{packages_find, extras_are_found, is_order_at, are_orders, is_lawful}
-use Rattle.cabal_problem.specs.Laws.{rising-below}
 use Rattle.cabal_problem.proofs.OrderTests.{permuted_is_order}
 use Rattle.cabal_problem.proofs.Findings.{all-found, extras-found}
 use Rattle.plan_types.specs.Packages.{entries_of}
+use Rattle.solver_index.proofs.ListLaws.{rising-below}
 
 orders-are : (packages : List Package) (project : Project) (orders : List (List ℕ)) → AreOrders project packages orders → are_orders packages orders ≡ true
 orders-are packages project orders made =

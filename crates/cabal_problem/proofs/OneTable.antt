@@ -12,15 +12,13 @@ use Rattle.std.proofs.lemmas.Map.Keys.{sorted_head, sorted_tail}
 use Rattle.plan_types.specs.declared.index.Package.{Package}
 use Rattle.qualified_goals.specs.Names.{Name, NameTable, AreNumbers, is_listed}
 use Rattle.plan_types.specs.Bytes.{same_text}
+use Rattle.common_laws.specs.Small.{same-is}
 
 abbrev by_bytes : Name → Name → Ordering
 by_bytes = slice_cmp nat_cmp
 
 abbrev IsBefore : Name → List Name → Type 0
 IsBefore name names = AllByRecursion (λ n. by_bytes name n ≡ Less) names
-
-same-is : (a b : Name) → same_text a b ≡ true → a ≡ b
-same-is a b h = (bytes_decides a b).0 h
 
 head-listed : (name : Name) (names : List Name) → is_listed (name ∷ names) name ≡ true
 head-listed name names = ap (λ b. b || is_listed names name) ((bytes_decides name name).1 refl)

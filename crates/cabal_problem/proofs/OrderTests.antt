@@ -1,13 +1,16 @@
 -- The order of the instances of a package passes the test of an order.
-use Rattle.std.proofs.Common.{◌≡◌, ℕ, zero, suc, ◌+◌, ◌<◌, ◌≤◌, true, false, not, ◌&&◌, nat_eq, nat_lt, List, [], ◌∷◌, length, refl, sym, ◌∙◌, subst, inl, inr, arith}
+use Rattle.std.proofs.Common.{◌≡◌, ℕ, zero, suc, ◌+◌, ◌<◌, ◌≤◌, true, false, not, ◌&&◌, nat_eq, nat_lt, List, [], ◌∷◌, length, refl, sym, ◌∙◌, subst, arith}
 use Rattle.std.specs.List.{Contains, AllByRecursion, IsDistinct, list_all, range_with_len}
 use Rattle.std.specs.List.Sorted.{IsPermutation}
 use Rattle.std.proofs.lemmas.Bool.{false≢true, eqb-true, eq-eqb, lt-ltb, and_from}
 use Rattle.std.proofs.lemmas.List.FromFn.{length-range_with_len, get_or-range_with_len}
 use Rattle.std.proofs.lemmas.List.Sorted.{Contains-permutation, IsPermutation-sym, length_permutation}
 use Rattle.std.proofs.lemmas.Map.Keys.{IsDistinct-IsPermutation}
-use Rattle.common_laws.specs.Lists.{contains-none, contains-cases, all-from, any-at, any-from}
+use Rattle.common_laws.specs.Lists.{all-from, any-at}
 use Rattle.choice_problem.specs.Written.{is_among, has_each_below, is_once, is_order}
+use Rattle.choice_problem.specs.WrittenLaws.{each-from}
+use Rattle.solver_index.proofs.ListLaws.{range-has}
+use Rattle.cabal_problem.proofs.Findings.{each-at}
 
 eq-flips : (x y : ℕ) → nat_eq x y ≡ nat_eq y x
 eq-flips x y =
@@ -18,10 +21,6 @@ eq-flips x y =
         | false ↦ λ k. refl
       ] refl
     ] refl
-
-each-at : {X : Type 0} (P : X → Type 0) (xs : List X) (x : X) → AllByRecursion P xs → Contains xs x → P x
-each-at P [] x h k = absurd (contains-none x k)
-each-at P (y ∷ xs) x h k = elim (contains-cases y xs x k) [ inl e ↦ subst P e h.0 | inr r ↦ each-at P xs x h.1 r ]
 
 once-from : (values : List ℕ) → IsDistinct nat_eq values → is_once values ≡ true
 unfolding IsDistinct
@@ -35,11 +34,6 @@ once-from (n ∷ values) h =
       | false ↦ λ e. refl
     ] refl)
     (once-from values h.1)
-
-each-from : (n : ℕ) (values : List ℕ) → ((x : ℕ) → x < n → Contains values x) → has_each_below n values ≡ true
-each-from zero values h = refl
-each-from (suc n) values h =
-    and_from (is_among values n) (has_each_below n values) (any-from (λ m. nat_eq m n) values n (h n (omega arith)) (eq-eqb n n refl)) (each-from n values (λ x less. h x (omega (arith, less))))
 
 range-all : (P : ℕ → Type 0) (a n : ℕ) → ((x : ℕ) → a ≤ x → P x) → AllByRecursion P (range_with_len a n)
 range-all P a zero h = tt
@@ -56,14 +50,8 @@ range-once a (suc n) = (
   range-once (a + 1) n,
 )
 
-range-has : (n x : ℕ) → x < n → Contains (range_with_len 0 n) x
-range-has n x h = (x, omega (arith, length-range_with_len 0 n, h), (let same : 0 + x ≡ x = omega arith in get_or-range_with_len 0 n x x h ∙ same))
-
-range-below : (n x : ℕ) → Contains (range_with_len 0 n) x → x < n
-range-below n x h =
-    let place : h.0 < n = omega (arith, h.1, length-range_with_len 0 n) in
-    let same = sym (get_or-range_with_len 0 n h.0 x place) ∙ h.2 in
-    omega (arith, place, same)
+in-range : (n x : ℕ) → x < n → Contains (range_with_len 0 n) x
+in-range n x h = (x, omega (arith, length-range_with_len 0 n, h), (let same : 0 + x ≡ x = omega arith in get_or-range_with_len 0 n x x h ∙ same))
 
 pub permuted_is_order : (n : ℕ) (values : List ℕ) → IsPermutation (range_with_len 0 n) values → (length values ≡ n) × (is_order values ≡ true)
 permuted_is_order n values h =
@@ -72,8 +60,8 @@ permuted_is_order n values h =
       long,
       and_from (list_all (λ m. nat_lt m (length values)) values) (has_each_below (length values) values && is_once values)
           (all-from (λ m. nat_lt m (length values)) values (λ x k.
-          lt-ltb x (length values) (subst (λ m. x < m) (sym long) (range-below n x (Contains-permutation values (range_with_len 0 n) x back k)))))
+          lt-ltb x (length values) (subst (λ m. x < m) (sym long) (let place = (range-has 0 n x (Contains-permutation values (range_with_len 0 n) x back k)).1 in omega (arith, place)))))
           (and_from (has_each_below (length values) values) (is_once values)
-          (each-from (length values) values (λ x less. Contains-permutation (range_with_len 0 n) values x h (range-has n x (subst (λ m. x < m) long less))))
+          (each-from (length values) values (λ x less. Contains-permutation (range_with_len 0 n) values x h (in-range n x (subst (λ m. x < m) long less))))
           (once-from values (IsDistinct-IsPermutation nat_eq eq-flips (range_with_len 0 n) values h (range-once 0 n)))),
     )

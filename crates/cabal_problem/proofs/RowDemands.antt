@@ -20,18 +20,15 @@ use Rattle.cabal_problem.specs.Variables.{has_kind, is_benchmark, is_suite}
 use Rattle.cabal_problem.specs.ListedDemands.{can_count, dep_demand, flag_demand, flat_demand, flat_demands, has_stanzas, setup_demands, setup_if, source_demands, stanza_if, unit_demands, when_of}
 use Rattle.cabal_problem.specs.Rows.{choice_at, dep_row, flag_row, in_pairs, need_demand, setup_demand_to, source_rows}
 use Rattle.common_laws.specs.Lists.{map-map}
+use Rattle.std.proofs.lemmas.List.{append-nil}
 
 -- ---- pairs
-
-nothing-more : {W : Type 0} (l : List W) → l ++ [] ≡ l
-nothing-more [] = refl
-nothing-more (w ∷ l) = ap (λ m. w ∷ m) (nothing-more l)
 
 pairs-next : {X Y Z : Type 0} (make : X → Y → List Z) (xs : List X) (ys : List Y) (i : ℕ) (x : X) (y : Y) → i < length xs → x ≡ get_or xs i x → i < length ys → y ≡ get_or ys i y
     → in_pairs make (take (suc i) xs) (take (suc i) ys) ≡ in_pairs make (take i xs) (take i ys) ++ make x y
 pairs-next make [] ys i x y h e k f = absurd (omega (arith, h))
 pairs-next make (a ∷ xs) [] i x y h e k f = absurd (omega (arith, k))
-pairs-next make (a ∷ xs) (b ∷ ys) zero x y h e k f = nothing-more (make a b) ∙ (λ j. make (sym e j) (sym f j))
+pairs-next make (a ∷ xs) (b ∷ ys) zero x y h e k f = append-nil (make a b) ∙ (λ j. make (sym e j) (sym f j))
 pairs-next make (a ∷ xs) (b ∷ ys) (suc i) x y h e k f =
     ap (λ l. make a b ++ l) (pairs-next make xs ys i x y (omega (arith, h)) e (omega (arith, k)) f) ∙ sym (append_assoc (make a b) (in_pairs make (take i xs) (take i ys)) (make x y))
 

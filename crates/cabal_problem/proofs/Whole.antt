@@ -2,7 +2,7 @@
 use Rattle.std.proofs.Common.{◌≡◌, ℕ, zero, suc, ◌<◌, Bool, true, false, cond, ◌&&◌, ◌||◌, nat_eq, List, [], ◌∷◌, ◌++◌, length, map, Some, None, refl, sym, ap, ◌∙◌, subst, inl, inr, arith}
 use Rattle.std.specs.Prelude.{Option, Contains}
 use Rattle.std.specs.List.{filter, flat_map, list_all, list_any}
-use Rattle.std.proofs.lemmas.Bool.{false≢true, eqb-true}
+use Rattle.std.proofs.lemmas.Bool.{false≢true, eqb-true, and_right}
 use Rattle.std.proofs.lemmas.List.{map-append}
 use Rattle.std.proofs.lemmas.List.Elements.{Contains-get_or, filter-append}
 use Rattle.plan_types.specs.declared.condition.Env.{Env}
@@ -44,7 +44,7 @@ use Rattle.cabal_problem.specs.WholeDemands.{is_set, parts_under, whole_request,
 use Rattle.cabal_problem.specs.Groups.{AreGroups, AsksForSame, IsGroup, IsInGroups}
 use Rattle.cabal_problem.proofs.Findings.{entry-sound}
 use Rattle.cabal_problem.proofs.GroupLaws.{groups-append, groups-same, listed-there, one-same, requested-there}
-use Rattle.common_laws.specs.Small.{both-ways}
+use Rattle.common_laws.specs.Small.{both-ways, and-or}
 use Rattle.plan_types.specs.Packages.{entries_of}
 
 -- ---- what an assignment makes
@@ -98,14 +98,6 @@ more-kept : (b : Bool) (flat : FlatDep) (flats : List FlatDep) → cond b (flat 
 more-kept true flat flats = refl
 more-kept false flat flats = refl
 
-and-none : (b : Bool) → false ≡ b && false
-and-none true = refl
-and-none false = refl
-
-spread : (a b c : Bool) → (a && b) || (a && c) ≡ a && (b || c)
-spread true b c = refl
-spread false b c = refl
-
 alone-is : (b : Bool) → b ≡ (b && true) || false
 alone-is true = refl
 alone-is false = refl
@@ -132,10 +124,10 @@ module _ (env : Env) (index : Index) (project : Project) (names : NameTable) (or
     yes-is A flat = ap (λ b. is_made A owner && b) (literals-met names owner A flat.when)
 
     any-yes : (A : Assignment) (flats : List FlatDep) → list_any (is_yes A) (map demand flats) ≡ is_made A owner && list_any (λ flat. are_met (parts_under names owner A) flat.when) flats
-    any-yes A [] = and-none (is_made A owner)
+    any-yes A [] = sym (and_right (is_made A owner) false refl)
     any-yes A (flat ∷ flats) =
         (λ i. yes-is A flat i || any-yes A flats i)
-        ∙ spread (is_made A owner) (are_met (parts_under names owner A) flat.when) (list_any (λ f. are_met (parts_under names owner A) f.when) flats)
+        ∙ and-or (is_made A owner) (are_met (parts_under names owner A) flat.when) (list_any (λ f. are_met (parts_under names owner A) f.when) flats)
 
     -- an entry of a dependency asks for the same
     entry-same : (at : Outward) (d : Demand) → Contains (map demand (demands_at env at)) d → AsksForSame (request at) d

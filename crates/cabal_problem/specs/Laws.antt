@@ -2,8 +2,9 @@
 use Rattle.std.specs.Prelude.{◌≡◌, ℕ, zero, suc, ◌<◌, Bool, true, false, cond, not, ◌&&◌, nat_eq, nat_lt, IsTrue, List, [], ◌∷◌, ◌++◌, length, map, filter, flat_map, slice_index_or, Some, None, position, Contains, refl}
 use Rattle.std.specs.List.{list_all, list_any, position_or_len}
 use Rattle.std.proofs.Common.{sym, ap, ◌∙◌, subst, inl, inr, arith}
-use Rattle.std.proofs.lemmas.Bool.{false≢true, eqb-true, cases_lt, ltb-true, lt-ltb, and_parts, and_from}
-use Rattle.std.proofs.lemmas.List.Elements.{Contains-get_or, All-contains}
+use Rattle.std.proofs.lemmas.Bool.{false≢true, eqb-true, cases_lt, ltb-true, ltb-false, lt-ltb, and_parts, and_from}
+use Rattle.std.proofs.lemmas.List.{get_or_past}
+use Rattle.std.proofs.lemmas.List.Elements.{Contains-get_or}
 use Rattle.plan_types.specs.declared.dependency.Dep.{Dep}
 use Rattle.plan_types.specs.declared.dependency.DepKind.{DepKind}
 use Rattle.plan_types.specs.declared.dependency.DepKind.TheVariants as kind
@@ -25,9 +26,9 @@ use Rattle.qualified_goals.specs.Names.{Name, NameTable, number_of}
 use Rattle.choice_problem.specs.declared.problem.Choice.{Choice}
 use Rattle.choice_problem.specs.declared.problem.Demand.{Demand}
 use Rattle.choice_problem.specs.Problem.{Problem, IsChoice, IsBeside, IsOrderBelow, IsRoot, IsOwned, Lawful}
-use Rattle.choice_problem.specs.declared.written.WrittenVar.{WrittenVar}
 use Rattle.choice_problem.specs.Written.{is_order}
-use Rattle.choice_problem.specs.WrittenLaws.{tests-lawful}
+use Rattle.choice_problem.specs.WrittenLaws.{order-at}
+use Rattle.solver_index.proofs.ListLaws.{rising-below}
 use Rattle.common_laws.specs.Lists.{contains-head, contains-tail, contains-none, contains-cases, contains-append, contains-left, contains-right, contains-map, map-contains, contains-filter, flat_map-contains, all-at, any-at, any-from, all-where}
 use Rattle.constraint_set.specs.Bars.{is_number}
 use Rattle.solver_index.specs.Places.{rising, entry_at, no_entry, number, flag_number}
@@ -51,36 +52,12 @@ rising-has (suc n) x h =
       | inr last ↦ let same : n ≡ x = omega arith in subst (λ m. Contains (rising n ++ n ∷ []) m) same (contains-right (rising n) (n ∷ []) n (contains-head n []))
     ]
 
-pub rising-below : (n x : ℕ) → Contains (rising n) x → x < n
-rising-below zero x h = absurd (contains-none x h)
-rising-below (suc n) x h =
-    elim (contains-append (rising n) (n ∷ []) x h) [
-      | inl l ↦ let less = rising-below n x l in omega (arith, less)
-      | inr r ↦ elim (contains-cases n [] x r) [ inl e ↦ omega arith | inr none ↦ absurd (contains-none x none) ]
-    ]
-
 position-below : {X : Type 0} (test : X → Bool) (xs : List X) (n : ℕ) → is_number (position test xs) n ≡ true → n < length xs
 position-below test xs n h =
     elim (nat_lt (position_or_len test xs) (length xs)) as (λ b. nat_lt (position_or_len test xs) (length xs) ≡ b → is_number (cond b (Some (position_or_len test xs)) None) n ≡ true → n < length xs) [
       | true ↦ λ e k. let same = eqb-true (position_or_len test xs) n k in let below = ltb-true (position_or_len test xs) (length xs) e in subst (λ m. m < length xs) same below
       | false ↦ λ e k. absurd (false≢true k)
     ] refl h
-
--- what a list gives behind its end
-beyond : {X : Type 0} (xs : List X) (n : ℕ) (d : X) → (n < length xs → ⊥) → slice_index_or xs n d ≡ d
-beyond [] n d h = refl
-beyond (x ∷ xs) zero d h = absurd (h (omega arith))
-beyond (x ∷ xs) (suc n) d h = beyond xs n d (λ k. h (omega (arith, k)))
-
--- the test of an order, as the laws see it
-abbrev one-written : List ℕ → WrittenVar
-one-written values = record { var = package_var Top 0; order = values; barred = [] }
-
-order-at : (values : List ℕ) → is_order values ≡ true → IsOrderBelow (length values) values
-order-at values h =
-    let w = one-written values in
-    let laws = tests-lawful (w ∷ []) [] [] (and_from (is_order values && true) true (and_from (is_order values) true h refl) refl) in
-    All-contains (λ (u : WrittenVar). IsOrderBelow (length u.order) u.order) (w ∷ []) w laws.orders (contains-head w [])
 
 on-first-order : (on : Bool) → IsOrderBelow 2 (on_first on)
 on-first-order true = order-at (1 ∷ 0 ∷ []) refl
@@ -94,7 +71,7 @@ module _ (packages : List Package) (names : NameTable) where
       elim (nat_lt p (length packages)) as (λ b. nat_lt p (length packages) ≡ b → p < length packages) [
         | true ↦ λ e. ltb-true p (length packages) e
         | false ↦ λ e.
-            let none = beyond packages p (record { name = []; local = false; extra = false; entries = [] }) (λ k. false≢true (sym e ∙ lt-ltb p (length packages) k)) in
+            let none = get_or_past packages p (record { name = []; local = false; extra = false; entries = [] }) (ltb-false p (length packages) e) in
             absurd (false≢true (sym (ap (λ (found : Package). list_any test found.entries) none) ∙ h))
       ] refl
 

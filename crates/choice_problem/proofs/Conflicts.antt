@@ -1,7 +1,7 @@
 -- The set of a conflict admits none with the choice that conflicts, and a choice without a conflict breaks nothing.
 use Rattle.std.proofs.Common.{◌≡◌, ℕ, Bool, true, false, cond, not, ◌&&◌, List, [], ◌∷◌, ◌++◌, length, get_or, Option, Some, None, refl, sym, ap, ◌∙◌, subst, inl, inr, ◌⊎◌, arith}
 use Rattle.std.specs.Prelude.{is_some, find}
-use Rattle.std.specs.List.{Contains, All, filter, flat_map}
+use Rattle.std.specs.List.{Contains, All, flat_map}
 use Rattle.std.proofs.lemmas.Bool.{false≢true, not-true, not-false, and_parts}
 use Rattle.std.proofs.lemmas.List.Elements.{All-contains, Contains-get_or}
 use Rattle.qualified_goals.specs.declared.variable.Var.{Var}
@@ -18,7 +18,7 @@ use Rattle.choice_problem.specs.ConflictSet.{has, set_of}
 use Rattle.choice_problem.specs.Conflict.{named_by, set_of_first, barred_set, refuses, refused_set, is_broken, broken_set, Edge, edges_from, edges_by, edges_of, leads, lies_on_cycle, circular, set_of_all, cycle_set, value_sets, lasting_sets, lasting_set, conflict}
 use Rattle.choice_problem.specs.Sound.{MakesWithin, ConflictsAreSound}
 use Rattle.qualified_goals.specs.SameVariable.{same_var-is, same_var-refl}
-use Rattle.common_laws.specs.Lists.{contains-head, contains-tail, contains-none, contains-cases, contains-left, contains-append, contains-flat_map, flat_map-contains, map-contains, contains-filter, filter-none, filter-contains, any-from, any-at}
+use Rattle.common_laws.specs.Lists.{contains-head, contains-tail, contains-none, contains-cases, contains-left, contains-append, contains-flat_map, flat_map-contains, map-contains, contains-filter, filter-none, filter-contains, any-from, any-at, filter-nothing}
 use Rattle.choice_problem.proofs.Sets.{contains-has, has-set_of}
 use Rattle.choice_problem.proofs.Rules.{first-member, each-none, rest-none}
 use Rattle.choice_problem.proofs.Trails.{value_in-new, demand-general}
@@ -84,15 +84,10 @@ circular-none : (ds : List Demand) (d : Demand) → circular ds ≡ [] → Conta
 unfolding circular
 circular-none ds d h k = filter-none (lies_on_cycle (edges_of ds)) ds h d k
 
-none-passes : (test : Demand → Bool) (ds : List Demand) → ((d : Demand) → Contains ds d → test d ≡ false) → filter test ds ≡ []
-none-passes test [] h = refl
-none-passes test (d ∷ ds) h =
-    ap (λ b. cond b (d ∷ filter test ds) (filter test ds)) (h d (contains-head d ds)) ∙ none-passes test ds (λ x k. h x (contains-tail d ds x k))
-
 -- where no demand lies on a cycle none is circular
 pub acyclic-none : (ds : List Demand) → ((d : Demand) → Contains ds d → lies_on_cycle (edges_of ds) d ≡ false) → circular ds ≡ []
 unfolding circular
-acyclic-none ds h = none-passes (lies_on_cycle (edges_of ds)) ds h
+acyclic-none ds h = filter-nothing (lies_on_cycle (edges_of ds)) ds h
 
 module _ (p : Problem) (lawful : Lawful p) where
   -- an assignment that holds within a set, and makes the choices of a trail within it

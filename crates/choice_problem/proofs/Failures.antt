@@ -9,7 +9,7 @@ use Rattle.choice_problem.specs.declared.outcome.Counts.{Counts}
 use Rattle.choice_problem.specs.Problem.{Problem, IsChoice, IsDemand, Lawful}
 use Rattle.choice_problem.specs.Assignment.{Assignment, is_one_of}
 use Rattle.choice_problem.specs.General.{Request, request_of, general}
-use Rattle.choice_problem.specs.Holds.{IsEdge, IsPath, last, more, HoldsWithin}
+use Rattle.choice_problem.specs.Holds.{IsEdge, HoldsWithin}
 use Rattle.choice_problem.specs.Trail.{with_next, choice_of}
 use Rattle.choice_problem.specs.Active.{least_open, reason}
 use Rattle.choice_problem.specs.ConflictSet.{has, set_of, union}
@@ -17,6 +17,7 @@ use Rattle.choice_problem.specs.Conflict.{conflict}
 use Rattle.choice_problem.specs.Answer.{Found, Failed, GaveUp, Answer, Manner, gives_up, exhausts, one_visited, one_exhausted, after_conflict, of_value, after_end, of_values, answer_from}
 use Rattle.choice_problem.specs.Sound.{MakesWithin, AdmitsNoneWith, FailuresAreSound}
 use Rattle.common_laws.specs.Lists.{contains-head, contains-tail, contains-none, contains-cases}
+use Rattle.choice_problem.proofs.Alike.{path-map}
 use Rattle.choice_problem.proofs.Sets.{contains-has, has-set_of, has-union}
 use Rattle.choice_problem.proofs.Trails.{demand-general, demand-plain, target-known, general-lawful}
 use Rattle.choice_problem.proofs.Active.{value_in-last, yes-from, active-yes, active-demand, IsOpen, least-open, IsReason, reason-of}
@@ -33,10 +34,6 @@ within-some set A v n h =
 
 pub within-at : (set : Var → Bool) (A : Assignment) (v : Var) → set v ≡ true → within set A v ≡ A v
 within-at set A v h = ap (λ b. cond b (A v) None) h
-
-path-map : (E F : Var → Var → Type 0) → ((v w : Var) → E v w → F v w) → (v w : Var) → IsPath E v w → IsPath F v w
-path-map E F f v w (last e) = last (f v w e)
-path-map E F f v x (more {w = w} e path) = more (f v w e) (path-map E F f w x path)
 
 makes-push : (set : List Var) (trail : List Choice) (v : Var) (n : ℕ) (A : Assignment) → MakesWithin set trail A → A v ≡ Some n → MakesWithin set (trail ++ choice_of v n ∷ []) A
 makes-push set trail v n A makes made u k h e =
@@ -76,7 +73,7 @@ module _ (p : Problem) where
           leaves = e.leaves;
           enters = e.enters;
         })
-        v v path);
+        path);
   }
 
   -- with a set that admits none a larger one does neither

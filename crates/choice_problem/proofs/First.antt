@@ -10,15 +10,8 @@ use Rattle.choice_problem.specs.General.{General, LawfulGeneral}
 use Rattle.choice_problem.specs.Trail.{value_in, next_var, choice_of, trail_from, trail_of}
 use Rattle.choice_problem.specs.Valid.{IsWholeValid, IsEarlier, ComesBefore, IsFirst}
 use Rattle.common_laws.specs.Lists.{contains-none, contains-cases, contains-map}
+use Rattle.choice_problem.proofs.Paths.{parted}
 use Rattle.choice_problem.proofs.Trails.{Passes, passes-value, passes-push, value_in-some, open-is, next-open, demand-after, target-known, passes-choices, trail-step, trail-end, trail-stop, trail-front}
-
-contains-split : (xs : List ℕ) (x : ℕ) → Contains xs x → (front : List ℕ) × (rest : List ℕ) × (xs ≡ front ++ x ∷ rest)
-contains-split [] x h = absurd (contains-none x h)
-contains-split (y ∷ xs) x h =
-    elim (contains-cases y xs x h) [
-      | inl e ↦ ([], xs, ap (λ z. z ∷ xs) e)
-      | inr r ↦ let s = contains-split xs x r in (y ∷ s.0, s.1, ap (λ l. y ∷ l) s.2)
-    ]
 
 -- of two items one is earlier
 earlier-one : (xs : List ℕ) (a b : ℕ) → Contains xs a → Contains xs b → (a ≡ b → ⊥) → IsEarlier xs a b ⊎ IsEarlier xs b a
@@ -27,10 +20,10 @@ earlier-one (x ∷ xs) a b h k ne =
     elim (contains-cases x xs a h) [
       | inl e ↦ elim (contains-cases x xs b k) [
         | inl f ↦ absurd (ne (sym e ∙ f))
-        | inr r ↦ let s = contains-split xs b r in inl (subst (λ y. IsEarlier (x ∷ xs) y b) e ([], s.0, s.1, ap (λ l. x ∷ l) s.2))
+        | inr r ↦ let s = parted xs b r in inl (subst (λ y. IsEarlier (x ∷ xs) y b) e ([], s.0, s.1, ap (λ l. x ∷ l) s.2))
       ]
       | inr q ↦ elim (contains-cases x xs b k) [
-        | inl f ↦ let s = contains-split xs a q in inr (subst (λ y. IsEarlier (x ∷ xs) y a) f ([], s.0, s.1, ap (λ l. x ∷ l) s.2))
+        | inl f ↦ let s = parted xs a q in inr (subst (λ y. IsEarlier (x ∷ xs) y a) f ([], s.0, s.1, ap (λ l. x ∷ l) s.2))
         | inr r ↦ elim (earlier-one xs a b q r ne) [
           | inl i ↦ inl (x ∷ i.0, i.1, i.2, ap (λ l. x ∷ l) i.3)
           | inr i ↦ inr (x ∷ i.0, i.1, i.2, ap (λ l. x ∷ l) i.3)

@@ -1,12 +1,12 @@
 -- Ways along edges, and the test that bounds their length.
-use Rattle.std.proofs.Common.{◌≡◌, ℕ, zero, suc, ◌<◌, ◌≤◌, Bool, true, false, cond, not, ◌&&◌, ◌||◌, List, [], ◌∷◌, length, refl, sym, ap, ◌∙◌, subst, inl, inr, ◌⊎◌, arith}
+use Rattle.std.proofs.Common.{◌≡◌, ℕ, zero, suc, ◌<◌, ◌≤◌, Bool, true, false, cond, not, ◌&&◌, List, [], ◌∷◌, ◌++◌, length, refl, sym, ap, ◌∙◌, subst, inl, inr, ◌⊎◌, arith}
 use Rattle.std.specs.List.{Contains, filter, list_any}
 use Rattle.std.proofs.lemmas.Bool.{false≢true, or_cases, or_left, or_right, and_parts, and_from}
 use Rattle.qualified_goals.specs.declared.variable.Var.{Var}
 use Rattle.qualified_goals.specs.Variable.{same_var}
 use Rattle.choice_problem.specs.Conflict.{Edge, leads}
 use Rattle.qualified_goals.specs.SameVariable.{same_var-is, same_var-refl}
-use Rattle.common_laws.specs.Lists.{contains-head, contains-tail, contains-none, contains-cases, contains-filter, filter-contains, any-from, any-at}
+use Rattle.common_laws.specs.Lists.{contains-none, contains-cases, contains-filter, filter-contains, any-from, any-at}
 
 filter-short : {X : Type 0} (test : X → Bool) (xs : List X) → length (filter test xs) ≤ length xs
 filter-short test [] = omega arith
@@ -27,6 +27,15 @@ filter-shorter test (y ∷ xs) x h k =
       ]
       | false ↦ λ is. omega (arith, filter-short test xs)
     ] refl
+
+-- a list parted at one of its members
+pub parted : {X : Type 0} (xs : List X) (x : X) → Contains xs x → (front : List X) × (rest : List X) × (xs ≡ front ++ x ∷ rest)
+parted [] x h = absurd (contains-none x h)
+parted (y ∷ xs) x h =
+    elim (contains-cases y xs x h) [
+      | inl e ↦ ([], xs, ap (λ z. z ∷ xs) e)
+      | inr r ↦ let tail = parted xs x r in (y ∷ tail.0, tail.1, ap (λ l. y ∷ l) tail.2)
+    ]
 
 -- no edge, or one after another
 pub data Way (edges : List Edge) : Var → Var → Type 0 where

@@ -10,12 +10,12 @@ use Rattle.qualified_goals.specs.Variable.{var_cmp, same_var, is_equal}
 use Rattle.qualified_goals.specs.contracts.variable.VarOrd.TheImpl.{cmp-value}
 use Rattle.choice_problem.specs.Table.{entry}
 
-equal-eq : (o : Ordering) → is_eq o ≡ is_equal o
+pub equal-eq : (o : Ordering) → is_eq o ≡ is_equal o
 equal-eq Less = refl
 equal-eq Equal = refl
 equal-eq Greater = refl
 
-derived : (v w : Var) → cmp-value.it v w ≡ var_cmp v w
+pub derived : (v w : Var) → cmp-value.it v w ≡ var_cmp v w
 derived v w = search rules
 
 pub at-same : (v w : Var) → is_at (cmp-value.it v) w ≡ same_var v w

@@ -99,21 +99,15 @@ passes-front A trail more passes c k = passes c (contains-left trail more c k)
 
 -- tests of choices and demands
 
-eqb-is : (m n : ℕ) → nat_eq m n ≡ true → m ≡ n
-eqb-is m n h = eqb-true m n h
-
-eqb-refl : (m : ℕ) → nat_eq m m ≡ true
-eqb-refl m = eq-eqb m m refl
-
 pub is_made-is : (A : Assignment) (c : Choice) → is_made A c ≡ true → A c.var ≡ Some c.val
 is_made-is A c h =
     elim (A c.var) as (λ o. is_one_of o (c.val ∷ []) ≡ true → o ≡ Some c.val) [
       | None ↦ λ k. absurd (false≢true k)
-      | Some n ↦ λ k. ap Some (eqb-is n c.val (elim (nat_eq n c.val) as (λ b. b || false ≡ true → b ≡ true) [ true ↦ λ z. refl | false ↦ λ z. z ] k))
+      | Some n ↦ λ k. ap Some (eqb-true n c.val (elim (nat_eq n c.val) as (λ b. b || false ≡ true → b ≡ true) [ true ↦ λ z. refl | false ↦ λ z. z ] k))
     ] h
 
 pub is_made-from : (A : Assignment) (c : Choice) → A c.var ≡ Some c.val → is_made A c ≡ true
-is_made-from A c h = ap (λ o. is_one_of o (c.val ∷ [])) h ∙ ap (λ b. b || false) (eqb-refl c.val)
+is_made-from A c h = ap (λ o. is_one_of o (c.val ∷ [])) h ∙ ap (λ b. b || false) (eq-eqb c.val c.val refl)
 
 pub passes-yes : (A : Assignment) (trail : List Choice) (d : Demand) → Passes A trail → is_yes (value_in trail) d ≡ true → is_yes A d ≡ true
 passes-yes A trail d passes h =

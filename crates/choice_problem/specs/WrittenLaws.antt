@@ -1,25 +1,21 @@
 -- Lists that pass the tests keep the laws, and those that keep them pass.
-use Rattle.std.specs.Prelude.{◌≡◌, ◌≢◌, ℕ, zero, suc, ◌<◌, Bool, true, false, cond, not, ◌&&◌, ◌||◌, nat_eq, nat_lt, IsTrue, List, [], ◌∷◌, length, get_or, map, filter, All, AllPairs, Contains, refl}
-use Rattle.std.specs.List.{list_all, list_any}
+use Rattle.std.specs.Prelude.{◌≡◌, ◌≢◌, ℕ, zero, suc, ◌<◌, Bool, true, false, cond, not, ◌&&◌, ◌||◌, nat_eq, nat_lt, IsTrue, List, [], ◌∷◌, length, map, filter, All, AllPairs, Contains, refl}
+use Rattle.std.specs.List.{list_all}
 use Rattle.std.proofs.Common.{sym, ap, ◌∙◌, subst, inl, inr, arith}
 use Rattle.std.proofs.lemmas.Bool.{false≢true, eqb-true, eq-eqb, cases_lt, ltb-true, lt-ltb, and_parts, and_from}
 use Rattle.std.proofs.lemmas.List.{length-map}
-use Rattle.std.proofs.lemmas.List.Elements.{All-contains, Contains-get_or}
+use Rattle.std.proofs.lemmas.List.Elements.{All-contains}
 use Rattle.qualified_goals.specs.declared.variable.Var.{Var}
 use Rattle.choice_problem.specs.declared.problem.Choice.{Choice}
 use Rattle.choice_problem.specs.declared.problem.Demand.{Demand}
 use Rattle.choice_problem.specs.declared.written.WrittenVar.{WrittenVar}
 use Rattle.qualified_goals.specs.Variable.{qual_cmp, is_equal, same_var}
 use Rattle.choice_problem.specs.Problem.{Problem, IsOrderBelow, IsBeside, IsRoot, IsOwned, Lawful}
+use Rattle.choice_problem.specs.Trail.{choice_of}
 use Rattle.choice_problem.specs.Written.{is_among, is_listed, order_of, begins_with, problem_of, AreLawful, has_each_below, is_once, is_order, are_listed_once, is_beside, is_empty, is_condition, are_lawful}
-use Rattle.common_laws.specs.Lists.{contains-head, contains-tail, contains-none, contains-cases, contains-filter, map-contains, all-at, all-from, any-at, any-from, all-where, pairs-cons, pairs-head, pairs-tail, pairs-nil}
+use Rattle.common_laws.specs.Lists.{contains-head, contains-tail, contains-filter, map-contains, all-at, all-from, any-at, any-from, all-where, pairs-cons, pairs-head, pairs-tail, pairs-nil}
 use Rattle.qualified_goals.specs.SameVariable.{is_equal-is, qual-is, qual-refl, same_var-is, same_var-refl}
 use Rattle.common_laws.specs.Small.{not-from, not-to}
-
-abbrev choice_with : Var → ℕ → Choice
-choice_with v n = record { var = v; val = n }
-
--- pairs
 
 -- orders
 
@@ -37,7 +33,8 @@ each-at (suc n) values h x below =
       | inr last ↦ let same : n ≡ x = omega arith in subst (λ m. Contains values m) same (among-at values n ((and_parts (is_among values n) (has_each_below n values) h).0))
     ]
 
-each-from : (n : ℕ) (values : List ℕ) → ((x : ℕ) → x < n → Contains values x) → has_each_below n values ≡ true
+-- what holds each number below a bound passes the test
+pub each-from : (n : ℕ) (values : List ℕ) → ((x : ℕ) → x < n → Contains values x) → has_each_below n values ≡ true
 each-from zero values h = refl
 each-from (suc n) values h = and_from (is_among values n) (has_each_below n values) (among-from values n (h n (omega arith))) (each-from n values (λ x less. h x (omega (arith, less))))
 
@@ -55,10 +52,11 @@ once-from (n ∷ values) h =
     (not-from (is_among values n) (λ k. pairs-head (λ (x y : ℕ). x ≢ y) n values n h (among-at values n k) refl))
     (once-from values (pairs-tail (λ (x y : ℕ). x ≢ y) n values h))
 
-abbrev IsOrder : List ℕ → Type 0
+abbrev pub IsOrder : List ℕ → Type 0
 IsOrder values = IsOrderBelow (length values) values
 
-order-at : (values : List ℕ) → is_order values ≡ true → IsOrder values
+-- what passes the test of an order is one
+pub order-at : (values : List ℕ) → is_order values ≡ true → IsOrder values
 order-at values h =
     let below = list_all (λ n. nat_lt n (length values)) values in
     let rest = (and_parts below (has_each_below (length values) values && is_once values) h).1 in
@@ -203,7 +201,7 @@ module _ (variables : List WrittenVar) (roots demands : List Demand) where
       let both = sym (ap (begins_with owner) e) ∙ h in
       let vars = same_var-is first.var owner.var ((and_parts (same_var first.var owner.var) (nat_eq first.val owner.val) both).0) in
       let vals = eqb-true first.val owner.val ((and_parts (same_var first.var owner.var) (nat_eq first.val owner.val) both).1) in
-      ap (λ v. choice_with v first.val) vars ∙ ap (choice_with owner.var) vals
+      ap (λ v. choice_of v first.val) vars ∙ ap (choice_of owner.var) vals
 
   owned-at : (owner : Choice) → All IsOwnedByOne demands → All (IsOwned written owner) (filter (λ d. begins_with owner d.when) demands)
   owned-at owner h =

@@ -6,24 +6,9 @@ use Rattle.std.proofs.Math.Seq.{set-append_seam, get_or-append_seam}
 use Rattle.std.proofs.Math.ListN.{get_or-append}
 use Rattle.std.proofs.lemmas.List.Elements.{All-push, All-nil}
 use Rattle.choice_problem.specs.Trail.{choice_of}
+use Rattle.choice_problem.proofs.TrailEnds.{snoc-same}
 use Rattle.choice_tree.specs.declared.tree.Node.{Node}
 use Rattle.choice_tree.specs.Tree.{stepped, values_left, choice_at, Gives, GivesNext, HasGiven, IsGrown}
-
-pub snoc-nil : {X : Type 0} (ys : List X) (y : X) → [] ≡ ys ++ y ∷ [] → ⊥
-snoc-nil [] y h = cc h
-snoc-nil (z ∷ ys) y h = cc h
-
-pub snoc-front : {X : Type 0} (xs ys : List X) (x y : X) → xs ++ x ∷ [] ≡ ys ++ y ∷ [] → xs ≡ ys
-snoc-front [] [] x y h = refl
-snoc-front [] (z ∷ ys) x y h = absurd (snoc-nil ys y (cc h))
-snoc-front (z ∷ xs) [] x y h = absurd (snoc-nil xs x (cc h))
-snoc-front (z ∷ xs) (w ∷ ys) x y h = let rest = snoc-front xs ys x y (cc h) in ap (λ (l : _). z ∷ l) rest ∙ ap (λ u. u ∷ ys) (cc h)
-
-pub snoc-last : {X : Type 0} (xs ys : List X) (x y : X) → xs ++ x ∷ [] ≡ ys ++ y ∷ [] → x ≡ y
-snoc-last [] [] x y h = cc h
-snoc-last [] (z ∷ ys) x y h = absurd (snoc-nil ys y (cc h))
-snoc-last (z ∷ xs) [] x y h = absurd (snoc-nil xs x (cc h))
-snoc-last (z ∷ xs) (w ∷ ys) x y h = snoc-last xs ys x y (cc h)
 
 -- a list has a last item, or is empty
 pub data ByLast {X : Type 0} (xs : List X) : Type 0 where
@@ -51,7 +36,7 @@ all-given nodes grown last_given =
 pub grown-push : (nodes : List Node) (node : Node) → IsGrown nodes → HasGiven nodes → IsWithin node → IsGrown (nodes ++ node ∷ [])
 grown-push nodes node grown last_given within = record {
   within = All-push IsWithin nodes node grown.within within;
-  given = λ outer last e. subst (All GaveOne) (snoc-front nodes outer node last e) (all-given nodes grown last_given);
+  given = λ outer last e. subst (All GaveOne) (snoc-same nodes node outer last e).0 (all-given nodes grown last_given);
 }
 
 front-within : (outer : List Node) (node : Node) → All IsWithin (outer ++ node ∷ []) → All IsWithin outer
@@ -61,7 +46,7 @@ front-within outer node h k d below =
 pub grown-step : (outer : List Node) (node new : Node) → IsGrown (outer ++ node ∷ []) → IsWithin new → IsGrown (outer ++ new ∷ [])
 grown-step outer node new grown within = record {
   within = All-push IsWithin outer new (front-within outer node grown.within) within;
-  given = λ front last e. grown.given front node (ap (λ l. l ++ node ∷ []) (snoc-front outer front new last e));
+  given = λ front last e. grown.given front node (ap (λ l. l ++ node ∷ []) (snoc-same outer new front last e).0);
 }
 
 pub set-last : {X : Type 0} (xs outer : List X) (x new : X) (i : ℕ) → xs ≡ outer ++ x ∷ [] → i ≡ length xs - 1 → slice_set xs i new ≡ outer ++ new ∷ []

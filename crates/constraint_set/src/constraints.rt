@@ -13,9 +13,9 @@ ghost use Rattle.constraint_set.specs.Rules.{is_set, rule_bars, settings_at};
 ghost use Rattle.constraint_set.specs.Stands.{StandsFor};
 
 use crate::lists::items_at;
-use crate::relaxing::{copied, relaxes};
+use crate::relaxing::Relaxing;
 use crate::rules::{PartOf, Rules, Setting, is_unit};
-use plan_types::{Instance, List, NoMemory, Project, Range, Relax};
+use plan_types::{Instance, NoMemory, Project, Range, Text};
 use qualified_goals::{Names, Part, Var};
 use std::alloc::Global;
 use version_range::Cuts;
@@ -25,8 +25,8 @@ use version_range::Cuts;
 #[derive(Debug, Drop)]
 pub struct Constraints {
     rules: Rules,
-    newer: List<Relax>,
-    older: List<Relax>,
+    newer: Relaxing,
+    older: Relaxing,
     tests: bool,
     benchmarks: bool,
     boot_installs: bool,
@@ -38,8 +38,8 @@ impl Constraints {
         ensures { IfOk result (λ kept. StandsFor project.now names.now kept) }
     {
         let rules = Rules::of(alloc, project.constraints.as_slice(), names)?;
-        let newer = copied(alloc, project.newer.as_slice())?;
-        let older = copied(alloc, project.older.as_slice())?;
+        let newer = Relaxing::of(alloc, project.newer.as_slice())?;
+        let older = Relaxing::of(alloc, project.older.as_slice())?;
         Ok(Constraints {
             rules,
             newer,
@@ -76,15 +76,15 @@ impl Constraints {
         &self,
         alloc: Global,
         owner: &Instance,
-        dep: &str,
+        dep: &Text,
         range: &Range,
     ) -> Result<Cuts, NoMemory>
         requires { has_versions range.now ≡ true }
         ensures { (project : Project) (names : NameTable) → StandsFor project names self.now →
             IfOk result (λ cuts. Relaxes (relaxes project.newer owner.now dep.now) (relaxes project.older owner.now dep.now) (members range.now) (inside cuts)) }
     {
-        let newer = relaxes(self.newer.as_slice(), owner, dep);
-        let older = relaxes(self.older.as_slice(), owner, dep);
+        let newer = self.newer.relaxes(owner, dep);
+        let older = self.older.relaxes(owner, dep);
         let mut cuts = Cuts::of(alloc, range)?;
         let_newer(&mut cuts, newer);
         let_older(&mut cuts, older);

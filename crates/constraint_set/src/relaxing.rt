@@ -1,15 +1,94 @@
-// Whose ranges a project relaxes.
-ghost use Rattle.std.specs.Prelude.{◌≡◌, IfOk};
-ghost use Rattle.constraint_set.specs.Relaxed.{is_dep, is_owner, is_version, relaxes};
+// Whose ranges a project relaxes, found by the names that it speaks of.
+ghost use Rattle.std.specs.Prelude.{◌≡◌, ◌++◌, [], ◌∷◌, IfOk, OnOk, if◌then◌else◌};
+ghost use Rattle.std.specs.List.{list_any};
+ghost use Rattle.qualified_goals.specs.Names.{Name};
+ghost use Rattle.plan_types.specs.Bytes.{same_text};
+ghost use Rattle.constraint_set.specs.Lists.{items_at};
+ghost use Rattle.constraint_set.specs.Relaxed.{is_owner, is_version};
+ghost use Rattle.constraint_set.specs.Relaxing.{AddsOwner, AddsRelax, RelaxesAs, is_relaxing};
 
-use plan_types::{Instance, List, NoMemory, Relax, RelaxOwner, Text, Version};
+use crate::lists::{Lists, items_at, push_at};
+use indexmap::IndexMap;
+use plan_types::{Instance, NoMemory, Relax, RelaxOwner, Text, Version};
 use std::alloc::Global;
 
-/// Whether one of these relaxes the dependencies of an instance on a package.
-pub(crate) fn relaxes(relaxed: &[Relax], owner: &Instance, dep: &str) -> bool
-    ensures { result ≡ relaxes relaxed.now owner.now dep.now }
+/// Whose ranges are relaxed.
+#[derive(Debug, Drop)]
+pub(crate) struct Relaxing {
+    /// Those of every package, whatever they depend on.
+    pub everything: bool,
+    /// By its own name those of a package, whatever they depend on.
+    pub owners: Lists<Text, RelaxOwner>,
+    /// By the name of a dependency those on it.
+    pub dependencies: Lists<Text, RelaxOwner>,
+}
+
+impl Relaxing {
+    /// What a project relaxes.
+    pub(crate) fn of(alloc: Global, relaxed: &[Relax]) -> Result<Relaxing, NoMemory>
+        ensures { IfOk result (RelaxesAs relaxed.now) }
+    {
+        let mut kept = Relaxing {
+            everything: false,
+            owners: IndexMap::new(alloc),
+            dependencies: IndexMap::new(alloc),
+        };
+        for relax in relaxed {
+            kept.add(alloc, relax)?;
+        }
+        Ok(kept)
+    }
+
+    fn add(&mut self, alloc: Global, relax: &Relax) -> Result<(), NoMemory>
+        ensures { OnOk result (AddsRelax self.old self.new relax.now) }
+    {
+        match &relax.dep {
+            Some(dep) => push_owner(alloc, &mut self.dependencies, dep, &relax.owner),
+            None => self.add_owner(alloc, &relax.owner),
+        }
+    }
+
+    fn add_owner(&mut self, alloc: Global, owner: &RelaxOwner) -> Result<(), NoMemory>
+        ensures { OnOk result (AddsOwner self.old self.new owner.now) }
+    {
+        match owner {
+            RelaxOwner::Any => {
+                self.everything = true;
+                Ok(())
+            }
+            RelaxOwner::Package(name) => push_owner(alloc, &mut self.owners, name, owner),
+            RelaxOwner::Release(name, _) => push_owner(alloc, &mut self.owners, name, owner),
+        }
+    }
+
+    /// Whether the dependencies of an instance on a package are relaxed.
+    pub(crate) fn relaxes(&self, owner: &Instance, dep: &Text) -> bool
+        ensures { result ≡ is_relaxing self.now owner.now dep.now }
+    {
+        self.everything
+            || is_one_of(items_at(&self.owners, &owner.name), owner)
+            || is_one_of(items_at(&self.dependencies, dep), owner)
+    }
+}
+
+fn push_owner(
+    alloc: Global,
+    lists: &mut Lists<Text, RelaxOwner>,
+    name: &Text,
+    owner: &RelaxOwner,
+) -> Result<(), NoMemory>
+    ensures { OnOk result ((k : Name) → items_at same_text lists.new k
+        ≡ items_at same_text lists.old k ++ (if same_text name.now k then owner.now ∷ [] else [])) }
 {
-    relaxed.iter().any(|relax| is_owner(&relax.owner, owner) && is_dep(&relax.dep, dep))
+    let key = name.copy()?;
+    let owner = copied_owner(alloc, owner)?;
+    push_at(alloc, lists, key, owner)
+}
+
+fn is_one_of(owners: &[RelaxOwner], instance: &Instance) -> bool
+    ensures { result ≡ list_any (λ o. is_owner o instance.now) owners.now }
+{
+    owners.iter().any(|owner| is_owner(owner, instance))
 }
 
 fn is_owner(owner: &RelaxOwner, instance: &Instance) -> bool
@@ -30,33 +109,6 @@ fn is_version(version: &Version, other: &Version) -> bool
     version.parts.as_slice() == other.parts.as_slice()
 }
 
-fn is_dep(name: &Option<Text>, dep: &str) -> bool
-    ensures { result ≡ is_dep name.now dep.now }
-{
-    match name {
-        Some(name) => name.as_str() == dep,
-        None => true,
-    }
-}
-
-pub(crate) fn copied(alloc: Global, relaxed: &[Relax]) -> Result<List<Relax>, NoMemory>
-    ensures { IfOk result (λ copy. copy ≡ relaxed.now) }
-{
-    let mut copy = List::new(alloc);
-    for relax in relaxed {
-        copy.push(copied_one(alloc, relax)?)?;
-    }
-    Ok(copy)
-}
-
-fn copied_one(alloc: Global, relax: &Relax) -> Result<Relax, NoMemory>
-    ensures { IfOk result (λ copy. copy ≡ relax.now) }
-{
-    let owner = copied_owner(alloc, &relax.owner)?;
-    let dep = copied_dep(&relax.dep)?;
-    Ok(Relax { owner, dep })
-}
-
 fn copied_owner(alloc: Global, owner: &RelaxOwner) -> Result<RelaxOwner, NoMemory>
     ensures { IfOk result (λ copy. copy ≡ owner.now) }
 {
@@ -71,17 +123,5 @@ fn copied_owner(alloc: Global, owner: &RelaxOwner) -> Result<RelaxOwner, NoMemor
             let version = version.copy(alloc)?;
             Ok(RelaxOwner::Release(name, version))
         }
-    }
-}
-
-fn copied_dep(dep: &Option<Text>) -> Result<Option<Text>, NoMemory>
-    ensures { IfOk result (λ copy. copy ≡ dep.now) }
-{
-    match dep {
-        Some(name) => {
-            let name = name.copy()?;
-            Ok(Some(name))
-        }
-        None => Ok(None),
     }
 }

@@ -1,29 +1,29 @@
 -- Chains: what one that changes leaves of the others.
-use Rattle.std.proofs.Common.{◌≡◌, ℕ, zero, suc, ◌+◌, ◌<◌, arith, length, map, eqb, eqb-true, eq-eqb, true, false, cond, List, [], ◌∷◌, ◌++◌, Option, Some, None, IfSome, IsTrue, refl, sym, ap, ◌∙◌, subst, inl, inr, ◌⊎◌, get_or, take, drop, append-nil}
+use Rattle.std.proofs.Common.{◌≡◌, ℕ, zero, suc, ◌+◌, ◌<◌, arith, length, eqb, eqb-true, eq-eqb, true, false, cond, List, [], ◌∷◌, ◌++◌, Option, Some, None, IfSome, IsTrue, refl, sym, ap, ◌∙◌, subst, inl, inr, ◌⊎◌, get_or, take, drop, append-nil}
 use Rattle.std.specs.List.{Contains}
 use Rattle.std.proofs.Math.ListN.{set}
 use Rattle.std.proofs.Math.Seq.{ext_get_or}
-use Rattle.std.proofs.lemmas.List.{length-set, get_or-set_same, get_or-set_other, get_or-map, get_or_append_left, length-append, map-append}
+use Rattle.std.proofs.lemmas.List.{length-set, get_or-set_same, get_or-set_other, get_or-map, get_or_append_left, length-append, map-append, length-map}
 use Rattle.std.proofs.lemmas.Bool.{false≢true}
-use Rattle.common_laws.specs.Lists.{contains-head, contains-tail, contains-left, contains-right, contains-append, contains-none, contains-cases}
+use Rattle.common_laws.specs.Lists.{contains-head, contains-tail, contains-left, contains-right, contains-append, contains-none, contains-cases, get-any}
 use Rattle.goal_links.specs.declared.ring.Node.{Node}
 use Rattle.goal_links.specs.declared.chains.Cell.{Cell}
 use Rattle.goal_links.specs.Beside.{last_of, first_of, behind_first}
 use Rattle.goal_links.specs.Ring.{IsPath, IsRing, no_node, ring_of, next_at, prev_at, with_place, IsWithin}
 use Rattle.goal_links.specs.Row.{has_node, without_node, behind}
-use Rattle.goal_links.specs.Chains.{Chained, no_cell, cell_at, chain_at, chain_with, without_last, ends_at, chains_of, AreChains}
+use Rattle.goal_links.specs.Chains.{Chained, no_cell, cell_at, chain_at, chain_with, without_last, shortened, ends_at, chains_of, AreChains}
 use Rattle.goal_links.proofs.Paths.{path-stays, path-last, path-first, last-contains, not-last, not-first}
 use Rattle.goal_links.proofs.Rings.{has-contains, ring-once, ring-within, ring-is}
 use Rattle.goal_links.proofs.Nodes.{not-in, contains-has, without-parted, apart-front, apart-back}
 use Rattle.goal_links.proofs.Rows.{row-linked, row-unlinked, written, AreSame, same-elsewhere, gap-within, node-parted, sides-within, linked-next, ring-pushed}
 
-pub map-length : {X Y : Type 0} (f : X → Y) (xs : List X) → length (map f xs) ≡ length xs
-map-length f [] = refl
-map-length f (x ∷ xs) = ap suc (map-length f xs)
-
 -- the chain of an entry is the ring from its ends
 pub chain-is : (ends nodes : List Node) (entry : ℕ) → entry < length ends → chain_at (chains_of ends nodes) entry ≡ ring_of (ends_at ends entry) nodes
 chain-is ends nodes entry h = get_or-map (λ e. ring_of e nodes) ends entry no_node [] h
+
+-- an entry that has a chain has ends
+pub chain-fits : (ends nodes : List Node) (chains : List (List ℕ)) (entry : ℕ) → chains_of ends nodes ≡ chains → entry < length chains → entry < length ends
+chain-fits ends nodes chains entry e h = omega (arith, h, ap length e, length-map ends (λ (x : Node). ring_of x nodes))
 
 -- one chain changes, and the nodes of others don't
 pub chain-changed : (ends nodes nodes2 : List Node) (cells : List Cell) (entry : ℕ) (end2 : Node) (ns2 : List ℕ) → AreChains ends nodes cells → entry < length ends
@@ -64,15 +64,15 @@ chain-changed ends nodes nodes2 cells entry end2 ns2 h within len ring is owned 
         entries = λ k lt. let old = h.entries k lt in omega (arith, old, lens);
       },
       ext_get_or [] (chains_of ends2 nodes2) (set (chains_of ends nodes) entry ns2)
-          (map-length (λ e. ring_of e nodes2) ends2 ∙ lens ∙ sym (length-set (chains_of ends nodes) entry ns2 ∙ map-length (λ e. ring_of e nodes) ends))
+          (length-map ends2 (λ e. ring_of e nodes2) ∙ lens ∙ sym (length-set (chains_of ends nodes) entry ns2 ∙ length-map ends (λ e. ring_of e nodes)))
           (λ e lt.
-          let in2 : e < length ends2 = omega (arith, lt, map-length (λ e. ring_of e nodes2) ends2) in
+          let in2 : e < length ends2 = omega (arith, lt, length-map ends2 (λ e. ring_of e nodes2)) in
           let in1 : e < length ends = omega (arith, in2, lens) in
           get_or-map (λ e. ring_of e nodes2) ends2 e no_node [] in2
           ∙ elim (eqb e entry) as (λ b. eqb e entry ≡ b → ring_of (ends_at ends2 e) nodes2 ≡ get_or (set (chains_of ends nodes) entry ns2) e []) [
             | true ↦ λ i.
                 let j = eqb-true e entry i in
-                let fits : entry < length (chains_of ends nodes) = omega (arith, within, map-length (λ e. ring_of e nodes) ends) in
+                let fits : entry < length (chains_of ends nodes) = omega (arith, within, length-map ends (λ e. ring_of e nodes)) in
                 ap (λ (x : Node). ring_of x nodes2) (ap (ends_at ends2) j ∙ here) ∙ is
                 ∙ sym (get_or-set_same (chains_of ends nodes) entry ns2 [] fits) ∙ ap (λ m. get_or (set (chains_of ends nodes) entry ns2) m []) (sym j)
             | false ↦ λ i.
@@ -356,6 +356,110 @@ pub cell-owner : (ends nodes : List Node) (cells : List Cell) → AreChains ends
     → IfSome o (λ n. (cell_at now.cells n).entry ≡ entry)
 cell-owner ends nodes cells h entry fits now is None c = tt
 cell-owner ends nodes cells h entry fits now is (Some n) c = ap (λ (v : Chained). (cell_at v.cells n).entry) (sym is) ∙ h.owned entry n fits c
+
+-- a cell that is told is one of the chain of an entry
+pub record Tells (now : Chained) (entry : ℕ) (o : Option ℕ) : Type 0 where
+  pub within : IfSome o (λ n. n < length now.cells)
+  pub linked : IfSome o (λ n. IsTrue (has_node (chain_with now n) n))
+  pub owner : IfSome o (λ n. (cell_at now.cells n).entry ≡ entry)
+
+module _ (ends nodes : List Node) (cells : List Cell) (h : AreChains ends nodes cells) (now : Chained) (is : chained cells (chains_of ends nodes) ≡ now) where
+  tells : (entry : ℕ) → entry < length ends → (o : Option ℕ) → IfSome o (λ n. n < length cells) → IfSome o (λ n. Contains (ring_of (ends_at ends entry) nodes) n) → Tells now entry o
+  tells entry fits o within inside = record {
+    within = subst (λ (v : Chained). IfSome o (λ n. n < length v.cells)) is within;
+    linked = in-own-chain ends nodes cells h entry fits now is o inside;
+    owner = cell-owner ends nodes cells h entry fits now is o inside;
+  }
+
+  -- the ends of a chain
+  module _ (entry : ℕ) (has : entry < length now.chains) (end : Node) (end-is : end ≡ get_or ends entry end) where
+    end-fits : entry < length ends
+    end-fits = chain-fits ends nodes now.chains entry (ap (λ (v : Chained). v.chains) is) has
+
+    end-at : end ≡ ends_at ends entry
+    end-at = end-is ∙ get-any ends entry end no_node end-fits
+
+    pub first-tells : Tells now entry end.next
+    first-tells =
+        let told = ap (λ (n : Node). n.next) end-at in
+        tells entry end-fits end.next (subst (λ (o : Option ℕ). IfSome o (λ n. n < length cells)) (sym told) (first-within ends nodes cells h entry end-fits))
+        (first-in end.next (ring_of (ends_at ends entry) nodes) (told ∙ chain-first ends nodes cells h entry end-fits ∙ ap first_of (chain-is ends nodes entry end-fits)))
+
+    pub last-told : end.prev ≡ last_of (chain_at now.chains entry)
+    last-told = ap (λ (n : Node). n.prev) end-at ∙ chain-last ends nodes cells h entry end-fits ∙ ap (λ (v : Chained). last_of (chain_at v.chains entry)) is
+
+    pub last-tells : Tells now entry end.prev
+    last-tells =
+        let told = ap (λ (n : Node). n.prev) end-at in
+        tells entry end-fits end.prev (subst (λ (o : Option ℕ). IfSome o (λ n. n < length cells)) (sym told) (last-within ends nodes cells h entry end-fits))
+        (last-in end.prev (ring_of (ends_at ends entry) nodes) (told ∙ chain-last ends nodes cells h entry end-fits ∙ ap last_of (chain-is ends nodes entry end-fits)))
+
+  module _ (cell : ℕ) (has : cell < length now.cells) where
+    cell-fits : cell < length cells
+    cell-fits = omega (arith, has, ap (λ (v : Chained). length v.cells) is)
+
+    -- the cell behind one that is linked
+    module _ (linked : has_node (chain_with now cell) cell ≡ true) (node : Node) (node-is : node ≡ get_or nodes cell node) where
+      abbrev own : ℕ
+      own = (cell_at cells cell).entry
+
+      own-fits : own < length ends
+      own-fits = h.entries cell cell-fits
+
+      in-own : has_node (chain_at (chains_of ends nodes) own) cell ≡ true
+      in-own = ap (λ (v : Chained). has_node (chain_with v cell) cell) is ∙ linked
+
+      node-at : node ≡ get_or nodes cell no_node
+      node-at = node-is ∙ get-any nodes cell node no_node (cell-within ends nodes cells h own own-fits cell in-own)
+
+      pub next-told : node.next ≡ first_of (behind (Some cell) (chain_with now cell))
+      next-told =
+          ap (λ (n : Node). n.next) node-at ∙ cell-next ends nodes cells h own own-fits cell in-own
+          ∙ ap (λ (v : Chained). first_of (behind (Some cell) (chain_with v cell))) is
+
+      pub next-tells : Tells now (cell_at now.cells cell).entry node.next
+      next-tells =
+          let told = ap (λ (n : Node). n.next) node-at in
+          let ring = ring_of (ends_at ends own) nodes in
+          subst (λ (v : Chained). Tells now (cell_at v.cells cell).entry node.next) is
+          (tells own own-fits node.next (subst (λ (o : Option ℕ). IfSome o (λ n. n < length cells)) (sym told) (next-within ends nodes cells h own own-fits cell in-own))
+          (some-more node.next (λ n. Contains (behind (Some cell) ring) n) (λ n. Contains ring n) (λ n d. behind-in ring cell n d)
+          (first-in node.next (behind (Some cell) ring)
+          (told ∙ cell-next ends nodes cells h own own-fits cell in-own ∙ ap (λ (l : List ℕ). first_of (behind (Some cell) l)) (chain-is ends nodes own own-fits)))))
+
+    -- the last cell is taken off its chain
+    module _ (last : last_of (chain_with now cell) ≡ Some cell) (row : Cell) (row-is : row ≡ get_or cells cell row) (mid : List Node) (mid-is : mid ≡ nodes)
+        (end : Node) (end-is : end ≡ get_or ends row.entry end) where
+      row-entry : row.entry ≡ (cell_at cells cell).entry
+      row-entry = ap (λ (x : Cell). x.entry) (row-is ∙ get-any cells cell row no_cell cell-fits)
+
+      row-end : end ≡ ends_at ends row.entry
+      row-end = end-is ∙ get-any ends row.entry end no_node (entry-fits ends nodes cells h cell row.entry cell-fits row-entry)
+
+      row-last : last_of (chain_at (chains_of ends nodes) row.entry) ≡ Some cell
+      row-last = ap (λ n. last_of (chain_at (chains_of ends nodes) n)) row-entry ∙ ap (λ (v : Chained). last_of (chain_with v cell)) is ∙ last
+
+      pub off-prev : IsWithin (length mid) (prev_at end mid (Some cell))
+      off-prev = shortened-prev ends nodes cells h cell row.entry cell-fits row-entry row-last mid mid-is end row-end
+
+      pub off-next : IsWithin (length mid) (next_at end mid (Some cell))
+      off-next = shortened-next ends nodes cells h cell row.entry cell-fits row-entry row-last mid mid-is end row-end
+
+      pub off-chains : (end2 : Node) (new old : List Node) (len : ℕ)
+          → ((at : Option ℕ) → next_at end2 new at ≡ with_place (prev_at end mid (Some cell)) (next_at end mid (Some cell)) (next_at end mid) at)
+          → ((at : Option ℕ) → prev_at end2 new at ≡ with_place (next_at end mid (Some cell)) (prev_at end mid (Some cell)) (prev_at end mid) at)
+          → length new ≡ length mid → len ≡ length nodes
+          → AreChains (set ends row.entry end2) (take len (new ++ drop (length new) old)) cells
+          × (chained cells (chains_of (set ends row.entry end2) (take len (new ++ drop (length new) old))) ≡ shortened now cell)
+      off-chains end2 new old len on back same all =
+          let chains = shortened-chains ends nodes cells h cell row.entry cell-fits row-entry row-last mid mid-is end row-end end2 new old len on back same all in
+          let before = chains_of ends nodes in (
+            chains.0,
+            chained-is cells cells (chains_of (set ends row.entry end2) (take len (new ++ drop (length new) old)))
+                (set before (cell_at cells cell).entry (without_last (chain_at before (cell_at cells cell).entry))) refl
+                (chains.1 ∙ ap (λ n. set before n (without_last (chain_at before n))) row-entry)
+                ∙ ap (λ (v : Chained). shortened v cell) is,
+          )
 
 -- a cell that comes next is in no chain
 pub outside-all : (ends nodes : List Node) (cells : List Cell) → AreChains ends nodes cells → (entry : ℕ) → entry < length ends

@@ -14,13 +14,15 @@ use Rattle.qualified_goals.proofs.Order.{before-itself, before-trans, before-bac
 use Rattle.choice_problem.specs.ConflictSet.{is_rising, has, with_var, without}
 use Rattle.choice_problem.proofs.Sets.{same-not, before-not-same, same-back, rising-tail, rising-with_var, rising-below, rising-same, has-with_var, contains-has, has-contains as has-in}
 use Rattle.choice_problem.proofs.InOrder.{rising-without, has-without}
+use Rattle.choice_problem.proofs.Paths.{parted}
 use Rattle.goal_links.specs.Beside.{last_from, last_of, first_of, beside_from, beside, behind_first}
-use Rattle.goal_links.specs.Row.{Line, has_node, without_node, behind, StandsIn, AreBelow, with_node, unlinked}
+use Rattle.goal_links.specs.Row.{Line, has_node, without_node, behind, StandsIn, AreBelow, IsGap, IsParted, with_node, unlinked}
 use Rattle.goal_links.specs.Chains.{Chained, with_chain}
 use Rattle.goal_links.specs.Links.{Entries, no_var, var_at, sides_in, entries_of, AreAround, AreLinks, MayReturn, WasLinked, registered, linked as put, unlinked as taken}
-use Rattle.goal_links.proofs.Paths.{AreOnce, parted, last-contains}
+use Rattle.goal_links.proofs.Paths.{AreOnce, last-contains}
 use Rattle.goal_links.proofs.Rings.{has-contains}
 use Rattle.goal_links.proofs.Nodes.{contains-has as node-has, hasn't, has-itself, behind-front}
+use Rattle.goal_links.proofs.Rows.{place-parted}
 use Rattle.goal_links.proofs.Mapped.{any-mapped, filter-mapped, behind-mapped, first-mapped, last-mapped, beside-mapped, map-parted, map-alike, get-contains, get-set, get-push, get-last}
 
 -- a variable put between those that are before it and those behind it
@@ -327,6 +329,33 @@ module _ (vars : List Var) (row : Line) (hint : Option ℕ) (chains : Chained) (
         subst (λ o. IfSome o (λ m. is_before (var_at vars m) (var_at vars n) ≡ true)) (sym left) (some-holds sides.0 (λ m. is_before (var_at vars m) (var_at vars n) ≡ true) around.left),
         subst (λ o. IfSome o (λ m. is_before (var_at vars n) (var_at vars m) ≡ true)) (sym right) (some-holds sides.1 (λ m. is_before (var_at vars n) (var_at vars m) ≡ true) around.right),
       )
+
+  module _ (now : Entries) (is : entries_of vars row chains ≡ now) (n : ℕ) (row2 : Line) (kept : row2.kept ≡ set row.kept n None) where
+    -- an entry that is put behind the last one before its variable
+    pub placed : n < length now.vars → has now.linked (var_at now.vars n) ≡ false → (place : Option ℕ) → StandsIn row.linked place → (v : Var) → slice_get vars n ≡ Some v
+        → IfSome place (λ m. is_before (var_at vars m) v ≡ true) → IfSome (first_of (behind place row.linked)) (λ m. is_before (var_at vars m) v ≡ false)
+        → ((front rest : List ℕ) → IsParted row.linked place front rest → row2.linked ≡ front ++ n ∷ rest)
+        → AreLinks vars row2 (Some n) chains × (entries_of vars row2 chains ≡ put now n)
+    placed lt fresh place stands v v-is before behind-it goes =
+        let fits = entry-fits vars row hint chains h now is n lt in
+        let out = linked-number vars row hint chains h now is n lt ∙ fresh in
+        let part = place-parted row.linked place stands in
+        let left = gap-left n fits out place v v-is before behind-it part.0 part.1 part.2 part.3 in
+        let right = gap-right n fits out place v v-is before behind-it part.0 part.1 part.2 part.3 in
+        let new = goes part.0 part.1 (part.2, part.3) in (
+          links-linked vars row hint chains h n fits row2 part.0 part.1 part.2 new kept left right (Some n) (inr refl),
+          view-linked vars row hint chains h n fits row2 part.0 part.1 part.2 new kept left right ∙ ap (λ (s : Entries). put s n) is,
+        )
+
+    -- an entry that returns between the neighbours that it keeps
+    pub returned : MayReturn now n → ((front rest : List ℕ) → IsGap row n front rest → row2.linked ≡ front ++ n ∷ rest)
+        → AreLinks vars row2 hint chains × (entries_of vars row2 chains ≡ put now n)
+    returned may goes =
+        let gap = gap-of n (subst (λ (s : Entries). MayReturn s n) (sym is) may) in
+        let new = goes gap.0 gap.1 (gap.2, gap.3) in (
+          links-linked vars row hint chains h n gap.4 row2 gap.0 gap.1 gap.2 new kept gap.5 gap.6 hint (inl refl),
+          view-linked vars row hint chains h n gap.4 row2 gap.0 gap.1 gap.2 new kept gap.5 gap.6 ∙ ap (λ (s : Entries). put s n) is,
+        )
 
   -- an entry of a variable more
   module _ (v : Var) (fresh : has vars v ≡ false) where

@@ -1,11 +1,9 @@
 -- Keys of a set of variables: the derived equality is the goal order's.
-use Rattle.std.proofs.Common.{◌≡◌, ℕ, true, false, ◌||◌, List, [], ◌∷◌, ◌++◌, get_or, Option, Some, None, MatchOption, refl, sym, ap, ◌∙◌, rules}
+use Rattle.std.proofs.Common.{◌≡◌, ℕ, false, ◌||◌, List, [], ◌∷◌, ◌++◌, get_or, Option, Some, None, MatchOption, refl, sym, ap, ◌∙◌}
 use Rattle.std.specs.List.{list_any, position, slice_get}
 use Rattle.std.specs.Option.{is_some}
 use Rattle.std.specs.Prelude.{if◌then◌else◌}
 use Rattle.std.specs.Ordering.{is_eq}
-use Rattle.std.specs.declared.cmp.Ordering.{Ordering}
-use Rattle.std.specs.declared.cmp.Ordering.TheVariants.{Less, Equal, Greater}
 use Rattle.std.proofs.lemmas.List.Quantifiers.{position-Some}
 use Rattle.std.proofs.lemmas.Option.{slice_get-get_or}
 use Rattle.indexmap.specs.IndexSet.{insert_key}
@@ -13,27 +11,17 @@ use Rattle.qualified_goals.specs.contracts.variable.VarPartialEq.TheImpl.{eq-val
 use Rattle.qualified_goals.specs.contracts.variable.VarOrd.TheImpl.{cmp-value}
 use Rattle.qualified_goals.specs.contracts.variable.VarOrd.TheImpl.Laws.{matches_eq-law}
 use Rattle.qualified_goals.specs.declared.variable.Var.{Var}
-use Rattle.qualified_goals.specs.Variable.{var_cmp, is_equal, same_var}
-use Rattle.qualified_goals.specs.SameVariable.{same_var-is, same_var-refl}
+use Rattle.qualified_goals.specs.Variable.{var_cmp, same_var}
+use Rattle.qualified_goals.specs.SameVariable.{same_var-is}
 use Rattle.choice_problem.specs.ConflictSet.{has}
-use Rattle.common_laws.specs.Small.{both-ways}
+use Rattle.choice_problem.proofs.Sets.{same-back}
+use Rattle.choice_problem.proofs.Tables.{derived, equal-eq}
 use Rattle.goal_links.specs.Links.{no_var}
-
-equal-is : (o : Ordering) → is_eq o ≡ is_equal o
-equal-is Less = refl
-equal-is Equal = refl
-equal-is Greater = refl
-
-same-turned : (v w : Var) → same_var v w ≡ true → same_var w v ≡ true
-same-turned v w e = ap (same_var w) (same_var-is v w e) ∙ same_var-refl w
-
-derived : (v w : Var) → cmp-value.it v w ≡ var_cmp v w
-derived v w = search rules
 
 eq-same : (v w : Var) → eq-value.it v w ≡ same_var w v
 eq-same v w =
     let by_order : eq-value.it v w ≡ is_eq (cmp-value.it v w) = matches_eq-law v w in
-    by_order ∙ ap is_eq (derived v w) ∙ equal-is (var_cmp v w) ∙ both-ways (same_var v w) (same_var w v) (same-turned v w) (same-turned w v)
+    by_order ∙ ap is_eq (derived v w) ∙ equal-eq (var_cmp v w) ∙ same-back v w
 
 pub found-has : (keys : List Var) (v : Var) → list_any (eq-value.it v) keys ≡ has keys v
 found-has [] v = refl

@@ -1,5 +1,5 @@
 -- Lists of nodes: what is in them, and what stands beside a node.
-use Rattle.std.proofs.Common.{◌≡◌, ℕ, eqb, eqb-true, eq-eqb, true, false, not, cond, ◌||◌, List, [], ◌∷◌, ◌++◌, Option, Some, None, refl, sym, ap, ◌∙◌, subst, inl, inr}
+use Rattle.std.proofs.Common.{◌≡◌, ℕ, eqb, eqb-true, eq-eqb, ne_eqb, true, false, not, cond, ◌||◌, List, [], ◌∷◌, ◌++◌, Option, Some, None, refl, sym, ap, ◌∙◌, subst, inl, inr}
 use Rattle.std.specs.List.{Contains}
 use Rattle.std.proofs.lemmas.Bool.{false≢true, or_right}
 use Rattle.common_laws.specs.Lists.{contains-head, contains-tail, contains-none, contains-cases, contains-left, contains-right, contains-append}
@@ -22,11 +22,8 @@ hasn't ns n h c = false≢true (sym h ∙ contains-has ns n c)
 pub not-in : (ns : List ℕ) (n : ℕ) → (Contains ns n → ⊥) → has_node ns n ≡ false
 not-in ns n h = elim (has_node ns n) as (λ b. has_node ns n ≡ b → b ≡ false) [ true ↦ λ e. absurd (h (has-contains ns n e)) | false ↦ λ e. refl ] refl
 
-pub eqb-not : (m n : ℕ) → (m ≡ n → ⊥) → eqb m n ≡ false
-eqb-not m n h = elim (eqb m n) as (λ b. eqb m n ≡ b → b ≡ false) [ true ↦ λ e. absurd (h (eqb-true m n e)) | false ↦ λ e. refl ] refl
-
 head-not : (w : ℕ) (xs : List ℕ) (n : ℕ) → (Contains (w ∷ xs) n → ⊥) → eqb n w ≡ false
-head-not w xs n h = eqb-not n w (λ e. h (subst (λ k. Contains (w ∷ xs) k) (sym e) (contains-head w xs)))
+head-not w xs n h = ne_eqb n w (λ e. h (subst (λ k. Contains (w ∷ xs) k) (sym e) (contains-head w xs)))
 
 tail-not : (w : ℕ) (xs : List ℕ) (n : ℕ) → (Contains (w ∷ xs) n → ⊥) → Contains xs n → ⊥
 tail-not w xs n h c = h (contains-tail w xs n c)
@@ -54,7 +51,7 @@ without-parted (w ∷ xs) n ys h k =
 
 -- another node is there as it was
 pub has-other : (xs : List ℕ) (n : ℕ) (ys : List ℕ) (k : ℕ) → (k ≡ n → ⊥) → has_node (xs ++ n ∷ ys) k ≡ has_node (xs ++ ys) k
-has-other [] n ys k h = ap (λ b. b || has_node ys k) (eqb-not k n h)
+has-other [] n ys k h = ap (λ b. b || has_node ys k) (ne_eqb k n h)
 has-other (w ∷ xs) n ys k h = ap (λ b. eqb k w || b) (has-other xs n ys k h)
 
 pub has-itself : (xs : List ℕ) (n : ℕ) (ys : List ℕ) → has_node (xs ++ n ∷ ys) n ≡ true
@@ -70,7 +67,7 @@ behind-last : (start : Option ℕ) (x : ℕ) (xs ys : List ℕ) → AreOnce star
 behind-last start x [] ys h = ap (λ b. cond b ys (behind_first (eqb x) ys)) (eq-eqb x x refl)
 behind-last start x (w ∷ xs) ys h =
     let last = last-contains w xs in
-    let other : eqb last.0 x ≡ false = eqb-not last.0 x (λ e. once-start (Some x) (w ∷ xs ++ ys) last.0 h.1 (contains-left (w ∷ xs) ys last.0 last.2) (ap Some (sym e))) in
+    let other : eqb last.0 x ≡ false = ne_eqb last.0 x (λ e. once-start (Some x) (w ∷ xs ++ ys) last.0 h.1 (contains-left (w ∷ xs) ys last.0 last.2) (ap Some (sym e))) in
     ap (λ p. behind p (x ∷ w ∷ xs ++ ys)) last.1
     ∙ ap (λ b. cond b (w ∷ xs ++ ys) (behind_first (eqb last.0) (w ∷ xs ++ ys))) other
     ∙ sym (ap (λ p. behind p (w ∷ xs ++ ys)) last.1) ∙ behind-last (Some x) w xs ys h.1
@@ -94,6 +91,6 @@ pub without-other : (ns : List ℕ) (n k : ℕ) → (k ≡ n → ⊥) → has_no
 without-other [] n k h = refl
 without-other (m ∷ ns) n k h =
     elim (eqb n m) as (λ b. eqb n m ≡ b → has_node (cond (not b) (m ∷ without_node n ns) (without_node n ns)) k ≡ eqb k m || has_node ns k) [
-      | true ↦ λ e. without-other ns n k h ∙ sym (ap (λ b. b || has_node ns k) (eqb-not k m (λ i. h (i ∙ sym (eqb-true n m e)))))
+      | true ↦ λ e. without-other ns n k h ∙ sym (ap (λ b. b || has_node ns k) (ne_eqb k m (λ i. h (i ∙ sym (eqb-true n m e)))))
       | false ↦ λ e. ap (λ b. eqb k m || b) (without-other ns n k h)
     ] refl

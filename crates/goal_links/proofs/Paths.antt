@@ -2,17 +2,9 @@
 use Rattle.std.proofs.Common.{◌≡◌, ℕ, eqb-true, eq-eqb, append-nil, ◌<◌, ◌≤◌, arith, length, true, false, cond, List, [], ◌∷◌, ◌++◌, Option, Some, None, refl, sym, ap, ◌∙◌, subst, inl, inr, length-append}
 use Rattle.std.specs.List.{Contains}
 use Rattle.common_laws.specs.Lists.{contains-head, contains-tail, contains-none, contains-cases, contains-left, contains-right}
+use Rattle.choice_problem.proofs.Paths.{parted}
 use Rattle.goal_links.specs.Beside.{last_from, first_or}
 use Rattle.goal_links.specs.Ring.{IsPath, same_place, with_place}
-
--- a list parted at one of its members
-pub parted : {X : Type 0} (xs : List X) (x : X) → Contains xs x → (front : List X) × (rest : List X) × (xs ≡ front ++ x ∷ rest)
-parted [] x h = absurd (contains-none x h)
-parted (y ∷ xs) x h =
-    elim (contains-cases y xs x h) [
-      | inl e ↦ ([], xs, ap (λ z. z ∷ xs) e)
-      | inr k ↦ let more = parted xs x k in (y ∷ more.0, more.1, ap (λ l. y ∷ l) more.2)
-    ]
 
 pub last-contains : (n : ℕ) (ns : List ℕ) → (k : ℕ) × (last_from (Some n) ns ≡ Some k) × Contains (n ∷ ns) k
 last-contains n [] = (n, refl, contains-head n [])

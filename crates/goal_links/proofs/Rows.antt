@@ -5,13 +5,14 @@ use Rattle.std.proofs.Math.ListN.{set}
 use Rattle.std.proofs.Math.Seq.{ext_get_or, take-append_seam}
 use Rattle.std.proofs.lemmas.List.{length-set, get_or-set_same, get_or-set_other, get_or_append_left, length-append}
 use Rattle.std.proofs.lemmas.Bool.{false≢true}
-use Rattle.std.proofs.lemmas.Option.{slice_get-get_or}
+use Rattle.std.proofs.lemmas.Option.{slice_get-get_or, slice_get_within, get_or_from_slice_get}
 use Rattle.common_laws.specs.Lists.{contains-head, contains-tail, contains-left, contains-right}
+use Rattle.choice_problem.proofs.Paths.{parted}
 use Rattle.goal_links.specs.declared.ring.Node.{Node}
 use Rattle.goal_links.specs.Beside.{last_from, last_of, first_of, beside, behind_first}
 use Rattle.goal_links.specs.Ring.{IsPath, IsRing, no_node, ring_of, next_at, prev_at, with_place, IsWithin}
-use Rattle.goal_links.specs.Row.{Line, with_node, has_node, without_node, behind, StandsIn, kept_from}
-use Rattle.goal_links.proofs.Paths.{AreOnce, parted, path-parts, path-last, path-first, path-stays, path-more, path-unlinked, path-linked, last-contains, place-other, not-last, not-first}
+use Rattle.goal_links.specs.Row.{Line, with_node, has_node, without_node, behind, StandsIn, MayReturn, IsGap, kept_from}
+use Rattle.goal_links.proofs.Paths.{AreOnce, path-parts, path-last, path-first, path-stays, path-more, path-unlinked, path-linked, last-contains, place-other, not-last, not-first}
 use Rattle.goal_links.proofs.Rings.{has-contains, ring-once, ring-within, ring-is}
 use Rattle.goal_links.proofs.Nodes.{contains-has, hasn't, not-in, behind-parted, beside-parted, without-parted, has-other, has-itself, apart-front, apart-back, behind-front, in-front, in-back, not-either}
 
@@ -305,18 +306,13 @@ kept-none ends nodes h n in' =
     slice_get-get_or (kept_from ns 0 nodes) n None (omega (arith, within, kept-length ns 0 nodes))
     ∙ ap Some (kept-at ns nodes n within ∙ ap (λ b. cond b None (neighbours nodes n)) in')
 
-some-at : {X : Type 0} (xs : List X) (k : ℕ) (x d : X) → slice_get xs k ≡ Some x → (k < length xs) × (get_or xs k d ≡ x)
-some-at [] k x d h = absurd (cc h)
-some-at (y ∷ xs) zero x d h = (omega arith, cc)
-some-at (y ∷ xs) (suc k) x d h = let more = some-at xs k x d h in (omega (arith, more.0), more.1)
-
 -- what keeps neighbours stands outside, and they are its neighbours
 pub kept-is : (linked : List ℕ) (nodes : List Node) (n : ℕ) (sides : Sides) → slice_get (kept_from linked 0 nodes) n ≡ Some (Some sides)
     → (n < length nodes) × (has_node linked n ≡ false) × ((get_or nodes n no_node).prev ≡ sides.0) × ((get_or nodes n no_node).next ≡ sides.1)
 kept-is linked nodes n sides h =
-    let at = some-at (kept_from linked 0 nodes) n (Some sides) None h in
-    let within : n < length nodes = omega (arith, at.0, kept-length linked 0 nodes) in
-    let is : cond (has_node linked n) None (neighbours nodes n) ≡ Some sides = sym (kept-at linked nodes n within) ∙ at.1 in
+    let inside = slice_get_within (kept_from linked 0 nodes) n (Some sides) h in
+    let within : n < length nodes = omega (arith, inside, kept-length linked 0 nodes) in
+    let is : cond (has_node linked n) None (neighbours nodes n) ≡ Some sides = sym (kept-at linked nodes n within) ∙ get_or_from_slice_get (kept_from linked 0 nodes) n (Some sides) None h in
     let both : (b : Bool) → has_node linked n ≡ b → cond b None (neighbours nodes n) ≡ Some sides → (has_node linked n ≡ false) × (neighbours nodes n ≡ Some sides) =
     λ b. elim b as (λ b. has_node linked n ≡ b → cond b None (neighbours nodes n) ≡ Some sides → (has_node linked n ≡ false) × (neighbours nodes n ≡ Some sides)) [
       | true ↦ λ e k. absurd (cc k)
@@ -517,3 +513,18 @@ none-popped ends nodes less e zero-long h =
   where
     too-long : (now : Line) → length (kept_from (ring_of ends nodes) 0 nodes) ≡ length (now.kept ++ sides_of no_node ∷ []) → ⊥
     too-long now i = omega (arith, i, zero-long, kept-length (ring_of ends nodes) 0 nodes, length-append now.kept (sides_of no_node ∷ []))
+
+-- the gap between the neighbours that a node keeps, as what contracts see says it
+pub gap-kept : (view now : Line) → view ≡ now → (n : ℕ) → (may : MayReturn now n) → IsGap view n may.2.0 may.2.1
+gap-kept view now is n may =
+    let left : may.0 ≡ (last_of may.2.0, may.0.1) = ap (λ (l : Option ℕ). let s : Sides = (l, may.0.1) in s) (sym may.2.3) in
+    let right : (last_of may.2.0, may.0.1) ≡ (last_of may.2.0, first_of may.2.1) = ap (λ (r : Option ℕ). let s : Sides = (last_of may.2.0, r) in s) (sym may.2.4) in
+    (ap (λ (v : Line). v.linked) is ∙ may.2.2, ap (λ (v : Line). slice_get v.kept n) is ∙ may.1 ∙ ap (λ (s : Sides). Some (Some s)) (left ∙ right))
+
+-- a place and what follows it, as what contracts see says it
+pub place-seen : (view now : Line) → view ≡ now → (place next : Option ℕ) → StandsIn now.linked place → next ≡ first_of (behind place now.linked)
+    → StandsIn view.linked place × (next ≡ first_of (behind place view.linked))
+place-seen view now is place next stands e = (
+  subst (λ (v : Line). StandsIn v.linked place) (sym is) stands,
+  e ∙ ap (λ (v : Line). first_of (behind place v.linked)) (sym is),
+)

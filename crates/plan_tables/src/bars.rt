@@ -196,8 +196,9 @@ fn relaxed(
 ) -> Result<Cuts, TextFault> {
     let (name, numbers) = owner.split_once(' ').unwrap_or((owner, "1"));
     let owner = named(alloc, name, numbers)?;
+    let dep = Text::from_str(alloc, dep)?;
     let range = range(alloc, text)?;
-    Ok(kept.relaxed(alloc, &owner, dep, &range)?)
+    Ok(kept.relaxed(alloc, &owner, &dep, &range)?)
 }
 
 // Which of the versions 1 to 5 these cuts let in.

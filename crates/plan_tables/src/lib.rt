@@ -1,4 +1,5 @@
-//! Tests alone: tables of what the calls between a folder's texts and the search answer, and of the texts that are printed.
+//! Tests alone: tables of what the calls between a folder's texts and the search answer, of linked variables, of identifiers, and of
+//! the texts that are printed.
 #![tactic(auto)]
 
 #[cfg(test)]
@@ -7,6 +8,10 @@ mod answers;
 mod bars;
 #[cfg(test)]
 mod entries;
+#[cfg(test)]
+mod identifiers;
+#[cfg(test)]
+mod links;
 #[cfg(test)]
 mod orders;
 #[cfg(test)]

@@ -1,6 +1,6 @@
 // Each table has a case a line: what is asked, and behind the last ` => ` the answer. One loop goes over all of them, and no
 // contract of a call that is asked is known where it stands.
-use crate::{answers, bars, entries, orders, projects, variables, words};
+use crate::{answers, bars, entries, identifiers, links, orders, projects, variables, words};
 use std::alloc::Global;
 use std::test::Fail;
 
@@ -12,6 +12,8 @@ enum Table {
     Variables,
     Bars,
     Orders,
+    Links,
+    Identifiers,
     Answers,
 }
 
@@ -23,6 +25,8 @@ fn cases(table: Table) -> &'static str {
         Table::Variables => variables::CASES,
         Table::Bars => bars::CASES,
         Table::Orders => orders::CASES,
+        Table::Links => links::CASES,
+        Table::Identifiers => identifiers::CASES,
         Table::Answers => answers::CASES,
     }
 }
@@ -35,6 +39,8 @@ fn answer(alloc: Global, table: Table, case: &str) -> Result<String, Fail> {
         Table::Variables => variables::answer(alloc, case),
         Table::Bars => bars::answer(alloc, case),
         Table::Orders => orders::answer(alloc, case),
+        Table::Links => links::answer(alloc, case),
+        Table::Identifiers => identifiers::answer(alloc, case),
         Table::Answers => answers::answer(alloc, case),
     }
 }
@@ -61,6 +67,8 @@ fn every_table(rt: HostRuntime) -> Result<(), Fail> {
         Table::Variables,
         Table::Bars,
         Table::Orders,
+        Table::Links,
+        Table::Identifiers,
         Table::Answers,
     ] {
         assert_eq!(rt; others(rt.alloc(), table)?.as_str(), "");

@@ -1,8 +1,9 @@
 -- The blocks of a package: its releases, and its units.
-use Rattle.std.proofs.Common.{◌≡◌, ℕ, zero, suc, ◌<◌, ◌≤◌, Bool, true, false, not, List, [], ◌∷◌, length, get_or, refl, sym, ap, ◌∙◌, subst, inl, inr, arith}
-use Rattle.std.specs.List.{AllByRecursion, Contains}
+use Rattle.std.proofs.Common.{◌≡◌, ℕ, zero, suc, ◌<◌, ◌≤◌, Bool, true, false, not, List, [], ◌∷◌, length, refl, sym, ap, ◌∙◌, subst, inl, inr, arith}
+use Rattle.std.specs.List.{Contains}
 use Rattle.std.proofs.lemmas.Bool.{false≢true, cases_lt, not-false, not-true}
 use Rattle.std.proofs.lemmas.List.Elements.{Contains-get_or}
+use Rattle.std.proofs.ByRecursion.{All-get_or}
 use Rattle.plan_types.specs.declared.index.Entry.{Entry}
 use Rattle.version_range.specs.Cuts.{HasNumbers, is_below}
 use Rattle.version_range.proofs.Ends.{not_itself}
@@ -10,15 +11,10 @@ use Rattle.solver_index.specs.Blocks.{AreInBlocks, Falls, IsBlock, MayFollow, ve
 use Rattle.solver_index.specs.Places.{entry_at, no_entry}
 use Rattle.plan_types.specs.Packages.{is_installed}
 
-all-read : {X : Type 0} (P : X → Type 0) (xs : List X) (i : ℕ) (d : X) → AllByRecursion P xs → i < length xs → P (get_or xs i d)
-all-read P [] i d h below = absurd (omega (arith, below))
-all-read P (x ∷ xs) zero d h below = h.0
-all-read P (x ∷ xs) (suc i) d h below = all-read P xs i d h.1 (omega (arith, below))
-
 follow-at : (entries : List Entry) → AreInBlocks entries → (i j : ℕ) → i < j → j < length entries → MayFollow (entry_at entries i) (entry_at entries j)
 follow-at [] h i j less below = absurd (omega (arith, below))
 follow-at (e ∷ entries) h i zero less below = absurd (omega (arith, less))
-follow-at (e ∷ entries) h zero (suc j) less below = all-read (MayFollow e) entries j no_entry h.0 (omega (arith, below))
+follow-at (e ∷ entries) h zero (suc j) less below = All-get_or (MayFollow e) entries j no_entry (omega (arith, below)) h.0
 follow-at (e ∷ entries) h (suc i) (suc j) less below = follow-at entries h.1 i j (omega (arith, less)) (omega (arith, below))
 
 module _ (entries : List Entry) (blocks : AreInBlocks entries) where

@@ -1,5 +1,5 @@
 -- Lists: members, tests of all and of some, and numbers that rise.
-use Rattle.std.proofs.Common.{◌≡◌, ℕ, zero, suc, ◌+◌, ◌-◌, ◌<◌, ◌≤◌, Bool, true, false, cond, List, [], ◌∷◌, ◌++◌, map, refl, sym, ap, ◌∙◌, subst, inl, inr, arith, append_assoc, OnOk, Result, Ok, Err}
+use Rattle.std.proofs.Common.{◌≡◌, ℕ, zero, suc, ◌+◌, ◌-◌, ◌<◌, ◌≤◌, Bool, true, false, cond, List, [], ◌∷◌, ◌++◌, map, refl, sym, ap, ◌∙◌, subst, inl, inr, arith, append_assoc}
 use Rattle.std.specs.List.{Contains, filter, range_with_len}
 use Rattle.std.proofs.lemmas.Bool.{false≢true}
 use Rattle.std.proofs.lemmas.List.{append-nil, map-append}
@@ -40,7 +40,7 @@ rising-between (suc n) =
     let next : suc n ≡ n + 1 = omega arith in
     ap (λ l. l ++ n ∷ []) (rising-between n) ∙ sym (between-more 0 n (omega arith)) ∙ ap (between 0) (sym next)
 
-range-has : (a n x : ℕ) → Contains (range_with_len a n) x → (a ≤ x) × (x < a + n)
+pub range-has : (a n x : ℕ) → Contains (range_with_len a n) x → (a ≤ x) × (x < a + n)
 range-has a zero x h = absurd (contains-none x h)
 range-has a (suc n) x h =
     elim (contains-cases a (range_with_len (a + 1) n) x h) [
@@ -74,7 +74,3 @@ map-more f n = let next : n + 1 ≡ suc n = omega arith in ap (λ m. map f (risi
 pub false-back : (a b : Bool) → (a ≡ true → b ≡ true) → b ≡ false → a ≡ false
 false-back true b h k = absurd (false≢true (sym k ∙ h refl))
 false-back false b h k = refl
-
-pub on-ok : {A E P Q : Type 0} (r : Result A E) → (P → Q) → OnOk r P → OnOk r Q
-on-ok (Ok x) f h = f h
-on-ok (Err e) f h = tt

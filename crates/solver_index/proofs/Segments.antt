@@ -1,5 +1,5 @@
 -- What is kept of segments of places, of which one tells of all.
-use Rattle.std.proofs.Common.{◌≡◌, ℕ, zero, suc, ◌<◌, ◌≤◌, Bool, true, false, List, [], ◌∷◌, ◌++◌, length, get_or, refl, sym, ap, ◌∙◌, inl, inr, arith, append_assoc}
+use Rattle.std.proofs.Common.{◌≡◌, ℕ, ◌<◌, ◌≤◌, Bool, true, false, List, [], ◌++◌, length, get_or, sym, ap, ◌∙◌, inl, inr, arith, append_assoc}
 use Rattle.std.specs.List.{filter}
 use Rattle.std.specs.List.Sorted.{IsNonDecreasing}
 use Rattle.std.proofs.lemmas.Bool.{cases_lt}
@@ -8,7 +8,7 @@ use Rattle.std.proofs.lemmas.List.Elements.{filter-append}
 use Rattle.solver_index.specs.Places.{between, rising}
 use Rattle.solver_index.specs.TurningPlaces.{IsFree}
 use Rattle.solver_index.proofs.ListLaws.{between-has, between-join, between-none, rising-between}
-use Rattle.common_laws.specs.Lists.{filter-all, filter-nothing}
+use Rattle.common_laws.specs.Lists.{filter-all, filter-nothing, get-any}
 
 module _ (test : ℕ → Bool) where
   pub segment-kept : (front : List ℕ) (first last : ℕ) → ((i : ℕ) → first ≤ i → i < last → test first ≡ test i) → test first ≡ true → front ++ between first last ≡ front ++ filter test (between first last)
@@ -30,15 +30,10 @@ module _ (test : ℕ → Bool) where
   pub halves-joined : (n r : ℕ) → r ≤ n → ([] ++ filter test (between 0 r)) ++ filter test (between r n) ≡ filter test (rising n)
   halves-joined n r h = segments-joined [] 0 r n (omega arith) h ∙ ap (filter test) (sym (rising-between n))
 
-read-any : (xs : List ℕ) (i c d : ℕ) → i < length xs → get_or xs i c ≡ get_or xs i d
-read-any [] i c d h = absurd (omega (arith, h))
-read-any (x ∷ xs) zero c d h = refl
-read-any (x ∷ xs) (suc i) c d h = read-any xs i c d (omega (arith, h))
-
 -- no turn lies in a segment that ends at the next one
 pub free-segment : (turns : List ℕ) (index first i : ℕ) → IsNonDecreasing turns → index < length turns → ((k : ℕ) → k < index → get_or turns k 0 ≤ first) → i < get_or turns index 0 → IsFree turns first i
 free-segment turns index first i rise here earlier less t (k, below, is) after =
-    let same : get_or turns k 0 ≡ t = read-any turns k 0 t below ∙ is in
+    let same : get_or turns k 0 ≡ t = get-any turns k 0 t below ∙ is in
     elim (cases_lt k index) [
       | inl before ↦ let least = earlier k before in absurd (omega (arith, least, same, after))
       | inr behind ↦ let most = rise index k 0 behind below in omega (arith, most, same, less)
@@ -47,6 +42,6 @@ free-segment turns index first i rise here earlier less t (k, below, is) after =
 -- nor in the one behind the last
 pub free-end : (turns : List ℕ) (first i : ℕ) → ((k : ℕ) → k < length turns → get_or turns k 0 ≤ first) → IsFree turns first i
 free-end turns first i earlier t (k, below, is) after =
-    let same : get_or turns k 0 ≡ t = read-any turns k 0 t below ∙ is in
+    let same : get_or turns k 0 ≡ t = get-any turns k 0 t below ∙ is in
     let least = earlier k below in
     absurd (omega (arith, least, same, after))

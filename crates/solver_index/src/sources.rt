@@ -58,7 +58,7 @@ impl<'a> Sources<'a> {
         ensures { IfOk result (AreAllowed DepKind.Library (allowed_versions self.now.project.now owner.now dep.now) dep.now.range) }
     {
         self.constraints
-            .relaxed(alloc, owner, dep.package.as_str(), &dep.range)
+            .relaxed(alloc, owner, &dep.package, &dep.range)
     }
 
     fn target(

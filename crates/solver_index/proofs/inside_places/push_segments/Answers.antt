@@ -4,9 +4,9 @@ use Rattle.std.proofs.lemmas.List.Elements.{Contains-get_or}
 use Rattle.version_range.specs.Cuts.{inside}
 use Rattle.solver_index.specs.Blocks.{version_at}
 use Rattle.solver_index.specs.Places.{between}
-use Rattle.solver_index.proofs.ListLaws.{on-ok}
 use Rattle.solver_index.proofs.Segments.{free-end, free-segment, segment-empty, segments-joined}
 use Rattle.solver_index.proofs.inside_places.push_segments.Goals as goal
+use Rattle.std.proofs.lemmas.Result.{on_ok_weaker}
 
 pub loop-turn-init : goal.loop-turn-init
 loop-turn-init c =
@@ -61,5 +61,5 @@ returns c =
     let first = c.loop-turn.first in
     let inv = c.loop-turn.invariant in
     let test = λ (i : ℕ). inside c.args.cuts.now (version_at c.args.entries.now i) in
-    on-ok c.push_segment-2.result (λ pushed.
+    on_ok_weaker c.push_segment-2.result (λ pushed.
     pushed ∙ ap (λ l. l ++ filter test (between first c.args.to)) inv.found ∙ segments-joined test c.args.found.now c.args.from first c.args.to inv.low inv.high) c.push_segment-2.ensures

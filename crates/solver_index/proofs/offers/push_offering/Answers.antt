@@ -3,9 +3,10 @@ use Rattle.std.specs.List.{filter, range_with_len}
 use Rattle.std.proofs.lemmas.List.{append-nil}
 use Rattle.solver_index.specs.Allowed.{has_at}
 use Rattle.solver_index.specs.Places.{between}
-use Rattle.solver_index.proofs.ListLaws.{between-more, between-none, dropped-more, kept-more, on-ok}
+use Rattle.solver_index.proofs.ListLaws.{between-more, between-none, dropped-more, kept-more}
 use Rattle.solver_index.proofs.offers.push_offering.Goals as goal
 use Rattle.solver_index.proofs.offers.push_offering.Goals.{then-not-offers_at+in_ok-push_run, else-not-offers_at}
+use Rattle.std.proofs.lemmas.Result.{on_ok_weaker}
 
 pub loop-place-preserved : goal.loop-place-preserved
 loop-place-preserved c =
@@ -42,5 +43,5 @@ returns c =
     let first = c.loop-place.first in
     let rest : to - first ≡ i - first = omega (arith, c.loop-place.invariant, c.loop-place-test.false, c.loop-place.auto.place) in
     let whole : i - from ≡ to - from = omega (arith, c.loop-place.invariant, c.loop-place-test.false, c.loop-place.auto.place) in
-    on-ok c.push_run-2.result (λ is.
+    on_ok_weaker c.push_run-2.result (λ is.
     is ∙ ap (λ n. c.loop-place.allowed ++ range_with_len first n) rest ∙ c.loop-place.invariant.0 ∙ ap (λ n. c.args.allowed.now ++ filter test (range_with_len from n)) whole) c.push_run-2.ensures

@@ -1,8 +1,8 @@
 use Rattle.std.proofs.Common.{arith}
 use Rattle.plan_types.specs.Members.{members}
 use Rattle.solver_index.proofs.Calm.{turns-end, turns-step}
-use Rattle.solver_index.proofs.ListLaws.{on-ok}
 use Rattle.solver_index.proofs.turning_places.+push_turns.Goals as goal
+use Rattle.std.proofs.lemmas.Result.{on_ok_weaker}
 
 pub loop-left-preserved : goal.loop-left-preserved
 loop-left-preserved t c =
@@ -20,6 +20,6 @@ loop-left-preserved t c =
 
 pub returns : goal.returns
 returns t c =
-    on-ok c.push_operator.result (λ turned.
+    on_ok_weaker c.push_operator.result (λ turned.
     turns-end (members c.args.range.now) c.args.entries.now c.args.from c.args.to (members c.loop-left.rest.now) c.args.turns.now c.loop-left.turns c.push_operator.new.turns c.loop-left.invariant.turned turned)
     c.push_operator.ensures

@@ -1,5 +1,4 @@
-use Rattle.std.proofs.Common.{◌≡◌, ◌∷◌, [], ◌++◌, List, Result, Ok, Err, OnOk, false, ap, ◌∙◌, sym, subst}
-use Rattle.std.specs.Result.{is_err}
+use Rattle.std.proofs.Common.{◌≡◌, ◌∷◌, [], ◌++◌, List, ap, ◌∙◌, sym, subst}
 use Rattle.std.specs.List.{slice_get}
 use Rattle.std.proofs.lemmas.Bool.{false≢true}
 use Rattle.qualified_goals.specs.declared.variable.Var.{Var}
@@ -11,10 +10,7 @@ use Rattle.goal_links.specs.Links.{Entries, AreLinks, entries_of, registered}
 use Rattle.goal_links.proofs.Mapped.{get-contains, get-last}
 use Rattle.goal_links.proofs.Entries.{links-registered, view-registered, registered-again, registered-linked, unknown-unlinked}
 use Rattle.goal_links.proofs.links.Links.register.Goals as goal
-
-ok-of : {A E : Type 0} (P : Type 0) (r : Result A E) → false ≡ is_err r → OnOk r P → P
-ok-of P (Ok x) e h = h
-ok-of P (Err x) e h = absurd (cc e)
+use Rattle.choice_problem.proofs.Results.{ok-where}
 
 pub returns-in-Some-clause-ok : goal.returns-in-Some-clause-ok
 returns-in-Some-clause-ok c =
@@ -27,16 +23,16 @@ parts vars vars2 row row2 chains chains2 P e f g h = subst (λ v. P v row2 chain
 
 pub invariant_of-self-else-is_err-2 : goal.invariant_of-self-else-is_err-2
 invariant_of-self-else-is_err-2 c =
-    let row : c.add-2.new.self ≡ with_node c.self.inside.row = ok-of _ c.add-2.result c.if-is_err.ensures.value c.add-2.ensures.ok in
-    let chains : c.add_entry.new.self ≡ with_chain c.self.inside.chains = ok-of _ c.add_entry.result c.if-is_err-2.ensures.value c.add_entry.ensures.ok in
+    let row : c.add-2.new.self ≡ with_node c.self.inside.row = ok-where c.add-2.result c.add-2.ensures.ok (sym c.if-is_err.ensures.value) in
+    let chains : c.add_entry.new.self ≡ with_chain c.self.inside.chains = ok-where c.add_entry.result c.add_entry.ensures.ok (sym c.if-is_err-2.ensures.value) in
     parts (c.self.inside.vars ++ c.args.v ∷ []) c.add.new.self (with_node c.self.inside.row) c.add-2.new.self (with_chain c.self.inside.chains) c.add_entry.new.self
     (λ v r s. AreLinks v r c.self.inside.recent s) c.in_ok-add.ensures.ok row chains
     (links-registered c.self.inside.vars c.self.inside.row c.self.inside.recent c.self.inside.chains c.self.invariant c.args.v c.in_default.ensures)
 
 pub returns-clause-ok : goal.returns-clause-ok
 returns-clause-ok c =
-    let row : c.add-2.new.self ≡ with_node c.self.inside.row = ok-of _ c.add-2.result c.if-is_err.ensures.value c.add-2.ensures.ok in
-    let chains : c.add_entry.new.self ≡ with_chain c.self.inside.chains = ok-of _ c.add_entry.result c.if-is_err-2.ensures.value c.add_entry.ensures.ok in
+    let row : c.add-2.new.self ≡ with_node c.self.inside.row = ok-where c.add-2.result c.add-2.ensures.ok (sym c.if-is_err.ensures.value) in
+    let chains : c.add_entry.new.self ≡ with_chain c.self.inside.chains = ok-where c.add_entry.result c.add_entry.ensures.ok (sym c.if-is_err-2.ensures.value) in
     parts (c.self.inside.vars ++ c.args.v ∷ []) c.add.new.self (with_node c.self.inside.row) c.add-2.new.self (with_chain c.self.inside.chains) c.add_entry.new.self
     (λ v r s. entries_of v r s ≡ registered c.args.self.now c.args.v) c.in_ok-add.ensures.ok row chains
     (view-registered c.self.inside.vars c.self.inside.row c.self.inside.recent c.self.inside.chains c.self.invariant c.args.v c.in_default.ensures

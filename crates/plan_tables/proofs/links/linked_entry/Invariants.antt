@@ -2,7 +2,7 @@
 use Rattle.std.proofs.Common.{◌<◌, IfSome, IsTrue, length}
 use Rattle.choice_problem.specs.ConflictSet.{has}
 use Rattle.goal_links.specs.Links.{var_at}
-use Rattle.base_tables.proofs.links.push_linked.Given as goal
+use Rattle.plan_tables.proofs.links.linked_entry.Given as goal
 
 abbrev pub invariant-loop : goal.invariant-loop
 invariant-loop l = record {

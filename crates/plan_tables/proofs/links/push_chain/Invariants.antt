@@ -2,7 +2,7 @@
 use Rattle.std.proofs.Common.{◌<◌, IfSome, IsTrue, length}
 use Rattle.goal_links.specs.Row.{has_node}
 use Rattle.goal_links.specs.Links.{chain_with}
-use Rattle.base_tables.proofs.links.push_chain.Given as goal
+use Rattle.plan_tables.proofs.links.push_chain.Given as goal
 
 abbrev pub invariant-loop : goal.invariant-loop
 invariant-loop l = record {

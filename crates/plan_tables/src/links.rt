@@ -5,14 +5,14 @@ ghost use Rattle.std.specs.Prelude.{◌≡◌, ◌<◌, OnOk, IfSome, IsTrue, le
 ghost use Rattle.choice_problem.specs.ConflictSet.{has};
 ghost use Rattle.goal_links.specs.Links.{var_at};
 
-use crate::problems::package;
 use choice_problem::{Var, is_same};
 use goal_links::Links;
 use plan_types::NoMemory;
+use qualified_goals::{Part, Qual};
 use std::alloc::Global;
 use std::test::Fail;
 
-pub(crate) const CASES: &str = "\
+pub const CASES: &str = "\
 link  => none; same
 link 1 1 => 1; none; 1; same
 link 201 10 => 012; 02; 2; 02; 012; same
@@ -24,6 +24,14 @@ chain 7 => 7; none
 chain 79 => 79; 7; none
 chain 7795 => 7795; 779; 77; 7; none
 ";
+
+fn package(number: u64) -> Var {
+    Var {
+        qual: Qual::Top,
+        package: number,
+        part: Part::Package,
+    }
+}
 
 fn var_of(digit: u8) -> Var {
     package(u64::from(digit & 15))
@@ -189,7 +197,7 @@ fn chained(alloc: Global, demands: &str) -> Result<String, NoMemory> {
     Ok(text)
 }
 
-pub(crate) fn answer(alloc: Global, case: &str) -> Result<String, Fail> {
+pub fn answer(alloc: Global, case: &str) -> Result<String, Fail> {
     let text = match case.strip_prefix("chain ") {
         Some(demands) => chained(alloc, demands)?,
         None => {

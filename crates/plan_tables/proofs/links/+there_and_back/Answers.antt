@@ -2,7 +2,7 @@
 use Rattle.std.proofs.Common.{◌∙◌, sym, subst}
 use Rattle.goal_links.specs.Links.{Entries, MayReturn}
 use Rattle.goal_links.proofs.Entries.{may-return}
-use Rattle.base_tables.proofs.links.+there_and_back.Goals as goal
+use Rattle.plan_tables.proofs.links.+there_and_back.Goals as goal
 
 pub relink-requires : goal.relink-requires
 relink-requires t c =

@@ -1,6 +1,6 @@
 -- the entry stays one
 use Rattle.std.proofs.Common.{◌<◌, length}
-use Rattle.base_tables.proofs.links.chain_of.Given as goal
+use Rattle.plan_tables.proofs.links.chain_of.Given as goal
 
 abbrev pub invariant-loop-demand : goal.invariant-loop-demand
 invariant-loop-demand l = l.entry < length l.links.vars

@@ -1,0 +1,3 @@
+pub mod NodeText
+pub mod Identifier
+pub mod Examples

@@ -1,0 +1,61 @@
+-- The text that tells one build from another: two builds into the store are the same where their texts are.
+use Rattle.std.specs.Prelude.{ℕ, Bool, ◌==◌, ◌&&◌, if◌then◌else◌, List, [], ◌∷◌, ◌++◌, flat_map, codes, count_by}
+use Rattle.std.specs.List.{list_all, list_any}
+use Rattle.plan_types.specs.declared.condition.Env.{Env}
+use Rattle.plan_types.specs.declared.condition.FlagSet.{FlagSet}
+use Rattle.plan_types.specs.declared.description.Description.{Description}
+use Rattle.plan_types.specs.declared.description.FlagDecl.{FlagDecl}
+use Rattle.plan_types.specs.Bytes.{same_text}
+use Rattle.version_range.specs.Version.{version_text}
+use Rattle.plan_nodes.specs.declared.node.PlanNode.{PlanNode}
+
+-- whether the flags name each declared one exactly once
+abbrev pub names_each_once : List FlagDecl → List FlagSet → Bool
+names_each_once declared flags = list_all (λ flag. count_by (λ set. same_text set.name flag.name) flags == 1) declared
+
+-- a line: a word with a blank behind it, and what it says
+abbrev pub line : List ℕ → List ℕ → List ℕ
+line word rest = word ++ rest ++ 10 ∷ []
+
+-- a package and its version
+abbrev pub package_text : PlanNode → List ℕ
+package_text node = node.name ++ codes "-" ++ version_text node.version.parts
+
+-- what is built
+abbrev pub head_lines : PlanNode → List ℕ
+head_lines node = line (codes "package ") (package_text node) ++ line (codes "component ") node.component
+
+-- a compiler and its version
+abbrev pub compiler_text : Env → List ℕ
+compiler_text env = env.compiler ++ codes "-" ++ version_text env.compiler_version.parts
+
+-- by what, and for what
+abbrev pub env_lines : Env → List ℕ
+env_lines env = line (codes "compiler ") (compiler_text env) ++ line (codes "os ") env.os ++ line (codes "arch ") env.arch
+
+-- whether the flags turn one on
+abbrev pub is_on : List FlagSet → List ℕ → Bool
+is_on flags name = list_any (λ set. same_text set.name name && set.on) flags
+
+-- the end of the line of a flag
+abbrev pub switch_text : Bool → List ℕ
+switch_text on = if on then codes " on\n" else codes " off\n"
+
+-- the line of a flag that is on or off
+abbrev pub set_line : List ℕ → Bool → List ℕ
+set_line name on = codes "flag " ++ name ++ switch_text on
+
+-- the line of a declared flag, with the value that was chosen for it
+abbrev pub flag_line : List FlagSet → FlagDecl → List ℕ
+flag_line flags flag = set_line flag.name (is_on flags flag.name)
+
+-- a line for each identifier of what the node needs
+abbrev pub needs_lines : PlanNode → List ℕ
+needs_lines node =
+    flat_map (line (codes "lib ")) node.libs ++ flat_map (line (codes "tool ")) node.tools ++ flat_map (line (codes "setup ")) node.setups
+
+-- The whole text: the form of the text itself, what is built, by what, under which flags, from which file, and with what.
+-- Flags that the package doesn't declare are left out.
+abbrev pub id_text : PlanNode → Description → List FlagSet → Env → List ℕ
+id_text node d flags env =
+    codes "store 1\n" ++ head_lines node ++ env_lines env ++ flat_map (flag_line flags) d.flags ++ line (codes "cabal ") d.digest ++ needs_lines node
