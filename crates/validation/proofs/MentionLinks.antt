@@ -88,3 +88,7 @@ last-split (x ∷ y ∷ xs) h = let more = last-split (y ∷ xs) (omega arith) i
 
 pub pop-is : {A : Type 0} (xs ys : List A) (o : Option A) (x : A) → MatchOption o ((xs ≡ []) × (ys ≡ [])) (λ last. xs ≡ ys ++ last ∷ []) → o ≡ Some x → xs ≡ ys ++ x ∷ []
 pop-is {A = A} xs ys o x h e = subst (λ (p : Option A). MatchOption p ((xs ≡ []) × (ys ≡ [])) (λ last. xs ≡ ys ++ last ∷ [])) e h
+
+pub pop-some : {A : Type 0} (xs ys : List A) (o : Option A) → MatchOption o ((xs ≡ []) × (ys ≡ [])) (λ last. xs ≡ ys ++ last ∷ []) → (xs ≡ [] → ⊥) → (x : A) × (xs ≡ ys ++ x ∷ [])
+pop-some xs ys None h some = absurd (some h.0)
+pop-some xs ys (Some x) h some = (x, h)

@@ -3,7 +3,9 @@ ghost use Rattle.std.specs.Prelude.{◌≡◌, ◌<◌, ◌++◌, [], ◌∷◌,
 ghost use Rattle.qualified_goals.specs.declared.variable.Var.{Var};
 ghost use Rattle.qualified_goals.specs.Variable.{same_var};
 ghost use Rattle.choice_problem.specs.Table.{entry};
-ghost use Rattle.validation.specs.Mentions.{last_of, places_on};
+ghost use Rattle.choice_problem.specs.ConflictSet.{has};
+ghost use Rattle.validation.specs.Mentions.{places_on};
+ghost use Rattle.validation.specs.Stack.{vars_at};
 
 use choice_problem::{Table, Var};
 use plan_types::NoMemory;
@@ -58,10 +60,11 @@ impl Mentions {
         self.links.len()
     }
 
-    pub(crate) fn last(&self, v: Var) -> Option<u64>
-        ensures { result ≡ last_of v self.now }
+    /// Whether a variable is mentioned.
+    pub(crate) fn names(&self, v: Var) -> bool
+        ensures { result ≡ has (vars_at self.now) v }
     {
-        self.last.get(v)
+        self.last.has(v)
     }
 
     pub(crate) fn push(&mut self, mention: Mention) -> Result<(), NoMemory>
