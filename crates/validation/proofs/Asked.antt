@@ -1,5 +1,5 @@
 -- What opens and what doesn't as active demands come and go.
-use Rattle.std.proofs.Common.{◌≡◌, ℕ, suc, Bool, true, false, not, cond, ◌&&◌, ◌||◌, List, [], ◌∷◌, ◌++◌, Option, Some, None, is_some, is_none, refl, sym, ap, ◌∙◌}
+use Rattle.std.proofs.Common.{◌≡◌, ℕ, Bool, true, false, not, ◌&&◌, ◌||◌, List, [], ◌∷◌, ◌++◌, Option, Some, None, is_some, is_none, refl, sym, ap, ◌∙◌}
 use Rattle.std.proofs.lemmas.List.{map-append}
 use Rattle.qualified_goals.specs.declared.variable.Var.{Var}
 use Rattle.qualified_goals.specs.Variable.{same_var}
@@ -9,21 +9,8 @@ use Rattle.choice_problem.proofs.Sets.{has-append}
 use Rattle.validation.specs.declared.mentions.Mention.{Mention}
 use Rattle.choice_problem.specs.declared.problem.Choice.{Choice}
 use Rattle.choice_problem.specs.Trail.{value_in}
-use Rattle.validation.specs.Mentions.{last_from, last_of}
 use Rattle.validation.specs.Stack.{vars_at, AreOpen}
 use Rattle.std.proofs.Math.Bool.{or-true, and-false}
-
-last-from-has : (n : ℕ) (best : Option ℕ) (v : Var) (ms : List Mention) → is_some (last_from n best v ms) ≡ is_some best || has (vars_at ms) v
-last-from-has n best v [] = elim (is_some best) as (λ b. b ≡ b || false) [ true ↦ refl | false ↦ refl ]
-last-from-has n best v (m ∷ ms) =
-    last-from-has (suc n) (cond (same_var m.var v) (Some n) best) v ms
-    ∙ elim (same_var m.var v) as (λ b. is_some (cond b (Some n) best) || has (vars_at ms) v ≡ is_some best || (b || has (vars_at ms) v)) [
-      | true ↦ sym (or-true (is_some best))
-      | false ↦ refl
-    ]
-
-pub last-has : (v : Var) (ms : List Mention) → is_some (last_of v ms) ≡ has (vars_at ms) v
-last-has v ms = last-from-has 0 None v ms
 
 pub vars-push : (front : List Mention) (m : Mention) (v : Var) → has (vars_at (front ++ m ∷ [])) v ≡ has (vars_at front) v || (same_var m.var v || false)
 vars-push front m v = ap (λ vs. has vs v) (map-append (λ x. x.var) front (m ∷ [])) ∙ has-append (vars_at front) (m.var ∷ []) v

@@ -1,6 +1,6 @@
-pub mod MentionLinks
-pub mod Walks
+pub mod LastItems
 pub mod Opened
+pub mod Walks
 pub mod Stacks
 pub mod Asked
 pub mod Below

@@ -21,7 +21,7 @@ use Rattle.validation.specs.View.{View}
 use Rattle.validation.specs.Open.{Keeps, StayKept, MayComeBack, any_var, is_other, is_chosen_in}
 use Rattle.validation.specs.Stack.{front_of, last_number, undone, with_listed, with_active, no_demand, demand_at, demands_at, places_of, vars_at, watchers_by, watchers_from, AreTargets, AreOpen, IsHeld, IsMark, AreMarks, AreParts}
 use Rattle.validation.specs.Stack.AreMarks.{none, on}
-use Rattle.validation.proofs.MentionLinks.{snoc-split}
+use Rattle.validation.proofs.LastItems.{snoc-split}
 
 -- targets
 

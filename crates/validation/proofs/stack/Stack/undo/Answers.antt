@@ -9,7 +9,7 @@ use Rattle.validation.specs.declared.mentions.Mention.{Mention}
 use Rattle.validation.specs.Open.{StayKept, is_other, is_chosen_in}
 use Rattle.validation.specs.Stack.{AreOpen, IsHeld, undone, vars_at}
 use Rattle.validation.specs.View.{View}
-use Rattle.validation.proofs.MentionLinks.{pop-is, pop-some}
+use Rattle.validation.proofs.LastItems.{pop-is, pop-some}
 use Rattle.validation.proofs.Opened.{at-entry}
 use Rattle.validation.proofs.Stacks.{chosen-last, marks-undo, comes-back, parts-undo, undone-seen}
 use Rattle.validation.proofs.stack.Stack.undo.Goals as goal
