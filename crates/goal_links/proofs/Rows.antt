@@ -455,6 +455,14 @@ path-less next prev count less start [] end le h = h
 path-less next prev count less start (w ∷ xs) end le h =
     (h.0, h.1, le w (contains-head w xs), path-less next prev count less (Some w) xs end (λ k c. le k (contains-tail w xs k c)) h.3)
 
+pub ring-popped : (ends : Node) (nodes less : List Node) (m : Node) (ns : List ℕ) → nodes ≡ less ++ m ∷ [] → IsRing ends nodes ns → ((k : ℕ) → Contains ns k → k < length less)
+    → IsRing ends less ns
+ring-popped ends nodes less m ns e h within =
+    path-less (next_at ends less) (prev_at ends less) (length nodes) (length less) None ns None within
+    (path-stays (next_at ends nodes) (prev_at ends nodes) (next_at ends less) (prev_at ends less) (length nodes) None ns None refl
+    (λ k c. ap (λ (x : Node). x.next) (sym (ap (λ (l : List Node). get_or l k no_node) e ∙ get_or_append_left less (m ∷ []) no_node k (within k c))))
+    (λ k c. ap (λ (x : Node). x.prev) (sym (ap (λ (l : List Node). get_or l k no_node) e ∙ get_or_append_left less (m ∷ []) no_node k (within k c)))) refl h)
+
 module _ (ends : Node) (nodes less : List Node) (m : Node) (e : nodes ≡ less ++ m ∷ []) (h : IsRing ends nodes (ring_of ends nodes))
     (out : has_node (ring_of ends nodes) (length (kept_from (ring_of ends nodes) 0 nodes) - 1) ≡ false) where
   last-out : (k : ℕ) → Contains (ring_of ends nodes) k → k < length less
@@ -466,12 +474,7 @@ module _ (ends : Node) (nodes less : List Node) (m : Node) (e : nodes ≡ less +
       omega (arith, within, len, not-last-node)
 
   popped-ring : IsRing ends less (ring_of ends nodes)
-  popped-ring =
-      let ns = ring_of ends nodes in
-      path-less (next_at ends less) (prev_at ends less) (length nodes) (length less) None ns None last-out
-      (path-stays (next_at ends nodes) (prev_at ends nodes) (next_at ends less) (prev_at ends less) (length nodes) None ns None refl
-      (λ k c. ap (λ (x : Node). x.next) (sym (ap (λ (l : List Node). get_or l k no_node) e ∙ get_or_append_left less (m ∷ []) no_node k (last-out k c))))
-      (λ k c. ap (λ (x : Node). x.prev) (sym (ap (λ (l : List Node). get_or l k no_node) e ∙ get_or_append_left less (m ∷ []) no_node k (last-out k c)))) refl h)
+  popped-ring = ring-popped ends nodes less m (ring_of ends nodes) e h last-out
 
   popped-is : ring_of ends less ≡ ring_of ends nodes
   popped-is = ring-is ends less (ring_of ends nodes) popped-ring

@@ -31,6 +31,10 @@ no_var = record { qual = Top; «package» = 0; part = Package }
 abbrev pub var_at : List Var → ℕ → Var
 var_at vars entry = slice_index_or vars entry no_var
 
+-- each variable has one entry
+abbrev pub HaveOneEntry : List Var → Type 0
+HaveOneEntry vars = (m n : ℕ) → m < length vars → n < length vars → var_at vars m ≡ var_at vars n → m ≡ n
+
 -- the chain of a cell's entry
 abbrev pub chain_with : Entries → ℕ → List ℕ
 chain_with s cell = chain_at s.chains (cell_at s.cells cell).entry
@@ -50,6 +54,10 @@ registered s v = cond (has s.vars v) s (record s {
 -- one cell more
 abbrev pub with_cell : Entries → Cell → Entries
 with_cell s cell = record s { cells = s.cells ++ cell ∷ [] }
+
+-- other cells
+abbrev pub with_cells : Entries → List Cell → Entries
+with_cells s cells = record s { cells = cells }
 
 -- the variables behind that of an entry
 abbrev pub vars_behind : Entries → ℕ → List Var
@@ -106,7 +114,7 @@ pub record AreAround (vars : List Var) (v : Var) (sides : Option ℕ × Option �
 pub record AreLinks (vars : List Var) (row : Line) (hint : Option ℕ) (chains : Chained) : Type 0 where
   pub counted : length row.kept ≡ length vars
   pub chained : length chains.chains ≡ length vars
-  pub once : (m n : ℕ) → m < length vars → n < length vars → var_at vars m ≡ var_at vars n → m ≡ n
+  pub once : HaveOneEntry vars
   pub below : AreBelow (length vars) row.linked
   pub rising : is_rising (map (var_at vars) row.linked) ≡ true
   pub around : (n : ℕ) (sides : Option ℕ × Option ℕ) → slice_get row.kept n ≡ Some (Some sides) → AreAround vars (var_at vars n) sides

@@ -1,5 +1,6 @@
 // Chains of cells, one for each entry.
-ghost use Rattle.std.specs.Prelude.{◌≡◌, ◌<◌, ◌++◌, [], ◌∷◌, Some, OnOk, OnErr, IsTrue, IfOk, IfSome, false, length};
+ghost use Rattle.std.specs.Prelude.{◌≡◌, ◌<◌, ◌-◌, ◌++◌, [], ◌∷◌, List, Some, OnOk, OnErr, IsTrue, IfOk, IfSome, false, length};
+ghost use Rattle.goal_links.specs.declared.chains.Cell.{Cell};
 ghost use Rattle.goal_links.specs.Beside.{first_of, last_of};
 ghost use Rattle.goal_links.specs.Row.{has_node, behind};
 ghost use Rattle.goal_links.specs.Chains.{Chained, cell_at, chain_at, chain_with, with_chain, with_cell, appended, shortened};
@@ -68,6 +69,30 @@ impl Chains {
         self.nodes.push(alone())?;
         let _ = self.cells.push(cell);
         Ok(place)
+    }
+
+    pub(crate) fn len(&self) -> usize
+        ensures { result ≡ length self.now.cells }
+    {
+        self.cells.len()
+    }
+
+    /// Takes the last cell away, which stands outside its chain.
+    pub(crate) fn drop_last(&mut self)
+        requires some { 0 < length self.old.cells }
+        requires outside { has_node (chain_with self.old (length self.old.cells - 1)) (length self.old.cells - 1) ≡ false }
+        ensures cells { (front : List Cell) (cell : Cell) → self.old.cells ≡ front ++ cell ∷ [] → self.new.cells ≡ front }
+        ensures chains { self.new.chains ≡ self.old.chains }
+    {
+        let _ = self.nodes.pop();
+        let _ = self.cells.pop();
+    }
+
+    pub(crate) fn entry(&self, cell: usize) -> usize
+        requires { cell < length self.now.cells }
+        ensures { result ≡ (cell_at self.now.cells cell).entry }
+    {
+        self.cells[cell].entry
     }
 
     pub(crate) fn demand(&self, cell: usize) -> u64

@@ -1,12 +1,13 @@
 // Entries of variables that are linked in goal order, each with a chain of cells.
-ghost use Rattle.std.specs.Prelude.{◌≡◌, ◌<◌, ◌++◌, [], ◌∷◌, Some, None, Option, OnOk, OnErr, IfOk, IfSome, IsTrue, MatchOption, true, false, length, slice_get, slice_index_or};
+ghost use Rattle.std.specs.Prelude.{◌≡◌, ◌<◌, ◌-◌, ◌++◌, List, [], ◌∷◌, Some, None, Option, OnOk, OnErr, IfOk, IfSome, IsTrue, MatchOption, true, false, length, slice_get, slice_index_or};
 ghost use Rattle.std.specs.Option.{option_map};
 ghost use Rattle.qualified_goals.specs.Variable.{is_before};
 ghost use Rattle.choice_problem.specs.ConflictSet.{is_rising, has};
+ghost use Rattle.goal_links.specs.declared.chains.Cell.{Cell};
 ghost use Rattle.goal_links.specs.Beside.{first_of, last_of};
 ghost use Rattle.goal_links.specs.Row.{has_node, without_node, behind, StandsIn, AreBelow};
 ghost use Rattle.goal_links.specs.Chains.{cell_at, chain_at};
-ghost use Rattle.goal_links.specs.Links.{Entries, var_at, MayReturn, WasLinked, vars_behind, registered, with_cell, linked, unlinked, chain_with, lengthened, shortened};
+ghost use Rattle.goal_links.specs.Links.{Entries, HaveOneEntry, var_at, MayReturn, WasLinked, vars_behind, registered, with_cell, with_cells, linked, unlinked, chain_with, lengthened, shortened};
 
 use crate::chains::{Cell, Chains};
 use crate::row::Row;
@@ -50,7 +51,8 @@ impl Links {
 
     /// The entry of a variable that was registered.
     pub fn entry_of(&self, v: Var) -> Option<u64>
-        ensures { MatchOption result (has self.now.vars v ≡ false) (λ entry. slice_get self.now.vars entry ≡ Some v) }
+        ensures entry { MatchOption result (has self.now.vars v ≡ false) (λ entry. slice_get self.now.vars entry ≡ Some v) }
+        ensures one { HaveOneEntry self.now.vars }
     {
         match self.vars.find(v) {
             Some(entry) => Some(entry as u64),
@@ -95,12 +97,36 @@ impl Links {
         Ok(cell as u64)
     }
 
+    /// How many cells there are.
+    pub fn cell_count(&self) -> u64
+        ensures { result ≡ length self.now.cells }
+    {
+        self.chains.len() as u64
+    }
+
+    /// Takes the last cell away, which isn't in its chain. It takes no memory.
+    pub fn drop_cell(&mut self)
+        requires some { 0 < length self.old.cells }
+        requires outside { has_node (chain_with self.old (length self.old.cells - 1)) (length self.old.cells - 1) ≡ false }
+        ensures { (front : List Cell) (cell : Cell) → self.old.cells ≡ front ++ cell ∷ [] → self.new ≡ with_cells self.old front }
+    {
+        self.chains.drop_last();
+    }
+
     /// The variable that was registered.
     pub fn var_of(&self, entry: u64) -> Var
         requires { entry < length self.now.vars }
         ensures { result ≡ var_at self.now.vars entry }
     {
         self.vars.at(entry as usize)
+    }
+
+    /// The entry for which a cell was registered.
+    pub fn owner_of(&self, cell: u64) -> u64
+        requires { cell < length self.now.cells }
+        ensures { result ≡ (cell_at self.now.cells cell).entry }
+    {
+        self.chains.entry(cell as usize) as u64
     }
 
     /// The demand that was registered.

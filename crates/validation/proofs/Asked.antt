@@ -1,29 +1,16 @@
 -- What opens and what doesn't as active demands come and go.
-use Rattle.std.proofs.Common.{◌≡◌, ℕ, suc, Bool, true, false, not, cond, ◌&&◌, ◌||◌, List, [], ◌∷◌, ◌++◌, Option, Some, None, is_some, is_none, refl, sym, ap, ◌∙◌}
+use Rattle.std.proofs.Common.{◌≡◌, ℕ, Bool, true, false, not, ◌&&◌, ◌||◌, List, [], ◌∷◌, ◌++◌, Option, Some, None, is_some, is_none, refl, sym, ap, ◌∙◌}
 use Rattle.std.proofs.lemmas.List.{map-append}
 use Rattle.qualified_goals.specs.declared.variable.Var.{Var}
 use Rattle.qualified_goals.specs.Variable.{same_var}
-use Rattle.qualified_goals.specs.SameVariable.{same_var-is}
+use Rattle.qualified_goals.specs.SameVariable.{same_var-is, same_var-refl}
 use Rattle.choice_problem.specs.ConflictSet.{has}
 use Rattle.choice_problem.proofs.Sets.{has-append}
 use Rattle.validation.specs.declared.mentions.Mention.{Mention}
 use Rattle.choice_problem.specs.declared.problem.Choice.{Choice}
 use Rattle.choice_problem.specs.Trail.{value_in}
-use Rattle.validation.specs.Mentions.{last_from, last_of}
 use Rattle.validation.specs.Stack.{vars_at, AreOpen}
 use Rattle.std.proofs.Math.Bool.{or-true, and-false}
-
-last-from-has : (n : ℕ) (best : Option ℕ) (v : Var) (ms : List Mention) → is_some (last_from n best v ms) ≡ is_some best || has (vars_at ms) v
-last-from-has n best v [] = elim (is_some best) as (λ b. b ≡ b || false) [ true ↦ refl | false ↦ refl ]
-last-from-has n best v (m ∷ ms) =
-    last-from-has (suc n) (cond (same_var m.var v) (Some n) best) v ms
-    ∙ elim (same_var m.var v) as (λ b. is_some (cond b (Some n) best) || has (vars_at ms) v ≡ is_some best || (b || has (vars_at ms) v)) [
-      | true ↦ sym (or-true (is_some best))
-      | false ↦ refl
-    ]
-
-pub last-has : (v : Var) (ms : List Mention) → is_some (last_of v ms) ≡ has (vars_at ms) v
-last-has v ms = last-from-has 0 None v ms
 
 pub vars-push : (front : List Mention) (m : Mention) (v : Var) → has (vars_at (front ++ m ∷ [])) v ≡ has (vars_at front) v || (same_var m.var v || false)
 vars-push front m v = ap (λ vs. has vs v) (map-append (λ x. x.var) front (m ∷ [])) ∙ has-append (vars_at front) (m.var ∷ []) v
@@ -88,6 +75,19 @@ more-valued front after m trail vars h is valued v =
     ] refl
     ∙ sym (ap (λ b. b && is_none (value_in trail v)) (ap (λ ms. has (vars_at ms) v) is ∙ vars-push front m v))
 
+-- whose target is asked for already
+pub more-again : (front after : List Mention) (m : Mention) (trail : List Choice) (vars : List Var) → AreOpen front trail vars
+    → after ≡ front ++ m ∷ [] → has (vars_at front) m.var ≡ true → AreOpen after trail vars
+more-again front after m trail vars h is again v =
+    h v
+    ∙ elim (same_var m.var v) as (λ b. same_var m.var v ≡ b → has (vars_at front) v && is_none (value_in trail v) ≡ (has (vars_at front) v || (b || false)) && is_none (value_in trail v)) [
+      | true ↦ λ e.
+          let there : has (vars_at front) v ≡ true = ap (has (vars_at front)) (sym (same_var-is m.var v e)) ∙ again in
+          ap (λ b. b && is_none (value_in trail v)) there ∙ sym (ap (λ b. b && is_none (value_in trail v)) (or-true (has (vars_at front) v)))
+      | false ↦ λ e. sym (other (has (vars_at front) v) (is_none (value_in trail v)))
+    ] refl
+    ∙ sym (ap (λ b. b && is_none (value_in trail v)) (ap (λ ms. has (vars_at ms) v) is ∙ vars-push front m v))
+
 -- whose target has none
 pub more-open : (front after : List Mention) (m : Mention) (trail : List Choice) (vars more : List Var) → AreOpen front trail vars
     → after ≡ front ++ m ∷ [] → is_some (value_in trail m.var) ≡ false → ((v : Var) → has more v ≡ (same_var m.var v || has vars v)) → AreOpen after trail more
@@ -101,3 +101,14 @@ more-open front after m trail vars more h is free more_is v =
       | false ↦ λ e. sym (other (has (vars_at front) v) (is_none (value_in trail v)))
     ] refl
     ∙ sym (ap (λ b. b && is_none (value_in trail v)) (ap (λ ms. has (vars_at ms) v) is ∙ vars-push front m v))
+
+-- the target of the last that asks, which has no value
+pub last-open : (front : List Mention) (m : Mention) (trail : List Choice) (vars : List Var) → AreOpen (front ++ m ∷ []) trail vars
+    → is_some (value_in trail m.var) ≡ false → has vars m.var ≡ true
+last-open front m trail vars h free =
+    h m.var ∙ ap (λ b. b && is_none (value_in trail m.var)) (vars-push front m m.var ∙ ap (λ b. has (vars_at front) m.var || (b || false)) (same_var-refl m.var) ∙ or-true (has (vars_at front) m.var))
+    ∙ some-none (value_in trail m.var) false free
+
+-- what has no value and isn't asked for isn't open
+pub not-open : (front : List Mention) (trail : List Choice) (vars : List Var) (v : Var) → AreOpen front trail vars → has (vars_at front) v ≡ false → has vars v ≡ false
+not-open front trail vars v h once = h v ∙ ap (λ b. b && is_none (value_in trail v)) once

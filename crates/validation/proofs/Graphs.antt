@@ -1,5 +1,5 @@
 -- The edges of the active demands, by their targets and by what they wait for.
-use Rattle.std.proofs.Common.{◌≡◌, ℕ, zero, suc, ◌<◌, arith, length, get_or, Bool, true, false, cond, ◌&&◌, ◌||◌, List, [], ◌∷◌, Some, is_some, map, filter, refl, sym, ap, ◌∙◌, subst, inl, inr}
+use Rattle.std.proofs.Common.{◌≡◌, ℕ, zero, suc, ◌<◌, arith, length, get_or, Bool, true, false, cond, ◌&&◌, ◌||◌, List, [], ◌∷◌, Some, map, filter, refl, sym, ap, ◌∙◌, subst, inl, inr}
 use Rattle.std.specs.List.{Contains, list_any, slice_get}
 use Rattle.std.specs.Option.{option_to_list}
 use Rattle.std.proofs.lemmas.Bool.{and_parts, and_from}
@@ -17,11 +17,10 @@ use Rattle.choice_problem.specs.ConflictSet.{has}
 use Rattle.common_laws.specs.Lists.{contains-head, contains-tail, contains-none, contains-cases, contains-filter, contains-flat_map, flat_map-contains, filter-contains}
 use Rattle.choice_problem.proofs.Sets.{has-append}
 use Rattle.validation.specs.declared.mentions.Mention.{Mention}
-use Rattle.validation.specs.Mentions.{places_on, last_of}
-use Rattle.validation.specs.Cycles.{HasEdge, first_of_condition, owner_of}
+use Rattle.validation.specs.Mentions.{places_on}
+use Rattle.demand_cycles.specs.Cycles.{HasEdge, first_of_condition, owner_of}
 use Rattle.validation.specs.Stack.{demand_at, demands_at, places_of, vars_at, mention_of, are_naming, names, watchers_by, watchers_from, owners_of, turned, is_first, is_owned_by, target_by, targets_by, AreTargets, IsSettled}
 use Rattle.validation.specs.View.{View}
-use Rattle.validation.proofs.Asked.{last-has}
 use Rattle.validation.proofs.Stacks.{targets-tail}
 use Rattle.std.proofs.Math.Bool.{or-true}
 
@@ -131,13 +130,13 @@ active-listed listed (m ∷ ms) d h k =
     ]
 
 pub edge-chosen : (listed : List Demand) (ms watchers : List Mention) (v w : Var) → AreTargets listed ms → watchers ≡ watchers_from 0 listed
-    → HasEdge (edges_of (demands_at listed (places_of ms))) v w → is_some (last_of v watchers) ≡ true
+    → HasEdge (edges_of (demands_at listed (places_of ms))) v w → has (vars_at watchers) v ≡ true
 edge-chosen listed ms watchers v w h waiting (e, within, from, target) =
     let all = demands_at listed (places_of ms) in
     let found = contains-flat_map edges_by all e within in
     let owns = owner-of-edge found.0.when found.0 e refl found.2 in
     let named = naming-owner found.0 e v owns from in
-    last-has v watchers ∙ ap (λ ws. has (vars_at ws) v) waiting ∙ waits-has 0 v listed ∙ any-contains (names v) listed found.0 (active-listed listed ms found.0 h found.1) named
+    ap (λ ws. has (vars_at ws) v) waiting ∙ waits-has 0 v listed ∙ any-contains (names v) listed found.0 (active-listed listed ms found.0 h found.1) named
 
 pub active-at : (listed : List Demand) (ms : List Mention) (k : ℕ) (m : Mention) → k < length ms → m ≡ get_or ms k m → slice_get (demands_at listed (places_of ms)) k ≡ Some (demand_at listed m.place)
 active-at listed [] k m h e = absurd (omega (arith, h))

@@ -1,14 +1,11 @@
-pub mod MentionLinks
+pub mod LastItems
+pub mod Opened
 pub mod Walks
 pub mod Stacks
 pub mod Asked
 pub mod Below
 pub mod Turned
 pub mod Queries
-pub mod Keys
-pub mod Reached
-pub mod Sides
-pub mod Rings
 pub mod Graphs
 pub mod Views
 pub mod Verdicts

@@ -1,22 +1,27 @@
 -- Stacks: choices with their marks, and what opens.
-use Rattle.std.proofs.Common.{◌≡◌, ℕ, zero, suc, ◌+◌, ◌-◌, ◌<◌, arith, length, get_or, take, drop, true, false, not, cond, ◌&&◌, ◌||◌, List, [], ◌∷◌, ◌++◌, Some, None, is_none, Result, Ok, Err, OnOk, OnErr, map, refl, sym, ap, ◌∙◌, subst, inl, inr, append_assoc, append-nil, length-append}
+use Rattle.std.proofs.Common.{◌≡◌, ℕ, zero, suc, ◌+◌, ◌-◌, ◌<◌, arith, length, get_or, take, drop, true, false, not, cond, ◌&&◌, ◌||◌, List, [], ◌∷◌, ◌++◌, Some, None, is_none, is_some, Result, Ok, Err, OnOk, OnErr, map, refl, sym, ap, ◌∙◌, subst, inl, inr, append_assoc, append-nil, length-append}
 use Rattle.std.proofs.lemmas.List.{map-append, take-append-le, take-append-drop}
 use Rattle.std.proofs.Math.ListN.{get_or-append}
+use Rattle.std.proofs.lemmas.Bool.{false≢true}
 use Rattle.std.proofs.Math.Seq.{take-length, take-append_seam, get_or-append_seam}
 use Rattle.qualified_goals.specs.declared.variable.Var.{Var}
 use Rattle.choice_problem.specs.declared.problem.Choice.{Choice}
 use Rattle.choice_problem.specs.declared.problem.Demand.{Demand}
 use Rattle.qualified_goals.specs.Variable.{same_var}
-use Rattle.qualified_goals.specs.SameVariable.{same_var-is}
+use Rattle.qualified_goals.specs.SameVariable.{same_var-is, same_var-refl}
 use Rattle.choice_problem.specs.Trail.{value_in}
-use Rattle.choice_problem.specs.ConflictSet.{has}
+use Rattle.choice_problem.specs.ConflictSet.{is_rising, has, without}
+use Rattle.choice_problem.proofs.InOrder.{has-without}
+use Rattle.goal_links.specs.Beside.{beside}
+use Rattle.goal_links.specs.Links.{Entries}
 use Rattle.validation.specs.declared.mentions.Mention.{Mention}
 use Rattle.validation.specs.declared.stack.Mark.{Mark}
 use Rattle.choice_problem.proofs.TrailEnds.{snoc-none, snoc-same, value-push, value-pop}
 use Rattle.validation.specs.View.{View}
-use Rattle.validation.specs.Stack.{front_of, last_number, undone, with_listed, with_active, no_demand, demand_at, demands_at, places_of, vars_at, watchers_by, watchers_from, AreTargets, AreOpen, IsMark, AreMarks, AreParts}
+use Rattle.validation.specs.Open.{Keeps, StayKept, MayComeBack, any_var, is_other, is_chosen_in}
+use Rattle.validation.specs.Stack.{front_of, last_number, undone, with_listed, with_active, no_demand, demand_at, demands_at, places_of, vars_at, watchers_by, watchers_from, AreTargets, AreOpen, IsHeld, IsMark, AreMarks, AreParts}
 use Rattle.validation.specs.Stack.AreMarks.{none, on}
-use Rattle.validation.proofs.MentionLinks.{snoc-split}
+use Rattle.validation.proofs.LastItems.{snoc-split}
 
 -- targets
 
@@ -53,58 +58,104 @@ targets-push listed ms m h within target = record {
 
 -- marks
 
-pub marks-targets : {trail : List Choice} {marks : List Mark} {listed : List Demand} {active : List Mention} → AreMarks trail marks listed active → AreTargets listed active
+pub marks-targets : {trail : List Choice} {marks : List Mark} {listed : List Demand} {active : List Mention} {s : Entries} → AreMarks trail marks listed active s → AreTargets listed active
 marks-targets (none targets) = targets
 marks-targets (on c m levels e f is targets) = targets
 
-pub marks-grow : {trail : List Choice} {marks : List Mark} {listed : List Demand} {active : List Mention} (more : List Demand)
-    → AreMarks trail marks listed active → AreMarks trail marks (listed ++ more) active
+pub marks-grow : {trail : List Choice} {marks : List Mark} {listed : List Demand} {active : List Mention} {s : Entries} (more : List Demand)
+    → AreMarks trail marks listed active s → AreMarks trail marks (listed ++ more) active s
 marks-grow {listed = listed} {active = active} more (none targets) = none (targets-grow listed more active targets)
-marks-grow {listed = listed} {active = active} more (on {front = front} {less = less} c m levels e f is targets) =
+marks-grow {listed = listed} {active = active} {s = s} more (on {front = front} {less = less} c m levels e f is targets) =
     let same = sym (take-append-le m.listed listed more is.listed_within) in
-    on {front = front} {less = less} c m (subst (λ (ds : List Demand). AreMarks front less ds (take m.active active)) same levels) e f
+    on {front = front} {less = less} c m (subst (λ (ds : List Demand). AreMarks front less ds (take m.active active) s) same levels) e f
     (record {
       new = is.new;
       asked = is.asked;
+      held = is.held;
       listed_within = omega (arith, is.listed_within, length-append listed more);
       active_within = is.active_within;
       watchers = is.watchers ∙ ap (λ (ds : List Demand). length (watchers_from 0 ds)) same;
     })
     (targets-grow listed more active targets)
 
-pub marks-push : {trail : List Choice} {marks : List Mark} {listed : List Demand} {active : List Mention} (m : Mention)
-    → AreMarks trail marks listed active → AreTargets listed (active ++ m ∷ []) → AreMarks trail marks listed (active ++ m ∷ [])
+pub marks-push : {trail : List Choice} {marks : List Mark} {listed : List Demand} {active : List Mention} {s : Entries} (m : Mention)
+    → AreMarks trail marks listed active s → AreTargets listed (active ++ m ∷ []) → AreMarks trail marks listed (active ++ m ∷ []) s
 marks-push m (none before) targets = none targets
-marks-push {listed = listed} {active = active} k (on {front = front} {less = less} c m levels e f is before) targets =
+marks-push {listed = listed} {active = active} {s = s} k (on {front = front} {less = less} c m levels e f is before) targets =
     let same = sym (take-append-le m.active active (k ∷ []) is.active_within) in
-    on {front = front} {less = less} c m (subst (λ (ms : List Mention). AreMarks front less (take m.listed listed) ms) same levels) e f
+    on {front = front} {less = less} c m (subst (λ (ms : List Mention). AreMarks front less (take m.listed listed) ms s) same levels) e f
     (record {
       new = is.new;
       asked = ap (λ (ms : List Mention). has (vars_at ms) c.var) (sym same) ∙ is.asked;
+      held = subst (λ (ms : List Mention). IsHeld front c.var m.entry ms s) same is.held;
       listed_within = is.listed_within;
       active_within = omega (arith, is.active_within, length-append active (k ∷ []));
       watchers = is.watchers;
     })
     targets
 
-pub marks-hold : {trail : List Choice} {marks : List Mark} {listed : List Demand} {active : List Mention} (c : Choice) (m : Mark)
-    → AreMarks trail marks listed active → value_in trail c.var ≡ None → has (vars_at active) c.var ≡ true
-    → m.listed ≡ length listed → m.active ≡ length active → m.watchers ≡ length (watchers_from 0 listed) → AreMarks (trail ++ c ∷ []) (marks ++ m ∷ []) listed active
-marks-hold {trail = trail} {marks = marks} {listed = listed} {active = active} c m levels new asked l a w =
+pub marks-hold : {trail : List Choice} {marks : List Mark} {listed : List Demand} {active : List Mention} {s : Entries} (c : Choice) (m : Mark)
+    → AreMarks trail marks listed active s → value_in trail c.var ≡ None → has (vars_at active) c.var ≡ true → IsHeld trail c.var m.entry active s
+    → m.listed ≡ length listed → m.active ≡ length active → m.watchers ≡ length (watchers_from 0 listed) → AreMarks (trail ++ c ∷ []) (marks ++ m ∷ []) listed active s
+marks-hold {trail = trail} {marks = marks} {listed = listed} {active = active} {s = s} c m levels new asked held l a w =
     let all_listed : take m.listed listed ≡ listed = ap (λ n. take n listed) l ∙ take-length listed in
     let all_active : take m.active active ≡ active = ap (λ n. take n active) a ∙ take-length active in
     on {front = trail} {less = marks} c m
-    (subst (λ (ms : List Mention). AreMarks trail marks (take m.listed listed) ms) (sym all_active)
-    (subst (λ (ds : List Demand). AreMarks trail marks ds active) (sym all_listed) levels))
+    (subst (λ (ms : List Mention). AreMarks trail marks (take m.listed listed) ms s) (sym all_active)
+    (subst (λ (ds : List Demand). AreMarks trail marks ds active s) (sym all_listed) levels))
     refl refl
     (record {
       new = new;
       asked = ap (λ (ms : List Mention). has (vars_at ms) c.var) all_active ∙ asked;
+      held = subst (λ (ms : List Mention). IsHeld trail c.var m.entry ms s) (sym all_active) held;
       listed_within = omega (arith, l);
       active_within = omega (arith, a);
       watchers = w ∙ ap (λ (ds : List Demand). length (watchers_from 0 ds)) (sym all_listed);
     })
     (marks-targets levels)
+
+-- what is chosen before is chosen after one choice more, and so is its variable
+
+pub chosen-on : (front trail : List Choice) (c : Choice) (v : Var) → trail ≡ front ++ c ∷ [] → value_in front c.var ≡ None → is_chosen_in front v ≡ true → is_chosen_in trail v ≡ true
+chosen-on front trail c v e free h =
+    ap (λ cs. is_some (value_in cs v)) e ∙ ap is_some (value-push front c v free)
+    ∙ elim (same_var c.var v) as (λ b. is_some (cond b (Some c.val) (value_in front v)) ≡ true) [ true ↦ refl | false ↦ h ]
+
+pub chosen-last : (front trail : List Choice) (c : Choice) → trail ≡ front ++ c ∷ [] → value_in front c.var ≡ None → is_chosen_in trail c.var ≡ true
+chosen-last front trail c e free =
+    ap (λ cs. is_some (value_in cs c.var)) e ∙ ap is_some (value-push front c c.var free)
+    ∙ ap (λ b. is_some (cond b (Some c.val) (value_in front c.var))) (same_var-refl c.var)
+
+-- what isn't chosen is another than each that is
+pub chosen-other : (trail : List Choice) (u v : Var) → is_chosen_in trail u ≡ false → is_chosen_in trail v ≡ true → is_other u v ≡ true
+chosen-other trail u v free h =
+    elim (same_var u v) as (λ b. same_var u v ≡ b → not b ≡ true) [
+      | true ↦ λ e. absurd (false≢true (sym free ∙ ap (is_chosen_in trail) (same_var-is u v e) ∙ h))
+      | false ↦ λ e. refl
+    ] refl
+
+-- marks hold as long as what was chosen keeps its neighbours
+pub marks-keep : {trail : List Choice} {marks : List Mark} {listed : List Demand} {active : List Mention} {s : Entries} (t : Entries)
+    → AreMarks trail marks listed active s → StayKept (is_chosen_in trail) s t → AreMarks trail marks listed active t
+marks-keep t (none targets) stay = none targets
+marks-keep {trail = trail} t (on {front = front} {less = less} c m levels e f is targets) stay =
+    on {front = front} {less = less} c m
+    (marks-keep t levels (λ n v sides chosen k. stay n v sides (chosen-on front trail c v e is.new chosen) k))
+    e f
+    (record {
+      new = is.new;
+      asked = is.asked;
+      held = record {
+        before = is.held.before;
+        rising = is.held.rising;
+        opened = is.held.opened;
+        kept = stay m.entry c.var (beside (same_var c.var) is.held.before) (chosen-last front trail c e is.new) is.held.kept;
+      };
+      listed_within = is.listed_within;
+      active_within = is.active_within;
+      watchers = is.watchers;
+    })
+    targets
 
 -- what is open once a variable has a value
 pub open-hold : (active : List Mention) (trail : List Choice) (vars less : List Var) (c : Choice) → AreOpen active trail vars → value_in trail c.var ≡ None
@@ -117,37 +168,38 @@ open-hold active trail vars less c h free less_is v =
     ]
     ∙ ap (λ o. has (vars_at active) v && is_none o) (sym (value-push trail c v free))
 
-pub parts-open : (trail : List Choice) (marks : List Mark) (listed : List Demand) (active watchers : List Mention) (vars : List Var) (held : ℕ) (v : Var)
-    → AreParts trail marks listed active watchers vars held → value_in trail v ≡ None → has (vars_at active) v ≡ true → has vars v ≡ true
-parts-open trail marks listed active watchers vars held v h free asked =
+pub parts-open : (trail : List Choice) (marks : List Mark) (listed : List Demand) (active watchers : List Mention) (s : Entries) (v : Var)
+    → AreParts trail marks listed active watchers s → value_in trail v ≡ None → has (vars_at active) v ≡ true → has s.linked v ≡ true
+parts-open trail marks listed active watchers s v h free asked =
     h.opened v ∙ ap (λ b. b && is_none (value_in trail v)) asked ∙ ap is_none free
 
-pub parts-hold : (trail after : List Choice) (marks above : List Mark) (listed : List Demand) (active watchers : List Mention) (vars less : List Var) (held more : ℕ)
-    (c : Choice) (m : Mark) → AreParts trail marks listed active watchers vars held → value_in trail c.var ≡ None → has (vars_at active) c.var ≡ true
+pub parts-hold : (trail after : List Choice) (marks above : List Mark) (listed : List Demand) (active watchers : List Mention) (s t : Entries)
+    (c : Choice) (m : Mark) → AreParts trail marks listed active watchers s → value_in trail c.var ≡ None → has (vars_at active) c.var ≡ true
     → m.listed ≡ length listed → m.active ≡ length active → m.watchers ≡ length watchers → after ≡ trail ++ c ∷ [] → above ≡ marks ++ m ∷ []
-    → ((v : Var) → has less v ≡ (not (same_var c.var v) && has vars v)) → more ≡ held + 1
-    → AreParts after above listed active watchers less more
-parts-hold trail after marks above listed active watchers vars less held more c m h free asked l a w after_is above_is less_is room = record {
-  levels =
-      subst (λ (cs : List Choice). AreMarks cs above listed active) (sym after_is)
-      (subst (λ (ms : List Mark). AreMarks (trail ++ c ∷ []) ms listed active) (sym above_is) (marks-hold c m h.levels free asked l a (w ∙ ap length h.waiting)));
-  waiting = h.waiting;
-  opened = subst (λ (cs : List Choice). AreOpen active cs less) (sym after_is) (open-hold active trail vars less c h.opened free less_is);
-  room = omega (arith, room, h.room, ap length after_is, length-append trail (c ∷ []));
-}
+    → is_rising s.linked ≡ true → Keeps t m.entry c.var (beside (same_var c.var) s.linked) → StayKept any_var s t
+    → ((v : Var) → has t.linked v ≡ (is_other c.var v && has s.linked v)) → AreParts after above listed active watchers t
+parts-hold trail after marks above listed active watchers s t c m h free asked l a w after_is above_is rising kept stay less_is =
+    let before = marks-keep t h.levels (λ n v sides chosen k. stay n v sides refl k) in
+    let held : IsHeld trail c.var m.entry active t = record { before = s.linked; rising = rising; opened = h.opened; kept = kept } in
+    record {
+      levels =
+          subst (λ (cs : List Choice). AreMarks cs above listed active t) (sym after_is)
+          (subst (λ (ms : List Mark). AreMarks (trail ++ c ∷ []) ms listed active t) (sym above_is) (marks-hold c m before free asked held l a (w ∙ ap length h.waiting)));
+      waiting = h.waiting;
+      opened = subst (λ (cs : List Choice). AreOpen active cs t.linked) (sym after_is) (open-hold active trail s.linked t.linked c h.opened free less_is);
+    }
 
-pub parts-none : (trail : List Choice) (marks : List Mark) (listed : List Demand) (active watchers : List Mention) (vars : List Var) (held : ℕ)
-    → trail ≡ [] → marks ≡ [] → listed ≡ [] → active ≡ [] → watchers ≡ [] → vars ≡ [] → held ≡ 0
-    → AreParts trail marks listed active watchers vars held
-parts-none trail marks listed active watchers vars held t m l a w v k = record {
+pub parts-none : (trail : List Choice) (marks : List Mark) (listed : List Demand) (active watchers : List Mention) (s : Entries)
+    → trail ≡ [] → marks ≡ [] → listed ≡ [] → active ≡ [] → watchers ≡ [] → s.linked ≡ []
+    → AreParts trail marks listed active watchers s
+parts-none trail marks listed active watchers s t m l a w v = record {
   levels =
-      subst (λ (cs : List Choice). AreMarks cs marks listed active) (sym t) (subst (λ (ms : List Mark). AreMarks [] ms listed active) (sym m) (none (record {
+      subst (λ (cs : List Choice). AreMarks cs marks listed active s) (sym t) (subst (λ (ms : List Mark). AreMarks [] ms listed active s) (sym m) (none (record {
         within = λ front x rest e. absurd (snoc-none front x rest (sym a ∙ e));
         target = λ front x rest e. absurd (snoc-none front x rest (sym a ∙ e));
       })));
   waiting = w ∙ ap (watchers_from 0) (sym l);
   opened = λ x. ap (λ vs. has vs x) v ∙ sym (ap (λ ms. has (vars_at ms) x && is_none (value_in trail x)) a);
-  room = k ∙ ap length (sym t);
 }
 
 -- demands that are listed, and what they wait for
@@ -169,14 +221,13 @@ waits-cut k listed =
     ∙ ap (take (length (watchers_from 0 (take k listed)))) (waits-append 0 (take k listed) (drop k listed))
     ∙ take-append_seam (watchers_from 0 (take k listed)) (watchers_from (0 + length (take k listed)) (drop k listed))
 
-pub parts-list : (trail : List Choice) (marks : List Mark) (listed after : List Demand) (active watchers more : List Mention) (vars : List Var) (held : ℕ) (d : Demand)
-    → AreParts trail marks listed active watchers vars held → after ≡ listed ++ d ∷ [] → more ≡ watchers ++ watchers_by (length listed) d.when
-    → AreParts trail marks after active more vars held
-parts-list trail marks listed after active watchers more vars held d h after_is more_is = record {
-  levels = subst (λ (ds : List Demand). AreMarks trail marks ds active) (sym after_is) (marks-grow (d ∷ []) h.levels);
+pub parts-list : (trail : List Choice) (marks : List Mark) (listed after : List Demand) (active watchers more : List Mention) (s : Entries) (d : Demand)
+    → AreParts trail marks listed active watchers s → after ≡ listed ++ d ∷ [] → more ≡ watchers ++ watchers_by (length listed) d.when
+    → AreParts trail marks after active more s
+parts-list trail marks listed after active watchers more s d h after_is more_is = record {
+  levels = subst (λ (ds : List Demand). AreMarks trail marks ds active s) (sym after_is) (marks-grow (d ∷ []) h.levels);
   waiting = more_is ∙ ap (λ ws. ws ++ watchers_by (length listed) d.when) h.waiting ∙ sym (waits-push listed d) ∙ ap (watchers_from 0) (sym after_is);
   opened = h.opened;
-  room = h.room;
 }
 
 pub demands-grow : (listed more : List Demand) (ms : List Mention) → AreTargets listed ms → demands_at (listed ++ more) (places_of ms) ≡ demands_at listed (places_of ms)
@@ -187,55 +238,71 @@ demands-grow listed more (m ∷ ms) h =
 
 -- one active demand more
 
-pub parts-ask : {E : Type 0} (r : Result (Unit {0}) E) (trail : List Choice) (marks : List Mark) (listed : List Demand) (active after watchers : List Mention) (vars more : List Var) (held same : ℕ) (m : Mention)
-    → AreParts trail marks listed active watchers vars held → m.place < length listed → m.var ≡ (demand_at listed m.place).target
-    → OnOk r (after ≡ active ++ m ∷ []) → OnErr r (after ≡ active) → AreOpen after trail more → same ≡ held → AreParts trail marks listed after watchers more same
-parts-ask (Ok u) trail marks listed active after watchers vars more held same m h within target ok err opened room = record {
-  levels = subst (λ (ms : List Mention). AreMarks trail marks listed ms) (sym ok) (marks-push m h.levels (targets-push listed active m (marks-targets h.levels) within target));
+pub parts-ask : {E : Type 0} (r : Result (Unit {0}) E) (trail : List Choice) (marks : List Mark) (listed : List Demand) (active after watchers : List Mention) (s t : Entries) (m : Mention)
+    → AreParts trail marks listed active watchers s → m.place < length listed → m.var ≡ (demand_at listed m.place).target
+    → OnOk r (after ≡ active ++ m ∷ []) → OnErr r (after ≡ active) → AreOpen after trail t.linked → StayKept (is_chosen_in trail) s t
+    → AreParts trail marks listed after watchers t
+parts-ask (Ok u) trail marks listed active after watchers s t m h within target ok err opened stay = record {
+  levels = subst (λ (ms : List Mention). AreMarks trail marks listed ms t) (sym ok) (marks-push m (marks-keep t h.levels stay) (targets-push listed active m (marks-targets h.levels) within target));
   waiting = h.waiting;
   opened = opened;
-  room = room ∙ h.room;
 }
-parts-ask (Err e) trail marks listed active after watchers vars more held same m h within target ok err opened room = record {
-  levels = subst (λ (ms : List Mention). AreMarks trail marks listed ms) (sym err) h.levels;
+parts-ask (Err e) trail marks listed active after watchers s t m h within target ok err opened stay = record {
+  levels = subst (λ (ms : List Mention). AreMarks trail marks listed ms t) (sym err) (marks-keep t h.levels stay);
   waiting = h.waiting;
   opened = opened;
-  room = room ∙ h.room;
 }
 
 -- the last choice less
 
-pub marks-undo : {trail : List Choice} {marks : List Mark} {listed : List Demand} {active : List Mention} (front : List Choice) (c : Choice) (less : List Mark) (m : Mark)
-    → AreMarks trail marks listed active → trail ≡ front ++ c ∷ [] → marks ≡ less ++ m ∷ []
-    → AreMarks front less (take m.listed listed) (take m.active active) × IsMark front c m listed active
+pub marks-undo : {trail : List Choice} {marks : List Mark} {listed : List Demand} {active : List Mention} {s : Entries} (front : List Choice) (c : Choice) (less : List Mark) (m : Mark)
+    → AreMarks trail marks listed active s → trail ≡ front ++ c ∷ [] → marks ≡ less ++ m ∷ []
+    → AreMarks front less (take m.listed listed) (take m.active active) s × IsMark front c m listed active s
 marks-undo front c less m (none targets) e f = absurd (snoc-none front c [] e)
-marks-undo {listed = listed} {active = active} front c less m (on {front = front'} {less = less'} c' m' levels e' f' is targets) e f =
+marks-undo {listed = listed} {active = active} {s = s} front c less m (on {front = front'} {less = less'} c' m' levels e' f' is targets) e f =
     let choices = snoc-same front' c' front c (sym e' ∙ e) in
     let numbers = snoc-same less' m' less m (sym f' ∙ f) in (
-      subst (λ (cs : List Choice). AreMarks cs less (take m.listed listed) (take m.active active)) choices.0
-          (subst (λ (ms : List Mark). AreMarks front' ms (take m.listed listed) (take m.active active)) numbers.0
-          (subst (λ (k : Mark). AreMarks front' less' (take k.listed listed) (take k.active active)) numbers.1 levels)),
-      subst (λ (cs : List Choice). IsMark cs c m listed active) choices.0
-          (subst (λ (k : Choice). IsMark front' k m listed active) choices.1
-          (subst (λ (k : Mark). IsMark front' c' k listed active) numbers.1 is)),
+      subst (λ (cs : List Choice). AreMarks cs less (take m.listed listed) (take m.active active) s) choices.0
+          (subst (λ (ms : List Mark). AreMarks front' ms (take m.listed listed) (take m.active active) s) numbers.0
+          (subst (λ (k : Mark). AreMarks front' less' (take k.listed listed) (take k.active active) s) numbers.1 levels)),
+      subst (λ (cs : List Choice). IsMark cs c m listed active s) choices.0
+          (subst (λ (k : Choice). IsMark front' k m listed active s) choices.1
+          (subst (λ (k : Mark). IsMark front' c' k listed active s) numbers.1 is)),
     )
 
-pub marks-some : {trail : List Choice} {marks : List Mark} {listed : List Demand} {active : List Mention} (front : List Choice) (c : Choice)
-    → AreMarks trail marks listed active → trail ≡ front ++ c ∷ [] → (less : List Mark) × (m : Mark) × (marks ≡ less ++ m ∷ [])
+pub marks-some : {trail : List Choice} {marks : List Mark} {listed : List Demand} {active : List Mention} {s : Entries} (front : List Choice) (c : Choice)
+    → AreMarks trail marks listed active s → trail ≡ front ++ c ∷ [] → (less : List Mark) × (m : Mark) × (marks ≡ less ++ m ∷ [])
 marks-some front c (none targets) e = absurd (snoc-none front c [] e)
 marks-some front c (on {less = less} c' m levels e' f is targets) e = (less, m, f)
 
-pub parts-undo : (trail front : List Choice) (marks less : List Mark) (listed fewer : List Demand) (active asked watchers left : List Mention) (vars kept more : List Var) (held same one : ℕ)
-    (c : Choice) (m : Mark) → AreParts trail marks listed active watchers vars held → trail ≡ front ++ c ∷ [] → marks ≡ less ++ m ∷ []
-    → asked ≡ take m.active active → AreOpen asked trail kept → same ≡ held → left ≡ take m.watchers watchers → fewer ≡ take m.listed listed
-    → ((v : Var) → has more v ≡ (same_var c.var v || has kept v)) → one + 1 ≡ same
-    → AreParts front less fewer asked left more one
-parts-undo trail front marks less listed fewer active asked watchers left vars kept more held same one c m h e f asked_is opened same_is left_is fewer_is more_is room =
+-- what is left open of what was open before a choice may come back
+pub comes-back : (front : List Choice) (c : Choice) (entry : ℕ) (asked : List Mention) (s t : Entries) → IsHeld front c.var entry asked s → value_in front c.var ≡ None
+    → has (vars_at asked) c.var ≡ true → StayKept (is_chosen_in (front ++ c ∷ [])) s t → AreOpen asked (front ++ c ∷ []) t.linked → MayComeBack t entry
+comes-back front c entry asked s t held free there stay opened = record {
+  var = c.var;
+  before = held.before;
+  rising = held.rising;
+  there = held.opened c.var ∙ ap (λ b. b && is_none (value_in front c.var)) there ∙ ap is_none free;
+  kept = stay entry c.var (beside (same_var c.var) held.before) (chosen-last front (front ++ c ∷ []) c refl free) held.kept;
+  others = λ v.
+      opened v ∙ sym (open-hold asked front held.before (without c.var held.before) c held.opened free (has-without c.var held.before) v)
+      ∙ has-without c.var held.before v;
+}
+
+pub parts-undo : (trail front : List Choice) (marks less : List Mark) (listed fewer : List Demand) (active asked watchers left : List Mention) (s t u : Entries)
+    (c : Choice) (m : Mark) → AreParts trail marks listed active watchers s → trail ≡ front ++ c ∷ [] → marks ≡ less ++ m ∷ []
+    → asked ≡ take m.active active → AreOpen asked trail t.linked → StayKept (is_chosen_in trail) s t → left ≡ take m.watchers watchers → fewer ≡ take m.listed listed
+    → ((v : Var) → has u.linked v ≡ (same_var c.var v || has t.linked v)) → StayKept (is_other c.var) t u
+    → AreParts front less fewer asked left u
+parts-undo trail front marks less listed fewer active asked watchers left s t u c m h e f asked_is opened stay left_is fewer_is more_is back =
     let level = marks-undo front c less m h.levels e f in
+    let free : is_chosen_in front c.var ≡ false = ap is_some level.1.new in
+    let levels = marks-keep u level.0 (λ n v sides chosen k.
+    back n v sides (chosen-other front c.var v free chosen) (stay n v sides (chosen-on front trail c v e level.1.new chosen) k)) in
     record {
       levels =
-          subst (λ (ms : List Mention). AreMarks front less fewer ms) (sym asked_is)
-          (subst (λ (ds : List Demand). AreMarks front less ds (take m.active active)) (sym fewer_is) level.0);
+          subst (λ (ms : List Mention). AreMarks front less fewer ms u) (sym asked_is)
+          (subst (λ (ds : List Demand). AreMarks front less ds (take m.active active) u) (sym fewer_is) levels);
       waiting =
           left_is ∙ ap (take m.watchers) h.waiting ∙ ap (λ n. take n (watchers_from 0 listed)) level.1.watchers ∙ waits-cut m.listed listed
           ∙ ap (watchers_from 0) (sym fewer_is);
@@ -250,7 +317,6 @@ parts-undo trail front marks less listed fewer active asked watchers left vars k
           ] refl
           ∙ ap (λ o. has (vars_at asked) v && is_none o)
           (ap (λ cs. cond (same_var c.var v) None (value_in cs v)) e ∙ value-pop front c v level.1.new);
-      room = omega (arith, room, same_is, h.room, ap length e, length-append front (c ∷ []));
     }
 
 -- what a stack is seen as
@@ -281,8 +347,8 @@ demands-cut : (k : ℕ) (listed : List Demand) (ms : List Mention) → AreTarget
 demands-cut k listed ms h =
     sym (demands-grow (take k listed) (drop k listed) ms h) ∙ ap (λ ds. demands_at ds (places_of ms)) (take-append-drop k listed)
 
-pub undone-seen : (trail front : List Choice) (marks less : List Mark) (listed fewer : List Demand) (active asked : List Mention) (c : Choice) (m : Mark)
-    → AreMarks trail marks listed active → trail ≡ front ++ c ∷ [] → marks ≡ less ++ m ∷ [] → asked ≡ take m.active active → fewer ≡ take m.listed listed
+pub undone-seen : {s : Entries} (trail front : List Choice) (marks less : List Mark) (listed fewer : List Demand) (active asked : List Mention) (c : Choice) (m : Mark)
+    → AreMarks trail marks listed active s → trail ≡ front ++ c ∷ [] → marks ≡ less ++ m ∷ [] → asked ≡ take m.active active → fewer ≡ take m.listed listed
     → seen front fewer (demands_at fewer (places_of asked)) (map (λ k. k.listed) less) (map (λ k. k.active) less)
     ≡ undone (seen trail listed (demands_at listed (places_of active)) (map (λ k. k.listed) marks) (map (λ k. k.active) marks))
 undone-seen trail front marks less listed fewer active asked c m levels e f asked_is fewer_is =

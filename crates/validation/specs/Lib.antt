@@ -4,5 +4,3 @@ pub mod Mentions
 pub mod Open
 pub mod Stack
 pub mod Checks
-pub mod Cycles
-pub mod Side

@@ -1,34 +1,35 @@
--- Mentions of variables, each linked with the one before it of the same variable.
-use Rattle.std.specs.Prelude.{◌≡◌, ℕ, suc, cond, List, [], ◌∷◌, ◌++◌, Option, Some, None, map, filter}
+-- Mentions of variables: each is a cell of its variable's entry, and the chain of an entry has its cells in order.
+use Rattle.std.specs.Prelude.{◌≡◌, ℕ, suc, ◌<◌, eqb, cond, List, [], ◌∷◌, length, map, filter}
 use Rattle.qualified_goals.specs.declared.variable.Var.{Var}
 use Rattle.qualified_goals.specs.Variable.{same_var}
+use Rattle.goal_links.specs.declared.chains.Cell.{Cell}
+use Rattle.goal_links.specs.Chains.{cell_at, chain_at}
+use Rattle.goal_links.specs.Links.{Entries, var_at}
 use Rattle.validation.specs.declared.mentions.Mention.{Mention}
-use Rattle.validation.specs.declared.mentions.Link.{Link}
-use Rattle.choice_problem.specs.Table.{entry}
 
--- what the links mention
-abbrev pub mentions : List Link → List Mention
-mentions links = map (λ l. l.mention) links
+-- what a cell mentions
+abbrev pub mention_in : List Var → Cell → Mention
+mention_in vars cell = record { var = var_at vars cell.entry; place = cell.demand }
 
--- the last place of a variable among mentions that come after n others, of which best is the last one
-abbrev pub last_from : ℕ → Option ℕ → Var → List Mention → Option ℕ
-last_from n best v [] = best
-last_from n best v (m ∷ ms) = last_from (suc n) (cond (same_var m.var v) (Some n) best) v ms
+-- what cells mention, in the order of their numbers
+abbrev pub mentions : Entries → List Mention
+mentions s = map (mention_in s.vars) s.cells
 
--- the place of the last mention of a variable
-abbrev pub last_of : Var → List Mention → Option ℕ
-last_of v ms = last_from 0 None v ms
+-- the numbers of the cells of an entry, among cells that come after n others
+abbrev pub numbers_from : ℕ → ℕ → List Cell → List ℕ
+numbers_from n entry [] = []
+numbers_from n entry (cell ∷ cells) = cond (eqb entry cell.entry) (n ∷ numbers_from (suc n) entry cells) (numbers_from (suc n) entry cells)
+
+-- the place that the cell with a number has
+abbrev pub place_at : List Cell → ℕ → ℕ
+place_at cells k = (cell_at cells k).demand
 
 -- the places of the demands that mention a variable, in order
 abbrev pub places_on : Var → List Mention → List ℕ
 places_on v ms = map (λ m. m.place) (filter (λ m. same_var m.var v) ms)
 
--- how many mentions there are up to a place
-abbrev pub up_to : Option ℕ → ℕ
-up_to None = 0
-up_to (Some n) = suc n
-
--- each link leads to the last one before it of the same variable, and the table to the last one of all
-pub record IsLinked (links : List Link) (table : List (Var × ℕ)) : Type 0 where
-  pub before : (front : List Link) (l : Link) (rest : List Link) → links ≡ front ++ l ∷ rest → l.before ≡ last_of l.mention.var (mentions front)
-  pub last : (v : Var) → entry table v ≡ last_of v (mentions links)
+-- the chain of each entry has the numbers of its cells
+pub record AreMentions (s : Entries) : Type 0 where
+  pub counted : length s.chains ≡ length s.vars
+  pub within : (k : ℕ) → k < length s.cells → (cell_at s.cells k).entry < length s.vars
+  pub chains : (entry : ℕ) → entry < length s.vars → chain_at s.chains entry ≡ numbers_from 0 entry s.cells

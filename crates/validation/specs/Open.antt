@@ -1,15 +1,49 @@
--- Variables that are open, and how many have room to be put back.
-use Rattle.std.specs.Prelude.{◌+◌, ◌≤◌, ℕ, List, IsTrue, length}
+-- Open variables, linked in goal order, and what the entries of those keep that were taken out.
+use Rattle.std.specs.Prelude.{◌≡◌, ℕ, Bool, true, not, ◌&&◌, List, Option, Some, None, IsTrue, is_some, slice_get}
 use Rattle.qualified_goals.specs.declared.variable.Var.{Var}
-use Rattle.choice_problem.specs.ConflictSet.{is_rising}
+use Rattle.qualified_goals.specs.Variable.{is_before, same_var}
+use Rattle.choice_problem.specs.declared.problem.Choice.{Choice}
+use Rattle.choice_problem.specs.ConflictSet.{is_rising, has}
+use Rattle.choice_problem.specs.Trail.{value_in}
+use Rattle.goal_links.specs.Beside.{beside}
+use Rattle.goal_links.specs.Links.{Entries}
 
--- what contracts see of open variables
-pub record Room : Type 0 where
-  -- in goal order, each once
-  pub vars : List Var
-  pub held : ℕ
+-- what is linked stands in goal order, and has entries
+pub record AreInOrder (s : Entries) : Type 0 where
+  pub rising : IsTrue (is_rising s.linked)
+  pub known : (v : Var) → has s.linked v ≡ true → has s.vars v ≡ true
 
--- the variables are in goal order, and there is room for those that will be put back
-pub record IsRoomy (vars : List Var) (held capacity : ℕ) : Type 0 where
-  pub rising : IsTrue (is_rising vars)
-  pub room : length vars + held ≤ capacity
+-- the entry of a variable keeps these neighbours
+pub record Keeps (s : Entries) (entry : ℕ) (v : Var) (sides : Option Var × Option Var) : Type 0 where
+  pub owned : slice_get s.vars entry ≡ Some v
+  pub held : slice_get s.kept entry ≡ Some (Some sides)
+
+-- the entries of variables that pass a test keep what they kept
+abbrev pub StayKept : (Var → Bool) → Entries → Entries → Type 0
+StayKept test old new = (entry : ℕ) (v : Var) (sides : Option Var × Option Var) → test v ≡ true → Keeps old entry v sides → Keeps new entry v sides
+
+-- any variable
+abbrev pub any_var : Var → Bool
+any_var v = true
+
+-- any other variable
+abbrev pub is_other : Var → Var → Bool
+is_other v w = not (same_var v w)
+
+-- a variable that is chosen
+abbrev pub is_chosen_in : List Choice → Var → Bool
+is_chosen_in trail v = is_some (value_in trail v)
+
+-- an entry may be put back: it keeps its neighbours among what was open before it was taken out, and all else of that is open
+pub record MayComeBack (s : Entries) (entry : ℕ) : Type 0 where
+  pub var : Var
+  pub before : List Var
+  pub rising : is_rising before ≡ true
+  pub there : has before var ≡ true
+  pub kept : Keeps s entry var (beside (same_var var) before)
+  pub others : (v : Var) → has s.linked v ≡ (is_other var v && has before v)
+
+-- whether a variable is behind another, where one is given
+abbrev pub is_behind : Option Var → Var → Bool
+is_behind None w = true
+is_behind (Some v) w = is_before v w

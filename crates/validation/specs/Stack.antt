@@ -9,12 +9,15 @@ use Rattle.choice_problem.specs.declared.problem.Demand.{Demand}
 use Rattle.qualified_goals.specs.Variable.{same_var}
 use Rattle.choice_problem.specs.Assignment.{is_yes}
 use Rattle.choice_problem.specs.Trail.{value_in}
-use Rattle.choice_problem.specs.ConflictSet.{has}
+use Rattle.choice_problem.specs.ConflictSet.{is_rising, has}
+use Rattle.goal_links.specs.Beside.{beside}
+use Rattle.goal_links.specs.Links.{Entries}
 use Rattle.validation.specs.declared.mentions.Mention.{Mention}
 use Rattle.validation.specs.declared.stack.Mark.{Mark}
 use Rattle.validation.specs.View.{View}
+use Rattle.validation.specs.Open.{Keeps}
 use Rattle.validation.specs.Checks.{is_broken_in}
-use Rattle.validation.specs.Cycles.{owner_of}
+use Rattle.demand_cycles.specs.Cycles.{owner_of}
 
 -- what stands behind the last demand
 abbrev pub no_demand : Demand
@@ -63,27 +66,34 @@ pub record AreTargets (listed : List Demand) (active : List Mention) : Type 0 wh
 abbrev pub AreOpen : List Mention → List Choice → List Var → Type 0
 AreOpen active trail vars = (v : Var) → has vars v ≡ (has (vars_at active) v && is_none (value_in trail v))
 
+-- the entry of a variable that was chosen keeps its neighbours among what was open before
+pub record IsHeld (front : List Choice) (v : Var) (entry : ℕ) (asked : List Mention) (s : Entries) : Type 0 where
+  pub before : List Var
+  pub rising : is_rising before ≡ true
+  pub opened : AreOpen asked front before
+  pub kept : Keeps s entry v (beside (same_var v) before)
+
 -- the mark of a choice, of an open variable
-pub record IsMark (front : List Choice) (c : Choice) (m : Mark) (listed : List Demand) (active : List Mention) : Type 0 where
+pub record IsMark (front : List Choice) (c : Choice) (m : Mark) (listed : List Demand) (active : List Mention) (s : Entries) : Type 0 where
   pub new : value_in front c.var ≡ None
   pub asked : has (vars_at (take m.active active)) c.var ≡ true
+  pub held : IsHeld front c.var m.entry (take m.active active) s
   pub listed_within : m.listed ≤ length listed
   pub active_within : m.active ≤ length active
   pub watchers : m.watchers ≡ length (watchers_from 0 (take m.listed listed))
 
 -- choices with their marks, above what was listed and active before each
-pub data AreMarks : List Choice → List Mark → List Demand → List Mention → Type 0 where
-  none : {listed : List Demand} {active : List Mention} → AreTargets listed active → AreMarks [] [] listed active
-  on : {front trail : List Choice} {less marks : List Mark} {listed : List Demand} {active : List Mention} → (c : Choice) → (m : Mark)
-      → AreMarks front less (take m.listed listed) (take m.active active) → trail ≡ front ++ c ∷ [] → marks ≡ less ++ m ∷ []
-      → IsMark front c m listed active → AreTargets listed active → AreMarks trail marks listed active
+pub data AreMarks : List Choice → List Mark → List Demand → List Mention → Entries → Type 0 where
+  none : {listed : List Demand} {active : List Mention} {s : Entries} → AreTargets listed active → AreMarks [] [] listed active s
+  on : {front trail : List Choice} {less marks : List Mark} {listed : List Demand} {active : List Mention} {s : Entries} → (c : Choice) → (m : Mark)
+      → AreMarks front less (take m.listed listed) (take m.active active) s → trail ≡ front ++ c ∷ [] → marks ≡ less ++ m ∷ []
+      → IsMark front c m listed active s → AreTargets listed active → AreMarks trail marks listed active s
 
 -- what the parts of a stack have to do with each other
-pub record AreParts (trail : List Choice) (marks : List Mark) (listed : List Demand) (active watchers : List Mention) (vars : List Var) (held : ℕ) : Type 0 where
-  pub levels : AreMarks trail marks listed active
+pub record AreParts (trail : List Choice) (marks : List Mark) (listed : List Demand) (active watchers : List Mention) (s : Entries) : Type 0 where
+  pub levels : AreMarks trail marks listed active s
   pub waiting : watchers ≡ watchers_from 0 listed
-  pub opened : AreOpen active trail vars
-  pub room : held ≡ length trail
+  pub opened : AreOpen active trail s.linked
 
 -- all but the last
 abbrev pub front_of : {X : Type 0} → List X → List X

@@ -9,10 +9,10 @@ ghost use Rattle.choice_problem.specs.ConflictSet.{set_of};
 ghost use Rattle.choice_problem.specs.Trail.{value_in};
 ghost use Rattle.validation.specs.Stack.{demand_at, demands_at, owners_of, is_owned_by, target_by, targets_by, AllBelow};
 ghost use Rattle.validation.specs.Checks.{is_broken_in};
-ghost use Rattle.validation.specs.Cycles.{owner_of};
+ghost use Rattle.demand_cycles.specs.Cycles.{owner_of};
 
-use crate::cycles::push_owner;
 use choice_problem::{Choice, ConflictSet, Demand, Trail, Var, is_same};
+use demand_cycles::push_owner;
 use plan_types::NoMemory;
 use std::alloc::Global;
 

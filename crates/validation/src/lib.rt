@@ -3,11 +3,9 @@
 #![tactic(auto)]
 
 mod checks;
-mod cycles;
 mod mentions;
 mod open;
 mod settled;
-mod side;
 mod stack;
 mod state;
 mod verdict;

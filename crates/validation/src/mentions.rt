@@ -1,11 +1,12 @@
-// Mentions of variables by demands, linked so that those of one variable are found.
-ghost use Rattle.std.specs.Prelude.{◌≡◌, ◌<◌, ◌++◌, [], ◌∷◌, Some, None, IfOk, OnOk, OnErr, IsSome, MatchOption, cond, length, take, map, filter, slice_index_or};
-ghost use Rattle.qualified_goals.specs.declared.variable.Var.{Var};
-ghost use Rattle.qualified_goals.specs.Variable.{same_var};
-ghost use Rattle.choice_problem.specs.Table.{entry};
-ghost use Rattle.validation.specs.Mentions.{last_of, places_on};
+// Mentions of variables by demands, in chains, so that those of one variable are found.
+ghost use Rattle.std.specs.Prelude.{◌≡◌, ◌<◌, ◌++◌, [], ◌∷◌, IfOk, OnOk, OnErr, MatchOption, length, take, map, slice_index_or};
+ghost use Rattle.choice_problem.specs.ConflictSet.{has};
+ghost use Rattle.goal_links.specs.Chains.{chain_at};
+ghost use Rattle.validation.specs.Mentions.{place_at, places_on, AreMentions};
+ghost use Rattle.validation.specs.Stack.{vars_at};
 
-use choice_problem::{Table, Var};
+use choice_problem::Var;
+use goal_links::Links;
 use plan_types::NoMemory;
 use std::alloc::Global;
 use std::marker::Model;
@@ -17,29 +18,23 @@ pub(crate) struct Mention {
     pub(crate) place: usize,
 }
 
-#[derive(Clone, Copy, Debug, Drop)]
-pub(crate) struct Link {
-    pub(crate) mention: Mention,
-    pub(crate) before: Option<u64>,
-}
-
-/// Mentions, of which those of one variable are found from the last to the first.
+/// Mentions in an order, of which those of one variable are a chain.
 #[derive(Drop)]
 pub(crate) struct Mentions {
-    links: Vec<Link>,
-    last: Table,
+    // A cell for each mention, of its variable's entry. Its demand is the place.
+    links: Links,
 }
 
 impl Model for Mentions {
-    ghost use Rattle.std.specs.Prelude.{List, map};
+    ghost use Rattle.std.specs.Prelude.{List};
     ghost use Rattle.validation.specs.declared.mentions.Mention.{Mention};
-    ghost use Rattle.validation.specs.Mentions.{mentions, IsLinked};
+    ghost use Rattle.validation.specs.Mentions.{mentions, AreMentions};
 
     ghost Value = { List Mention };
 
-    ghost view = { λ c. mentions c.links.items };
+    ghost view = { λ c. mentions c.links };
 
-    ghost invariant = { λ c. IsLinked c.links.items c.last };
+    ghost invariant = { λ c. AreMentions c.links };
 }
 
 impl Mentions {
@@ -47,32 +42,33 @@ impl Mentions {
         ensures { result ≡ [] }
     {
         Mentions {
-            links: Vec::new(alloc),
-            last: Table::new(alloc),
+            links: Links::new(alloc),
         }
     }
 
     pub(crate) fn len(&self) -> usize
         ensures { result ≡ length self.now }
     {
-        self.links.len()
+        self.links.cell_count() as usize
     }
 
-    pub(crate) fn last(&self, v: Var) -> Option<u64>
-        ensures { result ≡ last_of v self.now }
+    /// Whether a variable is mentioned.
+    pub(crate) fn names(&self, v: Var) -> bool
+        ensures { result ≡ has (vars_at self.now) v }
     {
-        self.last.get(v)
+        match self.links.entry_of(v) {
+            Some(entry) => self.links.chain_first(entry).is_some(),
+            None => false,
+        }
     }
 
     pub(crate) fn push(&mut self, mention: Mention) -> Result<(), NoMemory>
         ensures ok { OnOk result (self.new ≡ self.old ++ mention ∷ []) }
         ensures err { OnErr result (self.new ≡ self.old) }
     {
-        let before = self.last.get(mention.var);
-        let place = self.links.len();
-        self.links.reserve(1)?;
-        self.last.set(mention.var, place as u64)?;
-        let _ = self.links.push(Link { mention, before });
+        let entry = self.links.register(mention.var)?;
+        let cell = self.links.register_cell(entry, mention.place as u64)?;
+        self.links.chain_push(cell);
         Ok(())
     }
 
@@ -80,26 +76,25 @@ impl Mentions {
     pub(crate) fn places(&self, alloc: Global, v: Var) -> Result<Vec<usize>, NoMemory>
         ensures { IfOk result (λ found. found.items ≡ places_on v self.now) }
     {
-        let mut found = Vec::new(alloc);
-        let mut at = self.last.get(v);
-        while let Some(place) = at {
-            let link = self.links[place as usize];
-            found.push(link.mention.place)?;
-            at = link.before;
-        }
-        found.reverse();
+        let Some(entry) = self.links.entry_of(v) else {
+            return Ok(Vec::new(alloc));
+        };
+        let found = places_in(alloc, &self.links, entry)?;
         Ok(found)
     }
 
-    /// Takes the last mention off.
+    /// Takes the last mention off. It takes no memory.
     pub(crate) fn pop(&mut self) -> Option<Mention>
         ensures { MatchOption result ((self.old ≡ []) × (self.new ≡ [])) (λ last. self.old ≡ self.new ++ last ∷ []) }
     {
-        let Some(link) = self.links.pop() else {
+        let count = self.len();
+        if count == 0 {
             return None;
-        };
-        restore(&mut self.last, link.mention.var, link.before);
-        Some(link.mention)
+        }
+        let mention = self.at(count - 1);
+        self.links.chain_pop(count as u64 - 1);
+        self.links.drop_cell();
+        Some(mention)
     }
 }
 
@@ -108,7 +103,11 @@ impl Mentions {
         requires { index < length self.now }
         ensures { result ≡ slice_index_or self.now index result }
     {
-        self.links[index].mention
+        let entry = self.links.owner_of(index as u64);
+        Mention {
+            var: self.links.var_of(entry),
+            place: self.links.demand_of(index as u64) as usize,
+        }
     }
 
     /// Keeps the first mentions.
@@ -121,14 +120,18 @@ impl Mentions {
     }
 }
 
-fn restore(last: &mut Table, v: Var, before: Option<u64>)
-    requires { IsSome (entry last.old v) }
-    ensures { (w : Var) → entry last.new w ≡ cond (same_var v w) before (entry last.old w) }
+// The places that the cells of an entry's chain have.
+fn places_in(alloc: Global, links: &Links, entry: u64) -> Result<Vec<usize>, NoMemory>
+    requires entry { entry < length links.now.vars }
+    requires mentions { AreMentions links.now }
+    ensures { IfOk result (λ found. found.items ≡ map (place_at links.now.cells) (chain_at links.now.chains entry)) }
 {
-    match before {
-        Some(place) => {
-            let _ = last.set(v, place);
-        }
-        None => last.remove(v),
+    let mut found = Vec::new(alloc);
+    let mut at = links.chain_first(entry);
+    while let Some(cell) = at {
+        let place = links.demand_of(cell);
+        found.push(place as usize)?;
+        at = links.chain_next(cell);
     }
+    Ok(found)
 }

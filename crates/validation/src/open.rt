@@ -1,112 +1,139 @@
-// The open variables, in goal order.
-ghost use Rattle.std.specs.Prelude.{◌≡◌, ◌+◌, ◌<◌, ◌||◌, ◌&&◌, not, [], IsTrue, OnOk, OnErr, ◌≤◌, vec_len, vec_capacity};
+// The open variables, linked in goal order.
+ghost use Rattle.std.specs.Prelude.{◌≡◌, ◌<◌, ◌||◌, ◌&&◌, [], Some, IfOk, IfSome, IsTrue, OnErr, true, false, length, slice_get};
+ghost use Rattle.std.specs.Option.{option_map};
 ghost use Rattle.qualified_goals.specs.declared.variable.Var.{Var};
-ghost use Rattle.qualified_goals.specs.Variable.{same_var, is_before};
-ghost use Rattle.choice_problem.specs.ConflictSet.{is_rising, has, with_var, place_of, without};
-ghost use Rattle.validation.specs.Open.{Room};
+ghost use Rattle.qualified_goals.specs.Variable.{same_var};
+ghost use Rattle.choice_problem.specs.ConflictSet.{first_behind, is_rising, has};
+ghost use Rattle.goal_links.specs.Beside.{beside};
+ghost use Rattle.goal_links.specs.Links.{var_at};
+ghost use Rattle.validation.specs.Open.{Keeps, StayKept, MayComeBack, any_var, is_other, is_behind};
 
-use choice_problem::{Var, place_of, stands_at};
+use choice_problem::{Var, is_before};
+use goal_links::Links;
 use plan_types::NoMemory;
 use std::alloc::Global;
 use std::marker::Model;
 
-/// Variables in goal order, with room for some that were taken out and will be put back.
+/// Variables with an entry each, of which the open ones are linked in goal order.
 #[derive(Drop)]
 pub(crate) struct OpenVars {
-    vars: Vec<Var>,
-    held: usize,
+    links: Links,
 }
 
 impl Model for OpenVars {
-    ghost use Rattle.std.specs.Prelude.{vec_capacity};
-    ghost use Rattle.validation.specs.Open.{Room, IsRoomy};
+    ghost use Rattle.goal_links.specs.Links.{Entries};
+    ghost use Rattle.validation.specs.Open.{AreInOrder};
 
-    ghost Value = { Room };
+    ghost Value = { Entries };
 
-    ghost view = { λ o. record { vars = o.vars.items; held = o.held } };
+    ghost view = { λ o. o.links };
 
-    ghost invariant = { λ o. IsRoomy o.vars.items o.held (vec_capacity o.vars) };
+    ghost invariant = { λ o. AreInOrder o.links };
 }
 
 impl OpenVars {
     pub(crate) fn new(alloc: Global) -> OpenVars
-        ensures vars { result.vars ≡ [] }
-        ensures held { result.held ≡ 0 }
+        ensures { result ≡ record { vars = []; linked = []; kept = []; cells = []; chains = [] } }
     {
         OpenVars {
-            vars: Vec::new(alloc),
-            held: 0,
+            links: Links::new(alloc),
         }
     }
 
-    /// The variables, in goal order.
-    pub(crate) fn vars(&self) -> &[Var]
-        ensures vars { result.now ≡ self.now.vars }
-        ensures rising { IsTrue (is_rising result.now) }
+    /// The entry of a variable that may be opened. This takes the memory that it needs.
+    pub(crate) fn register(&mut self, v: Var) -> Result<u64, NoMemory>
+        ensures linked { self.new.linked ≡ self.old.linked }
+        ensures entry { IfOk result (λ entry. slice_get self.new.vars entry ≡ Some v) }
+        ensures kept { StayKept any_var self.old self.new }
     {
-        self.vars.as_slice()
+        let entry = self.links.register(v)?;
+        Ok(entry)
     }
 
-    pub(crate) fn add(&mut self, v: Var) -> Result<(), NoMemory>
-        ensures ok { OnOk result ((u : Var) → has self.new.vars u ≡ (same_var v u || has self.old.vars u)) }
-        ensures err { OnErr result (self.new ≡ self.old) }
-        ensures held { self.new.held ≡ self.old.held }
+    /// Opens the variable of an entry.
+    pub(crate) fn add(&mut self, entry: u64)
+        requires entry { entry < length self.old.vars }
+        requires closed { has self.old.linked (var_at self.old.vars entry) ≡ false }
+        ensures linked { (u : Var) → has self.new.linked u ≡ (same_var (var_at self.old.vars entry) u || has self.old.linked u) }
+        ensures kept { StayKept (is_other (var_at self.old.vars entry)) self.old self.new }
     {
-        self.vars.reserve(1 + self.held)?;
-        let _ = insert_rising(&mut self.vars, v);
-        Ok(())
+        self.links.link(entry);
     }
 
-    pub(crate) fn remove(&mut self, v: Var)
-        ensures vars { (u : Var) → has self.new.vars u ≡ (not (same_var v u) && has self.old.vars u) }
-        ensures held { self.new.held ≡ self.old.held }
+    /// The entry of an open variable.
+    pub(crate) fn entry(&self, v: Var) -> u64
+        requires { IsTrue (has self.now.linked v) }
+        ensures { slice_get self.now.vars result ≡ Some v }
     {
-        remove_rising(&mut self.vars, v);
+        self.links.entry_of(v).unwrap()
     }
 
-    /// Takes a variable out, and keeps its room.
-    pub(crate) fn hold(&mut self, v: Var)
-        requires { IsTrue (has self.old.vars v) }
-        ensures vars { (u : Var) → has self.new.vars u ≡ (not (same_var v u) && has self.old.vars u) }
-        ensures held { self.new.held ≡ self.old.held + 1 }
+    /// Takes an open variable out. Its entry keeps its neighbours.
+    pub(crate) fn take_out(&mut self, entry: u64)
+        requires entry { entry < length self.old.vars }
+        requires open { IsTrue (has self.old.linked (var_at self.old.vars entry)) }
+        ensures linked { (u : Var) → has self.new.linked u ≡ (is_other (var_at self.old.vars entry) u && has self.old.linked u) }
+        ensures taken { Keeps self.new entry (var_at self.old.vars entry) (beside (same_var (var_at self.old.vars entry)) self.old.linked) }
+        ensures rising { IsTrue (is_rising self.old.linked) }
+        ensures kept { StayKept any_var self.old self.new }
     {
-        remove_rising(&mut self.vars, v);
-        self.held += 1;
+        self.links.unlink(entry);
     }
 
-    /// Puts a variable back for which room was kept.
-    pub(crate) fn put_back(&mut self, v: Var)
-        requires { 0 < self.old.held }
-        ensures vars { (u : Var) → has self.new.vars u ≡ (same_var v u || has self.old.vars u) }
-        ensures held { self.new.held + 1 ≡ self.old.held }
+    /// Puts a variable back where it was taken out.
+    pub(crate) fn put_back(&mut self, entry: u64)
+        requires { MayComeBack self.old entry }
+        ensures linked { (u : Var) → has self.new.linked u ≡ (same_var (var_at self.old.vars entry) u || has self.old.linked u) }
+        ensures kept { StayKept (is_other (var_at self.old.vars entry)) self.old self.new }
     {
-        let _ = insert_rising(&mut self.vars, v);
-        self.held -= 1;
+        self.links.relink(entry);
     }
 }
 
-fn insert_rising(vars: &mut Vec<Var>, v: Var) -> Result<(), NoMemory>
-    requires { IsTrue (is_rising vars.old.items) }
-    ensures ok { OnOk result (vars.new.items ≡ with_var v vars.old.items) }
-    ensures err { OnErr result (vars.new.items ≡ vars.old.items) }
-    ensures full { OnErr result (vec_capacity vars.old ≤ vec_len vars.old) }
-    ensures capacity { vec_capacity vars.old ≤ vec_capacity vars.new }
-{
-    let place = place_of(vars.as_slice(), v);
-    if stands_at(vars.as_slice(), place, v) {
-        return Ok(());
+impl OpenVars {
+    /// The first variable behind one, or of all where none is given. It is looked for from the first on.
+    pub(crate) fn after(&self, v: Option<Var>) -> Option<Var>
+        ensures after { result ≡ first_behind v self.now.linked }
+        ensures rising { IsTrue (is_rising self.now.linked) }
+    {
+        let mut at = self.links.first();
+        while let Some(entry) = at {
+            let w = self.links.var_of(entry);
+            if is_behind(v, w) {
+                return Some(w);
+            }
+            at = self.links.next(entry);
+        }
+        None
     }
-    vars.insert(place, v)?;
-    Ok(())
+
+    /// The first variable behind one that is open.
+    pub(crate) fn next(&self, v: Var) -> Option<Var>
+        requires { IsTrue (has self.now.linked v) }
+        ensures next { result ≡ first_behind (Some v) self.now.linked }
+        ensures rising { IsTrue (is_rising self.now.linked) }
+    {
+        let entry = self.entry(v);
+        let next = self.links.next(entry);
+        self.var_at(next)
+    }
+
+    fn var_at(&self, entry: Option<u64>) -> Option<Var>
+        requires { IfSome entry (λ n. n < length self.now.vars) }
+        ensures { result ≡ option_map (var_at self.now.vars) entry }
+    {
+        match entry {
+            Some(entry) => Some(self.links.var_of(entry)),
+            None => None,
+        }
+    }
 }
 
-fn remove_rising(vars: &mut Vec<Var>, v: Var)
-    requires { IsTrue (is_rising vars.old.items) }
-    ensures items { vars.new.items ≡ without v vars.old.items }
-    ensures capacity { vec_capacity vars.new ≡ vec_capacity vars.old }
+fn is_behind(v: Option<Var>, w: Var) -> bool
+    ensures { result ≡ is_behind v w }
 {
-    let place = place_of(vars.as_slice(), v);
-    if stands_at(vars.as_slice(), place, v) {
-        vars.remove(place);
+    match v {
+        Some(v) => is_before(v, w),
+        None => true,
     }
 }

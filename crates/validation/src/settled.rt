@@ -3,9 +3,9 @@ ghost use Rattle.std.specs.Prelude.{◌≡◌};
 ghost use Rattle.validation.specs.View.{View};
 ghost use Rattle.validation.specs.Stack.{IsSettled};
 
-use crate::cycles::Graph;
 use crate::stack::Stack;
 use choice_problem::{Demand, Var};
+use demand_cycles::Graph;
 use plan_types::{List, NoMemory};
 use std::alloc::Global;
 use std::marker::Model;

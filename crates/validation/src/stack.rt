@@ -1,17 +1,18 @@
 // What a state keeps of its choices, and how it is taken back.
-ghost use Rattle.std.specs.Prelude.{◌≡◌, ◌≢◌, ◌<◌, ◌↔◌, ◌++◌, [], ◌∷◌, true, None, Some, IfOk, OnOk, OnErr, IsTrue, IfSome, List, length, take, drop, map, find, slice_get};
+ghost use Rattle.std.specs.Prelude.{◌≡◌, ◌≢◌, ◌<◌, ◌↔◌, ◌++◌, [], ◌∷◌, true, None, Some, IfOk, OnOk, OnErr, IsTrue, IfSome, List, is_none, ◌&&◌, length, take, drop, map, find, slice_get};
 ghost use Rattle.std.specs.List.{Contains};
 ghost use Rattle.std.specs.Option.{option_map};
 ghost use Rattle.qualified_goals.specs.declared.variable.Var.{Var};
 ghost use Rattle.choice_problem.specs.Trail.{value_in};
 ghost use Rattle.choice_problem.specs.Active.{asks_for, vars_of_first, waiting};
 ghost use Rattle.choice_problem.specs.Conflict.{edges_of, refuses, is_broken, set_of_first};
-ghost use Rattle.choice_problem.specs.ConflictSet.{has, is_rising, set_of};
+ghost use Rattle.choice_problem.specs.ConflictSet.{first_behind, has, set_of};
 ghost use Rattle.validation.specs.Checks.{is_broken_in};
-ghost use Rattle.validation.specs.Cycles.{HasEdge};
+ghost use Rattle.validation.specs.Open.{StayKept, is_chosen_in};
+ghost use Rattle.demand_cycles.specs.Cycles.{HasEdge};
 ghost use Rattle.validation.specs.declared.mentions.Mention.{Mention};
 ghost use Rattle.validation.specs.View.{View};
-ghost use Rattle.validation.specs.Stack.{AreOpen, IsSettled, demand_at, are_naming, watchers_by, undone, held, with_listed, with_active, HasListed, HasActivated, HasGrown, AllBelow, grown, first_broken, turned, made, demands_at, places_of};
+ghost use Rattle.validation.specs.Stack.{AreOpen, IsSettled, vars_at, demand_at, are_naming, watchers_by, undone, held, with_listed, with_active, HasListed, HasActivated, HasGrown, AllBelow, grown, first_broken, turned, made, demands_at, places_of};
 
 use crate::checks::{
     demand_in, first_refusing, is_broken_at, owners_at, reason_at, set_at, targets_at, yes_among,
@@ -23,12 +24,13 @@ use plan_types::{List, NoMemory};
 use std::alloc::Global;
 use std::marker::Model;
 
-/// How much there was of each before a choice.
+/// How much there was of each before a choice, and the entry of its variable.
 #[derive(Clone, Copy, Debug, Drop)]
 pub(crate) struct Mark {
     pub(crate) listed: usize,
     pub(crate) watchers: usize,
     pub(crate) active: usize,
+    pub(crate) entry: u64,
 }
 
 /// Choices, with the demands that are listed and those of them that are active.
@@ -59,7 +61,7 @@ impl Model for Stack {
       active_before = map (λ m. m.active) s.marks;
     } };
 
-    ghost invariant = { λ s. AreParts s.trail s.marks s.listed s.active s.watchers s.opens.vars s.opens.held };
+    ghost invariant = { λ s. AreParts s.trail s.marks s.listed s.active s.watchers s.opens };
 }
 
 impl Stack {
@@ -95,13 +97,15 @@ impl Stack {
         ensures ok { OnOk result (self.new ≡ held self.old c) }
         ensures err { OnErr result (self.new ≡ self.old) }
     {
+        let entry = self.opens.entry(c.var);
         let mark = Mark {
             listed: self.listed.len(),
             watchers: self.watchers.len(),
             active: self.active.len(),
+            entry,
         };
         add_level(&mut self.trail, &mut self.marks, c, mark)?;
-        self.opens.hold(c.var);
+        self.opens.take_out(entry);
         Ok(())
     }
 }
@@ -116,8 +120,8 @@ impl Stack {
         forget(&mut self.active, &mut self.opens, &self.trail, mark.active);
         self.watchers.cut(mark.watchers);
         self.listed.truncate(mark.listed);
-        let c = self.trail.pop().unwrap();
-        self.opens.put_back(c.var);
+        self.trail.pop();
+        self.opens.put_back(mark.entry);
     }
 
     pub(crate) fn list(&mut self, d: Demand) -> Result<(), NoMemory>
@@ -230,12 +234,16 @@ impl Stack {
 }
 
 impl Stack {
-    /// The variables that have no value and are targets of active demands, in goal order.
-    pub(crate) fn waiting(&self) -> &[Var]
-        ensures waiting { result.now ≡ waiting self.now.trail self.now.active }
-        ensures rising { IsTrue (is_rising result.now) }
+    /// The first variable behind one, or of all where none is given, that has no value and is the target of an active demand.
+    pub(crate) fn open_after(&self, v: Option<Var>) -> Option<Var>
+        ensures { result ≡ first_behind v (waiting self.now.trail self.now.active) }
     {
-        self.opens.vars()
+        if let Some(v) = v {
+            if is_open(&self.active, &self.trail, v) {
+                return self.opens.next(v);
+            }
+        }
+        self.opens.after(v)
     }
 
     /// The set of the condition of the first active demand on a variable.
@@ -307,7 +315,7 @@ impl Stack {
     pub(crate) fn is_chosen(&self, v: Var) -> bool
         ensures { (w : Var) → HasEdge (edges_of self.now.active) v w → result ≡ true }
     {
-        self.watchers.last(v).is_some()
+        self.watchers.names(v)
     }
 }
 
@@ -326,12 +334,18 @@ fn first_broken(active: &Mentions, listed: &[Demand], trail: &Trail, from: usize
     None
 }
 
+fn is_open(active: &Mentions, trail: &Trail, v: Var) -> bool
+    ensures { result ≡ (has (vars_at active.now) v && is_none (value_in trail.now v)) }
+{
+    active.names(v) && !trail.has(v)
+}
+
 // Cuts the mentions of active demands back, with what they opened.
 fn forget(active: &mut Mentions, opens: &mut OpenVars, trail: &Trail, len: usize)
-    requires { AreOpen active.old trail.now opens.old.vars }
+    requires { AreOpen active.old trail.now opens.old.linked }
     ensures active { active.new ≡ take len active.old }
-    ensures opened { AreOpen active.new trail.now opens.new.vars }
-    ensures held { opens.new.held ≡ opens.old.held }
+    ensures opened { AreOpen active.new trail.now opens.new.linked }
+    ensures kept { StayKept (is_chosen_in trail.now) opens.old opens.new }
 {
     while active.len() > len {
         forget_last(active, opens, trail);
@@ -339,10 +353,10 @@ fn forget(active: &mut Mentions, opens: &mut OpenVars, trail: &Trail, len: usize
 }
 
 fn forget_last(active: &mut Mentions, opens: &mut OpenVars, trail: &Trail)
-    requires { AreOpen active.old trail.now opens.old.vars }
+    requires { AreOpen active.old trail.now opens.old.linked }
     ensures active { (front : List Mention) (m : Mention) → active.old ≡ front ++ m ∷ [] → active.new ≡ front }
-    ensures opened { AreOpen active.new trail.now opens.new.vars }
-    ensures held { opens.new.held ≡ opens.old.held }
+    ensures opened { AreOpen active.new trail.now opens.new.linked }
+    ensures kept { StayKept (is_chosen_in trail.now) opens.old opens.new }
 {
     let Some(mention) = active.pop() else {
         return;
@@ -350,34 +364,37 @@ fn forget_last(active: &mut Mentions, opens: &mut OpenVars, trail: &Trail)
     if trail.has(mention.var) {
         return;
     }
-    if active.last(mention.var).is_some() {
+    if active.names(mention.var) {
         return;
     }
-    opens.remove(mention.var);
+    let entry = opens.entry(mention.var);
+    opens.take_out(entry);
 }
 
-// Puts the mention of an active demand's target onto the others, and opens it where it has no value.
+// Puts the mention of an active demand's target onto the others, and opens it where it has no value and isn't open.
 fn ask(
     active: &mut Mentions,
     opens: &mut OpenVars,
     trail: &Trail,
     mention: Mention,
 ) -> Result<(), NoMemory>
-    requires { AreOpen active.old trail.now opens.old.vars }
+    requires { AreOpen active.old trail.now opens.old.linked }
     ensures ok { OnOk result (active.new ≡ active.old ++ mention ∷ []) }
     ensures err { OnErr result (active.new ≡ active.old) }
-    ensures opened { AreOpen active.new trail.now opens.new.vars }
-    ensures held { opens.new.held ≡ opens.old.held }
+    ensures opened { AreOpen active.new trail.now opens.new.linked }
+    ensures kept { StayKept (is_chosen_in trail.now) opens.old opens.new }
 {
     if trail.has(mention.var) {
         active.push(mention)?;
         return Ok(());
     }
-    active.push(mention)?;
-    if opens.add(mention.var).is_err() {
-        active.pop();
-        return Err(NoMemory);
+    if active.names(mention.var) {
+        active.push(mention)?;
+        return Ok(());
     }
+    let entry = opens.register(mention.var)?;
+    active.push(mention)?;
+    opens.add(entry);
     Ok(())
 }
 

@@ -4,16 +4,16 @@ ghost use Rattle.choice_problem.specs.declared.problem.Choice.{Choice};
 ghost use Rattle.choice_problem.specs.Problem.{Problem, IsChoice, Lawful};
 ghost use Rattle.choice_problem.specs.Active.{is_open, least_open, open_after, reason};
 ghost use Rattle.choice_problem.specs.Conflict.{lasting_set, conflict};
-ghost use Rattle.choice_problem.specs.ConflictSet.{first_behind, is_rising, set_of};
+ghost use Rattle.choice_problem.specs.ConflictSet.{set_of};
 ghost use Rattle.validation.specs.View.{View, Represents, view_of};
 ghost use Rattle.validation.specs.Stack.{front_of, IsSettled};
 ghost use Rattle.validation.specs.Verdict.{verdict_of, Leaves, set_before, set_after};
 
 use crate::Verdict;
-use crate::cycles::cycle_set_of;
 use crate::settled::Settled;
 use crate::stack::Stack;
-use choice_problem::{Choice, Choices, ConflictSet, Steps, Trail, Var, place_behind};
+use choice_problem::{Choice, Choices, ConflictSet, Steps, Trail, Var};
+use demand_cycles::cycle_set_of;
 use plan_types::{List, NoMemory};
 use std::alloc::Global;
 use std::marker::Model;
@@ -56,7 +56,7 @@ impl State {
     pub fn open_after(&self, v: Option<Var>) -> Option<Var>
         ensures { (p : Problem) → Lawful p → Represents p self.now → result ≡ open_after p self.now.trail v }
     {
-        first_behind(self.stack.waiting(), v)
+        self.stack.open_after(v)
     }
 
     /// Why an open variable is so: the variables of the condition of the first demand on it that became active.
@@ -188,16 +188,4 @@ fn lasting_fault(
 {
     let set = cycle_set_of(alloc, &Settled::of(stack), before)?;
     Ok(set)
-}
-
-// The first of some variables, or of those behind one.
-fn first_behind(vars: &[Var], v: Option<Var>) -> Option<Var>
-    requires { IsTrue (is_rising vars.now) }
-    ensures { result ≡ first_behind v vars.now }
-{
-    let place = match v {
-        Some(v) => place_behind(vars, v),
-        None => 0,
-    };
-    vars.get(place).copied()
 }

@@ -1,6 +1,6 @@
 use Rattle.std.proofs.Common.{◌<◌, ◌≤◌, ◌∷◌, [], ◌∙◌, sym, ap, take, length, arith, length-append}
 use Rattle.std.proofs.lemmas.List.{take-append-le}
-use Rattle.validation.proofs.MentionLinks.{last-split}
+use Rattle.validation.proofs.LastItems.{last-split}
 use Rattle.validation.proofs.stack.forget.Goals as goal
 
 pub loop-active-smaller : goal.loop-active-smaller
@@ -21,5 +21,5 @@ loop-active-preserved c =
           ap (take c.args.len) less ∙ sym (take-append-le c.args.len split.0 (split.1 ∷ []) within) ∙ ap (take c.args.len) (sym split.2)
           ∙ c.loop-active.invariant.first;
       opened = c.forget_last.ensures.opened;
-      held = c.forget_last.ensures.held ∙ c.loop-active.invariant.held;
+      kept = λ n v sides chosen k. c.forget_last.ensures.kept n v sides chosen (c.loop-active.invariant.kept n v sides chosen k);
     }

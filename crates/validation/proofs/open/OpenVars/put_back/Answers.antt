@@ -1,35 +1,27 @@
-use Rattle.std.proofs.Common.{◌≡◌, ◌<◌, ◌∙◌, ap, ◌||◌, length, arith}
-use Rattle.qualified_goals.specs.Variable.{same_var}
-use Rattle.choice_problem.specs.ConflictSet.{is_rising, has, with_var}
-use Rattle.choice_problem.proofs.Sets.{has-with_var, rising-with_var}
-use Rattle.validation.specs.Open.{Room}
-use Rattle.choice_problem.proofs.InOrder.{length-with_var}
-use Rattle.choice_problem.proofs.Results.{ok-of}
+use Rattle.std.proofs.Common.{◌∙◌, sym, ap, subst}
+use Rattle.choice_problem.specs.ConflictSet.{has}
+use Rattle.goal_links.specs.Links.{Entries, var_at, linked}
+use Rattle.validation.specs.Open.{AreInOrder, StayKept, MayComeBack, is_other}
+use Rattle.validation.proofs.Opened.{linked-has, linked-kept, linked-order, may-come-back, back-within}
 use Rattle.validation.proofs.open.OpenVars.put_back.Goals as goal
+
+pub relink-requires : goal.relink-requires
+relink-requires c =
+    may-come-back c.self.inside.links c.args.entry c.self.invariant (subst (λ (s : Entries). MayComeBack s c.args.entry) (sym c.self.view_is) c.requires)
 
 pub invariant_of-self : goal.invariant_of-self
 invariant_of-self c =
-    let some : 0 < c.self.inside.held = omega (arith, c.requires, ap (λ (r : Room). r.held) c.self.view_is) in
-    let items : c.insert_rising.new.vars.items ≡ with_var c.args.v c.self.inside.vars.items =
-    ok-of c.insert_rising.result c.insert_rising.ensures.ok c.insert_rising.ensures.full
-    (λ full. omega (arith, full, some, c.self.invariant.room, c.self.inside.vars.ok)) in
-    record {
-      rising = ap is_rising items ∙ rising-with_var c.args.v c.self.inside.vars.items c.self.invariant.rising;
-      room = omega (
-        arith,
-        some,
-        ap length items,
-        length-with_var c.args.v c.self.inside.vars.items,
-        c.insert_rising.ensures.capacity,
-        c.self.invariant.room,
-      );
-    }
+    subst (λ (s : Entries). AreInOrder s) (sym c.relink.ensures.linked)
+    (linked-order c.self.inside.links c.args.entry
+    (back-within c.self.inside.links c.args.entry (subst (λ (s : Entries). MayComeBack s c.args.entry) (sym c.self.view_is) c.requires)) c.self.invariant)
 
-pub returns-clause-vars : goal.returns-clause-vars
-returns-clause-vars c u =
-    let some : 0 < c.self.inside.held = omega (arith, c.requires, ap (λ (r : Room). r.held) c.self.view_is) in
-    let items : c.insert_rising.new.vars.items ≡ with_var c.args.v c.self.inside.vars.items =
-    ok-of c.insert_rising.result c.insert_rising.ensures.ok c.insert_rising.ensures.full
-    (λ full. omega (arith, full, some, c.self.invariant.room, c.self.inside.vars.ok)) in
-    ap (λ vars. has vars u) items ∙ has-with_var c.args.v c.self.inside.vars.items u
-    ∙ ap (λ (r : Room). same_var c.args.v u || has r.vars u) c.self.view_is
+pub returns-clause-linked : goal.returns-clause-linked
+returns-clause-linked c u =
+    ap (λ (s : Entries). has s.linked u) (c.relink.ensures.linked ∙ ap (λ (s : Entries). linked s c.args.entry) c.self.view_is)
+    ∙ linked-has c.args.self.now c.args.entry (back-within c.args.self.now c.args.entry c.requires) u
+
+pub returns-clause-kept : goal.returns-clause-kept
+returns-clause-kept c =
+    subst (λ (s : Entries). StayKept (is_other (var_at c.args.self.now.vars c.args.entry)) c.args.self.now s)
+    (sym (c.relink.ensures.linked ∙ ap (λ (s : Entries). linked s c.args.entry) c.self.view_is))
+    (linked-kept c.args.self.now c.args.entry (back-within c.args.self.now c.args.entry c.requires))

@@ -1,6 +1,6 @@
 use Rattle.std.proofs.Common.{sym, subst}
 use Rattle.choice_problem.specs.Conflict.{edges_of}
-use Rattle.validation.specs.Cycles.{HasEdge}
+use Rattle.demand_cycles.specs.Cycles.{HasEdge}
 use Rattle.validation.specs.View.{View}
 use Rattle.validation.proofs.settled.SettledGraph.is_chosen.Goals as goal
 

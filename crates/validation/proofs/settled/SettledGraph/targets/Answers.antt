@@ -2,7 +2,7 @@ use Rattle.std.proofs.Common.{◌↔◌, IfOk, subst}
 use Rattle.std.specs.List.{Contains}
 use Rattle.qualified_goals.specs.declared.variable.Var.{Var}
 use Rattle.choice_problem.specs.Conflict.{edges_of}
-use Rattle.validation.specs.Cycles.{HasEdge}
+use Rattle.demand_cycles.specs.Cycles.{HasEdge}
 use Rattle.validation.specs.View.{View}
 use Rattle.validation.proofs.settled.SettledGraph.targets.Goals as goal
 

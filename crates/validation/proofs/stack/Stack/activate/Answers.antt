@@ -16,5 +16,5 @@ invariant_of-self c =
     let target : d.target ≡ (demand_at s.listed c.args.place).target =
     ap (λ (ds : List Demand). (get_or ds c.args.place c.index-as_slice-place.result).target) c.as_slice.ensures
     ∙ ap (λ (x : Demand). x.target) (get-any s.listed c.args.place c.index-as_slice-place.result no_demand within) in
-    parts-ask c.ask.result s.trail s.marks s.listed s.active c.ask.new.active s.watchers s.opens.vars c.ask.new.opens.vars s.opens.held c.ask.new.opens.held m
-    c.self.invariant within target c.ask.ensures.ok c.ask.ensures.err c.ask.ensures.opened c.ask.ensures.held
+    parts-ask c.ask.result s.trail s.marks s.listed s.active c.ask.new.active s.watchers s.opens c.ask.new.opens m
+    c.self.invariant within target c.ask.ensures.ok c.ask.ensures.err c.ask.ensures.opened c.ask.ensures.kept

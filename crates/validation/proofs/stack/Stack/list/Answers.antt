@@ -10,7 +10,7 @@ pub invariant_of-self-else-is_err : goal.invariant_of-self-else-is_err
 invariant_of-self-else-is_err c =
     let s = c.self.inside in
     let push = ok-where c.push.result c.push.ensures.ok (sym c.is_err.ensures.value ∙ c.if-is_err.false) in
-    parts-list s.trail s.marks s.listed c.push.new.self s.active s.watchers c.watch.new.watchers s.opens.vars s.opens.held c.args.d c.self.invariant push
+    parts-list s.trail s.marks s.listed c.push.new.self s.active s.watchers c.watch.new.watchers s.opens c.args.d c.self.invariant push
     (c.in_ok-watch.ensures.ok ∙ ap (λ n. s.watchers ++ watchers_by n c.as_slice.result.now) c.len-place.ensures
     ∙ ap (λ when. s.watchers ++ watchers_by (length s.listed) when) c.as_slice.ensures)
 

@@ -4,7 +4,7 @@ use Rattle.qualified_goals.specs.declared.variable.Var.{Var}
 use Rattle.choice_problem.specs.declared.problem.Demand.{Demand}
 use Rattle.choice_problem.specs.Conflict.{edges_of}
 use Rattle.validation.specs.Mentions.{places_on}
-use Rattle.validation.specs.Cycles.{HasEdge}
+use Rattle.demand_cycles.specs.Cycles.{HasEdge}
 use Rattle.validation.specs.View.{View}
 use Rattle.validation.specs.Stack.{demands_at, owners_of}
 use Rattle.validation.proofs.Stacks.{marks-targets}

@@ -1,24 +1,54 @@
-use Rattle.std.proofs.Common.{◌∙◌, ap}
-use Rattle.validation.specs.Stack.{undone}
-use Rattle.validation.proofs.MentionLinks.{pop-is}
-use Rattle.validation.proofs.Stacks.{parts-undo, undone-seen}
+use Rattle.std.proofs.Common.{◌≡◌, ◌∙◌, ◌||◌, List, sym, ap, subst}
+use Rattle.qualified_goals.specs.declared.variable.Var.{Var}
+use Rattle.qualified_goals.specs.Variable.{same_var}
+use Rattle.choice_problem.specs.declared.problem.Choice.{Choice}
+use Rattle.choice_problem.specs.ConflictSet.{has}
+use Rattle.goal_links.specs.Beside.{beside}
+use Rattle.goal_links.specs.Links.{var_at}
+use Rattle.validation.specs.declared.mentions.Mention.{Mention}
+use Rattle.validation.specs.Open.{StayKept, is_other, is_chosen_in}
+use Rattle.validation.specs.Stack.{AreOpen, IsHeld, undone, vars_at}
+use Rattle.validation.specs.View.{View}
+use Rattle.validation.proofs.LastItems.{pop-is, pop-some}
+use Rattle.validation.proofs.Opened.{at-entry}
+use Rattle.validation.proofs.Stacks.{chosen-last, marks-undo, comes-back, parts-undo, undone-seen}
 use Rattle.validation.proofs.stack.Stack.undo.Goals as goal
+
+pub put_back-requires : goal.put_back-requires
+put_back-requires c =
+    let s = c.self.inside in
+    let m = c.unwrap-mark.result in
+    let marks = pop-is s.marks c.pop.new.self c.pop.result m c.pop.ensures c.unwrap-mark.ensures in
+    let last = pop-some s.trail c.pop-2.new.self c.pop-2.result c.pop-2.ensures (λ none. c.requires (ap (λ (x : View). x.trail) (sym c.self.view_is) ∙ none)) in
+    let level = marks-undo c.pop-2.new.self last.0 c.pop.new.self m c.self.invariant.levels last.1 marks in
+    let asked = c.forget.ensures.active in
+    comes-back c.pop-2.new.self last.0 m.entry c.forget.new.active s.opens c.forget.new.opens
+    (subst (λ (ms : List Mention). IsHeld c.pop-2.new.self last.0.var m.entry ms s.opens) (sym asked) level.1.held) level.1.new
+    (ap (λ (ms : List Mention). has (vars_at ms) last.0.var) asked ∙ level.1.asked)
+    (subst (λ (cs : List Choice). StayKept (is_chosen_in cs) s.opens c.forget.new.opens) last.1 c.forget.ensures.kept)
+    (subst (λ (cs : List Choice). AreOpen c.forget.new.active cs c.forget.new.opens.linked) last.1 c.forget.ensures.opened)
 
 pub invariant_of-self : goal.invariant_of-self
 invariant_of-self c =
     let s = c.self.inside in
-    let marks = pop-is s.marks c.pop.new.self c.pop.result c.unwrap-mark.result c.pop.ensures c.unwrap-mark.ensures in
-    let trail = pop-is s.trail c.pop-2.new.self c.pop-2.result c.unwrap-c.result c.pop-2.ensures c.unwrap-c.ensures in
+    let m = c.unwrap-mark.result in
+    let marks = pop-is s.marks c.pop.new.self c.pop.result m c.pop.ensures c.unwrap-mark.ensures in
+    let last = pop-some s.trail c.pop-2.new.self c.pop-2.result c.pop-2.ensures (λ none. c.requires (ap (λ (x : View). x.trail) (sym c.self.view_is) ∙ none)) in
+    let level = marks-undo c.pop-2.new.self last.0 c.pop.new.self m c.self.invariant.levels last.1 marks in
+    let kept = c.forget.ensures.kept m.entry last.0.var (beside (same_var last.0.var) level.1.held.before)
+    (chosen-last c.pop-2.new.self s.trail last.0 last.1 level.1.new) level.1.held.kept in
+    let at : var_at c.forget.new.opens.vars m.entry ≡ last.0.var = at-entry c.forget.new.opens.vars m.entry last.0.var kept.owned in
     parts-undo s.trail c.pop-2.new.self s.marks c.pop.new.self s.listed c.truncate.new.self s.active c.forget.new.active s.watchers c.cut.new.self
-    s.opens.vars c.forget.new.opens.vars c.put_back.new.self.vars s.opens.held c.forget.new.opens.held c.put_back.new.self.held
-    c.unwrap-c.result c.unwrap-mark.result c.self.invariant trail marks c.forget.ensures.active c.forget.ensures.opened c.forget.ensures.held c.cut.ensures
-    c.truncate.ensures c.put_back.ensures.vars c.put_back.ensures.held
+    s.opens c.forget.new.opens c.put_back.new.self last.0 m c.self.invariant last.1 marks c.forget.ensures.active c.forget.ensures.opened c.forget.ensures.kept
+    c.cut.ensures c.truncate.ensures
+    (λ v. c.put_back.ensures.linked v ∙ ap (λ (w : Var). same_var w v || has c.forget.new.opens.linked v) at)
+    (subst (λ (w : Var). StayKept (is_other w) c.forget.new.opens c.put_back.new.self) at c.put_back.ensures.kept)
 
 pub returns : goal.returns
 returns c =
     let s = c.self.inside in
     let marks = pop-is s.marks c.pop.new.self c.pop.result c.unwrap-mark.result c.pop.ensures c.unwrap-mark.ensures in
-    let trail = pop-is s.trail c.pop-2.new.self c.pop-2.result c.unwrap-c.result c.pop-2.ensures c.unwrap-c.ensures in
-    undone-seen s.trail c.pop-2.new.self s.marks c.pop.new.self s.listed c.truncate.new.self s.active c.forget.new.active c.unwrap-c.result c.unwrap-mark.result
-    c.self.invariant.levels trail marks c.forget.ensures.active c.truncate.ensures
+    let last = pop-some s.trail c.pop-2.new.self c.pop-2.result c.pop-2.ensures (λ none. c.requires (ap (λ (x : View). x.trail) (sym c.self.view_is) ∙ none)) in
+    undone-seen s.trail c.pop-2.new.self s.marks c.pop.new.self s.listed c.truncate.new.self s.active c.forget.new.active last.0 c.unwrap-mark.result
+    c.self.invariant.levels last.1 marks c.forget.ensures.active c.truncate.ensures
     ∙ ap undone c.self.view_is

@@ -8,8 +8,8 @@ use Rattle.validation.proofs.state.State.open_after.Goals as goal
 
 pub returns : goal.returns
 returns c p lawful stands =
-    c.first_behind.ensures
+    c.open_after.ensures
     ∙ ap (first_behind c.args.v)
-    (c.waiting.ensures.waiting ∙ ap (λ (s : View). waiting s.trail s.active) c.self.view_is
+    (ap (λ (s : View). waiting s.trail s.active) c.self.view_is
     ∙ ap (λ (l : List Demand). waiting c.args.self.now.trail l) (ap (λ (s : View). s.active) stands.same)
     ∙ sym (open-waiting p lawful c.args.self.now.trail stands.choices))

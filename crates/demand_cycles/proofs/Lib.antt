@@ -1,0 +1,4 @@
+pub mod Keys
+pub mod Reached
+pub mod Sides
+pub mod Rings

@@ -1,0 +1,16 @@
+use Rattle.std.proofs.Common.{◌∷◌, [], sym, ap, ◌∙◌}
+use Rattle.std.proofs.lemmas.Bool.{false≢true}
+use Rattle.choice_problem.specs.Conflict.{edges_of}
+use Rattle.demand_cycles.specs.Cycles.{leads_to_any}
+use Rattle.demand_cycles.proofs.Rings.{lies-ended, lies-led}
+use Rattle.demand_cycles.proofs.cycles.is_on_cycle.Goals as goal
+
+pub returns-then-not-is_chosen-clause-lies : goal.returns-then-not-is_chosen-clause-lies
+returns-then-not-is_chosen-clause-lies g c =
+    sym (lies-ended (g.G.Graph.demands c.args.graph.now) c.args.demand.now c.requires.listed (λ w h. false≢true (sym c.if-not-is_chosen.true ∙ c.is_chosen.ensures w h)))
+
+pub returns-clause-lies : goal.returns-clause-lies
+returns-clause-lies g c =
+    let edges = edges_of (g.G.Graph.demands c.args.graph.now) in
+    c.in_ok-lies.ensures.is_led ∙ ap (λ v. leads_to_any edges (v ∷ []) c.args.demand.now.target) c.in_ok-back.ensures.end
+    ∙ lies-led edges c.args.demand.now c.in-Some.owner (sym c.in-Some.ensures)

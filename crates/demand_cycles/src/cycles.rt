@@ -1,0 +1,201 @@
+// The cycles among demands.
+ghost use Rattle.std.specs.Prelude.{◌≡◌, ◌+◌, ◌<◌, ◌↔◌, [], ◌∷◌, ◌++◌, true, Some, IfOk, OnOk, IfSome, List, length, take, drop, slice_get, option_to_list, flat_map};
+ghost use Rattle.std.specs.List.{Contains};
+ghost use Rattle.qualified_goals.specs.declared.variable.Var.{Var};
+ghost use Rattle.choice_problem.specs.declared.problem.Demand.{Demand};
+ghost use Rattle.choice_problem.specs.ConflictSet.{has};
+ghost use Rattle.choice_problem.specs.Conflict.{Edge, edges_of, named_by, lies_on_cycle, circular, set_of_all};
+ghost use Rattle.demand_cycles.specs.Cycles.{HasEdge, AreAncestors, leads_to_any, owner_of, owners_on_cycles};
+ghost use Rattle.demand_cycles.specs.Side.{IsSide, reversed};
+
+use crate::side::{Side, add_keys, are_apart, have_met, is_around};
+use choice_problem::{ConflictSet, Demand, Var, is_same};
+use indexmap::IndexSet;
+use plan_types::{List, NoMemory};
+use std::alloc::Global;
+
+/// Demands in an order, with an edge from the owner of each to its target.
+pub trait Graph {
+    ghost demands: { Self → List Demand };
+
+    /// How many demands there are.
+    fn count(&self) -> usize
+        ensures { result ≡ length (demands self.now) };
+
+    fn demand(&self, place: usize) -> &Demand
+        requires { place < length (demands self.now) }
+        ensures { slice_get (demands self.now) place ≡ Some result.now };
+
+    /// The variables that edges to this one leave.
+    fn sources(&self, alloc: Global, to: Var) -> Result<List<Var>, NoMemory>
+        ensures { IfOk result (λ found. (v : Var) → (Contains found v) ↔ (HasEdge (edges_of (demands self.now)) v to)) };
+
+    /// The variables that edges from this one enter.
+    fn targets(&self, alloc: Global, from: Var) -> Result<List<Var>, NoMemory>
+        ensures { IfOk result (λ found. (v : Var) → (Contains found v) ↔ (HasEdge (edges_of (demands self.now)) from v)) };
+
+    /// Whether a variable is chosen. Edges leave only those.
+    fn is_chosen(&self, v: Var) -> bool
+        ensures { (w : Var) → HasEdge (edges_of (demands self.now)) v w → result ≡ true };
+}
+
+/// The set of the variables that the demands on cycles name, where there are any. The demands before a place have
+/// no cycle.
+pub fn cycle_set_of<G: Graph>(
+    alloc: Global,
+    graph: &G,
+    before: usize,
+) -> Result<Option<ConflictSet>, NoMemory>
+    requires { circular (take before (G.demands graph.now)) ≡ [] }
+    ensures { IfOk result (λ found. found ≡ set_of_all (circular (G.demands graph.now))) }
+{
+    let owners = new_owners(alloc, graph, before)?;
+    if owners.is_empty() {
+        return Ok(None);
+    }
+    let around = ancestors(alloc, graph, owners.as_slice())?;
+    let named = named_on_cycles(alloc, graph, &around)?;
+    let set = ConflictSet::of(alloc, named.as_slice())?;
+    Ok(Some(set))
+}
+
+// The owners of the demands from a place on that lie on a cycle.
+fn new_owners<G: Graph>(alloc: Global, graph: &G, before: usize) -> Result<Vec<Var>, NoMemory>
+    ensures { IfOk result (λ owners. owners.items ≡ owners_on_cycles (edges_of (G.demands graph.now)) (drop before (G.demands graph.now))) }
+{
+    let mut owners = Vec::new(alloc);
+    let mut last = None;
+    let count = graph.count();
+    for place in before..count {
+        let demand = graph.demand(place);
+        if is_on_cycle(alloc, graph, &mut last, demand)? {
+            push_owner(&mut owners, demand)?;
+        }
+    }
+    Ok(owners)
+}
+
+// What the demands on cycles name. The targets of all of these are around.
+fn named_on_cycles<G: Graph>(
+    alloc: Global,
+    graph: &G,
+    around: &IndexSet<Var>,
+) -> Result<Vec<Var>, NoMemory>
+    requires { (d : Demand) → Contains (circular (G.demands graph.now)) d → has around.now.keys d.target ≡ true }
+    ensures { IfOk result (λ named. named.items ≡ flat_map named_by (circular (G.demands graph.now))) }
+{
+    let mut named = Vec::new(alloc);
+    let mut last = None;
+    let count = graph.count();
+    for place in 0..count {
+        let demand = graph.demand(place);
+        if is_around(around, demand.target) {
+            if is_on_cycle(alloc, graph, &mut last, demand)? {
+                push_named(&mut named, demand)?;
+            }
+        }
+    }
+    Ok(named)
+}
+
+/// Puts the owner of a demand behind other variables, where it has one.
+pub fn push_owner(owners: &mut Vec<Var>, demand: &Demand) -> Result<(), NoMemory>
+    ensures { OnOk result (owners.new.items ≡ owners.old.items ++ option_to_list (owner_of demand.now)) }
+{
+    if let [owner, ..] = demand.when.as_slice() {
+        owners.push(owner.var)?;
+    }
+    Ok(())
+}
+
+fn push_named(named: &mut Vec<Var>, demand: &Demand) -> Result<(), NoMemory>
+    ensures { OnOk result (named.new.items ≡ named.old.items ++ named_by demand.now) }
+{
+    named.push(demand.target)?;
+    for c in demand.when.as_slice() {
+        named.push(c.var)?;
+    }
+    Ok(())
+}
+
+fn owner_of(demand: &Demand) -> Option<Var>
+    ensures { result ≡ owner_of demand.now }
+{
+    match demand.when.as_slice() {
+        [owner, ..] => Some(owner.var),
+        [] => None,
+    }
+}
+
+// Whether the edge of a demand lies on a cycle. What was found against the edges serves again where the owner is the same.
+fn is_on_cycle<G: Graph>(
+    alloc: Global,
+    graph: &G,
+    last: &mut Option<Side>,
+    demand: &Demand,
+) -> Result<bool, NoMemory>
+    requires listed { Contains (G.demands graph.now) demand.now }
+    requires last { IfSome last.old (IsSide (edges_of (G.demands graph.now))) }
+    ensures lies { IfOk result (λ lies. lies ≡ lies_on_cycle (edges_of (G.demands graph.now)) demand.now) }
+    ensures last { IfSome last.new (IsSide (edges_of (G.demands graph.now))) }
+{
+    let Some(owner) = owner_of(demand) else {
+        return Ok(false);
+    };
+    if !graph.is_chosen(demand.target) {
+        return Ok(false);
+    }
+    let mut back = side_of(alloc, last.take(), owner)?;
+    let lies = is_led_to(alloc, graph, &mut back, demand.target)?;
+    *last = Some(back);
+    Ok(lies)
+}
+
+fn side_of(alloc: Global, last: Option<Side>, end: Var) -> Result<Side, NoMemory>
+    ensures end { IfOk result (λ side. side.end ≡ end) }
+    ensures side { (edges : List Edge) → IfSome last (IsSide edges) → IfOk result (IsSide edges) }
+{
+    match last {
+        Some(side) if is_same(side.end, end) => Ok(side),
+        _ => Side::new(alloc, end),
+    }
+}
+
+// Whether edges lead from a variable to the end of a side, which goes on as far as it takes to tell. The search along the
+// edges goes first: much may lead to the owner of a demand whose target needs little.
+fn is_led_to<G: Graph>(
+    alloc: Global,
+    graph: &G,
+    back: &mut Side,
+    from: Var,
+) -> Result<bool, NoMemory>
+    requires { IsSide (edges_of (G.demands graph.now)) back.old }
+    ensures is_led { IfOk result (λ is_led. is_led ≡ leads_to_any (edges_of (G.demands graph.now)) (back.old.end ∷ []) from) }
+    ensures back { OnOk result (IsSide (edges_of (G.demands graph.now)) back.new) }
+{
+    let mut ahead = Side::new(alloc, from)?;
+    while are_apart(&ahead, back) {
+        let targets = graph.targets(alloc, ahead.next())?;
+        ahead.add(targets.as_slice())?;
+        if are_apart(&ahead, back) {
+            let sources = graph.sources(alloc, back.next())?;
+            back.add(sources.as_slice())?;
+        }
+    }
+    Ok(have_met(&ahead, back))
+}
+
+// The variables that lead to one of some goals: the goals, and again and again what edges to those found leave.
+fn ancestors<G: Graph>(alloc: Global, graph: &G, goals: &[Var]) -> Result<IndexSet<Var>, NoMemory>
+    ensures { IfOk result (λ found. AreAncestors (edges_of (G.demands graph.now)) goals.now found.keys) }
+{
+    let mut found = IndexSet::new(alloc);
+    add_keys(&mut found, goals)?;
+    let mut place = 0;
+    while place < found.len() {
+        let sources = graph.sources(alloc, found[place])?;
+        add_keys(&mut found, sources.as_slice())?;
+        place += 1;
+    }
+    Ok(found)
+}

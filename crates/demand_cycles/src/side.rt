@@ -1,0 +1,96 @@
+// A search along the edges from one variable, or against them.
+ghost use Rattle.std.specs.Prelude.{◌≡◌, ◌+◌, ◌<◌, ◌||◌, List, Some, IfOk, OnOk, length, slice_get};
+ghost use Rattle.choice_problem.specs.ConflictSet.{has};
+ghost use Rattle.choice_problem.specs.Conflict.{Edge};
+ghost use Rattle.demand_cycles.specs.Side.{IsSide, are_apart, is_seeking, with_keys};
+
+use choice_problem::Var;
+use indexmap::IndexSet;
+use plan_types::NoMemory;
+use std::alloc::Global;
+
+/// The variables that a search from one of them found. From those before a place it went on already.
+#[derive(Drop)]
+pub(crate) struct Side {
+    pub(crate) end: Var,
+    pub(crate) found: IndexSet<Var>,
+    pub(crate) place: usize,
+}
+
+impl Side {
+    pub(crate) fn new(alloc: Global, end: Var) -> Result<Side, NoMemory>
+        ensures end { IfOk result (λ side. side.end ≡ end) }
+        ensures begun { (edges : List Edge) → IfOk result (IsSide edges) }
+    {
+        let mut found = IndexSet::new(alloc);
+        add_keys(&mut found, &[end])?;
+        Ok(Side {
+            end,
+            found,
+            place: 0,
+        })
+    }
+
+    pub(crate) fn holds(&self, v: Var) -> bool
+        ensures { result ≡ has self.now.found.keys v }
+    {
+        is_around(&self.found, v)
+    }
+
+    /// The variable from which the search goes on.
+    pub(crate) fn next(&self) -> Var
+        requires { self.now.place < length self.now.found.keys }
+        ensures { slice_get self.now.found.keys self.now.place ≡ Some result }
+    {
+        self.found[self.place]
+    }
+
+    /// Adds what the edges at the next variable lead to.
+    pub(crate) fn add(&mut self, vars: &[Var]) -> Result<(), NoMemory>
+        requires { self.old.place < length self.old.found.keys }
+        ensures end { OnOk result (self.new.end ≡ self.old.end) }
+        ensures found { OnOk result (self.new.found.keys ≡ with_keys self.old.found.keys vars.now) }
+        ensures place { OnOk result (self.new.place ≡ self.old.place + 1) }
+    {
+        prove!(self.place < self.found.len());
+        add_keys(&mut self.found, vars)?;
+        self.place += 1;
+        Ok(())
+    }
+}
+
+// Whether a variable isn't found, and still may be.
+fn is_seeking(side: &Side, v: Var) -> bool
+    ensures { result ≡ is_seeking side.now v }
+{
+    side.place < side.found.len() && !side.holds(v)
+}
+
+/// Whether each of two searches may still find where the other began.
+pub(crate) fn are_apart(ahead: &Side, back: &Side) -> bool
+    ensures { result ≡ are_apart ahead.now back.now }
+{
+    is_seeking(ahead, back.end) && is_seeking(back, ahead.end)
+}
+
+/// Whether one of two searches found where the other began.
+pub(crate) fn have_met(ahead: &Side, back: &Side) -> bool
+    ensures { result ≡ has ahead.now.found.keys back.now.end || has back.now.found.keys ahead.now.end }
+{
+    ahead.holds(back.end) || back.holds(ahead.end)
+}
+
+pub(crate) fn is_around(found: &IndexSet<Var>, v: Var) -> bool
+    ensures { result ≡ has found.now.keys v }
+{
+    found.contains(&v)
+}
+
+pub(crate) fn add_keys(found: &mut IndexSet<Var>, vars: &[Var]) -> Result<(), NoMemory>
+    ensures { OnOk result (found.new.keys ≡ with_keys found.old.keys vars.now) }
+{
+    for v in vars {
+        found.insert(*v)?;
+    }
+    Ok(())
+}

@@ -1,6 +1,0 @@
-use Rattle.std.proofs.Common.{◌∙◌}
-use Rattle.validation.proofs.Keys.{found-has}
-use Rattle.validation.proofs.side.is_around.Goals as goal
-
-pub returns : goal.returns
-returns c = c.contains.ensures ∙ found-has c.args.found.now.keys c.args.v
