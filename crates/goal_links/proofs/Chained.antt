@@ -1,5 +1,5 @@
 -- Chains: what one that changes leaves of the others.
-use Rattle.std.proofs.Common.{◌≡◌, ℕ, zero, suc, ◌+◌, ◌<◌, arith, length, map, eqb, eqb-true, eq-eqb, true, false, cond, List, [], ◌∷◌, ◌++◌, Option, Some, None, IfSome, IsTrue, MatchOption, refl, sym, ap, ◌∙◌, subst, inl, inr, ◌⊎◌, get_or, take, drop, append-nil}
+use Rattle.std.proofs.Common.{◌≡◌, ℕ, zero, suc, ◌+◌, ◌<◌, arith, length, eqb, eqb-true, eq-eqb, true, false, cond, List, [], ◌∷◌, ◌++◌, Option, Some, None, IfSome, IsTrue, MatchOption, refl, sym, ap, ◌∙◌, subst, inl, inr, ◌⊎◌, get_or, take, drop, append-nil}
 use Rattle.std.specs.List.{Contains}
 use Rattle.std.proofs.Math.ListN.{set}
 use Rattle.std.specs.Option.{option_to_list}

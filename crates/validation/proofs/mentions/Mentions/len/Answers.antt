@@ -1,10 +1,10 @@
 use Rattle.std.proofs.Common.{◌∙◌, List, length, sym, ap}
-use Rattle.goal_links.proofs.Chained.{map-length}
+use Rattle.std.proofs.lemmas.List.{length-map}
 use Rattle.validation.specs.declared.mentions.Mention.{Mention}
 use Rattle.validation.specs.Mentions.{mention_in}
 use Rattle.validation.proofs.mentions.Mentions.len.Goals as goal
 
 pub returns : goal.returns
 returns c =
-    c.cell_count.ensures ∙ sym (map-length (mention_in c.self.inside.links.vars) c.self.inside.links.cells)
+    c.cell_count.ensures ∙ sym (length-map c.self.inside.links.cells (mention_in c.self.inside.links.vars))
     ∙ ap (λ (ms : List Mention). length ms) c.self.view_is

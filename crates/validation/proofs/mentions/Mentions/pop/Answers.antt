@@ -1,7 +1,7 @@
 use Rattle.std.proofs.Common.{◌≡◌, ◌+◌, ◌-◌, ◌∙◌, ◌++◌, ◌∷◌, [], List, ℕ, length, get_or, sym, ap, arith, length-append}
 use Rattle.std.proofs.Math.Seq.{get_or-append_seam}
 use Rattle.goal_links.specs.Links.{Entries}
-use Rattle.goal_links.proofs.Chained.{map-length}
+use Rattle.std.proofs.lemmas.List.{length-map}
 use Rattle.validation.specs.declared.mentions.Mention.{Mention}
 use Rattle.validation.specs.Mentions.{mention_in, mentions}
 use Rattle.validation.proofs.Walks.{last-cell, pop-last, pop-outside, pop-makes}
@@ -9,14 +9,14 @@ use Rattle.validation.proofs.mentions.Mentions.pop.Goals as goal
 
 -- how many cells there are
 counted : (s : Entries) (ms : List Mention) (count : ℕ) → mentions s ≡ ms → count ≡ length ms → (count ≡ 0 → ⊥) → length s.cells ≡ (count - 1) + 1
-counted s ms count is e some = omega (arith, e, some, ap length is, map-length (mention_in s.vars) s.cells)
+counted s ms count is e some = omega (arith, e, some, ap length is, length-map s.cells (mention_in s.vars))
 
 -- the last mention is that of the last cell
 last-mention : (s u : Entries) (ms : List Mention) (front : List Mention) (m last : Mention) (n : ℕ) → mentions s ≡ ms → mentions s ≡ front ++ last ∷ [] → length s.cells ≡ n + 1
     → m ≡ get_or ms n m → ms ≡ front ++ m ∷ []
 last-mention s u ms front m last n is parts some e =
     let all : ms ≡ front ++ last ∷ [] = sym is ∙ parts in
-    let count : n ≡ length front = omega (arith, some, map-length (mention_in s.vars) s.cells, ap length parts, length-append front (last ∷ [])) in
+    let count : n ≡ length front = omega (arith, some, length-map s.cells (mention_in s.vars), ap length parts, length-append front (last ∷ [])) in
     let same : m ≡ last = e ∙ ap (λ (l : List Mention). get_or l n m) all ∙ ap (λ k. get_or (front ++ last ∷ []) k m) count ∙ get_or-append_seam front last [] m in
     all ∙ ap (λ (x : Mention). front ++ x ∷ []) (sym same)
 
