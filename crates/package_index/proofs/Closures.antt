@@ -117,7 +117,7 @@ module _ (one_source : HasOneSource) (ground : Ground) (files : Files) where
   -- ---- outcomes
 
   -- a part of the closure that is too many makes the whole too many
-  part-too-many : (count size : ℕ) → IsBeyond ground files count size → (visits : List Visit) → IsClosure ground files visits
+  part-too-many : (count size : ℕ) → IsBeyond ground count size files → (visits : List Visit) → IsClosure ground files visits
       → is_too_many (count + count_all (flat_map (visited_files ground files) visits)) (size + size_all (flat_map (visited_files ground files) visits)) ≡ true
   part-too-many count size beyond visits closure =
       let parts = beyond.parts in
@@ -139,6 +139,6 @@ module _ (one_source : HasOneSource) (ground : Ground) (files : Files) where
       (visits-there others other visits closure) (visits-there visits closure others other)
 
   -- a closure that is read isn't too many
-  pub never-beyond : {A : Type 0} (count size : ℕ) → IsBeyond ground files count size → (visits : List Visit) → IsClosure ground files visits
+  pub never-beyond : {A : Type 0} (count size : ℕ) → IsBeyond ground count size files → (visits : List Visit) → IsClosure ground files visits
       → is_too_many (count + count_all (flat_map (visited_files ground files) visits)) (size + size_all (flat_map (visited_files ground files) visits)) ≡ false → A
   never-beyond count size beyond visits closure few = absurd (false≢true (sym few ∙ part-too-many count size beyond visits closure))
