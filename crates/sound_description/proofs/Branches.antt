@@ -1,5 +1,5 @@
 -- The conditions of branches in which a part stands ask well, where no part of the section has a fault.
-use Rattle.std.proofs.Common.{◌≡◌, ℕ, Bool, true, false, ◌&&◌, List, [], ◌∷◌, ◌++◌, Option, Some, None, refl, ap, ◌∙◌, subst}
+use Rattle.std.proofs.Common.{◌≡◌, ℕ, Bool, true, List, [], ◌∷◌, ◌++◌, Option, Some, None, refl, ap, ◌∙◌, subst}
 use Rattle.std.specs.List.{list_all, AllByRecursion}
 use Rattle.std.specs.declared.result.Result.{Result}
 use Rattle.std.specs.declared.result.Result.TheVariants.{Ok, Err}
@@ -12,7 +12,7 @@ use Rattle.plan_types.specs.declared.refusal.Cause.TheVariants as causes
 use Rattle.section_syntax.specs.Branch.{OwnCondition, branch_of, chain_of, condition, tried_behind}
 use Rattle.section_syntax.specs.Items.{Items, SectionSays, branch_fits, placed}
 use Rattle.cabal_lexer.specs.Tree.{Tree, end, field, section}
-use Rattle.section_syntax.specs.Words.{field_word, inner_word}
+use Rattle.section_syntax.specs.Words.{inner_word}
 use Rattle.section_syntax.specs.declared.part.SectionPart.{SectionPart}
 use Rattle.section_syntax.specs.declared.part.Said.{Said}
 use Rattle.section_syntax.specs.declared.part.Said.TheVariants as said
