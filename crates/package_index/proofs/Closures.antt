@@ -5,7 +5,6 @@ use Rattle.std.specs.Prelude.{flat_map}
 use Rattle.std.specs.List.{AllByRecursion, IsDistinct, list_all}
 use Rattle.std.specs.Cmp.Lexicographic.{bytes_decides}
 use Rattle.std.proofs.lemmas.Bool.{and_parts, false≢true, or_cases}
-use Rattle.std.proofs.lemmas.Bool.Decides.{nat_tests}
 use Rattle.std.proofs.lemmas.List.Sums.{sum_by-append}
 use Rattle.outside_folder.specs.Files.{Bytes, Files}
 use Rattle.index_files.specs.Closure.{Ground, IsBeyond, IsClosure, IsPart, IsReached, IsVisit, Visit, by_name, found_of, mentioned, names_of, root, roots, visited_files}
