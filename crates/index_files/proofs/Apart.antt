@@ -1,5 +1,5 @@
 -- No two directories of a package are of one version.
-use Rattle.std.proofs.Common.{◌≡◌, ℕ, Bool, true, false, List, [], ◌∷◌, ◌++◌, map, Option, Some, None, refl, sym, ◌∙◌, ap, subst, Ordering, Less, Equal}
+use Rattle.std.proofs.Common.{◌≡◌, ℕ, true, false, List, [], ◌∷◌, map, Option, Some, None, refl, sym, ◌∙◌, ap, subst, Ordering, Less, Equal}
 use Rattle.std.specs.List.{AllByRecursion, IsDistinct}
 use Rattle.std.specs.List.Sorted.{IsStrictlySortedBy}
 use Rattle.std.specs.Ordering.{nat_cmp}
@@ -10,11 +10,9 @@ use Rattle.outside_folder.specs.Files.{Bytes}
 use Rattle.outside_folder.specs.Folder.{IsInOrder}
 use Rattle.outside_folder.specs.declared.folder.Name.{Name}
 use Rattle.plan_types.specs.declared.condition.Env.{Env}
-use Rattle.plan_types.specs.declared.version.Version.{Version}
-use Rattle.version_range.specs.Version.{version_text, IsVersionOf}
-use Rattle.index_files.specs.Releases.{AreReleases, AreVersions, version_dir}
+use Rattle.version_range.specs.Version.{version_text}
+use Rattle.index_files.specs.Releases.{AreVersions}
 use Rattle.index_files.specs.Steps.{AreJudged}
-use Rattle.index_files.specs.declared.file.File.{File}
 use Rattle.index_files.specs.declared.release.Release.{Release}
 use Rattle.index_files.specs.declared.versions.VersionDir.{VersionDir}
 use Rattle.plan_types.specs.Bytes.{same_text}

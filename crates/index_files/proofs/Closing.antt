@@ -2,7 +2,7 @@
 use Rattle.std.proofs.Common.{◌≡◌, ℕ, ◌+◌, ◌<◌, ◌≤◌, Bool, true, false, ◌||◌, List, [], ◌∷◌, ◌++◌, zero, suc, length, map, get_or, refl, sym, ◌∙◌, ap, subst, arith, length-append}
 use Rattle.std.specs.Prelude.{flat_map}
 use Rattle.std.specs.List.{AllByRecursion, IsDistinct, list_all, list_any}
-use Rattle.std.proofs.lemmas.Bool.{false≢true, or_left, or_right, and_from, and_parts}
+use Rattle.std.proofs.lemmas.Bool.{or_left, or_right, and_from, and_parts}
 use Rattle.std.proofs.lemmas.Bool.Decides.{nat_tests}
 use Rattle.std.proofs.lemmas.List.{append_assoc, append-nil}
 use Rattle.std.proofs.lemmas.List.Sums.{sum_by-append}
@@ -166,7 +166,7 @@ module _ (ground : Ground) where
     few-are m n j k e f a b = grind (arith, nat_tests)
 
     pub whole : (names : List Bytes) (read : List (List Release)) (before after : Totals) → length names ≤ length read → AreKept ground names (pair_up names read) → ArePartly ground files before after names (pair_up names read)
-        → after.files ≤ 20000 → after.bytes ≤ 268435456 → IsWhole ground files before.files before.bytes (pair_up names read)
+        → after.files ≤ 20000 → after.bytes ≤ 268435456 → IsWhole ground before.files before.bytes files (pair_up names read)
     whole names read before after all k p few_files few_bytes =
         let same-names : names ≡ names_of p.visits = sym (pair_names names read all) ∙ ap (map (λ (f : FoundName). f.name)) p.found_is ∙ names-found p.visits in
         record {
@@ -208,7 +208,7 @@ module _ (ground : Ground) where
 
     module _ (names : List Bytes) (read : List (List Release)) (before mid : Totals) (within : length read < length names) where
       pub beyond : AreKept ground names (pair_up names read) → ArePartly ground files before mid names (pair_up names read) → IsOneTooMany ground files (get_or names (length read) []) mid
-          → IsBeyond ground files before.files before.bytes
+          → IsBeyond ground before.files before.bytes files
       beyond k p v =
           let name = get_or names (length read) [] in
           let visit : Visit = record { name = name; dirs = v.read.dirs; releases = [] } in

@@ -60,7 +60,7 @@ module _ (ground : Ground) (names new : List Bytes) (found : List FoundName) (wi
         (subst (λ n. IsVisited ground files n mid after one.releases) same-name v))
 
   pub beyond-here : (files : Files) (start mid : Totals) → AreKept ground names found → ArePartly ground files start mid names found → IsOneTooMany ground files (get_or names (length found) []) mid
-      → IsBeyond ground files start.files start.bytes
+      → IsBeyond ground start.files start.bytes files
   beyond-here files start mid k p v =
       beyond ground files names (releases_in found) start mid before (subst (AreKept ground names) pairs k) (subst (ArePartly ground files start mid names) pairs p)
       (subst (λ n. IsOneTooMany ground files n mid) same-name v)
@@ -76,7 +76,7 @@ module _ (ground : Ground) (names : List Bytes) (found : List FoundName) (all : 
   kept-all k = subst (λ ns. AreKept ground ns found) (sym all-names) k
 
   pub whole-all : (files : Files) (start after : Totals) → AreKept ground names found → ArePartly ground files start after names found → after.files ≤ 20000 → after.bytes ≤ 268435456
-      → IsWhole ground files start.files start.bytes found
+      → IsWhole ground start.files start.bytes files found
   whole-all files start after k p few_files few_bytes =
-      subst (IsWhole ground files start.files start.bytes) (sym pairs)
+      subst (IsWhole ground start.files start.bytes files) (sym pairs)
       (whole ground files names (releases_in found) start after enough (subst (AreKept ground names) pairs k) (subst (ArePartly ground files start after names) pairs p) few_files few_bytes)

@@ -8,6 +8,7 @@ pub mod Joined
 pub mod Lists
 pub mod Pairs
 pub mod Put
+pub mod Recording
 pub mod Records
 pub mod Turns
 pub mod Visiting

@@ -1,7 +1,6 @@
 -- Things that are taken one after the other, as far as they were taken.
-use Rattle.std.proofs.Common.{◌≡◌, ℕ, ◌+◌, ◌<◌, List, [], ◌∷◌, ◌++◌, length, take, drop, get_or, Option, Result, Ok, Err, refl, sym, ◌∙◌, ap, subst}
-use Rattle.std.proofs.lemmas.List.{append_assoc, append-nil, take_more, take-append-drop}
-use Rattle.std.specs.Prelude.{IsErrOf}
+use Rattle.std.proofs.Common.{◌≡◌, ℕ, List, [], ◌∷◌, ◌++◌, Option, Result, Ok, Err, refl, sym, ◌∙◌, ap, subst}
+use Rattle.std.proofs.lemmas.List.{append_assoc, append-nil}
 use Rattle.outside_folder.specs.Calls.{Leaves, halt_of}
 use Rattle.outside_folder.specs.Files.{Files}
 use Rattle.outside_folder.specs.declared.calls.Trouble.{Trouble}
@@ -11,7 +10,6 @@ use Rattle.plan_types.specs.declared.refusal.Halt.TheVariants as halt
 use Rattle.plan_types.specs.declared.refusal.Refusal.{Refusal}
 use Rattle.plan_types.specs.Refusal.{Answers, Settles}
 use Rattle.index_files.specs.InTurn.{GoesOn, InTurn, OnPart, Steps}
-use Rattle.common_laws.specs.Lists.{take_at}
 
 module _ {X O S R : Type 0} (Comes : X → O → Type 0) (step : S → X → O → Result S R) where
   -- from the one state these things lead to the other
@@ -50,16 +48,13 @@ module _ {X O S R : Type 0} (Comes : X → O → Type 0) (step : S → X → O �
         one-next xs (λ t c d p q. one-outcome t xs c d p q) (step s x h.0) a b h.2
         (subst (λ o. GoesOn {T = S} (step s x o) (λ taken. InTurn Comes step taken xs b) b) (one x k.0 h.0 k.1 h.1) k.2)
 
-pub split_at : {X : Type 0} (xs : List X) (i : ℕ) (x : X) → i < length xs → x ≡ get_or xs i x → xs ≡ (take i xs ++ x ∷ []) ++ drop (i + 1) xs
-split_at xs i x l e = sym (take-append-drop (i + 1) xs) ∙ ap (λ ys. ys ++ drop (i + 1) xs) (take_at xs i x l e)
-
--- what ends a step ends all
-pub halted : {X O S A : Type 0} (Comes : X → O → Type 0) (step : S → X → O → Result S Refusal) (f : A → S) (from mid : S) (xs : List X) (i : ℕ) (x : X) (h : Halt)
-    → i < length xs → x ≡ get_or xs i x → Through Comes step from (take i xs) mid → Settles (OnPart f (Steps Comes step mid x)) (Err h) → Settles (OnPart f (InTurn Comes step from xs)) (Err h)
-halted Comes step f from mid xs i x halt.NoMemory l e t s = tt
-halted Comes step f from mid xs i x halt.Failed l e t s = s
-halted Comes step f from mid xs i x (halt.Refused r) l e t s =
-    subst (λ ys. InTurn Comes step from ys (Err r)) (sym (split_at xs i x l e)) (refused Comes step from mid (take i xs) x (drop (i + 1) xs) r t s)
+-- what ends a step ends all, whatever stands behind it
+pub halted : {X O S A : Type 0} (Comes : X → O → Type 0) (step : S → X → O → Result S Refusal) (f : A → S) (from mid : S) (front : List X) (x : X) (rest : List X) {xs : List X} (h : Halt)
+    → xs ≡ (front ++ x ∷ []) ++ rest → Through Comes step from front mid → Settles (OnPart f (Steps Comes step mid x)) (Err h) → Settles (OnPart f (InTurn Comes step from xs)) (Err h)
+halted Comes step f from mid front x rest halt.NoMemory e t s = tt
+halted Comes step f from mid front x rest halt.Failed e t s = s
+halted Comes step f from mid front x rest (halt.Refused r) e t s =
+    subst (λ ys. InTurn Comes step from ys (Err r)) (sym e) (refused Comes step from mid front x rest r t s)
 
 -- ---- where a folder is asked
 
@@ -68,12 +63,6 @@ settled Is (Ok a) h = h
 settled Is (Err halt.NoMemory) h = tt
 settled Is (Err halt.Failed) h = absurd h
 settled Is (Err (halt.Refused r)) h = h
-
-pub never-failed : {A : Type 0} (Is : Result A Refusal → Type 0) (result : Result A Halt) → Settles Is result → IsErrOf result halt.Failed → ⊥
-never-failed Is (Ok a) h e = cc e
-never-failed Is (Err halt.NoMemory) h e = cc e
-never-failed Is (Err halt.Failed) h e = h
-never-failed Is (Err (halt.Refused r)) h e = cc e
 
 -- the folder's trouble is answered as it is
 pub troubled : {A : Type 0} (Is : Result A Refusal → Type 0) (trouble : Trouble) → Answers Is (Err (halt_of trouble))

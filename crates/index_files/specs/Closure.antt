@@ -133,20 +133,20 @@ pub record IsPart (ground : Ground) (files : Files) (visit : Visit) : Type 0 whe
   pub versions : HasVersions ground files visit (is_local ground visit.name)
 
 -- Some names of the closure have more files than are read, after so many files and bytes.
-pub record IsBeyond (ground : Ground) (files : Files) (count size : ℕ) : Type 0 where
+pub record IsBeyond (ground : Ground) (count size : ℕ) (files : Files) : Type 0 where
   pub parts : List Visit
   pub once : IsDistinct same_text (names_of parts)
   pub inside : AllByRecursion (IsPart ground files) parts
   pub many : are_too_many ground files count size parts ≡ true
 
 -- all of the closure is read
-pub record IsWhole (ground : Ground) (files : Files) (count size : ℕ) (found : List FoundName) : Type 0 where
+pub record IsWhole (ground : Ground) (count size : ℕ) (files : Files) (found : List FoundName) : Type 0 where
   pub visits : List Visit
   pub closure : IsClosure ground files visits
   pub few : are_too_many ground files count size visits ≡ false
   pub found_is : found ≡ map found_of visits
 
 -- what was found in all of the closure, or that it has more files than are read
-abbrev pub Reaches : Ground → Files → ℕ → ℕ → Option (List FoundName) → Type 0
-Reaches ground files count size None = IsBeyond ground files count size
-Reaches ground files count size (Some found) = IsWhole ground files count size found
+abbrev pub Reaches : Ground → ℕ → ℕ → Files → Option (List FoundName) → Type 0
+Reaches ground count size files None = IsBeyond ground count size files
+Reaches ground count size files (Some found) = IsWhole ground count size files found

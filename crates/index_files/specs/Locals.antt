@@ -54,5 +54,5 @@ abbrev pub AreLocals : Env → List File → Result (List Local) Refusal → Typ
 AreLocals env files outcome = InTurn (FileComes env) with_file [] files outcome
 
 -- those at these paths of a folder
-abbrev pub ReadsLocals : Env → Files → List Bytes → Result (List Local) Refusal → Type 0
-ReadsLocals env files paths outcome = AreLocals env (map (file_found true files) paths) outcome
+abbrev pub ReadsLocals : Env → List Bytes → Files → Result (List Local) Refusal → Type 0
+ReadsLocals env paths files outcome = AreLocals env (map (file_found true files) paths) outcome

@@ -20,29 +20,29 @@ use Rattle.index_files.specs.declared.unit.Unit.{Unit}
 use Rattle.plan_types.specs.Bytes.{same_text}
 
 -- the packages that stand before the index is read, and the files of the closure
-pub record AreRead (ground : Ground) (files : Files) (count size : ℕ) (readings : Readings) : Type 0 where
+pub record AreRead (ground : Ground) (count size : ℕ) (files : Files) (readings : Readings) : Type 0 where
   pub locals : readings.locals ≡ ground.locals
   pub units : readings.units ≡ ground.units
-  pub found : IsWhole ground files count size readings.found
+  pub found : IsWhole ground count size files readings.found
 
 -- the closure has more files than are read, and this is refused
-pub record AreTooMany (ground : Ground) (files : Files) (count size : ℕ) (refusal : Refusal) : Type 0 where
-  pub beyond : IsBeyond ground files count size
+pub record AreTooMany (ground : Ground) (count size : ℕ) (files : Files) (refusal : Refusal) : Type 0 where
+  pub beyond : IsBeyond ground count size files
   pub refusal_is : refusal ≡ record { path = ground.places.index; line = 0; cause = TooMany; detail = [] }
 
 -- the readings, or the refusal where there are too many files
-abbrev pub AreIndexed : Ground → Files → ℕ → ℕ → Result Readings Refusal → Type 0
-AreIndexed ground files count size (Ok readings) = AreRead ground files count size readings
-AreIndexed ground files count size (Err refusal) = AreTooMany ground files count size refusal
+abbrev pub AreIndexed : Ground → ℕ → ℕ → Files → Result Readings Refusal → Type 0
+AreIndexed ground count size files (Ok readings) = AreRead ground count size files readings
+AreIndexed ground count size files (Err refusal) = AreTooMany ground count size files refusal
 
 -- First come the local files, then the records, then the files of the closure.
 abbrev pub AreReadings : Env → Places → List Named → List Bytes → Files → Result Readings Refusal → Type 0
 AreReadings env places extra paths files outcome =
-    (locals : Result (List Local) Refusal) × ReadsLocals env files paths locals
+    (locals : Result (List Local) Refusal) × ReadsLocals env paths files locals
     × GoesOn locals (λ locals. (units : Result (List Unit) Refusal) × ReadsUnits places files units
     × GoesOn units (λ units.
     let records = record_files places files in
-    AreIndexed (record { env = env; places = places; locals = locals; units = units; extra = extra }) files (count_all records) (size_all records) outcome)
+    AreIndexed (record { env = env; places = places; locals = locals; units = units; extra = extra }) (count_all records) (size_all records) files outcome)
     outcome) outcome
 
 -- a local package is what some file says

@@ -1,5 +1,5 @@
 -- The steps in which the closure is read.
-use Rattle.std.specs.Prelude.{◌≡◌, ℕ, ◌+◌, Bool, get_or, ◌||◌, true, false, List, [], ◌∷◌, flat_map, map, fold, Option, Some, None}
+use Rattle.std.specs.Prelude.{◌≡◌, ℕ, ◌+◌, Bool, get_or, ◌||◌, true, false, List, [], ◌∷◌, flat_map, map, Option, Some, None}
 use Rattle.std.specs.Option.{option_map}
 use Rattle.std.specs.List.{AllByRecursion, IsDistinct, list_all, list_any}
 use Rattle.plan_types.specs.declared.condition.Env.{Env}

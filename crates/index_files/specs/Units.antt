@@ -115,12 +115,15 @@ unless_beyond places true outcome = outcome
 unless_beyond places false (Ok units) = Err (record { path = places.installed; line = 0; cause = TooMany; detail = [] })
 unless_beyond places false (Err refusal) = Err refusal
 
--- the units of a folder, or the first refusal
-abbrev pub ReadsUnits : Places → Files → Result (List Unit) Refusal → Type 0
-ReadsUnits places files outcome =
-    let all = record_files places files in
+-- the units whose records these files are, as far as so many are read, or the first refusal
+abbrev pub AreUnitsOf : Places → List File → Result (List Unit) Refusal → Type 0
+AreUnitsOf places all outcome =
     let read = fitting 0 0 all in
     (units : Result (List Unit) Refusal) × AreUnits read units × (outcome ≡ unless_beyond places (length read == length all) units)
+
+-- the units of a folder, or the first refusal
+abbrev pub ReadsUnits : Places → Files → Result (List Unit) Refusal → Type 0
+ReadsUnits places files outcome = AreUnitsOf places (record_files places files) outcome
 
 -- ---- what records mention
 

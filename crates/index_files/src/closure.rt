@@ -31,11 +31,11 @@ pub struct FoundName {
 /// Reads all names of the closure; `None` where their files are too many after those that were counted.
 pub(crate) fn read_closure<F: Folder>(
     alloc: Global,
-    folder: &mut F,
     before: &ReadBefore,
     totals: Totals,
+    folder: &mut F,
 ) -> Result<Option<List<FoundName>>, Trouble>
-    ensures told { IfSome (F.tells folder.old) (λ files. IfOk result (Reaches (ground_of before.now) files totals.files totals.bytes)) }
+    ensures told { IfSome (F.tells folder.old) (λ files. IfOk result (Reaches (ground_of before.now) totals.files totals.bytes files)) }
     ensures kept { IfOk result (λ found. IfSome found (λ found. AreKept (ground_of before.now) (map (λ f. f.name) found) found)) }
     ensures folder { Leaves F.tells F.faults folder.old folder.new (IsErrOf result Trouble.Failed) }
 {
@@ -43,7 +43,7 @@ pub(crate) fn read_closure<F: Folder>(
     let mut names = roots(alloc, before.locals, before.extra.as_slice())?;
     let mut found = List::new(alloc);
     while found.len() < names.len() {
-        match visit(alloc, folder, before, &mut names, found.len(), &mut totals)? {
+        match visit(alloc, before, &mut names, found.len(), &mut totals, folder)? {
             None => return Ok(None),
             Some(one) => found.push(one)?,
         }
@@ -82,11 +82,11 @@ fn put_extra(names: &mut IndexSet<Text>, extra: &[Named]) -> Result<(), NoMemory
 // Reads the files of the name at a place, and puts the names that it mentions behind the others.
 fn visit<F: Folder>(
     alloc: Global,
-    folder: &mut F,
     before: &ReadBefore,
     names: &mut IndexSet<Text>,
     place: usize,
     totals: &mut Totals,
+    folder: &mut F,
 ) -> Result<Option<FoundName>, Trouble>
     requires { place < length names.old.keys }
     ensures told { IfSome (F.tells folder.old) (λ files. IfOk result
@@ -95,7 +95,7 @@ fn visit<F: Folder>(
     ensures folder { Leaves F.tells F.faults folder.old folder.new (IsErrOf result Trouble.Failed) }
 {
     let name = name_at(names, place)?;
-    let read = read_name(alloc, folder, before, &name, totals)?;
+    let read = read_name(alloc, before, &name, totals, folder)?;
     match read {
         None => Ok(None),
         Some(releases) => {

@@ -1,5 +1,5 @@
-// Files are read from the folder first, and then only what they hold is looked at.
-ghost use Rattle.std.specs.Prelude.{◌≡◌, ◌+◌, ◌==◌, true, length, map, not, IfOk, IfSome, IsErrOf};
+// A file is read from the folder, and then only what it holds is looked at.
+ghost use Rattle.std.specs.Prelude.{◌≡◌, ◌+◌, ◌==◌, false, length, map, not, IfOk, IfSome, IsErrOf};
 ghost use Rattle.std.specs.List.{AllByRecursion};
 ghost use Rattle.outside_folder.specs.Calls.{Leaves};
 ghost use Rattle.outside_folder.specs.declared.calls.Trouble.TheVariants.{Failed as trouble_failed};
@@ -18,7 +18,8 @@ pub(crate) struct File {
 }
 
 impl File {
-    fn count(&self) -> usize
+    /// How many files it counts as.
+    pub fn count(&self) -> usize
         ensures { result ≡ count_of self.now }
     {
         match &self.content {
@@ -28,7 +29,8 @@ impl File {
         }
     }
 
-    fn size(&self) -> usize
+    /// Its bytes; a file that is too large counts as none.
+    pub fn size(&self) -> usize
         ensures { result ≡ size_of self.now }
     {
         match &self.content {
@@ -46,33 +48,14 @@ pub(crate) struct Fetched {
     pub beyond: bool,
 }
 
-/// Reads the files at these paths, which were listed.
-pub(crate) fn read_all<F: Folder>(
-    alloc: Global,
-    folder: &mut F,
-    paths: &[Text],
-) -> Result<List<File>, Trouble>
-    ensures told { IfSome (F.tells folder.old) (λ files. IfOk result (λ read. read ≡ map (file_found true files) paths.now)) }
-    ensures readable { IfOk result (AllByRecursion IsReadable) }
-    ensures folder { Leaves F.tells F.faults folder.old folder.new (IsErrOf result Trouble.Failed) }
-{
-    let mut read = List::new(alloc);
-    for path in paths {
-        let file = read_file(alloc, folder, path, true)?;
-        read.push(file)?;
-    }
-    Ok(read)
-}
-
-/// Reads the files at these paths, up to the first that is one too many.
+/// Reads the files at these paths, each of which may have none, up to the first that is one too many.
 pub(crate) fn read_counted<F: Folder>(
     alloc: Global,
-    folder: &mut F,
     paths: &[Text],
-    listed: bool,
     totals: &mut Totals,
+    folder: &mut F,
 ) -> Result<Fetched, Trouble>
-    ensures told { IfSome (F.tells folder.old) (λ files. IfOk result (λ read. read.files ≡ fitting_at totals.old listed files paths.now)) }
+    ensures told { IfSome (F.tells folder.old) (λ files. IfOk result (λ read. read.files ≡ fitting_at totals.old false files paths.now)) }
     ensures counts { IfOk result (λ read. Counts totals.old totals.new read.files) }
     ensures readable { IfOk result (λ read. AllByRecursion IsReadable read.files) }
     ensures beyond { IfOk result (λ read. read.beyond ≡ not (length read.files == length paths.now)) }
@@ -80,7 +63,7 @@ pub(crate) fn read_counted<F: Folder>(
 {
     let mut files = List::new(alloc);
     for path in paths {
-        let file = read_file(alloc, folder, path, listed)?;
+        let file = read_file(alloc, path, false, folder)?;
         if !totals.count(file.count(), file.size()) {
             return Ok(Fetched {
                 files,
@@ -95,17 +78,18 @@ pub(crate) fn read_counted<F: Folder>(
     })
 }
 
-fn read_file<F: Folder>(
+/// Reads the file at a path, which was listed or may have none.
+pub(crate) fn read_file<F: Folder>(
     alloc: Global,
-    folder: &mut F,
     path: &Text,
     listed: bool,
+    folder: &mut F,
 ) -> Result<File, Trouble>
     ensures told { IfSome (F.tells folder.old) (λ files. IfOk result (λ file. file ≡ file_found listed files path.now)) }
     ensures readable { IfOk result IsReadable }
     ensures folder { Leaves F.tells F.faults folder.old folder.new (IsErrOf result Trouble.Failed) }
 {
-    let content = read_content(alloc, folder, path.as_str())?;
+    let content = read_content(alloc, path.as_str(), folder)?;
     let content = content_found(alloc, content, listed);
     let path = path.copy()?;
     Ok(File { path, content })

@@ -1,17 +1,19 @@
-// The local packages: each file is read, and no two packages have one name.
-ghost use Rattle.std.specs.Prelude.{◌≡◌, ◌++◌, ◌∷◌, [], position, None, IfOk};
-ghost use Rattle.std.specs.List.{AllByRecursion};
+// The local packages: each file is read and judged before the next, and no two packages have one name.
+ghost use Rattle.std.specs.Prelude.{◌≡◌, ◌++◌, ◌∷◌, [], position, None, IfOk, IfSome, IsErrOf};
+ghost use Rattle.outside_folder.specs.Calls.{Leaves};
 ghost use Rattle.index_files.specs.File.{IsReadable};
+ghost use Rattle.index_files.specs.Readings.{AreFromFiles};
 ghost use Rattle.index_files.specs.InTurn.{OnPart, Steps};
-ghost use Rattle.index_files.specs.Locals.{AreLocals, FileComes, TakesLocal, local_name, local_names, path_at, unless_there, with_file, with_local};
+ghost use Rattle.index_files.specs.Locals.{FileComes, ReadsLocals, TakesLocal, local_name, local_names, path_at, unless_there, with_file, with_local};
 ghost use Rattle.plan_types.specs.Bytes.{same_text};
-ghost use Rattle.plan_types.specs.Refusal.{Settles};
+ghost use Rattle.plan_types.specs.Refusal.{Answers, Settles};
 
-use crate::file::File;
+use crate::file::{File, read_file};
 use crate::file_source::source_in;
 use crate::local::Local;
 use cabal_file::Source;
 use indexmap::IndexSet;
+use outside_folder::Folder;
 use plan_types::{Cause, Env, Fault, Halt, List, NoMemory, Refusal, Text};
 use std::alloc::Global;
 
@@ -23,14 +25,22 @@ pub(crate) struct Locals {
     ghost named: { names.keys ≡ local_names list },
 }
 
-/// The local packages of these files, or the first refusal.
-pub(crate) fn locals_of(alloc: Global, files: &[File], env: &Env) -> Result<Locals, Halt>
-    requires { AllByRecursion IsReadable files.now }
-    ensures { Settles (OnPart (λ locals. locals.list) (AreLocals env.now files.now)) result }
+/// Reads the local packages at these paths, up to the first refusal.
+pub(crate) fn read_locals<F: Folder>(
+    alloc: Global,
+    paths: &[Text],
+    env: &Env,
+    folder: &mut F,
+) -> Result<Locals, Halt>
+    ensures told { IfSome (F.tells folder.old) (λ files. Answers
+        (OnPart (λ locals. locals.list) (ReadsLocals env.now paths.now files)) result) }
+    ensures form { IfOk result (λ locals. AreFromFiles env.now locals.list) }
+    ensures folder { Leaves F.tells F.faults folder.old folder.new (IsErrOf result Halt.Failed) }
 {
     let mut locals = Locals::new(alloc);
-    for file in files {
-        locals = locals.with_file(alloc, file, env)?;
+    for path in paths {
+        let file = read_file(alloc, path, true, folder)?;
+        locals = locals.with_file(alloc, &file, env)?;
     }
     Ok(locals)
 }

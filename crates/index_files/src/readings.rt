@@ -5,24 +5,22 @@ ghost use Rattle.std.specs.List.{IsDistinct};
 ghost use Rattle.index_files.specs.File.{CountsAll};
 ghost use Rattle.index_files.specs.Ground.{ground_from};
 ghost use Rattle.index_files.specs.InTurn.{OnPart};
-ghost use Rattle.plan_types.specs.Refusal.{Answers, refusal_at};
-ghost use Rattle.index_files.specs.Locals.{ReadsLocals};
-ghost use Rattle.index_files.specs.Readings.{AreFromFiles, AreIndexed, AreOf, AreReadings, HaveForm};
+ghost use Rattle.plan_types.specs.Refusal.{Answers};
+ghost use Rattle.index_files.specs.Readings.{AreIndexed, AreOf, AreReadings, HaveForm};
 ghost use Rattle.index_files.specs.Units.{ReadsUnits, is_record, paths_of_records, record_files, record_paths, unit_ids};
 ghost use Rattle.plan_types.specs.Bytes.{same_text};
 
 use crate::closure::{FoundName, read_closure};
-use crate::file::{read_all, read_counted};
 use crate::local::Local;
-use crate::locals::{Locals, locals_of};
+use crate::locals::{Locals, read_locals};
 use crate::needed_names::Needed;
 use crate::places::record_path;
 use crate::read_before::ReadBefore;
-use crate::totals::Totals;
+use crate::totals::too_many;
 use crate::unit::Unit;
-use crate::units::{Units, units_of};
+use crate::units::{Counted, Units, read_records};
 use outside_folder::{Folder, Name, Trouble, list_names};
-use plan_types::{Cause, Env, Halt, List, Named, NoMemory, Places, Refusal, Text};
+use plan_types::{Env, Halt, List, Named, NoMemory, Places, Text};
 use std::alloc::Global;
 
 /// What was read of a folder.
@@ -40,46 +38,23 @@ pub struct Readings {
 /// packages and the others that are given.
 pub fn read_index_files<F: Folder>(
     alloc: Global,
-    folder: &mut F,
     paths: &List<Text>,
     extra: &List<Named>,
     places: &Places,
     env: &Env,
+    folder: &mut F,
 ) -> Result<Readings, Halt>
     ensures told { IfSome (F.tells folder.old) (λ files. Answers (AreReadings env.now places.now extra.now paths.now files) result) }
     ensures form { IfOk result (HaveForm env.now places.now extra.now) }
     ensures folder { Leaves F.tells F.faults folder.old folder.new (IsErrOf result Halt.Failed) }
 {
-    let locals = read_locals(alloc, folder, paths.as_slice(), env)?;
-    let read = read_units(alloc, folder, places)?;
-    let readings = read_indexed(alloc, folder, locals, read, extra, places, env)?;
+    let locals = read_locals(alloc, paths.as_slice(), env, folder)?;
+    let read = read_units(alloc, places, folder)?;
+    let readings = read_indexed(alloc, locals, read, extra, places, env, folder)?;
     Ok(readings)
 }
 
-fn read_locals<F: Folder>(
-    alloc: Global,
-    folder: &mut F,
-    paths: &[Text],
-    env: &Env,
-) -> Result<Locals, Halt>
-    ensures told { IfSome (F.tells folder.old) (λ files. Answers
-        (OnPart (λ locals. locals.list) (ReadsLocals env.now files paths.now)) result) }
-    ensures form { IfOk result (λ locals. AreFromFiles env.now locals.list) }
-    ensures folder { Leaves F.tells F.faults folder.old folder.new (IsErrOf result Halt.Failed) }
-{
-    let files = read_all(alloc, folder, paths)?;
-    let locals = locals_of(alloc, files.as_slice(), env)?;
-    Ok(locals)
-}
-
-/// Units, and what their records count as.
-#[derive(Debug, Drop)]
-struct Counted {
-    units: Units,
-    totals: Totals,
-}
-
-fn read_units<F: Folder>(alloc: Global, folder: &mut F, places: &Places) -> Result<Counted, Halt>
+fn read_units<F: Folder>(alloc: Global, places: &Places, folder: &mut F) -> Result<Counted, Halt>
     ensures told { IfSome (F.tells folder.old) (λ files. Answers
         (OnPart (λ counted. counted.units.list) (ReadsUnits places.now files)) result) }
     ensures counts { IfSome (F.tells folder.old) (λ files. IfOk result
@@ -87,25 +62,20 @@ fn read_units<F: Folder>(alloc: Global, folder: &mut F, places: &Places) -> Resu
     ensures once { IfOk result (λ counted. IsDistinct same_text (unit_ids counted.units.list)) }
     ensures folder { Leaves F.tells F.faults folder.old folder.new (IsErrOf result Halt.Failed) }
 {
-    let paths = record_paths(alloc, folder, places)?;
-    let mut totals = Totals::new();
-    let read = read_counted(alloc, folder, paths.as_slice(), true, &mut totals)?;
-    let units = units_of(alloc, read.files.as_slice())?;
-    if read.beyond {
-        return Err(too_many(alloc, &places.installed)?);
-    }
-    Ok(Counted { units, totals })
+    let paths = record_paths(alloc, places, folder)?;
+    let counted = read_records(alloc, places, paths.as_slice(), folder)?;
+    Ok(counted)
 }
 
 fn record_paths<F: Folder>(
     alloc: Global,
-    folder: &mut F,
     places: &Places,
+    folder: &mut F,
 ) -> Result<List<Text>, Trouble>
     ensures told { IfSome (F.tells folder.old) (λ files. IfOk result (λ paths. paths ≡ paths_of_records places.now files)) }
     ensures folder { Leaves F.tells F.faults folder.old folder.new (IsErrOf result Trouble.Failed) }
 {
-    let names = list_names(alloc, folder, places.installed.as_str())?;
+    let names = list_names(alloc, places.installed.as_str(), folder)?;
     let names = names.unwrap_or(List::new(alloc));
     let paths = paths_among(alloc, places, names.as_slice())?;
     Ok(paths)
@@ -131,16 +101,16 @@ fn is_record(name: &Name) -> bool
 
 fn read_indexed<F: Folder>(
     alloc: Global,
-    folder: &mut F,
     locals: Locals,
     counted: Counted,
     extra: &List<Named>,
     places: &Places,
     env: &Env,
+    folder: &mut F,
 ) -> Result<Readings, Halt>
     ensures told { IfSome (F.tells folder.old) (λ files. Answers
-        (AreIndexed (ground_from env.now places.now locals counted.units extra.now) files counted.totals.files
-        counted.totals.bytes) result) }
+        (AreIndexed (ground_from env.now places.now locals counted.units extra.now) counted.totals.files
+        counted.totals.bytes files) result) }
     ensures kept { IfOk result (AreOf (ground_from env.now places.now locals counted.units extra.now)) }
     ensures folder { Leaves F.tells F.faults folder.old folder.new (IsErrOf result Halt.Failed) }
 {
@@ -154,7 +124,7 @@ fn read_indexed<F: Folder>(
         extra,
         needed: &needed,
     };
-    let found = read_closure(alloc, folder, &before, totals)?;
+    let found = read_closure(alloc, &before, totals, folder)?;
     match found {
         None => Err(too_many(alloc, &places.index)?),
         Some(found) => Ok(readings_of(locals, units, found)),
@@ -177,11 +147,4 @@ fn readings_of(locals: Locals, units: Units, found: List<FoundName>) -> Readings
         units,
         found,
     }
-}
-
-fn too_many(alloc: Global, place: &Text) -> Result<Halt, NoMemory>
-    ensures { IfOk result (λ halt. halt ≡ Halt.Refused (refusal_at place.now 0 Cause.TooMany)) }
-{
-    let path = place.copy()?;
-    Ok(Halt::Refused(Refusal::at(alloc, path, 0, Cause::TooMany)))
 }

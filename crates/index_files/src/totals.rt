@@ -1,6 +1,10 @@
 // The limits on what is read of the records and of the index.
-ghost use Rattle.std.specs.Prelude.{◌≡◌, ◌+◌, ◌≤◌, not, if◌then◌else◌};
+ghost use Rattle.std.specs.Prelude.{◌≡◌, ◌+◌, ◌≤◌, not, if◌then◌else◌, IfOk};
+ghost use Rattle.plan_types.specs.Refusal.{refusal_at};
 ghost use Rattle.index_files.specs.Totals.{is_too_many};
+
+use plan_types::{Cause, Halt, NoMemory, Refusal, Text};
+use std::alloc::Global;
 
 /// How many files are read at most.
 const FILES_LIMIT: usize = 20_000;
@@ -38,4 +42,12 @@ impl Totals {
         self.bytes += bytes;
         true
     }
+}
+
+/// The refusal of a directory with more than is read.
+pub(crate) fn too_many(alloc: Global, place: &Text) -> Result<Halt, NoMemory>
+    ensures { IfOk result (λ halt. halt ≡ Halt.Refused (refusal_at place.now 0 Cause.TooMany)) }
+{
+    let path = place.copy()?;
+    Ok(Halt::Refused(Refusal::at(alloc, path, 0, Cause::TooMany)))
 }

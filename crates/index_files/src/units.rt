@@ -1,20 +1,22 @@
-// The installed units: each record is read, and no two units have one id.
-ghost use Rattle.std.specs.Prelude.{◌≡◌, ◌≤◌, ◌++◌, ◌∷◌, [], ℕ, List, true, length, Some, None, IfOk, IfErr, IfSome};
-ghost use Rattle.std.specs.List.{AllByRecursion, list_all};
+// The installed units: each record is read and judged before the next, and no two units have one id.
+ghost use Rattle.std.specs.Prelude.{◌≡◌, ◌≤◌, ◌++◌, ◌∷◌, [], ℕ, List, true, length, map, Some, None, IfOk, IfErr, IfSome, IsErrOf};
+ghost use Rattle.std.specs.List.{IsDistinct, list_all};
 ghost use Rattle.std.specs.declared.result.Result.TheVariants.{Ok, Err};
-ghost use Rattle.plan_types.specs.Refusal.{RefusesAt, Settles};
+ghost use Rattle.plan_types.specs.Bytes.{same_text};
+ghost use Rattle.plan_types.specs.Refusal.{Answers, RefusesAt, Settles};
 ghost use Rattle.description.specs.FaultOrder.{is_at};
-ghost use Rattle.outside_folder.specs.Calls.{IsWithin};
-ghost use Rattle.index_files.specs.File.{IsReadable};
+ghost use Rattle.outside_folder.specs.Calls.{IsWithin, Leaves};
+ghost use Rattle.index_files.specs.File.{CountsAll, IsReadable, file_found};
 ghost use Rattle.index_files.specs.InTurn.{OnPart, Steps};
 ghost use Rattle.index_files.specs.Sources.{bytes_in};
-ghost use Rattle.index_files.specs.Units.{AreUnits, OfRecord, RecordComes, TakesFound, TakesUnit, is_formed, place_of, unit_id, unit_ids, with_found, with_record, with_unit};
+ghost use Rattle.index_files.specs.Units.{AreUnitsOf, OfRecord, RecordComes, TakesFound, TakesUnit, is_formed, place_of, unit_id, unit_ids, with_found, with_record, with_unit};
 
-use crate::file::File;
+use crate::file::{File, read_file};
+use crate::totals::{Totals, too_many};
 use crate::unit::Unit;
 use indexmap::IndexSet;
-use outside_folder::Content;
-use plan_types::{Cause, Fault, Halt, List, NoMemory, Refusal, Text, UnitRecord};
+use outside_folder::{Content, Folder};
+use plan_types::{Cause, Fault, Halt, List, NoMemory, Places, Refusal, Text, UnitRecord};
 use std::alloc::Global;
 use unit_record::read_record;
 
@@ -27,16 +29,37 @@ pub(crate) struct Units {
     ghost formed: { list_all is_formed list ≡ true },
 }
 
-/// The units of these files, or the first refusal.
-pub(crate) fn units_of(alloc: Global, files: &[File]) -> Result<Units, Halt>
-    requires { AllByRecursion IsReadable files.now }
-    ensures { Settles (OnPart (λ units. units.list) (AreUnits files.now)) result }
+/// Units, and what their records count as.
+#[derive(Debug, Drop)]
+pub(crate) struct Counted {
+    pub units: Units,
+    pub totals: Totals,
+}
+
+/// Reads the records at these paths, which were listed, up to the first refusal or the first record that is one too many.
+pub(crate) fn read_records<F: Folder>(
+    alloc: Global,
+    places: &Places,
+    paths: &[Text],
+    folder: &mut F,
+) -> Result<Counted, Halt>
+    ensures told { IfSome (F.tells folder.old) (λ files. Answers
+        (OnPart (λ counted. counted.units.list) (AreUnitsOf places.now (map (file_found true files) paths.now))) result) }
+    ensures counts { IfSome (F.tells folder.old) (λ files. IfOk result
+        (λ counted. CountsAll counted.totals (map (file_found true files) paths.now))) }
+    ensures once { IfOk result (λ counted. IsDistinct same_text (unit_ids counted.units.list)) }
+    ensures folder { Leaves F.tells F.faults folder.old folder.new (IsErrOf result Halt.Failed) }
 {
     let mut units = Units::new(alloc);
-    for file in files {
-        units = units.with_file(alloc, file)?;
+    let mut totals = Totals::new();
+    for path in paths {
+        let file = read_file(alloc, path, true, folder)?;
+        if !totals.count(file.count(), file.size()) {
+            return Err(too_many(alloc, &places.installed)?);
+        }
+        units = units.with_file(alloc, &file)?;
     }
-    Ok(units)
+    Ok(Counted { units, totals })
 }
 
 impl Units {

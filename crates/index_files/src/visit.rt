@@ -19,10 +19,10 @@ use std::alloc::Global;
 /// Reads the files of a name; `None` where they are too many. Under the name of a local package nothing is read.
 pub(crate) fn read_name<F: Folder>(
     alloc: Global,
-    folder: &mut F,
     before: &ReadBefore,
     name: &Text,
     totals: &mut Totals,
+    folder: &mut F,
 ) -> Result<Option<List<Release>>, Trouble>
     ensures told { IfSome (F.tells folder.old) (λ files. IfOk result (Visits (ground_of before.now) files name.now totals.old totals.new)) }
     ensures judged { IfOk result (λ read. IfSome read (AreJudged before.now.env.now name.now)) }
@@ -31,25 +31,25 @@ pub(crate) fn read_name<F: Folder>(
     if before.locals.names.contains(name) {
         return Ok(Some(List::new(alloc)));
     }
-    read_releases(alloc, folder, before, name, totals)
+    read_releases(alloc, before, name, totals, folder)
 }
 
 fn read_releases<F: Folder>(
     alloc: Global,
-    folder: &mut F,
     before: &ReadBefore,
     name: &Text,
     totals: &mut Totals,
+    folder: &mut F,
 ) -> Result<Option<List<Release>>, Trouble>
     ensures told { IfSome (F.tells folder.old) (λ files. IfOk result
         (Reads before.now.env.now before.now.places.now files name.now totals.old totals.new)) }
     ensures judged { IfOk result (λ read. IfSome read (AreJudged before.now.env.now name.now)) }
     ensures folder { Leaves F.tells F.faults folder.old folder.new (IsErrOf result Trouble.Failed) }
 {
-    let names = names_below(alloc, folder, before.places, name)?;
+    let names = names_below(alloc, before.places, name, folder)?;
     let dirs = versions_among(alloc, names.as_slice())?;
     let paths = release_paths(alloc, before.places, name, dirs.as_slice())?;
-    let read = read_counted(alloc, folder, paths.as_slice(), false, totals)?;
+    let read = read_counted(alloc, paths.as_slice(), totals, folder)?;
     if read.beyond {
         return Ok(None);
     }
@@ -65,16 +65,16 @@ fn read_releases<F: Folder>(
 
 fn names_below<F: Folder>(
     alloc: Global,
-    folder: &mut F,
     places: &Places,
     name: &Text,
+    folder: &mut F,
 ) -> Result<List<Name>, Trouble>
     ensures told { IfSome (F.tells folder.old) (λ files. IfOk result (λ names. names ≡ names_below places.now files name.now)) }
     ensures order { IfOk result IsInOrder }
     ensures folder { Leaves F.tells F.faults folder.old folder.new (IsErrOf result Trouble.Failed) }
 {
     let dir = name_dir(places, name.as_str())?;
-    let names = list_names(alloc, folder, dir.as_str())?;
+    let names = list_names(alloc, dir.as_str(), folder)?;
     Ok(names.unwrap_or(List::new(alloc)))
 }
 

@@ -1,5 +1,5 @@
 -- What calls one after the other leave of a folder.
-use Rattle.std.proofs.Common.{◌≡◌, ℕ, ◌≤◌, ◌+◌, ◌-◌, ◌^◌, min, Option, refl, ◌∙◌, arith}
+use Rattle.std.proofs.Common.{ℕ, ◌≤◌, Option, refl, ◌∙◌, arith}
 use Rattle.outside_folder.specs.Calls.{Leaves}
 use Rattle.outside_folder.specs.Faults.{Rose}
 use Rattle.outside_folder.specs.Files.{Files}

@@ -49,8 +49,8 @@ pub enum Content {
 /// The names in a directory, in byte order, each once; `None` where there is no such directory.
 pub fn list_names<F: Folder>(
     alloc: Global,
-    folder: &mut F,
     dir: &str,
+    folder: &mut F,
 ) -> Result<Option<List<Name>>, Trouble>
     ensures told { IfSome (F.tells folder.old) (λ files. IfOk result (λ names. names ≡ listing files dir.now)) }
     ensures order { IfOk result (λ names. IfSome names IsInOrder) }
@@ -67,8 +67,8 @@ pub fn list_names<F: Folder>(
 /// What is at a path.
 pub fn read_content<F: Folder>(
     alloc: Global,
-    folder: &mut F,
     path: &str,
+    folder: &mut F,
 ) -> Result<Content, Trouble>
     ensures told { IfSome (F.tells folder.old) (λ files. IfOk result (λ content. content ≡ content_at files path.now)) }
     ensures within { IfOk result IsWithin }

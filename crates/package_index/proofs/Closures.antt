@@ -5,7 +5,6 @@ use Rattle.std.specs.Prelude.{flat_map}
 use Rattle.std.specs.List.{AllByRecursion, IsDistinct, list_all}
 use Rattle.std.specs.Cmp.Lexicographic.{bytes_decides}
 use Rattle.std.proofs.lemmas.Bool.{and_parts, false≢true, or_cases}
-use Rattle.std.proofs.lemmas.Bool.Decides.{nat_tests}
 use Rattle.std.proofs.lemmas.List.Sums.{sum_by-append}
 use Rattle.outside_folder.specs.Files.{Bytes, Files}
 use Rattle.index_files.specs.Closure.{Ground, IsBeyond, IsClosure, IsPart, IsReached, IsVisit, Visit, by_name, found_of, mentioned, names_of, root, roots, visited_files}
@@ -117,7 +116,7 @@ module _ (one_source : HasOneSource) (ground : Ground) (files : Files) where
   -- ---- outcomes
 
   -- a part of the closure that is too many makes the whole too many
-  part-too-many : (count size : ℕ) → IsBeyond ground files count size → (visits : List Visit) → IsClosure ground files visits
+  part-too-many : (count size : ℕ) → IsBeyond ground count size files → (visits : List Visit) → IsClosure ground files visits
       → is_too_many (count + count_all (flat_map (visited_files ground files) visits)) (size + size_all (flat_map (visited_files ground files) visits)) ≡ true
   part-too-many count size beyond visits closure =
       let parts = beyond.parts in
@@ -139,6 +138,6 @@ module _ (one_source : HasOneSource) (ground : Ground) (files : Files) where
       (visits-there others other visits closure) (visits-there visits closure others other)
 
   -- a closure that is read isn't too many
-  pub never-beyond : {A : Type 0} (count size : ℕ) → IsBeyond ground files count size → (visits : List Visit) → IsClosure ground files visits
+  pub never-beyond : {A : Type 0} (count size : ℕ) → IsBeyond ground count size files → (visits : List Visit) → IsClosure ground files visits
       → is_too_many (count + count_all (flat_map (visited_files ground files) visits)) (size + size_all (flat_map (visited_files ground files) visits)) ≡ false → A
   never-beyond count size beyond visits closure few = absurd (false≢true (sym few ∙ part-too-many count size beyond visits closure))

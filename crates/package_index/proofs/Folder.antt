@@ -29,10 +29,10 @@ module _ (one_source : HasOneSource) (extra : List Named) where
     abbrev reading : List Visit → Readings
     reading visits = record { locals = ground.locals; units = ground.units; found = map found_of visits }
 
-    reading-is : (readings : Readings) (h : AreRead ground files count size readings) → readings ≡ reading h.found.visits
+    reading-is : (readings : Readings) (h : AreRead ground count size files readings) → readings ≡ reading h.found.visits
     reading-is readings h = λ i. record { locals = h.locals i; units = h.units i; found = h.found.found_is i }
 
-    one-index-of : (a b : List FoundName) (found : IsWhole ground files count size a) (other : IsWhole ground files count size b) (lacking : List Bool)
+    one-index-of : (a b : List FoundName) (found : IsWhole ground count size files a) (other : IsWhole ground count size files b) (lacking : List Bool)
         → index_of extra (reading found.visits) lacking ≡ index_of extra (reading other.visits) lacking
     one-index-of a b found other lacking =
         let left = one-closure one_source ground files found.visits other.visits found.closure other.closure in
@@ -41,14 +41,14 @@ module _ (one_source : HasOneSource) (extra : List Named) where
         let skipped = one-skipped ground files found.visits other.visits left found.closure.read once in
         λ i. record { packages = packages i; skipped = skipped i; warnings = flat_map warnings_of ground.locals }
 
-    one-of-readings : (r s : Readings) (a b : Index) → AreRead ground files count size r → AreRead ground files count size s → IsIndexOf extra r a → IsIndexOf extra s b → a ≡ b
+    one-of-readings : (r s : Readings) (a b : Index) → AreRead ground count size files r → AreRead ground count size files s → IsIndexOf extra r a → IsIndexOf extra s b → a ≡ b
     one-of-readings r s a b h k p q =
         let u = subst (λ readings. IsIndexOf extra readings a) (reading-is r h) p in
         let v = subst (λ readings. IsIndexOf extra readings b) (reading-is s k) q in
         u.index_is ∙ ap (index_of extra (reading h.found.visits)) (one-lacking ground.units u.lacking v.lacking u.lacks v.lacks)
         ∙ one-index-of r.found s.found h.found k.found v.lacking ∙ sym v.index_is
 
-    one-indexed : (r s : Result Readings Refusal) (a b : Result Index Refusal) → AreIndexed ground files count size r → AreIndexed ground files count size s
+    one-indexed : (r s : Result Readings Refusal) (a b : Result Index Refusal) → AreIndexed ground count size files r → AreIndexed ground count size files s
         → Gathers extra r a → Gathers extra s b → a ≡ b
     one-indexed (Ok r) (Ok s) a b h k p q = p.2 ∙ ap Ok (one-of-readings r s p.0 q.0 h k p.1 q.1) ∙ sym q.2
     one-indexed (Ok r) (Err e) a b h k p q = never-beyond one_source ground files count size k.beyond h.found.visits h.found.closure h.found.few
@@ -66,7 +66,7 @@ module _ (one_source : HasOneSource) (extra : List Named) where
     abbrev IndexedAs : List Local → Result Readings Refusal → List Unit → Type 0
     IndexedAs locals outcome units =
         let records = record_files places files in
-        AreIndexed (record { env = env; places = places; locals = locals; units = units; extra = extra }) files (count_all records) (size_all records) outcome
+        AreIndexed (record { env = env; places = places; locals = locals; units = units; extra = extra }) (count_all records) (size_all records) files outcome
 
     one-behind-units : (locals : List Local) (units : Result (List Unit) Refusal) (r s : Result Readings Refusal) (a b : Result Index Refusal)
         → GoesOn units (IndexedAs locals r) r → GoesOn units (IndexedAs locals s) s → Gathers extra r a → Gathers extra s b → a ≡ b

@@ -1,5 +1,5 @@
 -- The entry of a local package.
-use Rattle.std.proofs.Common.{◌≡◌, ◌≤◌, Bool, true, List, length, refl, sym, subst}
+use Rattle.std.proofs.Common.{◌≡◌, ◌≤◌, true, List, length, refl, sym, subst}
 use Rattle.std.specs.List.{AllByRecursion, IsDistinct}
 use Rattle.std.specs.Cmp.Lexicographic.{bytes_decides}
 use Rattle.plan_types.specs.declared.condition.Env.{Env}

@@ -35,7 +35,7 @@ module _ (one_source : HasOneSource) where
   pub one-comes : (env : Env) (content : Content) (a b : Result Source At) → Comes env content a → Comes env content b → a ≡ b
   one-comes env content a b h k = one-of-bytes env (bytes_in content) a b h k
 
-  pub one-locals : (env : Env) (files : Files) (paths : List Bytes) (a b : Result (List Local) Refusal) → ReadsLocals env files paths a → ReadsLocals env files paths b → a ≡ b
+  pub one-locals : (env : Env) (files : Files) (paths : List Bytes) (a b : Result (List Local) Refusal) → ReadsLocals env paths files a → ReadsLocals env paths files b → a ≡ b
   one-locals env files paths a b h k =
       one-outcome (FileComes env) with_file (λ file x y p q. one-comes env file.content x y p q) [] (map (file_found true files) paths) a b h k
 

@@ -32,7 +32,7 @@ pub fn build_index<F: Folder>(
 {
     what_is_gathered_is_sound();
     extras_are_there();
-    let readings = read_index_files(alloc, folder, locals, extra, places, env)?;
+    let readings = read_index_files(alloc, locals, extra, places, env, folder)?;
     let index = index_of(alloc, readings, extra)?;
     Ok(index)
 }

@@ -1,13 +1,12 @@
 -- What was read of the project files so far.
-use Rattle.std.proofs.Common.{◌≡◌, Bool, false, ◌||◌, List, [], ◌∷◌, ◌++◌, sym, ap, ◌∙◌, append_assoc}
-use Rattle.std.specs.List.{AllByRecursion}
+use Rattle.std.proofs.Common.{◌≡◌, Bool, true, false, ◌||◌, List, [], ◌∷◌, ◌++◌, codes, refl, sym, ap, ◌∙◌, append_assoc}
+use Rattle.common_laws.specs.Small.{or-assoc}
 use Rattle.outside_folder.specs.Calls.{content_at}
 use Rattle.outside_folder.specs.Files.{Bytes, Files}
 use Rattle.outside_folder.specs.declared.calls.Content.{Content}
 use Rattle.outside_folder.specs.declared.calls.Content.TheVariants.{Missing, TooLarge, Bytes as Holds}
-use Rattle.project_file.specs.Read.{IsWithin}
 use Rattle.project_file.specs.declared.read.ProjectText.{ProjectText}
-use Rattle.project_config.specs.Project.{first_too_large, is_main, large_or, texts_among, with_text}
+use Rattle.project_config.specs.Project.{first_too_large, is_implicit, is_main, is_missing, large_or, project_files, texts_among, with_text}
 
 abbrev pub missed_or : Bytes → Content → Bool → Bool
 missed_or path Missing behind = is_main path || behind
@@ -36,6 +35,35 @@ more_read files paths read missed path bytes rest is goes = record {
   missed_is = goes.missed_is ∙ ap (λ c. missed || missed_or path c (is_missed files rest)) (sym is);
 }
 
-pub more_within : (read : List ProjectText) (text : ProjectText) → AllByRecursion IsWithin read → IsWithin text → AllByRecursion IsWithin (read ++ text ∷ [])
-more_within [] text all one = (one, tt)
-more_within (first ∷ read) text all one = (all.0, more_within read text all.1 one)
+-- a file that isn't there
+pub none_read : (files : Files) (paths : List Bytes) (read : List ProjectText) (missed : Bool) (path : Bytes) (rest : List Bytes) → Missing ≡ content_at files path →
+    GoesOn files paths read missed (path ∷ rest) → GoesOn files paths read (missed || is_main path) rest
+none_read files paths read missed path rest is goes = record {
+  texts = goes.texts ∙ ap (λ c. read ++ with_text path c (texts_among files rest)) (sym is);
+  large = goes.large ∙ ap (λ c. large_or path c (first_too_large files rest)) (sym is);
+  missed_is =
+      goes.missed_is ∙ ap (λ c. missed || missed_or path c (is_missed files rest)) (sym is)
+      ∙ sym (or-assoc missed (is_main path) (is_missed files rest));
+}
+
+or-none : (b : Bool) → (b || false) ≡ b
+or-none true = refl
+or-none false = refl
+
+-- nothing is missed but the main file
+main_alone : (main freeze local : Content) → missed_or (codes "cabal.project") main (missed_or (codes "cabal.project.freeze") freeze (missed_or (codes "cabal.project.local") local false)) ≡ is_missing main
+main_alone Missing freeze local = refl
+main_alone TooLarge freeze local = refl
+main_alone (Holds bytes) Missing Missing = refl
+main_alone (Holds bytes) Missing TooLarge = refl
+main_alone (Holds bytes) Missing (Holds more) = refl
+main_alone (Holds bytes) TooLarge local = refl
+main_alone (Holds bytes) (Holds other) Missing = refl
+main_alone (Holds bytes) (Holds other) TooLarge = refl
+main_alone (Holds bytes) (Holds other) (Holds more) = refl
+
+-- behind all files it is known whether there is a main one
+pub implicit_at_end : (files : Files) (read : List ProjectText) (missed : Bool) → GoesOn files project_files read missed [] → missed ≡ is_implicit files
+implicit_at_end files read missed goes =
+    sym (or-none missed) ∙ sym goes.missed_is
+    ∙ main_alone (content_at files (codes "cabal.project")) (content_at files (codes "cabal.project.freeze")) (content_at files (codes "cabal.project.local"))

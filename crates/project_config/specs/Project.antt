@@ -11,6 +11,7 @@ use Rattle.outside_folder.specs.declared.calls.Content.TheVariants.{Missing, Too
 use Rattle.project_file.specs.Read.{IsProject}
 use Rattle.project_file.specs.declared.read.ProjectText.{ProjectText}
 use Rattle.project_paths.specs.Local.{local_files, sought}
+use Rattle.project_config.specs.declared.files.FilesProject.{FilesProject}
 use Rattle.project_config.specs.declared.project.FolderProject.{FolderProject}
 use Rattle.plan_types.specs.Bytes.{same_text}
 
@@ -75,6 +76,11 @@ Say env texts large said = (read : Result Project Refusal) × IsProject env text
 -- what the project files of a folder say together, or the first refusal among them
 abbrev pub FilesSay : Env → Files → Result Project Refusal → Type 0
 FilesSay env files said = Say env (texts_among files project_files) (first_too_large files project_files) said
+
+-- the same, and whether there is no `cabal.project`
+abbrev pub AreSaid : Env → Files → Result FilesProject Refusal → Type 0
+AreSaid env files (Ok found) = FilesSay env files (Ok found.project) × (found.implicit ≡ is_implicit files)
+AreSaid env files (Err refusal) = FilesSay env files (Err refusal)
 
 -- the project with its local packages
 abbrev pub with_locals : Project → Result (List Bytes) Refusal → Result FolderProject Refusal

@@ -3,9 +3,9 @@
 //! paths and refusal are those of the definition, and a folder has one of them.
 #![tactic(auto)]
 
+mod files;
 mod laws;
 mod project;
-mod texts;
 
 pub use laws::one_folder_project;
 pub use project::{FolderProject, read_folder_project};

@@ -1,8 +1,10 @@
 // All project files, in reading order.
-ghost use Rattle.std.specs.Prelude.{◌≡◌, ◌≤◌, true, [], length, IfOk};
+ghost use Rattle.std.specs.Prelude.{◌≡◌, ◌≤◌, ◌++◌, ◌∷◌, true, [], length, List, Ok, IfOk};
 ghost use Rattle.std.specs.List.{list_all, AllByRecursion};
 ghost use Rattle.plan_types.specs.Name.{is_package_name};
+ghost use Rattle.plan_types.specs.declared.condition.Env.{Env};
 ghost use Rattle.project_file.specs.Read.{FileReads, IsProject, IsWithin};
+ghost use Rattle.project_file.specs.declared.read.ProjectText.{ProjectText};
 ghost use Rattle.plan_types.specs.Refusal.{Settles};
 
 use crate::part::ProjectPart;
@@ -28,11 +30,33 @@ pub fn read_project(alloc: Global, texts: &List<ProjectText>, env: &Env) -> Resu
     ensures extra { IfOk result (λ project. list_all (λ named. is_package_name named.name)
         project.extra ≡ true) }
 {
-    let mut project = nothing(alloc);
+    let mut project = empty_project(alloc);
     for text in texts.as_slice() {
-        let parts = read_file(alloc, env, text)?;
-        take_file(&mut project, &text.path, parts)?;
+        project = with_project_file(alloc, project, text, env)?;
     }
+    Ok(project)
+}
+
+/// What no project file says.
+pub fn empty_project(alloc: Global) -> Project
+    ensures { (env : Env) → IsProject env [] (Ok result) }
+{
+    nothing(alloc)
+}
+
+/// What files that say this project say together with one more behind them; or the refusal of the one more.
+pub fn with_project_file(
+    alloc: Global,
+    mut project: Project,
+    text: &ProjectText,
+    env: &Env,
+) -> Result<Project, Halt>
+    requires { IsWithin text.now }
+    ensures { (before : List ProjectText) → IsProject env.now before (Ok project)
+        → Settles (IsProject env.now (before ++ text.now ∷ [])) result }
+{
+    let parts = read_file(alloc, env, text)?;
+    take_file(&mut project, &text.path, parts)?;
     Ok(project)
 }
 

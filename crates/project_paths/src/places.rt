@@ -74,7 +74,7 @@ pub(crate) fn names_at<F: Folder>(
     if !place.folder {
         return Ok(List::new(alloc));
     }
-    let names = list_names(alloc, folder, place.path.as_str())?;
+    let names = list_names(alloc, place.path.as_str(), folder)?;
     Ok(names.unwrap_or(List::new(alloc)))
 }
 

@@ -1,13 +1,13 @@
 -- What is added to what a file says for one element.
 use Rattle.std.proofs.Common.{◌≡◌, ℕ, ◌+◌, ◌<◌, ◌≤◌, length, List, [], ◌∷◌, ◌++◌, get_or, drop, sym, subst, ap, ◌∙◌, refl, append_assoc}
 use Rattle.std.proofs.lemmas.List.{append-nil, drop_all}
-use Rattle.std.specs.Prelude.{true, Option, None, Some}
+use Rattle.std.specs.Prelude.{Option, None, Some}
 use Rattle.plan_types.specs.Bytes.{joined_text}
 use Rattle.plan_types.specs.declared.element.Element.{Element}
 use Rattle.plan_types.specs.declared.element.Element.TheVariants as element
 use Rattle.plan_types.specs.declared.range.Spec.{Spec}
 use Rattle.section_syntax.specs.File.{Says, HeadSays, SectionIs, headed, section_name}
-use Rattle.section_syntax.specs.Items.{Items}
+use Rattle.section_syntax.specs.Items.{AreParts}
 use Rattle.cabal_lexer.specs.Tree.{Tree, in_front, tree_of}
 use Rattle.section_syntax.specs.Words.{head_word, section_kind}
 use Rattle.section_syntax.specs.declared.part.Head.{Head}
@@ -68,7 +68,7 @@ module _ (spec : Spec) where
       (more, subst (λ k. SectionIs spec k line args items (λ said. Says spec behind heads said) more) (sym is) rest, refl)
 
   pub read_section : {kind : Option SectionKind} (is_kind : SectionKind) (line : ℕ) (args : List ℕ) (items : Tree) (parts : List SectionPart) (behind : Tree) (heads : List HeadField) (old more : List Section) {name : List ℕ} {new : List Section} →
-      kind ≡ Some is_kind → Items spec is_kind items [] true None parts → name ≡ section_name is_kind args →
+      kind ≡ Some is_kind → AreParts spec is_kind items parts → name ≡ section_name is_kind args →
       new ≡ old ++ record { line = line; kind = is_kind; name = name; parts = parts } ∷ [] → Says spec behind heads more →
       (found : List Section) × SectionIs spec kind line args items (λ said. Says spec behind heads said) found × (new ++ more ≡ old ++ found)
   read_section is_kind line args items parts behind heads old more is inside name-is new-is rest =

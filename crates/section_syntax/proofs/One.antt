@@ -1,5 +1,5 @@
 -- The elements of a file say one thing.
-use Rattle.std.proofs.Common.{◌≡◌, ℕ, Bool, ◌&&◌, false, true, List, [], ◌∷◌, ◌++◌, sym, subst, ap, ◌∙◌, refl}
+use Rattle.std.proofs.Common.{◌≡◌, ℕ, Bool, List, [], ◌∷◌, ◌++◌, sym, subst, ap, ◌∙◌}
 use Rattle.std.specs.Prelude.{Option, None, Some}
 use Rattle.std.specs.declared.result.Result.{Result}
 use Rattle.std.specs.declared.result.Result.TheVariants.{Ok, Err}
@@ -11,16 +11,14 @@ use Rattle.plan_types.specs.declared.dependency.DepKind.TheVariants.{Library, Se
 use Rattle.plan_types.specs.declared.element.Element.{Element}
 use Rattle.plan_types.specs.declared.range.Spec.{Spec}
 use Rattle.plan_types.specs.declared.refusal.Cause.{Cause}
-use Rattle.plan_types.specs.declared.version.Version.{Version}
 use Rattle.condition_text.specs.Grammar.{Stands, FirstFault}
 use Rattle.condition_text.proofs.Whole as conditions
 use Rattle.depend_text.specs.Depends.{LibraryEntry, LibraryFault, ToolEntry, ToolFault, Depends, DependsFault, Tools, ToolsFault}
 use Rattle.entry_text.proofs.Only as only
 use Rattle.depend_text.proofs.OneLibrary.{library_settled, tool_settled}
-use Rattle.version_range.proofs.Numbers.{one_version, version_from}
 use Rattle.section_syntax.specs.Branch.{OwnCondition, branch_of, chain_of, condition}
 use Rattle.section_syntax.specs.File.{IsFile, Says, HeadSays, SectionIs, headed, section_name}
-use Rattle.section_syntax.specs.Items.{Items, FieldSays, SectionSays, branch_fits, is_import, imports_in_branches, placed}
+use Rattle.section_syntax.specs.Items.{Items, FieldSays, SectionSays, branch_fits, import_fits, placed}
 use Rattle.cabal_lexer.specs.Tree.{Tree, end, field, section, tree_of}
 use Rattle.section_syntax.specs.Words.{field_word, inner_word, head_word, section_kind}
 use Rattle.section_syntax.specs.declared.part.File.{File}
@@ -40,7 +38,6 @@ use Rattle.section_syntax.specs.declared.words.HeadWord.{HeadWord}
 use Rattle.section_syntax.specs.declared.words.HeadWord.TheVariants as words
 use Rattle.section_syntax.specs.declared.words.InnerWord.{InnerWord}
 use Rattle.text_grammar.specs.Outcome.{Read}
-use Rattle.version_range.specs.Version.{IsVersionOf}
 use Rattle.version_range.proofs.Exact.{one_version_of}
 use Rattle.section_syntax.specs.declared.words.InnerWord.TheVariants as inner
 
@@ -101,19 +98,19 @@ one_section spec inner.Misplaced line args branches chain Within Behind within b
     p.2 ∙ ap (λ v. record { line = line; branches = branches; said = said.Misplaced } ∷ v) (behind None p.0 q.0 p.1 q.1) ∙ sym q.2
 one_section spec inner.Unread line args branches chain Within Behind within behind a b p q = behind None a b p q
 
-one_items : (spec : Spec) (kind : SectionKind) (tree : Tree) (branches : List Cond) (fits : Bool) (chain : Option Cond) (a b : List SectionPart) →
-    Items spec kind tree branches fits chain a → Items spec kind tree branches fits chain b → a ≡ b
+one_items : (spec : Spec) (kind : SectionKind) (front tree : Tree) (branches : List Cond) (chain : Option Cond) (a b : List SectionPart) →
+    Items spec kind front tree branches chain a → Items spec kind front tree branches chain b → a ≡ b
 unfolding Items
-one_items spec kind end branches fits chain a b p q = p ∙ sym q
-one_items spec kind (field line name values behind) branches fits chain a b p q =
+one_items spec kind front end branches chain a b p q = p ∙ sym q
+one_items spec kind front (field line name values behind) branches chain a b p q =
     p.4
-    ∙ ap (λ f. placed line branches f ++ p.1) (one_said spec (field_word kind name) line (joined_text values) fits p.0 q.0 p.2 q.2)
-    ∙ ap (λ m. placed line branches q.0 ++ m) (one_items spec kind behind branches (fits && is_import (field_word kind name)) None p.1 q.1 p.3 q.3)
+    ∙ ap (λ f. placed line branches f ++ p.1) (one_said spec (field_word kind name) line (joined_text values) (import_fits spec kind front branches) p.0 q.0 p.2 q.2)
+    ∙ ap (λ m. placed line branches q.0 ++ m) (one_items spec kind (field line name values front) behind branches None p.1 q.1 p.3 q.3)
     ∙ sym q.4
-one_items spec kind (section line name args items behind) branches fits chain a b p q =
+one_items spec kind front (section line name args items behind) branches chain a b p q =
     one_section spec (inner_word kind name) line args branches chain
-    (λ within found. Items spec kind items within (imports_in_branches spec) None found) (λ left found. Items spec kind behind branches false left found)
-    (λ within x y. one_items spec kind items within (imports_in_branches spec) None x y) (λ left x y. one_items spec kind behind branches false left x y) a b p q
+    (λ within found. Items spec kind end items within None found) (λ left found. Items spec kind (section line name args items front) behind branches left found)
+    (λ within x y. one_items spec kind end items within None x y) (λ left x y. one_items spec kind (section line name args items front) behind branches left x y) a b p q
 
 one_head : (word : HeadWord) (text : List ℕ) (a b : Option Head) → HeadSays word text a → HeadSays word text b → a ≡ b
 one_head words.Name text a b p q = p ∙ sym q
@@ -127,7 +124,7 @@ one_in_file spec None line args items Behind Other a b behind p q = behind a b p
 one_in_file spec (Some kind) line args items Behind Other a b behind p q =
     let rest = behind p.1 q.1 p.3 q.3 in (
       p.4
-          ∙ ap (λ v. record { line = line; kind = kind; name = section_name kind args; parts = v } ∷ p.1) (one_items spec kind items [] true None p.0 q.0 p.2 q.2)
+          ∙ ap (λ v. record { line = line; kind = kind; name = section_name kind args; parts = v } ∷ p.1) (one_items spec kind end items [] None p.0 q.0 p.2 q.2)
           ∙ ap (λ v. record { line = line; kind = kind; name = section_name kind args; parts = q.0 } ∷ v) rest.0
           ∙ sym q.4,
       rest.1,

@@ -8,7 +8,7 @@ use Rattle.plan_types.specs.declared.range.Spec.TheVariants.{V2_4, V3_0}
 use Rattle.plan_types.specs.declared.refusal.Cause.TheVariants.{BadField}
 use Rattle.section_syntax.specs.Branch.{all_of, bare, branch_of, chain_of, condition}
 use Rattle.section_syntax.specs.File.{section_name}
-use Rattle.section_syntax.specs.Items.{Items, branch_fits, visible}
+use Rattle.section_syntax.specs.Items.{Items, branch_fits, import_fits, visible}
 use Rattle.cabal_lexer.specs.Tree.{end, field, section}
 use Rattle.section_syntax.specs.Words.{field_word, inner_word, section_kind}
 use Rattle.section_syntax.specs.declared.part.Said.TheVariants as said
@@ -76,8 +76,21 @@ a_lone_elif = refl
 else_with_a_condition : bare (codes "x") ≡ Err BadField
 else_with_a_condition = refl
 
+-- an import fits behind another and behind nothing else; in a branch from 3.0 on
+behind_an_import : import_fits V2_4 (Component Library) (field 4 (codes "import") [] end) [] ≡ true
+behind_an_import = refl
+
+behind_another_field : import_fits V2_4 (Component Library) (field 4 (codes "buildable") [] end) [] ≡ false
+behind_another_field = refl
+
+in_a_branch_of_2_4 : import_fits V2_4 (Component Library) end (a ∷ []) ≡ false
+in_a_branch_of_2_4 = refl
+
+in_a_branch_of_3_0 : import_fits V3_0 (Component Library) end (a ∷ []) ≡ true
+in_a_branch_of_3_0 = refl
+
 -- `buildable: False` and then a section that may not stand there
-two_parts : Items V3_0 (Component Library) (field 5 (codes "buildable") (codes "False" ∷ []) (section 6 (codes "x") [] end end)) (a ∷ []) true None
+two_parts : Items V3_0 (Component Library) end (field 5 (codes "buildable") (codes "False" ∷ []) (section 6 (codes "x") [] end end)) (a ∷ []) None
     (record { line = 5; branches = a ∷ []; said = said.Buildable (Some false) } ∷ record { line = 6; branches = a ∷ []; said = said.Misplaced } ∷ [])
 unfolding Items
 two_parts = (Some (said.Buildable (Some false)), record { line = 6; branches = a ∷ []; said = said.Misplaced } ∷ [], refl, ([], refl, refl), refl)

@@ -1,5 +1,5 @@
 -- What a file says beside its sections, and its sections.
-use Rattle.std.specs.Prelude.{◌≡◌, ◌≢◌, ℕ, IsTrue, true, if◌then◌else◌, List, [], ◌∷◌, ◌++◌, map, Option, Some, None}
+use Rattle.std.specs.Prelude.{◌≡◌, ℕ, if◌then◌else◌, List, [], ◌∷◌, ◌++◌, map, Option, Some, None}
 use Rattle.std.specs.Char.{to_ascii_lowercase}
 use Rattle.plan_types.specs.Bytes.{joined_text}
 use Rattle.plan_types.specs.Name.{is_package_name}
@@ -7,7 +7,7 @@ use Rattle.plan_types.specs.declared.element.Element.{Element}
 use Rattle.plan_types.specs.declared.range.Spec.{Spec}
 use Rattle.plan_types.specs.declared.version.Version.{Version}
 use Rattle.version_range.specs.Version.{IsVersionOf}
-use Rattle.section_syntax.specs.Items.{Items}
+use Rattle.section_syntax.specs.Items.{AreParts}
 use Rattle.cabal_lexer.specs.Tree.{Tree, end, field, section, tree_of}
 use Rattle.section_syntax.specs.Words.{build_type, head_word, section_kind}
 use Rattle.section_syntax.specs.declared.part.File.{File}
@@ -48,7 +48,7 @@ section_name kinds.Setup args = []
 abbrev pub SectionIs : Spec → Option SectionKind → ℕ → List ℕ → Tree → (List Section → Type 0) → List Section → Type 0
 SectionIs spec None line args items Behind sections = Behind sections
 SectionIs spec (Some kind) line args items Behind sections =
-    (parts : List SectionPart) × (more : List Section) × Items spec kind items [] true None parts × Behind more
+    (parts : List SectionPart) × (more : List Section) × AreParts spec kind items parts × Behind more
     × (sections ≡ record { line = line; kind = kind; name = section_name kind args; parts = parts } ∷ more)
 
 -- the elements say this

@@ -69,14 +69,20 @@ branch_fits If chain = true
 branch_fits Elif chain = is_some chain
 branch_fits Else chain = is_some chain
 
--- imports stand in front in a section, and from 3.0 on in a branch
-abbrev pub imports_in_branches : Spec → Bool
-imports_in_branches spec = not (is_old spec)
+-- imports may stand in a section, and from 3.0 on in its branches
+abbrev pub may_import : {A : Type 0} → Spec → List A → Bool
+may_import spec [] = true
+may_import spec (branch ∷ branches) = not (is_old spec)
 
--- whether an import may stand in front in these branches
-abbrev pub imports_begin : {A : Type 0} → Spec → List A → Bool
-imports_begin spec [] = true
-imports_begin spec (branch ∷ branches) = imports_in_branches spec
+-- all of these elements are imports
+abbrev pub are_imports : SectionKind → Tree → Bool
+are_imports kind end = true
+are_imports kind (field line name values others) = is_import (field_word kind name) && are_imports kind others
+are_imports kind (section line name args items others) = false
+
+-- an import fits where all elements in front of it in its block are imports, and imports may stand in these branches
+abbrev pub import_fits : Spec → SectionKind → Tree → List Cond → Bool
+import_fits spec kind front branches = are_imports kind front && may_import spec branches
 
 -- a branch, what stands in it, and what stands behind it
 pub record BranchSays (spec : Spec) (word : BranchWord) (line : ℕ) (args : List ℕ) (branches : List Cond) (chain : Option Cond)
@@ -96,13 +102,18 @@ SectionSays spec inner.Misplaced line args branches chain Within Behind parts =
     (behind : List SectionPart) × Behind None behind × (parts ≡ record { line = line; branches = branches; said = said.Misplaced } ∷ behind)
 SectionSays spec inner.Unread line args branches chain Within Behind parts = Behind None parts
 
--- The elements are these parts, under these branches. An import may stand here or not, and the chain is that of a branch directly in front.
-unfoldable pub Items : Spec → SectionKind → Tree → List Cond → Bool → Option Cond → List SectionPart → Type 0
-Items spec kind end branches fits chain parts = parts ≡ []
-Items spec kind (field line name values behind) branches fits chain parts =
-    (found : Option Said) × (more : List SectionPart) × FieldSays spec (field_word kind name) line (joined_text values) fits found
-    × Items spec kind behind branches (fits && is_import (field_word kind name)) None more × (parts ≡ placed line branches found ++ more)
-Items spec kind (section line name args items behind) branches fits chain parts =
+-- The elements are these parts, under these branches. Those in front of them in their block come with the nearest first, and
+-- the chain is that of a branch directly in front.
+unfoldable pub Items : Spec → SectionKind → Tree → Tree → List Cond → Option Cond → List SectionPart → Type 0
+Items spec kind front end branches chain parts = parts ≡ []
+Items spec kind front (field line name values behind) branches chain parts =
+    (found : Option Said) × (more : List SectionPart) × FieldSays spec (field_word kind name) line (joined_text values) (import_fits spec kind front branches) found
+    × Items spec kind (field line name values front) behind branches None more × (parts ≡ placed line branches found ++ more)
+Items spec kind front (section line name args items behind) branches chain parts =
     SectionSays spec (inner_word kind name) line args branches chain
-    (λ within found. Items spec kind items within (imports_in_branches spec) None found)
-    (λ left found. Items spec kind behind branches false left found) parts
+    (λ within found. Items spec kind end items within None found)
+    (λ left found. Items spec kind (section line name args items front) behind branches left found) parts
+
+-- the parts of a section with these elements
+abbrev pub AreParts : Spec → SectionKind → Tree → List SectionPart → Type 0
+AreParts spec kind items parts = Items spec kind end items [] None parts

@@ -1,13 +1,13 @@
 -- What reading one item after another comes to: what was read in front goes on with what stands behind.
-use Rattle.std.specs.Prelude.{◌≡◌, ℕ, false, List, ◌++◌, map, Option, Some, None}
+use Rattle.std.specs.Prelude.{◌≡◌, ℕ, List, ◌++◌, map, Option, Some, None}
 use Rattle.std.specs.declared.result.Result.{Result}
 use Rattle.plan_types.specs.declared.condition.Cond.{Cond}
 use Rattle.plan_types.specs.declared.element.Element.{Element}
 use Rattle.plan_types.specs.declared.range.Spec.{Spec}
 use Rattle.plan_types.specs.declared.refusal.Cause.{Cause}
 use Rattle.section_syntax.specs.Branch.{OwnCondition, branch_of, condition}
-use Rattle.section_syntax.specs.Items.{Items, SectionSays, branch_fits, imports_begin, imports_in_branches, placed}
-use Rattle.cabal_lexer.specs.Tree.{Tree, in_front}
+use Rattle.section_syntax.specs.Items.{Items, SectionSays, branch_fits, import_fits, placed}
+use Rattle.cabal_lexer.specs.Tree.{Tree, end, in_front}
 use Rattle.section_syntax.specs.declared.branch.Branch.{Branch}
 use Rattle.section_syntax.specs.declared.items.Before.{Before}
 use Rattle.section_syntax.specs.declared.items.Inside.{Inside}
@@ -19,24 +19,33 @@ use Rattle.section_syntax.specs.declared.words.InnerWord.{InnerWord}
 -- the items of these branches, pushed behind what was there
 abbrev pub ReadsItems : Inside → Tree → List Branch → List SectionPart → List SectionPart → Type 0
 ReadsItems inside items branches old new =
-    (found : List SectionPart) × Items inside.spec inside.kind items (map condition branches) (imports_begin inside.spec branches) None found
+    (found : List SectionPart) × Items inside.spec inside.kind end items (map condition branches) None found
     × (new ≡ old ++ found)
+
+-- what is kept of the items in front tells whether an import fits behind them
+abbrev pub Tells : Inside → List Branch → Before → Tree → Type 0
+Tells inside branches before front = before.fits ≡ import_fits inside.spec inside.kind front (map condition branches)
+
+-- and then it is kept with an item more
+abbrev pub TellsOn : Inside → Element → List Branch → Before → Before → Type 0
+TellsOn inside item branches before after = (front : Tree) → Tells inside branches before front → Tells inside branches after (in_front item front)
 
 -- an item that is pushed goes on with any items behind it, for which it leaves this
 abbrev pub ReadsItem : Inside → Element → List Branch → Before → Before → List SectionPart → List SectionPart → Type 0
 ReadsItem inside item branches before after old new =
-    (behind : Tree) (more : List SectionPart) → Items inside.spec inside.kind behind (map condition branches) after.fits after.chain more
-    → (found : List SectionPart) × Items inside.spec inside.kind (in_front item behind) (map condition branches) before.fits before.chain found
+    (front : Tree) → Tells inside branches before front
+    → (behind : Tree) (more : List SectionPart) → Items inside.spec inside.kind (in_front item front) behind (map condition branches) after.chain more
+    → (found : List SectionPart) × Items inside.spec inside.kind front (in_front item behind) (map condition branches) before.chain found
     × (new ++ more ≡ old ++ found)
 
 -- a section goes on in the same way; it leaves the chain that it belongs to
 abbrev pub ReadsSection :
     Inside → InnerWord → ℕ → List ℕ → Tree → List Branch → Option Cond → Option Cond → List SectionPart → List SectionPart → Type 0
 ReadsSection inside word line args items branches chain left old new =
-    (behind : Tree) (more : List SectionPart) → Items inside.spec inside.kind behind (map condition branches) false left more
+    (front behind : Tree) (more : List SectionPart) → Items inside.spec inside.kind front behind (map condition branches) left more
     → (found : List SectionPart) × SectionSays inside.spec word line args (map condition branches) chain
-    (λ within said. Items inside.spec inside.kind items within (imports_in_branches inside.spec) None said)
-    (λ left said. Items inside.spec inside.kind behind (map condition branches) false left said) found
+    (λ within said. Items inside.spec inside.kind end items within None said)
+    (λ left said. Items inside.spec inside.kind front behind (map condition branches) left said) found
     × (new ++ more ≡ old ++ found)
 
 -- a branch is opened, and what it says of itself is pushed

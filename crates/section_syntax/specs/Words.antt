@@ -1,6 +1,5 @@
 -- Which fields and sections are read, and words that stand as values.
 use Rattle.std.specs.Prelude.{ℕ, Bool, true, false, ◌||◌, ◌==◌, if◌then◌else◌, List, map, codes, Option, Some, None}
-use Rattle.std.specs.Char.{to_ascii_lowercase}
 use Rattle.std.specs.List.{slice_split}
 use Rattle.plan_types.specs.declared.description.CompKind.TheVariants as component
 use Rattle.cabal_lexer.specs.Lines.{trim}

@@ -7,9 +7,9 @@ ghost use Rattle.plan_types.specs.declared.refusal.Cause.{Cause};
 ghost use Rattle.section_syntax.specs.declared.branch.Branch.{Branch};
 ghost use Rattle.section_syntax.specs.declared.part.SectionPart.{SectionPart};
 ghost use Rattle.section_syntax.specs.Branch.{condition, branch_of, chain_of, OwnCondition};
-ghost use Rattle.section_syntax.specs.Items.{Items, SectionSays, branch_fits, imports_in_branches, imports_begin, is_import, placed};
+ghost use Rattle.section_syntax.specs.Items.{AreParts, Items, SectionSays, branch_fits, is_import, may_import, placed};
 ghost use Rattle.cabal_lexer.specs.Tree.{Tree, in_front, tree_of};
-ghost use Rattle.section_syntax.specs.Readings.{OpensBranch, ReadsItem, ReadsItems, ReadsSection};
+ghost use Rattle.section_syntax.specs.Readings.{OpensBranch, ReadsItem, ReadsItems, ReadsSection, TellsOn};
 
 use crate::branch::{Branch, conditions, own_condition};
 use crate::field::said_by;
@@ -40,7 +40,7 @@ pub fn read_parts(
     inside: Inside,
     items: &[Element],
 ) -> Result<List<SectionPart>, NoMemory>
-    ensures { IfOk result (Items inside.spec inside.kind (tree_of items.now) [] true None) }
+    ensures { IfOk result (AreParts inside.spec inside.kind (tree_of items.now)) }
 {
     let mut branches = List::new(alloc);
     let mut parts = List::new(alloc);
@@ -61,7 +61,7 @@ fn read_items(
     ensures branches { OnOk result (branches.new ≡ branches.old) }
 {
     let mut before = Before {
-        fits: imports_begin(inside.spec, branches.as_slice()),
+        fits: may_import(inside.spec, branches.as_slice()),
         chain: None,
     };
     for item in items {
@@ -80,6 +80,7 @@ fn read_item(
     parts: &mut List<SectionPart>,
 ) -> Result<Before, NoMemory>
     ensures parts { IfOk result (λ after. ReadsItem inside item.now branches.old before after parts.old parts.new) }
+    ensures fits { IfOk result (TellsOn inside item.now branches.old before) }
     ensures branches { IfOk result (λ _. branches.new ≡ branches.old) }
 {
     match item {
@@ -115,17 +116,17 @@ fn read_item(
     }
 }
 
-/// Imports stand in front in a section, and from 3.0 on in a branch.
-fn imports_begin(spec: Spec, branches: &[Branch]) -> bool
-    ensures { result ≡ imports_begin spec branches.now }
+/// Imports may stand in a section, and from 3.0 on in its branches.
+fn may_import(spec: Spec, branches: &[Branch]) -> bool
+    ensures { result ≡ may_import spec branches.now }
 {
     branches.is_empty() || !spec.is_old()
 }
 
 fn imports_behind(fits: bool, word: FieldWord) -> bool
-    ensures { result ≡ (fits && is_import word) }
+    ensures { result ≡ (is_import word && fits) }
 {
-    fits && word == FieldWord::Import
+    word == FieldWord::Import && fits
 }
 
 fn place_some(

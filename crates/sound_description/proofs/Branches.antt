@@ -1,5 +1,5 @@
 -- The conditions of branches in which a part stands ask well, where no part of the section has a fault.
-use Rattle.std.proofs.Common.{◌≡◌, ℕ, Bool, true, false, ◌&&◌, List, [], ◌∷◌, ◌++◌, Option, Some, None, refl, ap, ◌∙◌, subst}
+use Rattle.std.proofs.Common.{◌≡◌, ℕ, Bool, true, List, [], ◌∷◌, ◌++◌, Option, Some, None, refl, ap, ◌∙◌, subst}
 use Rattle.std.specs.List.{list_all, AllByRecursion}
 use Rattle.std.specs.declared.result.Result.{Result}
 use Rattle.std.specs.declared.result.Result.TheVariants.{Ok, Err}
@@ -10,9 +10,9 @@ use Rattle.plan_types.specs.declared.range.Spec.{Spec}
 use Rattle.plan_types.specs.declared.refusal.Cause.{Cause}
 use Rattle.plan_types.specs.declared.refusal.Cause.TheVariants as causes
 use Rattle.section_syntax.specs.Branch.{OwnCondition, branch_of, chain_of, condition, tried_behind}
-use Rattle.section_syntax.specs.Items.{Items, SectionSays, branch_fits, is_import, imports_in_branches, placed}
+use Rattle.section_syntax.specs.Items.{Items, SectionSays, branch_fits, placed}
 use Rattle.cabal_lexer.specs.Tree.{Tree, end, field, section}
-use Rattle.section_syntax.specs.Words.{field_word, inner_word}
+use Rattle.section_syntax.specs.Words.{inner_word}
 use Rattle.section_syntax.specs.declared.part.SectionPart.{SectionPart}
 use Rattle.section_syntax.specs.declared.part.Said.{Said}
 use Rattle.section_syntax.specs.declared.part.Said.TheVariants as said
@@ -111,18 +111,18 @@ module _ (file : File) (known : List ℕ → Bool) (found : (name : List ℕ) �
       misplaced e = cc e
   section-good spec inner.Unread line args branches chain Within Behind within behind good tried_good parts sound says = behind None parts tt sound says
 
-  pub items-good : (spec : Spec) (kind : SectionKind) (tree : Tree) (branches : List Cond) (fits : Bool) (chain : Option Cond) (parts : List SectionPart)
-      → Good branches → GoodChain chain → Sound parts → Items spec kind tree branches fits chain parts → list_all (λ part. list_all (asks_well known) part.branches) parts ≡ true
+  pub items-good : (spec : Spec) (kind : SectionKind) (front tree : Tree) (branches : List Cond) (chain : Option Cond) (parts : List SectionPart)
+      → Good branches → GoodChain chain → Sound parts → Items spec kind front tree branches chain parts → list_all (λ part. list_all (asks_well known) part.branches) parts ≡ true
   unfolding Items
-  items-good spec kind end branches fits chain parts good tried_good sound says = rw says refl
-  items-good spec kind (field line name values behind) branches fits chain parts good tried_good sound says =
+  items-good spec kind front end branches chain parts good tried_good sound says = rw says refl
+  items-good spec kind front (field line name values behind) branches chain parts good tried_good sound says =
       let of_part = λ (part : SectionPart). of_said file part.said ≡ [] in
       ap (list_all is_good) says.4
       ∙ all-append is_good (placed line branches says.0) says.1 (placed-good line branches says.0 good)
-      (items-good spec kind behind branches (fits && is_import (field_word kind name)) None says.1 good tt (each-back of_part (placed line branches says.0) says.1 (subst Sound says.4 sound)) says.3)
-  items-good spec kind (section line name args items behind) branches fits chain parts good tried_good sound says =
+      (items-good spec kind (field line name values front) behind branches None says.1 good tt (each-back of_part (placed line branches says.0) says.1 (subst Sound says.4 sound)) says.3)
+  items-good spec kind front (section line name args items behind) branches chain parts good tried_good sound says =
       section-good spec (inner_word kind name) line args branches chain
-      (λ within found. Items spec kind items within (imports_in_branches spec) None found) (λ left found. Items spec kind behind branches false left found)
-      (λ within found g s is. items-good spec kind items within (imports_in_branches spec) None found g tt s is)
-      (λ left found g s is. items-good spec kind behind branches false left found good g s is)
+      (λ within found. Items spec kind end items within None found) (λ left found. Items spec kind (section line name args items front) behind branches left found)
+      (λ within found g s is. items-good spec kind end items within None found g tt s is)
+      (λ left found g s is. items-good spec kind (section line name args items front) behind branches left found good g s is)
       good tried_good parts sound says

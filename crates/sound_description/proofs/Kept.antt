@@ -14,6 +14,7 @@ use Rattle.section_syntax.specs.Branch.{all_of}
 use Rattle.section_syntax.specs.declared.part.SectionPart.{SectionPart}
 use Rattle.section_syntax.specs.declared.part.Said.{Said}
 use Rattle.section_syntax.specs.declared.part.Said.TheVariants as said
+use Rattle.cabal_lexer.specs.Tree.{end}
 use Rattle.section_syntax.specs.declared.part.File.{File}
 use Rattle.section_syntax.specs.declared.part.Section.{Section}
 use Rattle.section_syntax.specs.declared.part.SectionKind.{SectionKind}
@@ -67,8 +68,8 @@ module _ (spec : Spec) (file : File) (known : List ℕ → Bool) (found : (name 
   one-well : (section : Section) → IsReadSection spec section → IsFaultless file section → IsWell (asks_well known) (is_stated file) section
   one-well section read faultless is =
       let kind = component-kinds section.kind is in
-      let good = items-good file known found spec section.kind read.tree [] true None section.parts refl tt faultless.parts read.items in
-      let of_kind = ap (λ k. list_all (is_read_part k) section.parts) (sym kind) ∙ items-read spec section.kind read.tree [] true None section.parts read.items in
+      let good = items-good file known found spec section.kind end read.tree [] None section.parts refl tt faultless.parts read.items in
+      let of_kind = ap (λ k. list_all (is_read_part k) section.parts) (sym kind) ∙ items-read spec section.kind end read.tree [] None section.parts read.items in
       let stated = all-less (λ part. list_all (is_read is_of_components) (deps_said part.said) && list_all (is_known file) (deps_said part.said)) (λ part. list_all (is_stated file) (deps_said part.said))
       (λ part e. let both = and_parts (list_all (is_read is_of_components) (deps_said part.said)) (list_all (is_known file) (deps_said part.said)) e in
       all-both (is_read is_of_components) (is_known file) (deps_said part.said) both.0 both.1)

@@ -17,7 +17,7 @@ use Rattle.version_range.specs.Version.{has_versions}
 use Rattle.version_range.proofs.Forms.{stands_valid}
 use Rattle.entry_text.specs.Entries.{Each, none, more}
 use Rattle.depend_text.specs.Depends.{LibraryEntry, ToolEntry, Depends, DependsFault, Tools, ToolsFault}
-use Rattle.section_syntax.specs.Items.{Items, FieldSays, SectionSays, is_import, imports_in_branches, placed, visible}
+use Rattle.section_syntax.specs.Items.{Items, FieldSays, SectionSays, import_fits, placed, visible}
 use Rattle.cabal_lexer.specs.Tree.{Tree, end, field, section}
 use Rattle.section_syntax.specs.Words.{visibility, component_field, field_word, inner_word}
 use Rattle.section_syntax.specs.declared.part.SectionPart.{SectionPart}
@@ -158,15 +158,15 @@ module _ (kinds : DepKind → Bool) where
   section-read spec inner.Misplaced line args branches chain Within Behind within behind parts says = rw says.2 (behind None says.0 says.1)
   section-read spec inner.Unread line args branches chain Within Behind within behind parts says = behind None parts says
 
-pub items-read : (spec : Spec) (kind : SectionKind) (tree : Tree) (branches : List Cond) (fits : Bool) (chain : Option Cond) (parts : List SectionPart)
-    → Items spec kind tree branches fits chain parts → list_all (is_read_part (kinds_in kind)) parts ≡ true
+pub items-read : (spec : Spec) (kind : SectionKind) (front tree : Tree) (branches : List Cond) (chain : Option Cond) (parts : List SectionPart)
+    → Items spec kind front tree branches chain parts → list_all (is_read_part (kinds_in kind)) parts ≡ true
 unfolding Items
-items-read spec kind end branches fits chain parts says = rw says refl
-items-read spec kind (field line name values behind) branches fits chain parts says =
+items-read spec kind front end branches chain parts says = rw says refl
+items-read spec kind front (field line name values behind) branches chain parts says =
     rw says.4 (all-append (is_read_part (kinds_in kind)) (placed line branches says.0) says.1
-    (field-read (kinds_in kind) spec (field_word kind name) line branches (joined_text values) fits says.0 (word-fits kind name) says.2)
-    (items-read spec kind behind branches (fits && is_import (field_word kind name)) None says.1 says.3))
-items-read spec kind (section line name args items behind) branches fits chain parts says =
+    (field-read (kinds_in kind) spec (field_word kind name) line branches (joined_text values) (import_fits spec kind front branches) says.0 (word-fits kind name) says.2)
+    (items-read spec kind (field line name values front) behind branches None says.1 says.3))
+items-read spec kind front (section line name args items behind) branches chain parts says =
     section-read (kinds_in kind) spec (inner_word kind name) line args branches chain
-    (λ within found. Items spec kind items within (imports_in_branches spec) None found) (λ left found. Items spec kind behind branches false left found)
-    (λ within found is. items-read spec kind items within (imports_in_branches spec) None found is) (λ left found is. items-read spec kind behind branches false left found is) parts says
+    (λ within found. Items spec kind end items within None found) (λ left found. Items spec kind (section line name args items front) behind branches left found)
+    (λ within found is. items-read spec kind end items within None found is) (λ left found is. items-read spec kind (section line name args items front) behind branches left found is) parts says

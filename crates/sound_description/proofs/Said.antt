@@ -9,7 +9,7 @@ use Rattle.plan_types.specs.declared.range.Spec.{Spec}
 use Rattle.plan_types.specs.declared.version.Version.{Version}
 use Rattle.version_range.specs.Version.{is_version, IsVersionOf}
 use Rattle.section_syntax.specs.File.{package_name, HeadSays, headed, SectionIs, Says}
-use Rattle.section_syntax.specs.Items.{Items}
+use Rattle.section_syntax.specs.Items.{AreParts}
 use Rattle.cabal_lexer.specs.Tree.{Tree, end, field, section}
 use Rattle.section_syntax.specs.Words.{head_word, section_kind}
 use Rattle.section_syntax.specs.declared.part.Head.{Head}
@@ -27,7 +27,7 @@ use Rattle.common_laws.specs.Passing.{all-append}
 -- a section whose parts are the items of a tree
 pub record IsReadSection (spec : Spec) (section : Section) : Type 0 where
   pub tree : Tree
-  pub items : Items spec section.kind tree [] true None section.parts
+  pub items : AreParts spec section.kind tree section.parts
 
 one_section : (spec : Spec) (kind : Option SectionKind) (line : ℕ) (args : List ℕ) (items : Tree) (Behind : List Section → Type 0)
     → ((sections : List Section) → Behind sections → AllByRecursion (IsReadSection spec) sections) → (sections : List Section) → SectionIs spec kind line args items Behind sections → AllByRecursion (IsReadSection spec) sections

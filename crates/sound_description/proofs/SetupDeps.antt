@@ -9,6 +9,7 @@ use Rattle.plan_types.specs.declared.range.Range.TheOpen as layer
 use Rattle.plan_types.specs.declared.range.Range.TheVariants.{Any, rolls-Any}
 use Rattle.plan_types.specs.declared.range.Spec.{Spec}
 use Rattle.version_range.specs.Version.{has_versions, versions_step}
+use Rattle.cabal_lexer.specs.Tree.{end}
 use Rattle.section_syntax.specs.declared.part.File.{File}
 use Rattle.section_syntax.specs.declared.part.Section.{Section}
 use Rattle.section_syntax.specs.declared.part.SectionKind.{SectionKind}
@@ -27,7 +28,7 @@ one-read spec section read kinds.Flag is = rw is refl
 one-read spec section read kinds.Setup is =
     ap (λ k. list_all (is_read_part is_of_setup) (if is_setup k then section.parts else [])) is
     ∙ ap (λ k. list_all (is_read_part (kinds_in k)) section.parts) (sym is)
-    ∙ items-read spec section.kind read.tree [] true None section.parts read.items
+    ∙ items-read spec section.kind end read.tree [] None section.parts read.items
 
 parts-read : (spec : Spec) (sections : List Section) → AllByRecursion (IsReadSection spec) sections → list_all (is_read_part is_of_setup) (setup_parts sections) ≡ true
 parts-read spec [] each = refl

@@ -6,7 +6,10 @@ use made::made;
 use outside_folder::{MemFile, MemFolder, MemSink};
 use plan_command::{code_of, run};
 use plan_types::{List, Text};
-use runs::{NO_READING, PROJECT_RUNS, RUNS, SMALL, SMALL_ANSWER};
+use runs::{
+    EIGHTH_CALL, NINTH_CALL, NO_READING, PROJECT_RUNS, RUNS, SECOND_CALL, SIXTH_CALL, SMALL,
+    SMALL_ANSWER, THIRD_CALL,
+};
 use std::alloc::Global;
 use std::test::Fail;
 
@@ -112,12 +115,23 @@ fn answer_to(alloc: Global, asked: &str, failing: u64) -> Result<String, Fail> {
     answer(alloc, &words, folder, out)
 }
 
-// Of runs that are written so, those with another answer, with what they answer.
-fn others(alloc: Global, runs: &str) -> Result<String, Fail> {
+// What two runs over one folder answer, the words and the files of which are written so, where this call on the folder fails.
+fn twice(alloc: Global, asked: &str, failing: u64) -> Result<String, Fail> {
+    let line = asked.lines().next().unwrap_or("");
+    let words = words(alloc, line)?;
+    let mut folder = folder(alloc, files(alloc, asked)?, failing)?;
+    let mut out = sink(alloc, 2000, 0)?;
+    let first = number(alloc, &words, &mut folder, &mut out);
+    let second = answer(alloc, &words, folder, sink(alloc, 2000, 0)?)?;
+    Ok(format!(in alloc; "{first}\n{second}")?)
+}
+
+// Of runs that are written so, those with another answer, with what they answer; this call on the folder fails.
+fn others(alloc: Global, runs: &str, failing: u64) -> Result<String, Fail> {
     let mut others = String::new(alloc);
     for written in runs.split("\n\n") {
         let (asked, wanted) = written.split_once("\n=> ").ok_or("no answer")?;
-        let found = answer_to(alloc, asked, 0)?;
+        let found = answer_to(alloc, asked, failing)?;
         if found.as_str().strip_suffix('\n') != Some(wanted) {
             others.push_str(asked)?;
             others.push_str("\n=> ")?;
@@ -129,14 +143,14 @@ fn others(alloc: Global, runs: &str) -> Result<String, Fail> {
 
 #[test]
 fn answers(rt: HostRuntime) -> Result<(), Fail> {
-    let others = others(rt.alloc(), RUNS)?;
+    let others = others(rt.alloc(), RUNS, 0)?;
     assert_eq!(rt; others.as_str(), "");
     Ok(())
 }
 
 #[test]
 fn answers_to_projects(rt: HostRuntime) -> Result<(), Fail> {
-    let others = others(rt.alloc(), PROJECT_RUNS)?;
+    let others = others(rt.alloc(), PROJECT_RUNS, 0)?;
     assert_eq!(rt; others.as_str(), "");
     Ok(())
 }
@@ -161,6 +175,35 @@ fn each_call_fails_in_turn(rt: HostRuntime) -> Result<(), Fail> {
         let found = answer_to(alloc, SMALL, call)?;
         let wanted = if call < 10 { "4\n" } else { SMALL_ANSWER };
         assert_eq!(rt; found.as_str(), wanted, "{call}");
+    }
+    Ok(())
+}
+
+// What was read is judged before the next call on the folder, which fails.
+#[test]
+fn each_file_is_judged_when_it_was_read(rt: HostRuntime) -> Result<(), Fail> {
+    let alloc = rt.alloc();
+    let projects = others(alloc, SECOND_CALL, 2)?;
+    assert_eq!(rt; projects.as_str(), "");
+    let projects = others(alloc, THIRD_CALL, 3)?;
+    assert_eq!(rt; projects.as_str(), "");
+    let locals = others(alloc, SIXTH_CALL, 6)?;
+    assert_eq!(rt; locals.as_str(), "");
+    let records = others(alloc, EIGHTH_CALL, 8)?;
+    assert_eq!(rt; records.as_str(), "");
+    let records = others(alloc, NINTH_CALL, 9)?;
+    assert_eq!(rt; records.as_str(), "");
+    Ok(())
+}
+
+// A run of which a call fails leaves the folder as it was.
+#[test]
+fn a_second_run_over_one_folder(rt: HostRuntime) -> Result<(), Fail> {
+    let alloc = rt.alloc();
+    let wanted = format!(in alloc; "4\n{SMALL_ANSWER}")?;
+    for call in 1..10 {
+        let found = twice(alloc, SMALL, call)?;
+        assert_eq!(rt; found.as_str(), wanted.as_str(), "{call}");
     }
     Ok(())
 }

@@ -334,3 +334,94 @@ warning cabal.project:4 index-state
 warning main.cabal:5 build-tools
 choose main 1 local
 visited 1 exhausted 0";
+
+// Runs in which the second call fails, which reads the freeze file: the main project file is refused before.
+pub(crate) const SECOND_CALL: &str = "\
+$ cabal-plan plan
+cabal.project: tests: x
+main.cabal main 1
+=> 3
+refused cabal.project:1 BadField
+
+$ cabal-plan plan
+cabal.project too large
+main.cabal main 1
+=> 3
+refused cabal.project TooLarge
+
+$ cabal-plan plan
+cabal.project: tests: True
+main.cabal main 1
+=> 4";
+
+// Runs in which the third call fails, which reads the local project file.
+pub(crate) const THIRD_CALL: &str = "\
+$ cabal-plan plan
+cabal.project: packages: .
+cabal.project.freeze: constraints: a ==
+main.cabal main 1
+=> 3
+refused cabal.project.freeze:1 BadConstraint
+
+$ cabal-plan plan
+cabal.project: tests: x
+cabal.project.freeze: constraints: a ==
+main.cabal main 1
+=> 3
+refused cabal.project:1 BadField
+
+$ cabal-plan plan
+cabal.project: packages: .
+main.cabal main 1
+=> 4";
+
+// Runs in which the sixth call fails: behind three project files and the list of the root it reads the second local file.
+pub(crate) const SIXTH_CALL: &str = "\
+$ cabal-plan plan
+a.cabal: cabal-version: 1.0
+b.cabal b 1
+=> 3
+refused a.cabal:1 WrongCabalVersion
+
+$ cabal-plan plan
+a.cabal too large
+b.cabal b 1
+=> 3
+refused a.cabal TooLarge
+
+$ cabal-plan plan
+a.cabal a 1
+b.cabal b 1
+=> 4";
+
+// Runs in which the eighth call fails: behind a local file and the list of the records it reads the second record.
+pub(crate) const EIGHTH_CALL: &str = "\
+$ cabal-plan plan
+main.cabal main 1
+installed/x.conf: version: x
+installed/y.conf: name: b;version: 1;id: b-1
+=> 3
+refused installed/x.conf:1 BadRecord
+
+$ cabal-plan plan
+main.cabal main 1
+installed/x.conf: name: a;version: 1;id: a-1
+installed/y.conf: name: b;version: 1;id: b-1
+=> 4";
+
+// Runs in which the ninth call fails, which reads the third record.
+pub(crate) const NINTH_CALL: &str = "\
+$ cabal-plan plan
+main.cabal main 1
+installed/x.conf: name: a;version: 1;id: u
+installed/y.conf: name: b;version: 1;id: u
+installed/z.conf: name: c;version: 1;id: c-1
+=> 3
+refused installed/y.conf DuplicateUnit installed/x.conf
+
+$ cabal-plan plan
+main.cabal main 1
+installed/x.conf: name: a;version: 1;id: a-1
+installed/y.conf: name: b;version: 1;id: b-1
+installed/z.conf: name: c;version: 1;id: c-1
+=> 4";

@@ -1,4 +1,4 @@
-use Rattle.std.proofs.Common.{◌≡◌, ◌+◌, true, ◌∷◌, ◌++◌, [], map, take, sym, ◌∙◌, ap}
+use Rattle.std.proofs.Common.{◌≡◌, ◌+◌, true, false, ◌∷◌, ◌++◌, [], map, take, sym, ◌∙◌, ap}
 use Rattle.std.proofs.lemmas.List.{take_all}
 use Rattle.index_files.specs.File.{file_found, fitting}
 use Rattle.index_files.specs.Totals.{is_too_many}
@@ -10,7 +10,7 @@ use Rattle.index_files.proofs.file.read_counted.Goals as goal
 
 pub returns-then-not-count-clause-told : goal.returns-then-not-count-clause-told
 returns-then-not-count-clause-told g c = if_some _ _ (λ files t.
-    let f = file_found c.args.listed files in
+    let f = file_found false files in
     let told = c.loop-path.invariant.told files t in
     let found : c.in_ok-file.file ≡ f c.path-item.result = some_at _ _ files (c.loop-path.invariant.folder.same_files ∙ t) c.in_ok-file.ensures.told in
     let split = map_split f c.args.paths.now c.loop-path.path-index c.path-item.result c.loop-path-test.true c.path-item.is in
@@ -21,7 +21,7 @@ returns-then-not-count-clause-told g c = if_some _ _ (λ files t.
 
 pub returns-clause-told : goal.returns-clause-told
 returns-clause-told g c = if_some _ _ (λ files t.
-    let f = file_found c.args.listed files in
+    let f = file_found false files in
     let told : c.loop-path.files ≡ map f (take c.loop-path.path-index c.args.paths.now) = c.loop-path.invariant.told files t in
     let whole = take_all c.loop-path.path-index c.args.paths.now c.loop-path-test.false in
     sym (ap (fitting c.args.totals.now.files c.args.totals.now.bytes) (sym (told ∙ ap (map f) whole))

@@ -5,7 +5,6 @@ use Rattle.outside_folder.specs.Calls.{halt_of}
 use Rattle.index_files.specs.Closure.{Ground, Reaches}
 use Rattle.plan_types.specs.Refusal.{Answers}
 use Rattle.index_files.specs.Readings.{AreIndexed, AreOf, AreRead}
-use Rattle.index_files.specs.declared.readings.Readings.{Readings}
 use Rattle.index_files.proofs.Forms.{all-formed}
 use Rattle.index_files.proofs.Turns.{troubled}
 use Rattle.common_laws.specs.Small.{if_some, some_at}
@@ -16,7 +15,7 @@ returns-in_err-found-clause-told g c = if_some _ _ (λ files t.
     let p = err_from_is_err_and c.from_residual-in_err-found.result c.from_residual-in_err-found.ensures.1 in
     let passed : c.from_residual-in_err-found.result ≡ Err (halt_of c.in_err-found.field-0.0) = p.1 ∙ ap Err p.2 in
     let ground : Ground = record { env = c.args.env.now; places = c.args.places.now; locals = c.args.locals.list; units = c.args.counted.units.list; extra = c.args.extra.now } in
-    let Is = AreIndexed ground files c.args.counted.totals.files c.args.counted.totals.bytes in
+    let Is = AreIndexed ground c.args.counted.totals.files c.args.counted.totals.bytes files in
     subst (Answers Is) (sym passed) (troubled Is c.in_err-found.field-0.0))
 
 pub returns-in_ok-too_many-in-None-clause-told : goal.returns-in_ok-too_many-in-None-clause-told
@@ -25,8 +24,8 @@ returns-in_ok-too_many-in-None-clause-told g c = if_some _ _ (λ files t.
     let n = c.args.counted.totals.files in
     let m = c.args.counted.totals.bytes in
     let told = some_at _ _ files t c.in_ok-found.ensures.told in
-    let beyond = subst (Reaches ground files n m) c.in-None.is told in
-    subst (λ (h : Halt). Answers (AreIndexed ground files n m) (Err h)) (sym c.in_ok-too_many-in-None.ensures) (record { beyond = beyond; refusal_is = refl }))
+    let beyond = subst (Reaches ground n m files) c.in-None.is told in
+    subst (λ (h : Halt). Answers (AreIndexed ground n m files) (Err h)) (sym c.in_ok-too_many-in-None.ensures) (record { beyond = beyond; refusal_is = refl }))
 
 pub returns-in-Some-clause-told : goal.returns-in-Some-clause-told
 returns-in-Some-clause-told g c = if_some _ _ (λ files t.
@@ -34,8 +33,8 @@ returns-in-Some-clause-told g c = if_some _ _ (λ files t.
     let n = c.args.counted.totals.files in
     let m = c.args.counted.totals.bytes in
     let told = some_at _ _ files t c.in_ok-found.ensures.told in
-    let whole = subst (Reaches ground files n m) c.in-Some.is told in
-    subst (AreRead ground files n m) (sym c.readings_of.ensures) (record { locals = refl; units = refl; found = whole }))
+    let whole = subst (Reaches ground n m files) c.in-Some.is told in
+    subst (AreRead ground n m files) (sym c.readings_of.ensures) (record { locals = refl; units = refl; found = whole }))
 
 pub returns-in-Some-clause-kept : goal.returns-in-Some-clause-kept
 returns-in-Some-clause-kept g c =

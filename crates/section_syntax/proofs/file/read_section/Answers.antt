@@ -1,6 +1,5 @@
-use Rattle.std.proofs.Common.{[], true, ap, sym, subst, ◌∙◌}
-use Rattle.std.specs.Prelude.{None}
-use Rattle.section_syntax.specs.Items.{Items}
+use Rattle.std.proofs.Common.{ap, sym, subst, ◌∙◌}
+use Rattle.section_syntax.specs.Items.{AreParts}
 use Rattle.cabal_lexer.specs.Tree.{tree_of}
 use Rattle.section_syntax.specs.Words.{section_kind}
 use Rattle.section_syntax.proofs.Files as files
@@ -15,4 +14,4 @@ pub returns : goal.returns
 returns c behind heads more rest =
     files.read_section c.args.spec c.in-Some.kind c.args.line c.args.args.now (tree_of c.args.items.now) c.in_ok-parts.parts behind heads c.args.sections.now more
     (sym (c.section_kind.ensures ∙ ap section_kind c.as_str.ensures) ∙ c.in-Some.is)
-    (subst (λ i. Items c.args.spec c.in-Some.kind (tree_of i) [] true None c.in_ok-parts.parts) c.as_slice.ensures c.in_ok-parts.ensures) c.in_ok-name.ensures c.in_ok-push.ensures.ok rest
+    (subst (λ i. AreParts c.args.spec c.in-Some.kind (tree_of i) c.in_ok-parts.parts) c.as_slice.ensures c.in_ok-parts.ensures) c.in_ok-name.ensures c.in_ok-push.ensures.ok rest

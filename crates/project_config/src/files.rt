@@ -1,0 +1,70 @@
+// The project files, one after the other: each is judged before the next is read.
+ghost use Rattle.std.specs.Prelude.{◌≡◌, true, IfOk, IfSome, IsErrOf};
+ghost use Rattle.std.specs.List.{list_all};
+ghost use Rattle.plan_types.specs.Name.{is_package_name};
+ghost use Rattle.plan_types.specs.Refusal.{Answers};
+ghost use Rattle.outside_folder.specs.Calls.{Leaves};
+ghost use Rattle.project_config.specs.Project.{AreSaid, is_main, project_files, too_large};
+
+use outside_folder::{Content, Folder, read_content};
+use plan_types::{Cause, Env, Halt, List, NoMemory, Project, Refusal, Text};
+use project_file::{ProjectText, empty_project, with_project_file};
+use std::alloc::Global;
+
+/// What the project files say.
+#[derive(Debug, Drop)]
+pub(crate) struct FilesProject {
+    pub project: Project,
+    /// There is no `cabal.project`.
+    pub implicit: bool,
+}
+
+/// Reads the project files, up to the first that is refused.
+pub(crate) fn read_files<F: Folder>(
+    alloc: Global,
+    env: &Env,
+    folder: &mut F,
+) -> Result<FilesProject, Halt>
+    ensures told { IfSome (F.tells folder.old) (λ files. Answers (AreSaid env.now files) result) }
+    ensures extra { IfOk result (λ found. list_all (λ named. is_package_name named.name)
+        found.project.extra ≡ true) }
+    ensures folder { Leaves F.tells F.faults folder.old folder.new (IsErrOf result Halt.Failed) }
+{
+    let paths = project_files(alloc)?;
+    let mut project = empty_project(alloc);
+    let mut implicit = false;
+    for path in paths.into_vec() {
+        let content = read_content(alloc, path.as_str(), folder)?;
+        match content {
+            Content::Missing => implicit |= is_main(&path),
+            Content::TooLarge => return Err(too_large(alloc, path)),
+            Content::Bytes(bytes) => {
+                let text = ProjectText { path, bytes };
+                project = with_project_file(alloc, project, &text, env)?;
+            }
+        }
+    }
+    Ok(FilesProject { project, implicit })
+}
+
+fn too_large(alloc: Global, path: Text) -> Halt
+    ensures { result ≡ Halt.Refused (too_large path) }
+{
+    Halt::Refused(Refusal::at(alloc, path, 0, Cause::TooLarge))
+}
+
+fn project_files(alloc: Global) -> Result<List<Text>, NoMemory>
+    ensures { IfOk result (λ paths. paths ≡ project_files) }
+{
+    let mut paths = List::new(alloc);
+    paths.push(Text::from_str(alloc, "cabal.project")?)?;
+    paths.push(Text::from_str(alloc, "cabal.project.freeze")?)?;
+    paths.push(Text::from_str(alloc, "cabal.project.local")?)?;
+    Ok(paths)
+}
+
+fn is_main(path: &Text) -> bool
+    ensures { result ≡ is_main path.now }
+{
+    path.as_str() == "cabal.project"
+}
