@@ -17,7 +17,8 @@ use Rattle.goal_links.specs.Beside.{last_from, last_of, first_of}
 use Rattle.goal_links.specs.Row.{has_node, behind}
 use Rattle.goal_links.specs.Chains.{no_cell, cell_at, chain_at, without_last}
 use Rattle.goal_links.specs.Links.{Entries, no_var, var_at, chain_with, registered, with_cell, with_cells, lengthened, shortened}
-use Rattle.goal_links.proofs.Paths.{AreOnce, parted}
+use Rattle.choice_problem.proofs.Paths.{parted}
+use Rattle.goal_links.proofs.Paths.{AreOnce}
 use Rattle.goal_links.proofs.Nodes.{not-in, behind-parted, apart-front}
 use Rattle.goal_links.proofs.Chained.{without-last}
 use Rattle.goal_links.proofs.Entries.{same-number}
