@@ -135,7 +135,7 @@ class Build:
 
     def next(self, ready, running, lanes):
         """Returns the crate to begin now, with how many processors, or None. Each takes one; the longest way to the program
-        doesn't wait for others, and takes those that nobody else would use."""
+        doesn't wait for others, and takes two, or as many as nobody else would use: it is what the whole waits for."""
         idle = lanes - sum(jobs for _, jobs, _ in running.values())
         room = 0.85 * self.memory_free - sum(taken for _, _, taken in running.values())
         first = max(self.ahead[it] for it in [*ready, *(it for it, _, _ in running.values())])
@@ -143,7 +143,7 @@ class Build:
             is_first = self.ahead[crate] == first
             if running and (self.memory[crate] > room or (idle <= 0 and not is_first)):
                 return None
-            spare = idle - len(ready) + 1 if is_first else 1
+            spare = max(idle - len(ready) + 1, 2) if is_first else 1
             held = 1 + int(max(room / self.memory[crate] - 1, 0) / MORE)
             return crate, max(1, min(spare, held))
         return None
