@@ -1,0 +1,4 @@
+pub mod Keys
+pub mod Kept
+pub mod Unique
+pub mod Walk

@@ -1,0 +1,6 @@
+use Rattle.std.proofs.Common.{[]}
+use Rattle.build_order.proofs.Unique.{same_rest}
+use Rattle.build_order.proofs.laws.one_order.Goals as goal
+
+pub returns : goal.returns
+returns c = λ needs a b x y. same_rest needs [] a b x y

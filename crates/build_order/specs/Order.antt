@@ -1,0 +1,43 @@
+-- The order in which the nodes of a graph can be built, where each node has the list of those that it needs.
+use Rattle.std.specs.Prelude.{◌≡◌, ◌<◌, ◌≤◌, ℕ, List, [], ◌∷◌, ◌++◌, length, All, Contains, slice_index_or}
+
+-- u needs v
+abbrev pub Needs : List (List ℕ) → ℕ → ℕ → Type 0
+Needs needs u v = Contains (slice_index_or needs u []) v
+
+-- each node that is needed is there
+abbrev pub IsGraph : List (List ℕ) → Type 0
+IsGraph needs = All (All (λ v. v < length needs)) needs
+
+-- u can be built next: it isn't among those that are placed, and everything that it needs is
+pub record IsReady (needs : List (List ℕ)) (placed : List ℕ) (u : ℕ) : Type 0 where
+  pub node : u < length needs
+  pub unplaced : Contains placed u → ⊥
+  pub met : (v : ℕ) → Needs needs u v → Contains placed v
+
+-- of the nodes that can be built next, u is the least
+pub record IsLeastReady (needs : List (List ℕ)) (placed : List ℕ) (u : ℕ) : Type 0 where
+  pub ready : IsReady needs placed u
+  pub least : (v : ℕ) → IsReady needs placed v → u ≤ v
+
+-- each node of the order was the least that could be built next, and behind the last none can be
+pub record IsBuildOrder (needs : List (List ℕ)) (order : List ℕ) : Type 0 where
+  pub each : (front rest : List ℕ) (u : ℕ) → order ≡ front ++ u ∷ rest → IsLeastReady needs front u
+  pub whole : (u : ℕ) → IsReady needs order u → ⊥
+
+-- each node of the order stands behind all that it needs
+abbrev pub AreBehindNeeds : List (List ℕ) → List ℕ → Type 0
+AreBehindNeeds needs order = (front rest : List ℕ) (u v : ℕ) → order ≡ front ++ u ∷ rest → Needs needs u v → Contains front v
+
+-- each node stands in the order
+abbrev pub HasAll : List (List ℕ) → List ℕ → Type 0
+HasAll needs order = (u : ℕ) → u < length needs → Contains order u
+
+-- u needs v, or needs a node from which a path leads to v
+pub data IsPath (needs : List (List ℕ)) : ℕ → ℕ → Type 0 where
+  one : {u v : ℕ} → Needs needs u v → IsPath needs u v
+  more : {u w : ℕ} (v : ℕ) → Needs needs u v → IsPath needs v w → IsPath needs u w
+
+-- no path leads from a node back to it
+abbrev pub HasNoCycle : List (List ℕ) → Type 0
+HasNoCycle needs = (u : ℕ) → IsPath needs u u → ⊥

@@ -1,0 +1,19 @@
+// What follows of a build order: there is one, and in it each node stands behind all that it needs. Without a cycle it has every
+// node.
+ghost use Rattle.std.specs.Prelude.{◌≡◌, ℕ, List};
+ghost use Rattle.build_order.specs.Order.{AreBehindNeeds, HasAll, HasNoCycle, IsBuildOrder, IsGraph};
+
+/// A graph has one build order.
+pub fn one_order()
+    ensures { (needs : List (List ℕ)) (a b : List ℕ) → IsBuildOrder needs a → IsBuildOrder needs b → a ≡ b }
+{}
+
+/// Each node stands behind all that it needs.
+pub fn each_behind_its_needs()
+    ensures { (needs : List (List ℕ)) (order : List ℕ) → IsBuildOrder needs order → AreBehindNeeds needs order }
+{}
+
+/// Without a cycle, every node is placed.
+pub fn every_node_is_placed()
+    ensures { (needs : List (List ℕ)) (order : List ℕ) → IsGraph needs → HasNoCycle needs → IsBuildOrder needs order → HasAll needs order }
+{}
