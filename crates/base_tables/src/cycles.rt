@@ -37,7 +37,7 @@ chain|99999:50000 => Some(50000)
 chain|99995:99998|99997:99996 0|99999:99998 => Some(99996)
 ";
 
-fn is_graph(needs: &[List<usize>]) -> bool
+pub(crate) fn is_graph(needs: &[List<usize>]) -> bool
     ensures { IsTrue result → IsGraph needs.now }
 {
     needs.iter().all(|list| list.as_slice().iter().all(|node| *node < needs.len()))

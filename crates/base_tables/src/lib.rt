@@ -19,6 +19,8 @@ mod lists;
 #[cfg(test)]
 mod memory;
 #[cfg(test)]
+mod orders;
+#[cfg(test)]
 mod problems;
 #[cfg(test)]
 mod real;

@@ -1,6 +1,6 @@
 // Each table has a case a line: what is asked, and behind the last ` => ` the answer. One loop goes over all of them, and no
 // contract of a call that is asked is known where it stands.
-use crate::{chains, cycles, lists, memory, searches, sinks, states, texts, units};
+use crate::{chains, cycles, lists, memory, orders, searches, sinks, states, texts, units};
 use std::alloc::Global;
 use std::test::Fail;
 
@@ -12,6 +12,7 @@ enum Table {
     Memory,
     Sinks,
     Cycles,
+    Orders,
     Units,
     Searches,
     States,
@@ -25,6 +26,7 @@ fn cases(table: Table) -> &'static str {
         Table::Memory => memory::CASES,
         Table::Sinks => sinks::CASES,
         Table::Cycles => cycles::CASES,
+        Table::Orders => orders::CASES,
         Table::Units => units::CASES,
         Table::Searches => searches::CASES,
         Table::States => states::CASES,
@@ -39,6 +41,7 @@ fn answer(alloc: Global, table: Table, case: &str) -> Result<String, Fail> {
         Table::Memory => memory::answer(alloc, case),
         Table::Sinks => sinks::answer(alloc, case),
         Table::Cycles => cycles::answer(alloc, case),
+        Table::Orders => orders::answer(alloc, case),
         Table::Units => units::answer(alloc, case),
         Table::Searches => searches::answer(alloc, case),
         Table::States => states::answer(alloc, case),
@@ -74,7 +77,13 @@ fn plain_values_and_folders(rt: HostRuntime) -> Result<(), Fail> {
 
 #[test]
 fn graphs_and_searches(rt: HostRuntime) -> Result<(), Fail> {
-    for table in [Table::Cycles, Table::Units, Table::Searches, Table::States] {
+    for table in [
+        Table::Cycles,
+        Table::Orders,
+        Table::Units,
+        Table::Searches,
+        Table::States,
+    ] {
         assert_eq!(rt; others(rt.alloc(), table)?.as_str(), "");
     }
     Ok(())
