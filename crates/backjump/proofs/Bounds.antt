@@ -20,14 +20,6 @@ use Rattle.backjump.specs.Walk.{Point, manner_of, below, of_point, of_point_afte
 use Rattle.backjump.proofs.Rises.{value-rises, answer-rises, point-rises, after-rises, resume-rises}
 use Rattle.backjump.proofs.Moves.{lighter-more}
 
-pub ok-map : {T E : Type 0} (r : Result T E) (P Q : T → Type 0) → ((t : T) → P t → Q t) → IfOk r P → IfOk r Q
-ok-map (Ok t) P Q f h = f t h
-ok-map (Err e) P Q f h = tt
-
-pub on-err : {T E : Type 0} (r : Result T E) (P : Type 0) → P → OnErr r P
-on-err (Ok t) P h = tt
-on-err (Err e) P h = h
-
 module _ (p : Problem) (limit : Limit) where
   abbrev whole : ℕ
   whole = (answer_of p limit).counts.visited

@@ -1,7 +1,7 @@
 // A graph, and its first node on a cycle. In the last one a chain leads from a cycle of the two nodes before the last two to one of
 // these.
 ghost use Rattle.std.specs.Prelude.{◌<◌, IsTrue};
-ghost use Rattle.component_cycle.specs.Cycle.{IsGraph};
+ghost use Rattle.common_laws.specs.Graphs.{IsGraph};
 
 use crate::graphs::graph;
 use component_cycle::first_on_cycle;

@@ -8,7 +8,7 @@ use std::test::Fail;
 use std::{env, fs, process};
 
 const CALLS: &str = "\
-list ./ => names Z a b/ d
+list ./ => names Z a b/ d e
 list ./b => names c empty/
 list ./b/empty => names
 list ./x => none
@@ -21,9 +21,13 @@ read ./b/x => none
 read ./a/x => none
 read ./b => none
 read ./d => none
+read ./e => none
+list ./e => none
+read ./nnnnnnnnnnnnnnnnnnnnnnnnnnnnnnnnnnnnnnnnnnnnnnnnnnnnnnnnnnnnnnnnnnnnnnnnnnnnnnnnnnnnnnnnnnnnnnnnnnnnnnnnnnnnnnnnnnnnnnnnnnnnnnnnnnnnnnnnnnnnnnnnnnnnnnnnnnnnnnnnnnnnnnnnnnnnnnnnnnnnnnnnnnnnnnnnnnnnnnnnnnnnnnnnnnnnnnnnnnnnnnnnnnnnnnnnnnnnnnnnnnnnnnnnnnnnnnnn => none
+list ./nnnnnnnnnnnnnnnnnnnnnnnnnnnnnnnnnnnnnnnnnnnnnnnnnnnnnnnnnnnnnnnnnnnnnnnnnnnnnnnnnnnnnnnnnnnnnnnnnnnnnnnnnnnnnnnnnnnnnnnnnnnnnnnnnnnnnnnnnnnnnnnnnnnnnnnnnnnnnnnnnnnnnnnnnnnnnnnnnnnnnnnnnnnnnnnnnnnnnnnnnnnnnnnnnnnnnnnnnnnnnnnnnnnnnnnnnnnnnnnnnnnnnnnnnnnnnnnn/a => none
 ";
 
-// Two directories, two files at the limit and a link that leads nowhere.
+// Two directories, two files at the limit, a link that leads nowhere and one that leads to itself. A name of 256 letters stands nowhere.
 fn made(rt: &HostRuntime) -> Result<Text, Fail> {
     let name = format!(in rt.alloc(); "base-tables-{}", process::id(rt.process()))?;
     let root = env::temp_dir(rt)?.join(rt.alloc(), name.as_str())?;
@@ -33,6 +37,7 @@ fn made(rt: &HostRuntime) -> Result<Text, Fail> {
     fs::write(rt, root.join(rt.alloc(), "a")?.as_path(), &bytes[1..])?;
     fs::write(rt, root.join(rt.alloc(), "Z")?.as_path(), &bytes[..])?;
     symlink(rt, "nowhere", root.join(rt.alloc(), "d")?.as_str())?;
+    symlink(rt, "e", root.join(rt.alloc(), "e")?.as_str())?;
     Ok(Text::from_str(rt.alloc(), root.as_str())?)
 }
 

@@ -4,8 +4,8 @@ use Rattle.std.specs.Prelude.{Contains, count_by}
 use Rattle.std.proofs.lemmas.Bool.{cases_eq}
 use Rattle.std.proofs.lemmas.List.{take_more, take_all}
 use Rattle.std.proofs.lemmas.List.Elements.{Contains-append_left, Contains-push, Contains-push_cases}
-use Rattle.broken_units.specs.Leads.{IsMarked}
-use Rattle.broken_units.proofs.Table.{no_item}
+use Rattle.common_laws.specs.Lists.{contains-none}
+use Rattle.common_laws.specs.Graphs.{IsMarked}
 
 abbrev pub Is : Bool → Type 0
 Is b = (b ≡ true) ⊎ (b ≡ true → ⊥)
@@ -34,7 +34,7 @@ pub marks_none : (old : List Bool) (before : List ℕ) → Marks [] old old befo
 marks_none old before =
     record {
       same = refl;
-      marked = λ i. ((λ m. inl m), λ h. ⊎_elim (λ m. m) (λ e. absurd (no_item i e.0)) h);
+      marked = λ i. ((λ m. inl m), λ h. ⊎_elim (λ m. m) (λ e. absurd (contains-none i e.0)) h);
       waiting = λ i. ((λ w. inl w), λ h. ⊎_elim (λ w. w) (λ e. absurd (e.1 e.0)) h);
       less = refl;
     }

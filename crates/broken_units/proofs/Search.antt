@@ -2,9 +2,11 @@
 use Rattle.std.proofs.Common.{◌≡◌, ◌<◌, ◌⊎◌, ◌↔◌, inl, inr, ⊎_elim, ℕ, ◌+◌, Bool, not, List, [], ◌∷◌, ◌++◌, length, get_or, sym, subst, ◌∙◌, arith, length-append}
 use Rattle.std.specs.Prelude.{Contains, count_by}
 use Rattle.std.proofs.lemmas.List.Elements.{Contains-append_left, Contains-push, Contains-push_cases}
-use Rattle.broken_units.specs.Leads.{IsMarked, IsUser, Leads, Needs, here, over}
+use Rattle.common_laws.specs.Lists.{contains-none}
+use Rattle.broken_units.specs.Leads.{IsUser, Leads, here, over}
+use Rattle.common_laws.specs.Graphs.{IsMarked, Needs}
 use Rattle.broken_units.proofs.Marked.{Marks, is_marked, marked_within}
-use Rattle.broken_units.proofs.Table.{needs_within, no_item}
+use Rattle.broken_units.proofs.Table.{needs_within}
 
 -- Each node that is marked leads to one that was marked at first, and what needs a marked node is marked, or that node waits.
 pub record Search (needs : List (List ℕ)) (first led : List Bool) (waiting : List ℕ) : Type 0 where
@@ -63,7 +65,7 @@ module _ (needs : List (List ℕ)) (first : List Bool) where
   module _ (led : List Bool) (s : Search needs first led []) where
     complete : (i : ℕ) → Leads needs first i → IsMarked led i
     complete i (here m) = s.begun i m
-    complete i (over v n l) = ⊎_elim (λ h. h) (λ w. absurd (no_item v w)) (s.closed i v (complete v l) n)
+    complete i (over v n l) = ⊎_elim (λ h. h) (λ w. absurd (contains-none v w)) (s.closed i v (complete v l) n)
 
     pub search_ends : (length led ≡ length needs) × ((i : ℕ) → IsMarked led i ↔ Leads needs first i)
     search_ends = (s.same, λ i. ((λ h. s.leads i h), λ l. complete i l))

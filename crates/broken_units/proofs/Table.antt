@@ -5,7 +5,9 @@ use Rattle.std.proofs.Common.{inl, inr, ⊎_elim}
 use Rattle.std.proofs.lemmas.Bool.{cases_eq}
 use Rattle.std.proofs.lemmas.List.{get_or_read, get_or-set_same, get_or-set_other, take_more}
 use Rattle.std.proofs.lemmas.List.Elements.{Contains-append_left, Contains-push, Contains-push_cases}
-use Rattle.broken_units.specs.Leads.{IsUser, Needs}
+use Rattle.common_laws.specs.Lists.{contains-none}
+use Rattle.broken_units.specs.Leads.{IsUser}
+use Rattle.common_laws.specs.Graphs.{Needs}
 
 abbrev pub Added : List (List ℕ) → ℕ → ℕ → ℕ → ℕ → Type 0
 Added users node user u v = IsUser users u v ⊎ ((u ≡ user) × (v ≡ node) × (v < length users))
@@ -29,8 +31,6 @@ module _ (users : List (List ℕ)) (node user : ℕ) (old new : List ℕ) (withi
   pub added : (u v : ℕ) → IsUser (set users node new) u v ↔ Added users node user u v
   added u v = ⊎_elim (λ e. subst (λ w. IsUser (set users node new) u w ↔ Added users node user u w) (sym e) (here u)) (λ n. there u v n) (cases_eq v node)
 
-pub no_item : (v : ℕ) → Contains [] v → ⊥
-no_item v h = omega (arith, h.1)
 
 module _ (old : List (List ℕ)) (user : ℕ) (nodes : List ℕ) where
   -- the users so far, where the first nodes were gone through
@@ -38,7 +38,7 @@ module _ (old : List (List ℕ)) (user : ℕ) (nodes : List ℕ) where
   With users gone = (length users ≡ length old) × ((u v : ℕ) → IsUser users u v ↔ IsUser old u v ⊎ ((u ≡ user) × Contains gone v × (v < length old)))
 
   pub with_none : With old []
-  with_none = (refl, λ u v. ((λ h. inl h), λ h. ⊎_elim (λ l. l) (λ e. absurd (no_item v e.1)) h))
+  with_none = (refl, λ u v. ((λ h. inl h), λ h. ⊎_elim (λ l. l) (λ e. absurd (contains-none v e.1)) h))
 
   pub with_one : (users users' : List (List ℕ)) (i node : ℕ) → i < length nodes → node ≡ get_or nodes i 0 → With users (take i nodes) →
       length users' ≡ length users → ((u v : ℕ) → IsUser users' u v ↔ Added users node user u v) → With users' (take (i + 1) nodes)
@@ -67,7 +67,7 @@ none_pushed (x ∷ xs) h zero = h 0
 none_pushed (x ∷ xs) h (suc v) = none_pushed xs (λ w. h (suc w)) v
 
 pub no_user : (users : List (List ℕ)) → ((v : ℕ) → get_or users v [] ≡ []) → (u v : ℕ) → IsUser users u v → ⊥
-no_user users h u v l = no_item u (subst (λ us. Contains us u) (h v) l)
+no_user users h u v l = contains-none u (subst (λ us. Contains us u) (h v) l)
 
 pub needs_within : (needs : List (List ℕ)) (u v : ℕ) → Needs needs u v → u < length needs
 needs_within [] u v (k, l, e) = absurd (omega (arith, l))

@@ -1,7 +1,8 @@
 -- The definitions on small graphs.
 use Rattle.std.specs.Prelude.{ℕ, zero, suc, ◌≡◌, Bool, true, false, List, [], ◌∷◌, refl}
 use Rattle.std.proofs.Common.{arith, sym, subst}
-use Rattle.broken_units.specs.Leads.{IsMarked, Leads, Needs, here, over}
+use Rattle.broken_units.specs.Leads.{Leads, here, over}
+use Rattle.common_laws.specs.Graphs.{IsMarked, Needs}
 
 -- 0 needs 1, which needs 2, and 3 needs itself
 abbrev needs : List (List ℕ)

@@ -1,13 +1,6 @@
 -- Which nodes of a graph, in which each node has the list of those that it needs, lead to a marked one.
-use Rattle.std.specs.Prelude.{◌≡◌, ◌<◌, ◌↔◌, ◌⊎◌, ℕ, Bool, true, false, List, [], length, Contains, slice_index_or}
-
--- u needs v
-abbrev pub Needs : List (List ℕ) → ℕ → ℕ → Type 0
-Needs needs u v = Contains (slice_index_or needs u []) v
-
--- a node has a mark
-abbrev pub IsMarked : List Bool → ℕ → Type 0
-IsMarked marked u = slice_index_or marked u false ≡ true
+use Rattle.std.specs.Prelude.{◌≡◌, ◌<◌, ◌↔◌, ◌⊎◌, ℕ, Bool, List, [], length, Contains, slice_index_or}
+use Rattle.common_laws.specs.Graphs.{Needs, IsMarked}
 
 -- a node is marked, or needs one that leads to a marked one
 pub data Leads (needs : List (List ℕ)) (marked : List Bool) : ℕ → Type 0 where

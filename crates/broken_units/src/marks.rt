@@ -1,6 +1,7 @@
 // The nodes that lead to marked ones.
 ghost use Rattle.std.specs.Prelude.{◌≡◌, ◌+◌, ◌<◌, ◌≤◌, ◌⊎◌, ◌↔◌, ℕ, [], length, true, false, not, Contains, IfOk, OnOk, count_by, slice_index_or};
-ghost use Rattle.broken_units.specs.Leads.{IsMarked, IsUser, Leads, MarksMore, Needs, NewlyMarkedWait};
+ghost use Rattle.broken_units.specs.Leads.{IsUser, Leads, MarksMore, NewlyMarkedWait};
+ghost use Rattle.common_laws.specs.Graphs.{IsMarked, Needs};
 
 use crate::users::users_of;
 use plan_types::{List, NoMemory};

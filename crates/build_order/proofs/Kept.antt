@@ -7,11 +7,11 @@ use Rattle.std.proofs.lemmas.List.Sums.{sum_by-set}
 use Rattle.std.proofs.lemmas.List.Elements.{Contains-append_left, Contains-push, Contains-push_cases}
 use Rattle.build_order.specs.declared.building.Wait.{Wait}
 use Rattle.build_order.specs.declared.building.Building.{Building}
-use Rattle.build_order.specs.Order.{Needs, IsReady, IsLeastReady, IsBuildOrder}
-use Rattle.build_order.specs.Building.{IsMarked, AreMet, IsFirstUnmet, IsTakenAsLeast, IsMetBefore, IsWait, NoNode, Alone, Keeps, IsSound, BecomesReady, HasToWait, needs_of}
+use Rattle.build_order.specs.Order.{IsReady, IsLeastReady, IsBuildOrder}
+use Rattle.common_laws.specs.Lists.{contains-none}
+use Rattle.common_laws.specs.Graphs.{Needs, IsMarked}
+use Rattle.build_order.specs.Building.{AreMet, IsFirstUnmet, IsTakenAsLeast, IsMetBefore, IsWait, NoNode, Alone, Keeps, IsSound, BecomesReady, HasToWait, needs_of}
 
-pub no_item : {X : Type 0} (v : X) → Contains [] v → ⊥
-no_item v h = omega (arith, h.1)
 
 pub default_past : {X : Type 0} (n i : ℕ) (d : X) → get_or (replicate n d) i d ≡ d
 default_past zero i d = refl
@@ -58,9 +58,9 @@ module _ (needs : List (List ℕ)) where
         count = length-replicate (length needs) false;
         tables = length-replicate (length needs) [];
         each = λ front rest u e. absurd (omega (arith, ap length e, length-append front (u ∷ rest)));
-        placed = λ u. ((λ m. absurd (let no : false ≡ true = sym (default_past (length needs) u false) ∙ m in cc)), λ c. absurd (no_item u c));
-        first = λ u c. absurd (no_item u c);
-        waits = λ v w c. absurd (no_item w (subst (λ l. Contains l w) (default_past (length needs) v []) c));
+        placed = λ u. ((λ m. absurd (let no : false ≡ true = sym (default_past (length needs) u false) ∙ m in cc)), λ c. absurd (contains-none u c));
+        first = λ u c. absurd (contains-none u c);
+        waits = λ v w c. absurd (contains-none w (subst (λ l. Contains l w) (default_past (length needs) v []) c));
         found = λ u l n. inr (inr (omega arith));
       }
 
@@ -239,7 +239,7 @@ module _ (needs : List (List ℕ)) where
 
     still_waits : (v : ℕ) (w : Wait) → Contains (get_or (set waiting node []) v []) w → IsWait needs order' v w
     still_waits v w c = ⊎_elim
-        (λ e. absurd (no_item w (subst (λ l. Contains l w) (get_or-set_same waiting node [] [] in_tables) (subst (λ k. Contains (get_or (set waiting node []) k []) w) e c))))
+        (λ e. absurd (contains-none w (subst (λ l. Contains l w) (get_or-set_same waiting node [] [] in_tables) (subst (λ k. Contains (get_or (set waiting node []) k []) w) e c))))
         (λ n. let i = s.waits v w (subst (λ l. Contains l w) (emptied v n) c) in
         record {
           before =

@@ -3,10 +3,7 @@ use Rattle.std.specs.Prelude.{◌≡◌, ◌<◌, ◌≤◌, ◌↔◌, ◌⊎�
 use Rattle.build_order.specs.declared.building.Wait.{Wait}
 use Rattle.build_order.specs.declared.building.Building.{Building}
 use Rattle.build_order.specs.Order.{IsReady, IsLeastReady}
-
--- a node has a mark
-abbrev pub IsMarked : List Bool → ℕ → Type 0
-IsMarked marks u = slice_index_or marks u false ≡ true
+use Rattle.common_laws.specs.Graphs.{IsMarked}
 
 -- the needs from a place up to another have marks
 abbrev pub AreMet : List ℕ → List Bool → ℕ → ℕ → Type 0
@@ -50,7 +47,8 @@ pub record HasToWait (needs : List (List ℕ)) (node from : ℕ) (old new : Buil
   pub place : ℕ
   pub unmet : IsFirstUnmet (needs_of needs node) old.placed from place
   pub ready : new.ready.keys ≡ old.ready.keys
-  pub waiting : new.waiting.items ≡ with_wait (slice_index (needs_of needs node) place) (record { node = node; place = place }) old.waiting.items
+  pub waiting : new.waiting.items
+      ≡ with_wait (slice_index (needs_of needs node) place) (record { node = node; place = place }) old.waiting.items
 
 -- a node becomes ready, or has to wait
 abbrev pub Settles : List (List ℕ) → ℕ → ℕ → Building → Building → Type 0
@@ -82,7 +80,8 @@ abbrev pub Alone : ℕ → ℕ → Type 0
 Alone node u = u ≡ node
 
 -- the order is right so far, what is kept beside it is right, and each node that isn't placed is ready, waits or is open
-pub record Keeps (needs : List (List ℕ)) (IsOpen : ℕ → Type 0) (order : List ℕ) (marks : List Bool) (ready : List ℕ) (waiting : List (List Wait)) : Type 0 where
+pub record Keeps (needs : List (List ℕ)) (IsOpen : ℕ → Type 0) (order : List ℕ) (marks : List Bool) (ready : List ℕ)
+    (waiting : List (List Wait)) : Type 0 where
   pub count : length marks ≡ length needs
   pub tables : length waiting ≡ length needs
   pub each : (front rest : List ℕ) (u : ℕ) → order ≡ front ++ u ∷ rest → IsLeastReady needs front u

@@ -1,13 +1,6 @@
 -- The order in which the nodes of a graph can be built, where each node has the list of those that it needs.
-use Rattle.std.specs.Prelude.{◌≡◌, ◌<◌, ◌≤◌, ℕ, List, [], ◌∷◌, ◌++◌, length, All, Contains, slice_index_or}
-
--- u needs v
-abbrev pub Needs : List (List ℕ) → ℕ → ℕ → Type 0
-Needs needs u v = Contains (slice_index_or needs u []) v
-
--- each node that is needed is there
-abbrev pub IsGraph : List (List ℕ) → Type 0
-IsGraph needs = All (All (λ v. v < length needs)) needs
+use Rattle.std.specs.Prelude.{◌≡◌, ◌<◌, ◌≤◌, ℕ, List, [], ◌∷◌, ◌++◌, length, Contains}
+use Rattle.common_laws.specs.Graphs.{Needs}
 
 -- u can be built next: it isn't among those that are placed, and everything that it needs is
 pub record IsReady (needs : List (List ℕ)) (placed : List ℕ) (u : ℕ) : Type 0 where
@@ -32,12 +25,3 @@ AreBehindNeeds needs order = (front rest : List ℕ) (u v : ℕ) → order ≡ f
 -- each node stands in the order
 abbrev pub HasAll : List (List ℕ) → List ℕ → Type 0
 HasAll needs order = (u : ℕ) → u < length needs → Contains order u
-
--- u needs v, or needs a node from which a path leads to v
-pub data IsPath (needs : List (List ℕ)) : ℕ → ℕ → Type 0 where
-  one : {u v : ℕ} → Needs needs u v → IsPath needs u v
-  more : {u w : ℕ} (v : ℕ) → Needs needs u v → IsPath needs v w → IsPath needs u w
-
--- no path leads from a node back to it
-abbrev pub HasNoCycle : List (List ℕ) → Type 0
-HasNoCycle needs = (u : ℕ) → IsPath needs u u → ⊥

@@ -1,7 +1,8 @@
 // An order that is being built. A node waits for the first of its needs that isn't placed yet, and a node whose needs are
 // all placed is ready. Once a node is placed, those that wait for it are settled again, each from that need on.
 ghost use Rattle.std.specs.Prelude.{◌≡◌, ◌<◌, ◌++◌, [], ◌∷◌, false, true, not, count_by, length, replicate, All, Contains, IfOk, OnOk, MatchOption, slice_index_or, slice_set};
-ghost use Rattle.build_order.specs.Order.{IsGraph, IsLeastReady};
+ghost use Rattle.build_order.specs.Order.{IsLeastReady};
+ghost use Rattle.common_laws.specs.Graphs.{IsGraph};
 ghost use Rattle.build_order.specs.Building.{Alone, AreMet, IsFirstUnmet, IsSound, NoNode, Settles, TakesLeast, with_wait};
 
 use crate::ready::{add, take_least};

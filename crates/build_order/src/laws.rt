@@ -1,7 +1,8 @@
 // What follows of a build order: there is one, and in it each node stands behind all that it needs. Without a cycle it has every
 // node.
 ghost use Rattle.std.specs.Prelude.{◌≡◌, ℕ, List};
-ghost use Rattle.build_order.specs.Order.{AreBehindNeeds, HasAll, HasNoCycle, IsBuildOrder, IsGraph};
+ghost use Rattle.build_order.specs.Order.{AreBehindNeeds, HasAll, IsBuildOrder};
+ghost use Rattle.common_laws.specs.Graphs.{HasNoCycle, IsGraph, Needs};
 
 /// A graph has one build order.
 pub fn one_order()
@@ -15,5 +16,6 @@ pub fn each_behind_its_needs()
 
 /// Without a cycle, every node is placed.
 pub fn every_node_is_placed()
-    ensures { (needs : List (List ℕ)) (order : List ℕ) → IsGraph needs → HasNoCycle needs → IsBuildOrder needs order → HasAll needs order }
+    ensures { (needs : List (List ℕ)) (order : List ℕ) → IsGraph needs → HasNoCycle (Needs needs) → IsBuildOrder needs order
+        → HasAll needs order }
 {}

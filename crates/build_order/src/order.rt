@@ -1,6 +1,7 @@
 // The build order of a graph.
 ghost use Rattle.std.specs.Prelude.{IfOk};
-ghost use Rattle.build_order.specs.Order.{IsBuildOrder, IsGraph};
+ghost use Rattle.build_order.specs.Order.{IsBuildOrder};
+ghost use Rattle.common_laws.specs.Graphs.{IsGraph};
 
 use crate::building::Building;
 use plan_types::{List, NoMemory};

@@ -214,7 +214,8 @@ impl<'a> CabalProblem<'a> {
         entry: &Entry,
         dependencies: &Dependencies,
     ) -> Result<List<Demand>, NoMemory>
-        requires { dependencies.now ≡ entry_dependencies self.now.index.now.packages self.now.settings.now.project self.now.names entry.now }
+        requires { dependencies.now
+            ≡ entry_dependencies self.now.index.now.packages self.now.settings.now.project self.now.names entry.now }
         ensures { IfOk result (λ found. found ≡ entry_demands self.now.index.now.packages self.now.settings.now.project
             self.now.names owner entry.now) }
     {

@@ -8,7 +8,8 @@ use Rattle.choice_problem.specs.declared.problem.Choice.{Choice}
 use Rattle.choice_problem.specs.Assignment.{Assignment, is_one_of}
 use Rattle.choice_problem.specs.Problem.{IsChoice}
 use Rattle.choice_problem.specs.General.{Request, General, LawfulGeneral}
-use Rattle.choice_problem.specs.Holds.{IsAssignmentIn, IsEdge, IsPath, last, more, HoldsWithin}
+use Rattle.common_laws.specs.Graphs.{IsPath, last, more}
+use Rattle.choice_problem.specs.Holds.{IsAssignmentIn, IsEdge, HoldsWithin}
 use Rattle.choice_problem.specs.ConflictSet.{first_of}
 use Rattle.choice_problem.specs.Trail.{value_in, demands_after, opens, open_vars, next_var, with_next, with_value, choice_of, trail_from, trail_of}
 use Rattle.choice_problem.specs.Valid.{IsWholeValid, IsEarlier, ComesBefore, IsFirst}

@@ -11,7 +11,8 @@ use Rattle.qualified_goals.specs.Variable.{same_var}
 use Rattle.choice_problem.specs.Problem.{Problem, IsChoice, IsDemand, Lawful}
 use Rattle.choice_problem.specs.Assignment.{Assignment, is_one_of, is_yes, is_met}
 use Rattle.choice_problem.specs.General.{request_of, owner_of, general}
-use Rattle.choice_problem.specs.Holds.{IsEdge, IsPath, last, more, HoldsWithin}
+use Rattle.common_laws.specs.Graphs.{IsPath, last, more}
+use Rattle.choice_problem.specs.Holds.{IsEdge, HoldsWithin}
 use Rattle.choice_problem.specs.Trail.{value_in}
 use Rattle.choice_problem.specs.Active.{made_active, active, vars_of}
 use Rattle.choice_problem.specs.ConflictSet.{has, set_of}

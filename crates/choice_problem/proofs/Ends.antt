@@ -13,7 +13,8 @@ use Rattle.choice_problem.specs.declared.outcome.Counts.{Counts}
 use Rattle.choice_problem.specs.Problem.{Problem, IsChoice, IsDemand, IsRoot, Lawful}
 use Rattle.choice_problem.specs.Assignment.{Assignment, is_one_of, is_yes}
 use Rattle.choice_problem.specs.General.{Request, general}
-use Rattle.choice_problem.specs.Holds.{IsEdge, IsPath, last, more, HoldsWithin}
+use Rattle.common_laws.specs.Graphs.{IsPath, last, more}
+use Rattle.choice_problem.specs.Holds.{IsEdge, HoldsWithin}
 use Rattle.choice_problem.specs.Trail.{value_in, next_var, with_next, choice_of, trail_from, trail_of}
 use Rattle.choice_problem.specs.Valid.{IsWholeValid, IsFirst}
 use Rattle.choice_problem.specs.Active.{active, least_open, reason}

@@ -3,23 +3,16 @@ use Rattle.std.proofs.Common.{◌≡◌, ℕ, List, [], ◌∷◌, cond, Option,
 use Rattle.std.specs.BTreeMap.{is_at}
 use Rattle.std.specs.Map.{lookup}
 use Rattle.std.specs.Ordering.{is_eq}
-use Rattle.std.specs.declared.cmp.Ordering.{Ordering}
-use Rattle.std.specs.declared.cmp.Ordering.TheVariants.{Less, Equal, Greater}
 use Rattle.qualified_goals.specs.declared.variable.Var.{Var}
-use Rattle.qualified_goals.specs.Variable.{var_cmp, same_var, is_equal}
+use Rattle.qualified_goals.specs.Variable.{var_cmp, same_var}
 use Rattle.qualified_goals.specs.contracts.variable.VarOrd.TheImpl.{cmp-value}
 use Rattle.choice_problem.specs.Table.{entry}
-
-pub equal-eq : (o : Ordering) → is_eq o ≡ is_equal o
-equal-eq Less = refl
-equal-eq Equal = refl
-equal-eq Greater = refl
 
 pub derived : (v w : Var) → cmp-value.it v w ≡ var_cmp v w
 derived v w = search rules
 
 pub at-same : (v w : Var) → is_at (cmp-value.it v) w ≡ same_var v w
-at-same v w = ap is_eq (derived v w) ∙ equal-eq (var_cmp v w)
+at-same v w = ap is_eq (derived v w)
 
 pub stored : (entries : List (Var × ℕ)) (v : Var) → lookup (is_at (cmp-value.it v)) entries ≡ entry entries v
 stored [] v = refl

@@ -22,15 +22,6 @@ pub record IsEdge (g : General) (set : Var → Bool) (A : Assignment) (from to :
   pub leaves : owner.var ≡ from
   pub enters : request.target ≡ to
 
--- one edge or more, each from where the one before it ends
-pub data IsPath (Edge : Var → Var → Type 0) : Var → Var → Type 0 where
-  last : {v w : Var} → Edge v w → IsPath Edge v w
-  more : {v w x : Var} → Edge v w → IsPath Edge w x → IsPath Edge v x
-
--- no path leads back to where it began
-abbrev pub HasNoCycle : (Var → Var → Type 0) → Type 0
-HasNoCycle Edge = (v : Var) → IsPath Edge v v → ⊥
-
 -- A gives values to variables of the set alone, and within it breaks nothing
 pub record HoldsWithin (g : General) (set : Var → Bool) (A : Assignment) : Type 0 where
   pub assignment : IsAssignmentIn g set A

@@ -1,11 +1,12 @@
 -- Problems written out as lists.
 use Rattle.std.specs.Prelude.{◌≢◌, ℕ, zero, suc, Bool, true, false, cond, not, ◌&&◌, nat_eq, nat_lt, List, [], ◌∷◌, length, filter, All, AllPairs}
+use Rattle.std.specs.Ordering.{is_eq}
 use Rattle.std.specs.List.{list_all, list_any}
 use Rattle.qualified_goals.specs.declared.variable.Var.{Var}
 use Rattle.choice_problem.specs.declared.problem.Choice.{Choice}
 use Rattle.choice_problem.specs.declared.problem.Demand.{Demand}
 use Rattle.choice_problem.specs.declared.written.WrittenVar.{WrittenVar}
-use Rattle.qualified_goals.specs.Variable.{qual_cmp, is_equal, same_var}
+use Rattle.qualified_goals.specs.Variable.{qual_cmp, same_var}
 use Rattle.choice_problem.specs.Problem.{Problem, IsOrderBelow, IsRoot, IsOwned}
 
 -- whether a number is one of these
@@ -73,7 +74,7 @@ are_listed_once (w ∷ variables) = not (is_listed variables w.var) && are_liste
 
 -- whether a choice is of a part of the owner's package, under its qualifier
 abbrev pub is_beside : Choice → Choice → Bool
-is_beside owner c = is_equal (qual_cmp c.var.qual owner.var.qual) && nat_eq c.var.«package» owner.var.«package»
+is_beside owner c = is_eq (qual_cmp c.var.qual owner.var.qual) && nat_eq c.var.«package» owner.var.«package»
 
 -- whether there are no choices
 abbrev pub is_empty : List Choice → Bool

@@ -1,5 +1,6 @@
 -- Lists that pass the tests keep the laws, and those that keep them pass.
 use Rattle.std.specs.Prelude.{◌≡◌, ◌≢◌, ℕ, zero, suc, ◌<◌, Bool, true, false, cond, not, ◌&&◌, ◌||◌, nat_eq, nat_lt, IsTrue, List, [], ◌∷◌, length, map, filter, All, AllPairs, Contains, refl}
+use Rattle.std.specs.Ordering.{is_eq}
 use Rattle.std.specs.List.{list_all}
 use Rattle.std.proofs.Common.{sym, ap, ◌∙◌, subst, inl, inr, arith}
 use Rattle.std.proofs.lemmas.Bool.{false≢true, eqb-true, eq-eqb, cases_lt, ltb-true, lt-ltb, and_parts, and_from}
@@ -9,12 +10,12 @@ use Rattle.qualified_goals.specs.declared.variable.Var.{Var}
 use Rattle.choice_problem.specs.declared.problem.Choice.{Choice}
 use Rattle.choice_problem.specs.declared.problem.Demand.{Demand}
 use Rattle.choice_problem.specs.declared.written.WrittenVar.{WrittenVar}
-use Rattle.qualified_goals.specs.Variable.{qual_cmp, is_equal, same_var}
+use Rattle.qualified_goals.specs.Variable.{qual_cmp, same_var}
 use Rattle.choice_problem.specs.Problem.{Problem, IsOrderBelow, IsBeside, IsRoot, IsOwned, Lawful}
 use Rattle.choice_problem.specs.Trail.{choice_of}
 use Rattle.choice_problem.specs.Written.{is_among, is_listed, order_of, begins_with, problem_of, AreLawful, has_each_below, is_once, is_order, are_listed_once, is_beside, is_empty, is_condition, are_lawful}
 use Rattle.common_laws.specs.Lists.{contains-head, contains-tail, contains-filter, map-contains, all-at, all-from, any-at, any-from, all-where, pairs-cons, pairs-head, pairs-tail, pairs-nil}
-use Rattle.qualified_goals.specs.SameVariable.{is_equal-is, qual-is, qual-refl, same_var-is, same_var-refl}
+use Rattle.qualified_goals.specs.SameVariable.{is_eq-is, qual-is, qual-refl, same_var-is, same_var-refl}
 use Rattle.common_laws.specs.Small.{not-from, not-to}
 
 -- orders
@@ -110,17 +111,17 @@ order-listed P (w ∷ variables) v h k =
 
 beside-at : (owner c : Choice) → is_beside owner c ≡ true → IsBeside owner c
 beside-at owner c h =
-    let quals = is_equal (qual_cmp c.var.qual owner.var.qual) in
+    let quals = is_eq (qual_cmp c.var.qual owner.var.qual) in
     let names = nat_eq c.var.«package» owner.var.«package» in
     record {
-      same_qualifier = qual-is c.var.qual owner.var.qual (is_equal-is (qual_cmp c.var.qual owner.var.qual) ((and_parts quals names h).0));
+      same_qualifier = qual-is c.var.qual owner.var.qual (is_eq-is (qual_cmp c.var.qual owner.var.qual) ((and_parts quals names h).0));
       same_package = eqb-true c.var.«package» owner.var.«package» ((and_parts quals names h).1);
     }
 
 beside-from : (owner c : Choice) → IsBeside owner c → is_beside owner c ≡ true
 beside-from owner c h =
-    and_from (is_equal (qual_cmp c.var.qual owner.var.qual)) (nat_eq c.var.«package» owner.var.«package»)
-    (ap is_equal (ap (λ q. qual_cmp q owner.var.qual) h.same_qualifier ∙ qual-refl owner.var.qual))
+    and_from (is_eq (qual_cmp c.var.qual owner.var.qual)) (nat_eq c.var.«package» owner.var.«package»)
+    (ap is_eq (ap (λ q. qual_cmp q owner.var.qual) h.same_qualifier ∙ qual-refl owner.var.qual))
     (eq-eqb c.var.«package» owner.var.«package» h.same_package)
 
 empty-at : (when : List Choice) → is_empty when ≡ true → when ≡ []

@@ -2,3 +2,4 @@ pub mod Small
 pub mod Lists
 pub mod Each
 pub mod Passing
+pub mod Graphs

@@ -1,10 +1,11 @@
 -- Small laws of tests, orders, options and texts.
-use Rattle.std.proofs.Common.{◌≡◌, ℕ, Bool, true, false, not, ◌&&◌, ◌||◌, List, ◌∷◌, Option, Some, None, refl, sym, ap, ◌∙◌, subst}
-use Rattle.std.specs.Prelude.{IfSome}
+use Rattle.std.proofs.Common.{◌≡◌, ℕ, Bool, true, false, not, ◌&&◌, ◌||◌, List, ◌∷◌, ◌+◌, min, ◌-◌, ◌^◌, arith, Option, Some, None, refl, sym, ap, ◌∙◌, subst}
+use Rattle.std.specs.Prelude.{IfSome, OnErr, Result, Ok, Err}
 use Rattle.std.specs.declared.cmp.Ordering.{Ordering}
 use Rattle.std.specs.declared.cmp.Ordering.TheVariants.{Less, Equal, Greater}
 use Rattle.std.specs.Ordering.{is_lt, ordering_then}
 use Rattle.std.proofs.lemmas.Bool.{false≢true}
+use Rattle.std.proofs.lemmas.Grind.{common_steps}
 use Rattle.std.proofs.lemmas.Slice.Eq.{bytes_eq-Decides}
 use Rattle.plan_types.specs.Bytes.{same_text}
 
@@ -28,6 +29,10 @@ pub or-assoc : (a b c : Bool) → (a || b) || c ≡ a || (b || c)
 or-assoc true b c = refl
 or-assoc false b c = refl
 
+pub and-assoc : (a b c : Bool) → (a && b) && c ≡ a && (b && c)
+and-assoc true b c = refl
+and-assoc false b c = refl
+
 pub or-last : (a b : Bool) → (a || (b || false)) ≡ (b || a)
 or-last true true = refl
 or-last true false = refl
@@ -50,7 +55,7 @@ second-equal Less second e = absurd (cc e)
 second-equal Equal second e = e
 second-equal Greater second e = absurd (cc e)
 
--- ---- options
+-- ---- options and results
 
 pub if_some : {X : Type 0} (P : X → Type 0) (o : Option X) → ((x : X) → o ≡ Some x → P x) → IfSome o P
 if_some P None f = tt
@@ -58,6 +63,19 @@ if_some P (Some x) f = f x refl
 
 pub some_at : {X : Type 0} (P : X → Type 0) (o : Option X) (x : X) → o ≡ Some x → IfSome o P → P x
 some_at P o x e h = let Q : Option _ → Type 0 = λ o. IfSome o P in subst Q e h
+
+pub on-err : {T E : Type 0} (r : Result T E) (P : Type 0) → P → OnErr r P
+on-err (Ok t) P h = tt
+on-err (Err e) P h = h
+
+-- ---- numbers
+
+-- a number, or the greatest that 64 bits hold
+abbrev pub capped : ℕ → ℕ
+capped n = min n (2 ^ 64 - 1)
+
+pub capped-add : (a b : ℕ) → capped (capped a + capped b) ≡ capped (a + b)
+capped-add a b = grind (arith, common_steps)
 
 -- ---- texts
 

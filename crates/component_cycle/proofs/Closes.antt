@@ -8,7 +8,8 @@ use Rattle.component_cycle.specs.declared.search.State.{State}
 use Rattle.component_cycle.specs.declared.search.State.TheVariants.{Unseen, OnPath, Settled}
 use Rattle.component_cycle.specs.declared.search.Mark.{Mark}
 use Rattle.component_cycle.specs.declared.search.Search.{Search}
-use Rattle.component_cycle.specs.Cycle.{IsEdge, IsPath, IsOnCycle, one, more}
+use Rattle.component_cycle.specs.Cycle.{IsOnCycle}
+use Rattle.common_laws.specs.Graphs.{Needs, IsPath, last, more}
 use Rattle.component_cycle.specs.Search.{state, at, IsNotBefore, Reaches, IsKnown, settled, on_path, waits, looked_at, HasSource, IsRight, IsBelow, IsSound, IsCyclic, Steps, costs}
 use Rattle.component_cycle.proofs.Reaches.{path-join, path-apart, path-keeps}
 use Rattle.component_cycle.proofs.Joins.{rising-front, rising-last, last-greatest}
@@ -30,7 +31,7 @@ module _ (needs : List (List ℕ)) (s : Search) (h : IsSound needs s None) (ms :
   group-starts = (h.marked m last-mark).0
 
   -- a need of the group's nodes is settled, or in the group
-  need : (i w : ℕ) → m.place ≤ i → i < length s.path → IsEdge needs (at s i) w
+  need : (i w : ℕ) → m.place ≤ i → i < length s.path → Needs needs (at s i) w
       → ((b : Bool) × (state s w ≡ Settled b)) ⊎ ((p : ℕ) × (m.place ≤ p) × (p < length s.path) × (at s p ≡ w))
   need i w from l edge =
       elim (h.known i w l edge) [
@@ -66,7 +67,7 @@ module _ (needs : List (List ℕ)) (s : Search) (h : IsSound needs s None) (ms :
   IsSettled : ℕ → Type 0
   IsSettled w = (b : Bool) × (state s w ≡ Settled b)
 
-  settled-keeps : (u v : ℕ) → IsSettled u → IsEdge needs u v → IsSettled v
+  settled-keeps : (u v : ℕ) → IsSettled u → Needs needs u v → IsSettled v
   unfolding IsSettled
   settled-keeps u v k edge = h.closed u v k.0 k.1 edge
 
@@ -74,7 +75,7 @@ module _ (needs : List (List ℕ)) (s : Search) (h : IsSound needs s None) (ms :
   unfolding IsSettled
   not-settled i l k = let both : OnPath i ≡ Settled k.0 = sym (h.standing i l) ∙ k.1 in cc both
 
-  alone-first : (w : ℕ) → m.place + 1 ≡ length s.path → IsEdge needs (at s m.place) w → IsSettled w ⊎ (w ≡ at s m.place)
+  alone-first : (w : ℕ) → m.place + 1 ≡ length s.path → Needs needs (at s m.place) w → IsSettled w ⊎ (w ≡ at s m.place)
   unfolding IsSettled
   alone-first w only edge =
       elim (need m.place w (omega arith) group-starts edge) [
@@ -82,11 +83,11 @@ module _ (needs : List (List ℕ)) (s : Search) (h : IsSound needs s None) (ms :
         | inr k ↦ let is : k.0 ≡ m.place = omega (arith, k.1, k.2, only) in inr (sym (sym (ap (at s) is) ∙ k.3))
       ]
 
-  alone-path : (u : ℕ) → m.place + 1 ≡ length s.path → IsPath needs (at s m.place) u → u ≡ at s m.place → IsEdge needs (at s m.place) (at s m.place)
-  alone-path u only (one edge) same = subst (λ w. IsEdge needs (at s m.place) w) same edge
-  alone-path u only (more x edge p) same =
+  alone-path : (u : ℕ) → m.place + 1 ≡ length s.path → IsPath (Needs needs) (at s m.place) u → u ≡ at s m.place → Needs needs (at s m.place) (at s m.place)
+  alone-path u only (last edge) same = subst (λ w. Needs needs (at s m.place) w) same edge
+  alone-path u only (more {w = x} edge p) same =
       elim (alone-first x only edge) [
-        | inr back ↦ subst (λ w. IsEdge needs (at s m.place) w) back edge
+        | inr back ↦ subst (λ w. Needs needs (at s m.place) w) back edge
         | inl k ↦ absurd (not-settled m.place group-starts (subst IsSettled same (path-keeps needs IsSettled settled-keeps x u k p)))
       ]
 
@@ -109,10 +110,10 @@ module _ (needs : List (List ℕ)) (s : Search) (h : IsSound needs s None) (ms :
               let test = cyclic.alone (omega (arith, group-length, only)) in
               let here : get_or (drop m.place s.path) 0 0 ≡ at s i = group-at 0 ∙ ap (at s) (omega (arith, is)) in
               record {
-                cycle = λ k. one (subst (λ u. IsEdge needs u u) here (test.0 k));
+                cycle = λ k. last (subst (λ u. Needs needs u u) here (test.0 k));
                 none = λ k c.
-                    let edge = alone-path (at s i) only (subst (λ u. IsPath needs u (at s i)) (ap (at s) is) c) (ap (at s) is) in
-                    absurd (false≢true (sym k ∙ test.1 (subst (λ u. IsEdge needs u u) (ap (at s) (sym is) ∙ sym here) edge)));
+                    let edge = alone-path (at s i) only (subst (λ u. IsPath (Needs needs) u (at s i)) (ap (at s) is) c) (ap (at s) is) in
+                    absurd (false≢true (sym k ∙ test.1 (subst (λ u. Needs needs u u) (ap (at s) (sym is) ∙ sym here) edge)));
               }
         ]
 
@@ -192,11 +193,11 @@ module _ (needs : List (List ℕ)) (s : Search) (h : IsSound needs s None) (ms :
       standing : (i : ℕ) → i < length t.path → state t (at t i) ≡ OnPath i
       standing i l = ap (state t) (at-front i (below i l)) ∙ standing-front i (below i l)
 
-      closed : (u w : ℕ) (d : Bool) → state t u ≡ Settled d → IsEdge needs u w → (c : Bool) × (state t w ≡ Settled c)
+      closed : (u w : ℕ) (d : Bool) → state t u ≡ Settled d → Needs needs u w → (c : Bool) × (state t w ≡ Settled c)
       unfolding IsInGroup
       closed u w d k edge =
           elim (in-or-out u) [
-            | inl g ↦ elim (need g.0 w g.1 g.2 (subst (λ x. IsEdge needs x w) (sym g.3) edge)) [
+            | inl g ↦ elim (need g.0 w g.1 g.2 (subst (λ x. Needs needs x w) (sym g.3) edge)) [
               | inl done ↦ (done.0, kept-settled w done.0 done.1)
               | inr on ↦ (b, in-state w on)
             ]
@@ -266,7 +267,7 @@ module _ (needs : List (List ℕ)) (s : Search) (h : IsSound needs s None) (ms :
           record {
             place = was.place;
             within = omega (arith, front, short);
-            edge = subst (λ u. IsEdge needs u (get_or s.waiting l 0)) (sym (at-front was.place front)) was.edge;
+            edge = subst (λ u. Needs needs u (get_or s.waiting l 0)) (sym (at-front was.place front)) was.edge;
             same_group = λ x c. was.same_group x (in-old x c);
           }
 
@@ -283,7 +284,7 @@ module _ (needs : List (List ℕ)) (s : Search) (h : IsSound needs s None) (ms :
             covered = covered;
             forward = forward;
             back = back;
-            known = λ i w l edge. known-front i w (h.known i w (in-s i (below i l)) (subst (λ u. IsEdge needs u w) (at-front i (below i l)) edge));
+            known = λ i w l edge. known-front i w (h.known i w (in-s i (below i l)) (subst (λ u. Needs needs u w) (at-front i (below i l)) edge));
             source = source;
           }
 

@@ -8,7 +8,9 @@ use Rattle.std.proofs.lemmas.List.{get_or_past, length-replicate, get_or-replica
 use Rattle.std.proofs.lemmas.List.Quantifiers.{position-Some}
 use Rattle.component_cycle.specs.declared.search.State.TheVariants.{Unseen, OnPath, Settled}
 use Rattle.component_cycle.specs.declared.search.Search.{Search}
-use Rattle.component_cycle.specs.Cycle.{IsPath, IsOnCycle, IsFirstOnCycle, one, more}
+use Rattle.component_cycle.specs.Cycle.{IsOnCycle, IsFirstOnCycle}
+use Rattle.common_laws.specs.Lists.{contains-none}
+use Rattle.common_laws.specs.Graphs.{Needs, IsPath, last, more}
 use Rattle.component_cycle.proofs.Reaches.{from-edge}
 use Rattle.component_cycle.specs.Search.{state, IsSound, Leads, is_on_cycle}
 
@@ -22,8 +24,6 @@ start-unseen n v =
       | inr past ↦ get_or_past (replicate n Unseen) v Unseen (omega (arith, length-replicate n Unseen, past))
     ]
 
-none-in : {X : Type 0} (x : X) → Contains [] x → ⊥
-none-in x c = omega (arith, c.1)
 
 pub start-sound : (needs : List (List ℕ)) → IsSound needs (start (length needs)) None
 start-sound needs =
@@ -34,7 +34,7 @@ start-sound needs =
       standing = λ i l. absurd (omega (arith, l));
       closed = λ u v b k edge. let both : Unseen ≡ Settled b = sym (start-unseen n u) ∙ k in absurd (cc both);
       right = λ u b k. let both : Unseen ≡ Settled b = sym (start-unseen n u) ∙ k in absurd (cc both);
-      marked = λ m c. absurd (none-in m c);
+      marked = λ m c. absurd (contains-none m c);
       rising = λ i j d less below. absurd (omega (arith, below));
       covered = λ i l. absurd (omega (arith, l));
       forward = λ i j le l. absurd (omega (arith, l));
@@ -53,7 +53,7 @@ position-None p xs e k d l =
 
 module _ (needs : List (List ℕ)) (s : Search) (h : IsSound needs s None) (idle : s.marks ≡ []) where
   pub no-path : (i : ℕ) → i < length s.path → ⊥
-  no-path i l = let one = h.covered i l in none-in one.0 (subst (λ ms. Contains ms one.0) idle one.1)
+  no-path i l = let one = h.covered i l in contains-none one.0 (subst (λ ms. Contains ms one.0) idle one.1)
 
   pub root-leads : (v : ℕ) → Leads needs s v
   root-leads v i l = absurd (no-path i l)
@@ -84,9 +84,9 @@ module _ (needs : List (List ℕ)) (s : Search) (h : IsSound needs s None) (idle
           | Settled b ↦ λ k. (b, k)
         ] refl
 
-    first-edge : (u v : ℕ) → IsPath needs u v → u < length needs
-    first-edge u v (one edge) = from-edge needs u v edge
-    first-edge u v (more x edge p) = from-edge needs u x edge
+    first-edge : (u v : ℕ) → IsPath (Needs needs) u v → u < length needs
+    first-edge u v (last edge) = from-edge needs u v edge
+    first-edge u v (more {w = x} edge p) = from-edge needs u x edge
 
     -- a node is on a cycle exactly if its state says so
     says : (u : ℕ) → IsOnCycle needs u → is_on_cycle (state s u) ≡ true

@@ -9,7 +9,7 @@ use Rattle.component_cycle.specs.declared.search.State.{State}
 use Rattle.component_cycle.specs.declared.search.State.TheVariants.{Unseen, OnPath, Settled}
 use Rattle.component_cycle.specs.declared.search.Mark.{Mark}
 use Rattle.component_cycle.specs.declared.search.Search.{Search}
-use Rattle.component_cycle.specs.Cycle.{IsEdge}
+use Rattle.common_laws.specs.Graphs.{Needs}
 use Rattle.component_cycle.specs.Search.{state, at, IsNotBefore, Reaches, IsKnown, settled, on_path, waits, looked_at, HasSource, IsRight, IsBelow, IsSound, Leads, Follows, entered, cost, to_do}
 use Rattle.component_cycle.proofs.Costs.{costs-set}
 
@@ -79,7 +79,7 @@ module _ (needs : List (List ℕ)) (s : Search) (v : ℕ) (h : IsSound needs s (
         | inr ne ↦ sym (state-other u ne) ∙ e
       ]
 
-  closed : (u w : ℕ) (b : Bool) → state t u ≡ Settled b → IsEdge needs u w → (d : Bool) × (state t w ≡ Settled d)
+  closed : (u w : ℕ) (b : Bool) → state t u ≡ Settled b → Needs needs u w → (d : Bool) × (state t w ≡ Settled d)
   closed u w b e edge =
       let old = h.closed u w b (was-settled u b e) edge in
       (old.0, kept w (Settled old.0) old.1 (settled-apart old.0))
@@ -170,16 +170,16 @@ module _ (needs : List (List ℕ)) (s : Search) (v : ℕ) (h : IsSound needs s (
         | inr new ↦ let is : n ≡ m.place = ap (λ (x : Mark). x.place) new in let waits : length s.waiting ≡ m.waiting = ap (λ (x : Mark). x.waiting) new in (omega (arith, is), omega (arith, waits))
       ]
 
-  known-new : (w : ℕ) → IsEdge needs v w → IsKnown t None n w
+  known-new : (w : ℕ) → Needs needs v w → IsKnown t None n w
   known-new w (k, l, e) =
       waits (length s.waiting + k) (omega (arith, l, waiting-length)) (waiting-new k ∙ get_or_default (get_or needs v []) k 0 w l ∙ e)
       (λ m c le. let was = (marks-wait m c).1 in omega (arith, was))
 
-  known : (i w : ℕ) → i < length t.path → IsEdge needs (at t i) w → IsKnown t None i w
+  known : (i w : ℕ) → i < length t.path → Needs needs (at t i) w → IsKnown t None i w
   known i w l edge =
       elim (last-or-old i l) [
-        | inl old ↦ known-old i w old (h.known i w old (subst (λ u. IsEdge needs u w) (at-old i old) edge))
-        | inr new ↦ subst (λ j. IsKnown t None j w) (sym new) (known-new w (subst (λ u. IsEdge needs u w) (ap (at t) new ∙ at-new) edge))
+        | inl old ↦ known-old i w old (h.known i w old (subst (λ u. Needs needs u w) (at-old i old) edge))
+        | inr new ↦ subst (λ j. IsKnown t None j w) (sym new) (known-new w (subst (λ u. Needs needs u w) (ap (at t) new ∙ at-new) edge))
       ]
 
   source : (l : ℕ) → l < length t.waiting → HasSource needs t l
@@ -190,8 +190,8 @@ module _ (needs : List (List ℕ)) (s : Search) (v : ℕ) (h : IsSound needs s (
             record {
               place = was.place;
               within = omega (arith, was.within, path-length);
-              edge = subst (λ u. IsEdge needs u (get_or t.waiting l 0)) (sym (at-old was.place was.within))
-                  (subst (λ w. IsEdge needs (at s was.place) w) (sym (get_or_append_left s.waiting (get_or needs v []) 0 l old)) was.edge);
+              edge = subst (λ u. Needs needs u (get_or t.waiting l 0)) (sym (at-old was.place was.within))
+                  (subst (λ w. Needs needs (at s was.place) w) (sym (get_or_append_left s.waiting (get_or needs v []) 0 l old)) was.edge);
               same_group = λ m c. elim (mark-cases m c) [
                 | inl k ↦ was.same_group m k
                 | inr new ↦
@@ -209,7 +209,7 @@ module _ (needs : List (List ℕ)) (s : Search) (v : ℕ) (h : IsSound needs s (
             record {
               place = n;
               within = omega (arith, path-length);
-              edge = subst (λ u. IsEdge needs u (get_or t.waiting l 0)) (sym at-new) (subst (λ w. IsEdge needs v w) value (Contains-get_or (get_or needs v []) k 0 in_needs));
+              edge = subst (λ u. Needs needs u (get_or t.waiting l 0)) (sym at-new) (subst (λ w. Needs needs v w) value (Contains-get_or (get_or needs v []) k 0 in_needs));
               same_group = λ m c. let was = marks-wait m c in ((λ le. omega (arith, was.1, new)), (λ le. was.0));
             }
       ]

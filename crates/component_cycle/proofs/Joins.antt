@@ -7,7 +7,7 @@ use Rattle.std.proofs.lemmas.List.Elements.{Contains-push, Contains-push_cases, 
 use Rattle.component_cycle.specs.declared.search.State.TheVariants.{OnPath, Settled}
 use Rattle.component_cycle.specs.declared.search.Mark.{Mark}
 use Rattle.component_cycle.specs.declared.search.Search.{Search}
-use Rattle.component_cycle.specs.Cycle.{IsEdge, IsPath, one}
+use Rattle.common_laws.specs.Graphs.{Needs, IsPath, last as one_edge}
 use Rattle.component_cycle.specs.Search.{state, at, IsNotBefore, Reaches, IsKnown, settled, on_path, waits, looked_at, HasSource, IsBelow, IsSound, HasLast, Leads}
 use Rattle.component_cycle.proofs.Reaches.{reaches-path, path-reaches}
 
@@ -83,7 +83,7 @@ module _ (needs : List (List ℕ)) (s : Search) (v p : ℕ) (h : IsSound needs s
               ])
           | inr ge ↦
               let place = h.placed v p here in
-              let to-p : IsPath needs (at s j) (at s p) = subst (λ w. IsPath needs (at s j) w) (sym place.1) (leads j l) in
+              let to-p : IsPath (Needs needs) (at s j) (at s p) = subst (λ w. IsPath (Needs needs) (at s j) w) (sym place.1) (leads j l) in
               elim (cases_lt i p) [
                 | inr on ↦ inr (path-reaches needs (at s j) (at s p) (at s i) to-p (h.forward p i on (omega (arith, le, l))))
                 | inl before ↦
@@ -218,7 +218,7 @@ module _ (needs : List (List ℕ)) (s : Search) (h : IsSound needs s None) (ms :
             record {
               place = was.place;
               within = was.within;
-              edge = subst (λ w. IsEdge needs (at s was.place) w) (ap (λ x. get_or x l 0) last ∙ get_or_append_left rest (v ∷ []) 0 l below) was.edge;
+              edge = subst (λ w. Needs needs (at s was.place) w) (ap (λ x. get_or x l 0) last ∙ get_or_append_left rest (v ∷ []) 0 l below) was.edge;
               same_group = was.same_group;
             };
       }
@@ -229,8 +229,8 @@ module _ (needs : List (List ℕ)) (s : Search) (h : IsSound needs s None) (ms :
   source : HasSource needs s (length rest)
   source = h.source (length rest) (omega (arith, longer))
 
-  edge : IsEdge needs (at s source.place) v
-  edge = subst (λ w. IsEdge needs (at s source.place) w) value source.edge
+  edge : Needs needs (at s source.place) v
+  edge = subst (λ w. Needs needs (at s source.place) w) value source.edge
 
   to-source : (i : ℕ) → i < length s.path → Reaches needs (at s i) (at s source.place)
   to-source i l =
@@ -242,9 +242,9 @@ module _ (needs : List (List ℕ)) (s : Search) (h : IsSound needs s None) (ms :
       ]
 
   pub looked-leads : Leads needs popped v
-  looked-leads i l = reaches-path needs (at s i) (at s source.place) v (to-source i l) (one edge)
+  looked-leads i l = reaches-path needs (at s i) (at s source.place) v (to-source i l) (one_edge edge)
 
-  pub looked-edge : (u : ℕ) × IsEdge needs u v
+  pub looked-edge : (u : ℕ) × Needs needs u v
   looked-edge = (at s source.place, edge)
 
 -- what a list is after its last item is taken off

@@ -5,7 +5,8 @@ use Rattle.component_cycle.specs.declared.search.State.{State}
 use Rattle.component_cycle.specs.declared.search.State.TheVariants.{Unseen, OnPath, Settled}
 use Rattle.component_cycle.specs.declared.search.Mark.{Mark}
 use Rattle.component_cycle.specs.declared.search.Search.{Search}
-use Rattle.component_cycle.specs.Cycle.{IsEdge, IsPath, IsOnCycle}
+use Rattle.component_cycle.specs.Cycle.{IsOnCycle}
+use Rattle.common_laws.specs.Graphs.{Needs, IsPath}
 
 -- the state of a node
 abbrev pub state : Search → ℕ → State
@@ -29,7 +30,7 @@ IsNotBefore s i j = (m : Mark) → Contains s.marks m → m.place ≤ i → m.pl
 
 -- v is u, or a path leads from u to v
 abbrev pub Reaches : List (List ℕ) → ℕ → ℕ → Type 0
-Reaches needs u v = (u ≡ v) ⊎ IsPath needs u v
+Reaches needs u v = (u ≡ v) ⊎ IsPath (Needs needs) u v
 
 -- where a need of the node at place i is: it is settled, or on the path in the group or behind it, or it waits, or it
 -- is the one that is looked at
@@ -43,7 +44,7 @@ pub data IsKnown (s : Search) (loose : Option ℕ) (i v : ℕ) : Type 0 where
 pub record HasSource (needs : List (List ℕ)) (s : Search) (l : ℕ) : Type 0 where
   pub place : ℕ
   pub within : place < length s.path
-  pub edge : IsEdge needs (at s place) (slice_index s.waiting l)
+  pub edge : Needs needs (at s place) (slice_index s.waiting l)
   pub same_group : (m : Mark) → Contains s.marks m → (m.place ≤ place ↔ m.waiting ≤ l)
 
 -- a settled node is on a cycle exactly if its state says so
@@ -60,19 +61,19 @@ pub record IsSound (needs : List (List ℕ)) (s : Search) (loose : Option ℕ) :
   pub count : length s.states ≡ length needs
   pub placed : (u i : ℕ) → state s u ≡ OnPath i → (i < length s.path) × (at s i ≡ u)
   pub standing : (i : ℕ) → i < length s.path → state s (at s i) ≡ OnPath i
-  pub closed : (u v : ℕ) (b : Bool) → state s u ≡ Settled b → IsEdge needs u v → (d : Bool) × (state s v ≡ Settled d)
+  pub closed : (u v : ℕ) (b : Bool) → state s u ≡ Settled b → Needs needs u v → (d : Bool) × (state s v ≡ Settled d)
   pub right : (u : ℕ) (b : Bool) → state s u ≡ Settled b → IsRight needs u b
   pub marked : (m : Mark) → Contains s.marks m → (m.place < length s.path) × (m.waiting ≤ length s.waiting)
   pub rising : AllPairs IsBelow s.marks
   pub covered : (i : ℕ) → i < length s.path → (m : Mark) × Contains s.marks m × (m.place ≤ i)
   pub forward : (i j : ℕ) → i ≤ j → j < length s.path → Reaches needs (at s i) (at s j)
   pub back : (i j : ℕ) → i ≤ j → j < length s.path → IsNotBefore s j i → Reaches needs (at s j) (at s i)
-  pub known : (i v : ℕ) → i < length s.path → IsEdge needs (at s i) v → IsKnown s loose i v
+  pub known : (i v : ℕ) → i < length s.path → Needs needs (at s i) v → IsKnown s loose i v
   pub source : (l : ℕ) → l < length s.waiting → HasSource needs s l
 
 -- each node of the path leads to v
 abbrev pub Leads : List (List ℕ) → Search → ℕ → Type 0
-Leads needs s v = (i : ℕ) → i < length s.path → IsPath needs (at s i) v
+Leads needs s v = (i : ℕ) → i < length s.path → IsPath (Needs needs) (at s i) v
 
 -- v begins a group of its own at the end of the path, and its needs wait
 abbrev pub entered : List (List ℕ) → ℕ → Search → Search
@@ -131,7 +132,7 @@ is_on_cycle (Settled b) = b
 -- whether the nodes of a whole group lie on cycles
 pub record IsCyclic (needs : List (List ℕ)) (group : List ℕ) (b : Bool) : Type 0 where
   pub several : 2 ≤ length group → b ≡ true
-  pub alone : length group ≡ 1 → (IsTrue b ↔ IsEdge needs (slice_index group 0) (slice_index group 0))
+  pub alone : length group ≡ 1 → (IsTrue b ↔ Needs needs (slice_index group 0) (slice_index group 0))
 
 -- where these nodes were seen before, as much is left to do as before
 abbrev pub SeenCostNothing : List ℕ → List State → List State → Type 0

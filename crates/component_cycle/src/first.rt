@@ -1,6 +1,7 @@
 // The first node of a graph on a cycle.
 ghost use Rattle.std.specs.Prelude.{IfOk};
-ghost use Rattle.component_cycle.specs.Cycle.{IsGraph, IsFirstOnCycle};
+ghost use Rattle.component_cycle.specs.Cycle.{IsFirstOnCycle};
+ghost use Rattle.common_laws.specs.Graphs.{IsGraph};
 
 use crate::search::Search;
 use plan_types::{List, NoMemory};

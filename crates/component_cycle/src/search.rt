@@ -5,7 +5,7 @@
 ghost use Rattle.std.specs.Prelude.{◌≡◌, ◌≢◌, ◌≤◌, ◌<◌, ◌↔◌, ◌⊎◌, ℕ, List, [], ◌++◌, length, IsTrue, IfOk, OnOk, MatchOption, true, false, All, Contains, drop, slice_index, slice_index_or, replicate, position};
 ghost use Rattle.component_cycle.specs.declared.search.State.{State};
 ghost use Rattle.component_cycle.specs.declared.search.Mark.{Mark};
-ghost use Rattle.component_cycle.specs.Cycle.{IsGraph};
+ghost use Rattle.common_laws.specs.Graphs.{IsGraph};
 ghost use Rattle.component_cycle.specs.Search.{IsSound, IsLast, HasLast, Follows, Leads, entered, costs, state, Steps, IsCyclic, is_on_cycle, AreSettled, OthersStay, SeenCostNothing};
 
 use plan_types::{List, NoMemory};

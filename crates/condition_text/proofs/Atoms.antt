@@ -14,7 +14,7 @@ use Rattle.plan_types.specs.declared.condition.Cond.TheVariants.{Always, Never, 
 use Rattle.plan_types.specs.Bytes.{is_blank}
 use Rattle.plan_types.specs.Name.{is_component_byte, is_component_name, is_flag_name}
 use Rattle.text_grammar.specs.Parts.{Led, led, Worded, worded}
-use Rattle.text_grammar.specs.Reading.{is_letter}
+use Rattle.text_grammar.specs.Reading.{is_letter, valued}
 use Rattle.text_grammar.proofs.Fronts.{Reader}
 use Rattle.text_grammar.proofs.Spaces as spaces
 use Rattle.text_grammar.proofs.Closings.{Closed, closed}
@@ -22,7 +22,7 @@ use Rattle.text_grammar.proofs.Steps.{Done, done, good_done}
 use Rattle.text_grammar.proofs.Letters.{Pair, same_pair, Passing, passing, Fork, here, there, pair_choose, pair_map, pair_as, pair_word, never_word, solid_word}
 use Rattle.version_range.specs.Grammar.{empty}
 use Rattle.condition_text.specs.Grammar.{Name, name, Enclosed, enclosed, Compiled, compiled, Versions, versions, WiderVersions, Atom, always, never, flag, os, arch, compiler}
-use Rattle.condition_text.specs.Reading.{named_at, begins_flag, argument, compiler_at, cond_tail, as_value, flag_at, os_at, arch_at, impl_at, word_at, from_a, from_o, after_f, from_f, atom_at}
+use Rattle.condition_text.specs.Reading.{named_at, begins_flag, argument, compiler_at, cond_tail, flag_at, os_at, arch_at, impl_at, word_at, from_a, from_o, after_f, from_f, atom_at}
 use Rattle.condition_text.proofs.CondKind.{cond_kind, is_open}
 use Rattle.condition_text.proofs.CondTails.{wide_tail}
 use Rattle.condition_text.proofs.Names.{Run, run, argument_pair}
@@ -250,7 +250,7 @@ module _ (spec : Spec) (n : ℕ) where
   no-bytes : (b : ℕ) → (cond_kind spec).digits.digit b ≡ false
   no-bytes b = refl
 
-  mapped : {A : Type 0} (f : A → Cond) (L L' : List ℕ → A → Type 0) (R R' : Reader A) → Pair (cond_kind spec) L L' R R' → (Q Q' : Reader Cond) → ((text : List ℕ) → Q text ≡ as_value f (R text)) → ((text : List ℕ) → Q' text ≡ as_value f (R' text)) → Pair (cond_kind spec) (Image f L) (Image f L') Q Q'
+  mapped : {A : Type 0} (f : A → Cond) (L L' : List ℕ → A → Type 0) (R R' : Reader A) → Pair (cond_kind spec) L L' R R' → (Q Q' : Reader Cond) → ((text : List ℕ) → Q text ≡ valued f (R text)) → ((text : List ℕ) → Q' text ≡ valued f (R' text)) → Pair (cond_kind spec) (Image f L) (Image f L') Q Q'
   mapped f L L' R R' p Q Q' same same' = pair_map (cond_kind spec) f L L' R R' p (Image f L) (Image f L') (λ t x l. image l) (of_image f L) (λ t x l. image l) (of_image f L') Q Q' same same'
 
   abbrev V : List ℕ → Range → Type 0

@@ -9,7 +9,7 @@ use Rattle.plan_types.specs.declared.condition.Cond.{Cond}
 use Rattle.plan_types.specs.declared.condition.Cond.TheVariants.{Always, Not, And, Or}
 use Rattle.plan_types.specs.Bytes.{is_blank, begins_with}
 use Rattle.text_grammar.specs.Parts.{Led, led, Terms, one}
-use Rattle.text_grammar.specs.Reading.{skip_blanks, byte_after, terms_at}
+use Rattle.text_grammar.specs.Reading.{skip_blanks, byte_after, terms_at, valued}
 use Rattle.text_grammar.proofs.TextKind.{miss}
 use Rattle.text_grammar.proofs.Fronts.{Reader, errs, Apart, Read, Dead, Like, Fault, wider, fault_up, fault_up_like}
 use Rattle.text_grammar.proofs.Spaces.{Never, never_starts, begins_like, byte_gone, Begun, begun, skip_over, cut}
@@ -19,7 +19,7 @@ use Rattle.text_grammar.proofs.Operands.{Rules}
 use Rattle.text_grammar.proofs.TwoChains.{AfterTerms, close_follows, after_instead, terms_rules, wider_terms, terms_fault}
 use Rattle.text_grammar.proofs.Letters.{Reads, Pair}
 use Rattle.condition_text.specs.Grammar.{Versions, WiderVersions, Atom, always, Factor, atom, negated, opened, Opened}
-use Rattle.condition_text.specs.Reading.{as_value, atom_at, factor_at, opened_at, cond_tail, condition_at}
+use Rattle.condition_text.specs.Reading.{atom_at, factor_at, opened_at, cond_tail, condition_at}
 use Rattle.condition_text.proofs.CondKind.{no_bytes, cond_kind, ends_none, apart, no_digit_stands}
 use Rattle.condition_text.proofs.CondTails.{wide_tail}
 use Rattle.condition_text.proofs.Atoms.{no_atom, atom_pair}
@@ -31,15 +31,15 @@ module _ (P : Reader Range) (Q : Reader Cond) (spec : Spec) where
   unfolding factor_at
   at_paren rest = refl
 
-  at_bang : (rest : List ℕ) → factor_at P Q (33 ∷ rest) ≡ as_value Not (Q (skip_blanks rest))
+  at_bang : (rest : List ℕ) → factor_at P Q (33 ∷ rest) ≡ valued Not (Q (skip_blanks rest))
   unfolding factor_at
   at_bang rest = refl
 
   at_atom : (text : List ℕ) → begins_with 40 text ≡ false → begins_with 33 text ≡ false → factor_at P Q text ≡ atom_at P text
   unfolding factor_at
   at_atom text paren bang =
-      ap (λ (o : Option (List ℕ)). elim o [ Some rest ↦ closing (miss (cond_kind spec)) 41 (terms_at And Or (miss (cond_kind spec)) Q) rest | None ↦ elim (byte_after 33 text) [ Some rest ↦ as_value Not (Q (skip_blanks rest)) | None ↦ atom_at P text ] ]) (byte_gone 40 text paren)
-      ∙ ap (λ (o : Option (List ℕ)). elim o [ Some rest ↦ as_value Not (Q (skip_blanks rest)) | None ↦ atom_at P text ]) (byte_gone 33 text bang)
+      ap (λ (o : Option (List ℕ)). elim o [ Some rest ↦ closing (miss (cond_kind spec)) 41 (terms_at And Or (miss (cond_kind spec)) Q) rest | None ↦ elim (byte_after 33 text) [ Some rest ↦ valued Not (Q (skip_blanks rest)) | None ↦ atom_at P text ] ]) (byte_gone 40 text paren)
+      ∙ ap (λ (o : Option (List ℕ)). elim o [ Some rest ↦ valued Not (Q (skip_blanks rest)) | None ↦ atom_at P text ]) (byte_gone 33 text bang)
 
 enclosed : {T : List ℕ → Range → Type 0} {O : List ℕ → Cond → Type 0} {text : List ℕ} {c : Cond} → Closed 41 (Terms And Or O) text c → Factor T O (40 ∷ text) c
 enclosed {T = T} {O = O} {c = c} (closed text after is all) = subst (λ t. Factor T O (40 ∷ t) c) (append_assoc text after (41 ∷ [])) (opened text after is all)
@@ -62,9 +62,9 @@ module _ (T : List ℕ → Range → Type 0) where
   not_bang : (text : List ℕ) (c : Cond) (rest : List ℕ) → Atom T text c → begins_with 33 (text ++ rest) ≡ false
   not_bang text c rest a = never_starts (λ b. b == 33) (Atom T) (no_atom T (λ b. b == 33) refl refl refl refl refl refl refl refl refl refl) text c a rest
 
-as_value_ok : (o : Result (Cond × List ℕ) Cause) (p : Cond × List ℕ) → as_value Not o ≡ Ok p → (q : Cond × List ℕ) × (o ≡ Ok q) × (p ≡ (Not q.0, q.1))
-as_value_ok (Ok q) p h = (q, refl, cc h)
-as_value_ok (Err cause) p h = absurd (cc h)
+valued_ok : (o : Result (Cond × List ℕ) Cause) (p : Cond × List ℕ) → valued Not o ≡ Ok p → (q : Cond × List ℕ) × (o ≡ Ok q) × (p ≡ (Not q.0, q.1))
+valued_ok (Ok q) p h = (q, refl, cc h)
+valued_ok (Err cause) p h = absurd (cc h)
 
 module _ (spec : Spec) (T : List ℕ → Range → Type 0) (P : Reader Range) (atoms : Reads no_bytes (Atom T) (atom_at P)) (O : List ℕ → Cond → Type 0) (Q : Reader Cond) (o : Reads no_bytes O Q) (unblank : Never is_blank O) where
   abbrev rules : Rules (Terms And Or O) (AfterTerms (cond_kind spec) refl refl refl) (terms_at And Or (miss (cond_kind spec)) Q)
@@ -77,8 +77,8 @@ module _ (spec : Spec) (T : List ℕ → Range → Type 0) (P : Reader Range) (a
       reads text c rest (atom a) e = at_atom P Q spec (text ++ rest) (not_paren T text c rest a) (not_bang T text c rest a) ∙ atoms.reads text c rest a e
       reads text c rest (negated blanks {text = t} {c = d} are l) e =
           at_bang P Q spec ((blanks ++ t) ++ rest)
-          ∙ ap (λ u. as_value Not (Q u)) (ap skip_blanks (append_assoc blanks t rest) ∙ skip_over blanks (t ++ rest) are (never_starts is_blank O unblank t d l rest))
-          ∙ ap (as_value Not) (o.reads t d rest l (apart t rest))
+          ∙ ap (λ u. valued Not (Q u)) (ap skip_blanks (append_assoc blanks t rest) ∙ skip_over blanks (t ++ rest) are (never_starts is_blank O unblank t d l rest))
+          ∙ ap (valued Not) (o.reads t d rest l (apart t rest))
       reads text c rest (opened t after l are) e =
           ap (λ u. factor_at P Q (40 ∷ (u ++ rest))) (append_assoc t after (41 ∷ []))
           ∙ at_paren P Q spec ((t ++ (after ++ 41 ∷ [])) ++ rest)
@@ -93,7 +93,7 @@ module _ (spec : Spec) (T : List ℕ → Range → Type 0) (P : Reader Range) (a
               let got = closed_read (cond_kind spec) 41 refl refl (Terms And Or O) (AfterTerms (cond_kind spec) refl refl refl) (terms_at And Or (miss (cond_kind spec)) Q) rules.read p.0 c rest (sym (at_paren P Q spec p.0) ∙ sym (ap (factor_at P Q) p.1) ∙ h) in
               record { front = 40 ∷ got.front; whole = p.1 ∙ ap (λ t. 40 ∷ t) got.whole; is = enclosed got.is; apart = apart (40 ∷ got.front) rest }
           by (inr other) (inl p) =
-              let v = as_value_ok (Q (skip_blanks p.0)) (c, rest) (sym (at_bang P Q spec p.0) ∙ sym (ap (factor_at P Q) p.1) ∙ h) in
+              let v = valued_ok (Q (skip_blanks p.0)) (c, rest) (sym (at_bang P Q spec p.0) ∙ sym (ap (factor_at P Q) p.1) ∙ h) in
               let got = o.read (skip_blanks p.0) v.0.0 v.0.1 v.1 in
               let b = cut p.0 in
               let left : v.0.1 ≡ rest = sym (ap (λ r. r.1) v.2) in
@@ -187,7 +187,7 @@ module _ (spec : Spec) (n : ℕ) where
   Parens m = (text : List ℕ) (cause : Cause) → closing (miss (cond_kind spec)) 41 (terms_at And Or (miss (cond_kind spec)) (opened_at P m)) text ≡ Err cause → FactorFault m (40 ∷ text) cause
 
   abbrev Bangs : ℕ → Type 0
-  Bangs m = (text : List ℕ) (cause : Cause) → as_value Not (opened_at P m (skip_blanks text)) ≡ Err cause → FactorFault m (33 ∷ text) cause
+  Bangs m = (text : List ℕ) (cause : Cause) → valued Not (opened_at P m (skip_blanks text)) ≡ Err cause → FactorFault m (33 ∷ text) cause
 
   factor_fault : (m : ℕ) → Parens m → Bangs m → (text : List ℕ) (cause : Cause) → F m text ≡ Err cause → FactorFault m text cause
   factor_fault m parens bangs text cause h = by (begun 40 text) (begun 33 text)
@@ -229,7 +229,7 @@ module _ (spec : Spec) (n : ℕ) where
 
   bang_zero : Bangs zero
   bang_zero text cause h =
-      let is : TooDeep ≡ cause = cc (h, ap (as_value Not) (deep (skip_blanks text))) in
+      let is : TooDeep ≡ cause = cc (h, ap (valued Not) (deep (skip_blanks text))) in
       subst (FactorFault zero (33 ∷ text)) is
       (record {
         front = [];
@@ -239,7 +239,7 @@ module _ (spec : Spec) (n : ℕ) where
         value = Always;
         goes_on = atom (always refl);
         why = wider 33 text refl refl (no_digit_stands (F' zero) []) (codes "true") (Not Always) (negated [] refl (true_opened V' zero))
-            (still_deep 33 text (λ again. ap errs (at_bang P (opened_at P zero) spec again ∙ ap (as_value Not) (deep (skip_blanks again)))));
+            (still_deep 33 text (λ again. ap errs (at_bang P (opened_at P zero) spec again ∙ ap (valued Not) (deep (skip_blanks again)))));
       })
 
   -- ---- what is opened fails
@@ -287,11 +287,11 @@ module _ (spec : Spec) (n : ℕ) where
             (terms_fault (cond_kind spec) refl refl refl And Or O O' (wider_opened (suc m)) Q Q' (opened_unblank V (suc m)) (opened_unblank V' (suc (suc m))) o-reads.reads o-reads.read o-reads'.reads o-reads'.read
             (codes "true") Always (true_opened V m) fault) text cause h
 
-    negated_errs : (o : Result (Cond × List ℕ) Cause) → errs o ≡ true → errs (as_value Not o) ≡ true
+    negated_errs : (o : Result (Cond × List ℕ) Cause) → errs o ≡ true → errs (valued Not o) ≡ true
     negated_errs (Ok p) h = h
     negated_errs (Err cause) h = refl
 
-    negated_err : (o : Result (Cond × List ℕ) Cause) (cause : Cause) → as_value Not o ≡ Err cause → o ≡ Err cause
+    negated_err : (o : Result (Cond × List ℕ) Cause) (cause : Cause) → valued Not o ≡ Err cause → o ≡ Err cause
     negated_err (Ok p) cause h = absurd (cc h)
     negated_err (Err why) cause h = let is : why ≡ cause = cc h in ap Err is
 

@@ -9,7 +9,7 @@ use Rattle.plan_types.specs.declared.range.Range.TheVariants.{Any}
 use Rattle.plan_types.specs.declared.range.Spec.{Spec}
 use Rattle.plan_types.specs.declared.refusal.Cause.{Cause}
 use Rattle.plan_types.specs.declared.refusal.Cause.TheVariants.{NotUtf8, StrayBrace, UnclosedBrace, BadName, TooDeep, BadVersion, BadRange, NeedsVersion, BadCond, BadDepend, BadConstraint, MissingField, WrongCabalVersion, BadField, DuplicateName, UnknownStanza, UnknownFlag, ImportNotFirst, ElseWithoutIf, UnknownComponent, ComponentCycle, TooManyPaths, Unsupported, NoMatch, TwoCabalFiles, NoPackages, TooLarge, WrongPlace, BadRecord, DuplicateLocal, DuplicateUnit, TooMany, BadEvent}
-use Rattle.text_grammar.specs.Reading.{◌>>=◌, skip_blanks, byte_after, byte_due, letter_after, word_due, terms_at}
+use Rattle.text_grammar.specs.Reading.{◌>>=◌, skip_blanks, byte_after, byte_due, letter_after, word_due, terms_at, valued}
 use Rattle.version_range.specs.Read.{range_in, inside, missing}
 use Rattle.conditionals.specs.Environment.{system_of}
 
@@ -100,26 +100,21 @@ cond_tail spec n text = told (tail_at spec n text)
 abbrev pub compiler_at : (List ℕ → Result (Range × List ℕ) Cause) → List ℕ → Result ((List ℕ × Range) × List ℕ) Cause
 compiler_at tail text = name_at is_letter_or_digit is_letter_or_digit text >>= λ p. tail p.1 >>= λ q. Ok ((str_to_ascii_lowercase p.0, q.0), q.1)
 
--- what is read, as another value
-abbrev pub as_value : {A B : Type 0} → (A → B) → Result (A × List ℕ) Cause → Result (B × List ℕ) Cause
-as_value f (Ok p) = Ok (f p.0, p.1)
-as_value f (Err cause) = Err cause
-
 -- behind `flag`: the name of a flag
 abbrev pub flag_at : List ℕ → Result (Cond × List ℕ) Cause
-flag_at text = as_value (λ x. Flag (str_to_ascii_lowercase x)) (named_at begins_flag is_component_byte text)
+flag_at text = valued (λ x. Flag (str_to_ascii_lowercase x)) (named_at begins_flag is_component_byte text)
 
 -- behind `os`: the name of a system
 abbrev pub os_at : List ℕ → Result (Cond × List ℕ) Cause
-os_at text = as_value (λ x. Os (system_of (str_to_ascii_lowercase x))) (named_at is_component_byte is_component_byte text)
+os_at text = valued (λ x. Os (system_of (str_to_ascii_lowercase x))) (named_at is_component_byte is_component_byte text)
 
 -- behind `arch`: the name of a processor
 abbrev pub arch_at : List ℕ → Result (Cond × List ℕ) Cause
-arch_at text = as_value (λ x. Arch (str_to_ascii_lowercase x)) (named_at is_component_byte is_component_byte text)
+arch_at text = valued (λ x. Arch (str_to_ascii_lowercase x)) (named_at is_component_byte is_component_byte text)
 
 -- behind `impl`: a compiler and its versions
 abbrev pub impl_at : (List ℕ → Result (Range × List ℕ) Cause) → List ℕ → Result (Cond × List ℕ) Cause
-impl_at tail text = as_value (λ c. Impl c.0 c.1) (argument (compiler_at tail) text)
+impl_at tail text = valued (λ c. Impl c.0 c.1) (argument (compiler_at tail) text)
 
 -- the letters of a word, and what stands behind it
 abbrev pub word_at : List ℕ → (List ℕ → Result (Cond × List ℕ) Cause) → List ℕ → Result (Cond × List ℕ) Cause
@@ -150,7 +145,7 @@ unfoldable pub factor_at : (List ℕ → Result (Range × List ℕ) Cause) → (
 factor_at tail opened text =
     elim (byte_after 40 text) [
       | Some rest ↦ terms_at And Or bad opened rest >>= closed
-      | None ↦ elim (byte_after 33 text) [ Some rest ↦ as_value Not (opened (skip_blanks rest)) | None ↦ atom_at tail text ]
+      | None ↦ elim (byte_after 33 text) [ Some rest ↦ valued Not (opened (skip_blanks rest)) | None ↦ atom_at tail text ]
     ]
 
 -- where so many may still be opened

@@ -15,9 +15,6 @@ use Rattle.conditionals.specs.Paths.{Path, is_same, agree, is_consistent, kept_o
 use Rattle.plan_types.specs.Bytes.{same_text}
 use Rattle.common_laws.specs.Small.{same-is}
 
-pub is-same : (a b : List ℕ) → a ≡ b → same_text a b ≡ true
-is-same a b e = (bytes_decides a b).1 e
-
 some_is : (a b : Bool) → Some a ≡ Some b → a ≡ b
 some_is a b e = cc e
 
@@ -39,7 +36,7 @@ apart : (a b c : List ℕ) → same_text a b ≡ false → same_text a c ≡ tru
 apart a b c other e = by (same_text b c) refl
   where
     by : (r : Bool) → same_text b c ≡ r → r ≡ false
-    by true f = absurd (cc (other, is-same a b (same-is a c e ∙ sym (same-is b c f))))
+    by true f = absurd (cc (other, (bytes_decides a b).1 (same-is a c e ∙ sym (same-is b c f))))
     by false f = refl
 
 -- ---- a flag that wasn't set
@@ -108,7 +105,7 @@ agrees_same (u ∷ path) t s e o all = (λ i. first (same_text t.name u.name) re
     first : (b : Bool) → same_text t.name u.name ≡ b → (r : Bool) → same_text u.name s.name ≡ r → cond b (is_same t.on u.on) true ≡ true → cond r (is_same u.on s.on) true ≡ true
     first b f false g one = refl
     first true f true g one = is_same_three t.on u.on s.on one o
-    first false f true g one = absurd (cc (f, is-same t.name u.name (same-is t.name s.name e ∙ sym (same-is u.name s.name g))))
+    first false f true g one = absurd (cc (f, (bytes_decides t.name u.name).1 (same-is t.name s.name e ∙ sym (same-is u.name s.name g))))
 
 pub agrees_old : (path : Path) (s : FlagSet) (on : Bool) → flag_in path s.name ≡ Some on → is_same on s.on ≡ true → is_consistent path ≡ true → list_all (λ t. agree t s) path ≡ true
 agrees_old [] s on some is all = refl

@@ -4,11 +4,9 @@ use Rattle.std.proofs.Math.Nat.{suc-mul}
 use Rattle.plan_types.specs.declared.condition.Cond.{Cond}
 use Rattle.plan_types.specs.declared.condition.Env.{Env}
 use Rattle.plan_types.specs.declared.condition.Cond.TheVariants.{And, Or}
+use Rattle.common_laws.specs.Small.{capped}
 use Rattle.conditionals.specs.Paths.{Path, followed, paths_of}
 use Rattle.conditionals.proofs.Layers.{paths_And, paths_Or}
-
-abbrev pub capped : ℕ → ℕ
-capped n = min n (2 ^ 64 - 1)
 
 over : (m x y z : ℕ) → m ≤ x → 1 ≤ y → min (m * y + z) m ≡ min (x * y + z) m
 over m x y z h k = grind arith

@@ -81,7 +81,8 @@ impl Constraints {
     ) -> Result<Cuts, NoMemory>
         requires { has_versions range.now ≡ true }
         ensures { (project : Project) (names : NameTable) → StandsFor project names self.now →
-            IfOk result (λ cuts. Relaxes (relaxes project.newer owner.now dep.now) (relaxes project.older owner.now dep.now) (members range.now) (inside cuts)) }
+            IfOk result (λ cuts. Relaxes (relaxes project.newer owner.now dep.now) (relaxes project.older owner.now dep.now)
+                (members range.now) (inside cuts)) }
     {
         let newer = self.newer.relaxes(owner, dep);
         let older = self.older.relaxes(owner, dep);

@@ -1,8 +1,8 @@
 -- What is known of an outcome under a premise that holds.
-use Rattle.std.proofs.Common.{ℕ, IfOk}
+use Rattle.std.proofs.Common.{ℕ}
 use Rattle.std.specs.Prelude.{IfErr}
 use Rattle.std.specs.declared.result.Result.{Result}
-use Rattle.std.specs.declared.result.Result.TheVariants.{Ok, Err}
+use Rattle.std.proofs.lemmas.Result.{IfErr-weaker}
 use Rattle.plan_types.specs.Refusal.{RefusesAt}
 use Rattle.plan_types.specs.declared.refusal.Cause.{Cause}
 use Rattle.plan_types.specs.declared.refusal.Fault.{Fault}
@@ -12,10 +12,5 @@ refused : (f : Fault) (P Q : ℕ → Cause → Type 0) → ((line : ℕ) (cause 
 refused fault.NoMemory P Q turn h = tt
 refused (fault.At line cause) P Q turn h = turn line cause h
 
-pub told-ok : {A : Type 0} (r : Result A Fault) (P Q : A → Type 0) → ((x : A) → P x → Q x) → IfOk r P → IfOk r Q
-told-ok (Ok x) P Q turn h = turn x h
-told-ok (Err f) P Q turn h = tt
-
 pub told-err : {A : Type 0} (r : Result A Fault) (P Q : ℕ → Cause → Type 0) → ((line : ℕ) (cause : Cause) → P line cause → Q line cause) → IfErr r (RefusesAt P) → IfErr r (RefusesAt Q)
-told-err (Ok x) P Q turn h = tt
-told-err (Err f) P Q turn h = refused f P Q turn h
+told-err r P Q turn = IfErr-weaker r (RefusesAt P) (RefusesAt Q) (λ f. refused f P Q turn)

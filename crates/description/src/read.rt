@@ -14,7 +14,8 @@ ghost use Rattle.description.specs.Faults.{bad_visibility_at, faults};
 ghost use Rattle.stanza_imports.specs.Imports.{with_imports_replaced};
 ghost use Rattle.stanza_imports.specs.Parts.{bad_visibilities};
 ghost use Rattle.description.specs.FaultOrder.{IsOnly, first, is_at};
-ghost use Rattle.stanza_imports.specs.Bodies.{capped, Stand};
+ghost use Rattle.common_laws.specs.Small.{capped};
+ghost use Rattle.stanza_imports.specs.Bodies.{Stand};
 ghost use Rattle.package_declarations.specs.DeclaredNames.{Tells};
 ghost use Rattle.description.specs.ShownVersion.{shown_version};
 

@@ -11,7 +11,8 @@ use Rattle.plan_types.specs.declared.index.FlatDep.{FlatDep}
 use Rattle.conditionals.specs.Layers.{paths-And}
 use Rattle.conditionals.specs.Paths.{Path, paths_of, followed, clean_paths}
 use Rattle.conditionals.proofs.Joining.{cleaned_before_joined}
-use Rattle.conditionals.proofs.Numbers.{capped, capped_product, length_followed}
+use Rattle.common_laws.specs.Small.{capped}
+use Rattle.conditionals.proofs.Numbers.{capped_product, length_followed}
 use Rattle.flatten.specs.Demands.{Outward, outward_of, outward_in, paths_at, demands_at, flat_of, is_beyond, first_among}
 use Rattle.flatten.specs.Ways.{few_paths, ways_of}
 use Rattle.flatten.specs.declared.ways.Ways.{Ways}

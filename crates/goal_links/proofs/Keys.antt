@@ -11,17 +11,17 @@ use Rattle.qualified_goals.specs.contracts.variable.VarPartialEq.TheImpl.{eq-val
 use Rattle.qualified_goals.specs.contracts.variable.VarOrd.TheImpl.{cmp-value}
 use Rattle.qualified_goals.specs.contracts.variable.VarOrd.TheImpl.Laws.{matches_eq-law}
 use Rattle.qualified_goals.specs.declared.variable.Var.{Var}
-use Rattle.qualified_goals.specs.Variable.{var_cmp, same_var}
+use Rattle.qualified_goals.specs.Variable.{same_var}
 use Rattle.qualified_goals.specs.SameVariable.{same_var-is}
 use Rattle.choice_problem.specs.ConflictSet.{has}
 use Rattle.choice_problem.proofs.Sets.{same-back}
-use Rattle.choice_problem.proofs.Tables.{derived, equal-eq}
+use Rattle.choice_problem.proofs.Tables.{derived}
 use Rattle.goal_links.specs.Links.{no_var}
 
 eq-same : (v w : Var) → eq-value.it v w ≡ same_var w v
 eq-same v w =
     let by_order : eq-value.it v w ≡ is_eq (cmp-value.it v w) = matches_eq-law v w in
-    by_order ∙ ap is_eq (derived v w) ∙ equal-eq (var_cmp v w) ∙ same-back v w
+    by_order ∙ ap is_eq (derived v w) ∙ same-back v w
 
 pub found-has : (keys : List Var) (v : Var) → list_any (eq-value.it v) keys ≡ has keys v
 found-has [] v = refl

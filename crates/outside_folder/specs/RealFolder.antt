@@ -27,9 +27,12 @@ IsFaultOf error NoMemory = error_kind error ≡ kind.OutOfMemory
 IsFaultOf error Failed = error_kind error ≢ kind.OutOfMemory
 IsFaultOf error TooLarge = ⊥
 
--- the error says that there is nothing at the path
+-- The error says that there is nothing at the path: no such name, a file in place of a directory, a name that no file can
+-- have, or a link that leads back to itself.
 abbrev pub IsMissing : Error → Type 0
-IsMissing error = (error_kind error ≡ kind.NotFound) ⊎ (error_kind error ≡ kind.NotADirectory)
+IsMissing error =
+    (error_kind error ≡ kind.NotFound) ⊎ (error_kind error ≡ kind.NotADirectory)
+    ⊎ (error_kind error ≡ kind.InvalidFilename) ⊎ (error_kind error ≡ kind.FilesystemLoop)
 
 -- names by their texts, with one more
 abbrev pub with_name : List (Bytes × Bool) → Name → List (Bytes × Bool)

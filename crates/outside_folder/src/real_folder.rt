@@ -96,10 +96,17 @@ fn fault_of(error: &io::Error) -> FolderFault
     }
 }
 
+// A name that no file can have, and a link that leads back to itself, are those of nothing.
 fn is_missing(error: &io::Error) -> bool
     ensures { IsTrue result ↔ IsMissing error.now }
 {
-    matches!(error.kind(), ErrorKind::NotFound | ErrorKind::NotADirectory)
+    matches!(
+        error.kind(),
+        ErrorKind::NotFound
+            | ErrorKind::NotADirectory
+            | ErrorKind::InvalidFilename
+            | ErrorKind::FilesystemLoop
+    )
 }
 
 fn system_path(alloc: Global, root: &str, path: &str) -> Result<Text, NoMemory>

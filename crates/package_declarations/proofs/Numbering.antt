@@ -9,7 +9,7 @@ use Rattle.std.proofs.lemmas.List.Elements.{All-nil, All-cons, All-append, All-m
 use Rattle.plan_types.specs.declared.dependency.Dep.{Dep}
 use Rattle.plan_types.specs.declared.dependency.DepKind.TheVariants.{Library, Tool, Setup}
 use Rattle.plan_types.specs.declared.description.Component.{Component}
-use Rattle.component_cycle.specs.Cycle.{IsGraph}
+use Rattle.common_laws.specs.Graphs.{IsGraph}
 use Rattle.package_declarations.specs.Cycles.{number_in, targets, needs}
 use Rattle.package_declarations.specs.Declarations.{as_list}
 use Rattle.stanza_imports.specs.Names.{has, number_of, with_name}

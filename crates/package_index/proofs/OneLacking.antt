@@ -1,6 +1,6 @@
 -- Which units lack one is one.
 use Rattle.std.proofs.Common.{◌≡◌, ◌↔◌, ℕ, zero, suc, Bool, true, false, List, [], ◌∷◌, length, refl, sym, ◌∙◌, ap, arith}
-use Rattle.broken_units.specs.Leads.{IsMarked}
+use Rattle.common_laws.specs.Graphs.{IsMarked}
 use Rattle.index_assembly.specs.Lacks.{AreLacking}
 use Rattle.index_files.specs.declared.unit.Unit.{Unit}
 

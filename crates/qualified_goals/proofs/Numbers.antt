@@ -109,7 +109,7 @@ place-order R total xs sorted d i j hi hj = elim (cases_order i j) [
   ]
 ]
 
-package_cmp_total : IsTotalOrder package_cmp
+pub package_cmp_total : IsTotalOrder package_cmp
 package_cmp_total = then_total (on_total class_of nat_cmp_total) (on_total (λ (p : Package). p.name) nat_list_cmp_total)
 
 module _ (packages : List Package) (names : NameTable) (sorted : IsStrictlySortedBy package_cmp packages) (are : AreNumbers packages names) where

@@ -1,7 +1,7 @@
 -- The goal order is total.
 use Rattle.std.proofs.Common.{◌≡◌, ℕ, true, false, refl, sym, ap, ◌∙◌, subst}
 use Rattle.std.specs.Cmp.{IsTotalOrder}
-use Rattle.std.specs.Ordering.{nat_cmp, ordering_then, ordering_reverse, is_lt}
+use Rattle.std.specs.Ordering.{nat_cmp, ordering_then, ordering_reverse, is_eq, is_lt}
 use Rattle.std.specs.declared.cmp.Ordering.{Ordering}
 use Rattle.std.specs.declared.cmp.Ordering.TheVariants.{Less, Equal, Greater}
 use Rattle.std.proofs.lemmas.Bool.{false≢true}
@@ -11,7 +11,7 @@ use Rattle.qualified_goals.specs.declared.variable.Qual.TheVariants.{Top, Setup,
 use Rattle.qualified_goals.specs.declared.variable.Part.{Part}
 use Rattle.qualified_goals.specs.declared.variable.Part.TheVariants.{Package, Flag, Tests, Benches}
 use Rattle.qualified_goals.specs.declared.variable.Var.{Var}
-use Rattle.qualified_goals.specs.Variable.{qual_cmp, part_cmp, var_cmp, is_equal, is_before}
+use Rattle.qualified_goals.specs.Variable.{qual_cmp, part_cmp, var_cmp, is_before}
 use Rattle.qualified_goals.specs.SameVariable.{same_var-is}
 use Rattle.common_laws.specs.Small.{is-less}
 
@@ -125,7 +125,7 @@ reverse-lt Greater h = absurd (false≢true h)
 pub before-back : (v w : Var) → is_before v w ≡ true → is_before w v ≡ false
 before-back v w h = ap is_lt (var_cmp_total.antisymm w v) ∙ reverse-lt (var_cmp v w) h
 
-neither-equal : (o : Ordering) → is_lt o ≡ false → is_lt (ordering_reverse o) ≡ false → is_equal o ≡ true
+neither-equal : (o : Ordering) → is_lt o ≡ false → is_lt (ordering_reverse o) ≡ false → is_eq o ≡ true
 neither-equal Less h k = absurd (false≢true (sym h))
 neither-equal Equal h k = refl
 neither-equal Greater h k = absurd (false≢true (sym k))

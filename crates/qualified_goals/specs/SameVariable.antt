@@ -1,23 +1,23 @@
 -- Variables that compare alike are one.
 use Rattle.std.proofs.Common.{◌≡◌, ℕ, true, refl, ap, ◌∙◌}
-use Rattle.std.specs.Ordering.{nat_cmp, ordering_then, ordering_reverse}
+use Rattle.std.specs.Ordering.{nat_cmp, is_eq, ordering_then}
 use Rattle.std.specs.declared.cmp.Ordering.{Ordering}
 use Rattle.std.specs.declared.cmp.Ordering.TheVariants.{Less, Equal, Greater}
 use Rattle.std.proofs.lemmas.Bool.{false≢true}
-use Rattle.std.proofs.lemmas.Cmp.{nat_cmp_total}
+use Rattle.std.proofs.lemmas.Cmp.{nat_cmp_total, tied_itself}
 use Rattle.std.proofs.lemmas.Map.Lookups.{exact_unsigned}
 use Rattle.qualified_goals.specs.declared.variable.Qual.{Qual}
 use Rattle.qualified_goals.specs.declared.variable.Qual.TheVariants.{Top, Setup, Exe}
 use Rattle.qualified_goals.specs.declared.variable.Part.{Part}
 use Rattle.qualified_goals.specs.declared.variable.Part.TheVariants.{Package, Flag, Tests, Benches}
 use Rattle.qualified_goals.specs.declared.variable.Var.{Var}
-use Rattle.qualified_goals.specs.Variable.{qual_cmp, part_cmp, var_cmp, is_equal, same_var}
+use Rattle.qualified_goals.specs.Variable.{qual_cmp, part_cmp, var_cmp, same_var}
 use Rattle.common_laws.specs.Small.{second-equal}
 
-pub is_equal-is : (o : Ordering) → is_equal o ≡ true → o ≡ Equal
-is_equal-is Less h = absurd (false≢true h)
-is_equal-is Equal h = refl
-is_equal-is Greater h = absurd (false≢true h)
+pub is_eq-is : (o : Ordering) → is_eq o ≡ true → o ≡ Equal
+is_eq-is Less h = absurd (false≢true h)
+is_eq-is Equal h = refl
+is_eq-is Greater h = absurd (false≢true h)
 
 then-first : (a b : Ordering) → ordering_then a b ≡ Equal → a ≡ Equal
 then-first Less b h = h
@@ -56,7 +56,7 @@ part-is Benches Benches h = refl
 
 pub same_var-is : (v w : Var) → same_var v w ≡ true → v ≡ w
 same_var-is v w h =
-    let e = is_equal-is (var_cmp v w) h in
+    let e = is_eq-is (var_cmp v w) h in
     let q = qual-is v.qual w.qual (then-first (qual_cmp v.qual w.qual) (ordering_then (nat_cmp v.«package» w.«package») (part_cmp v.part w.part)) e) in
     let rest = second-equal (qual_cmp v.qual w.qual) (ordering_then (nat_cmp v.«package» w.«package») (part_cmp v.part w.part)) e in
     let n = exact_unsigned v.«package» w.«package» (then-first (nat_cmp v.«package» w.«package») (part_cmp v.part w.part) rest) in
@@ -65,27 +65,19 @@ same_var-is v w h =
     ∙ ap (λ x. record { qual = w.qual; «package» = x; part = v.part }) n
     ∙ ap (λ x. record { qual = w.qual; «package» = w.«package»; part = x }) r
 
-self-reverse : (o : Ordering) → o ≡ ordering_reverse o → o ≡ Equal
-self-reverse Less h = absurd (cc h)
-self-reverse Equal h = refl
-self-reverse Greater h = absurd (cc h)
-
-nat_cmp-refl : (n : ℕ) → nat_cmp n n ≡ Equal
-nat_cmp-refl n = self-reverse (nat_cmp n n) (nat_cmp_total.antisymm n n)
-
 pub qual-refl : (q : Qual) → qual_cmp q q ≡ Equal
 qual-refl Top = refl
-qual-refl (Setup p) = nat_cmp-refl p
-qual-refl (Exe p t) = ap (λ o. ordering_then o (nat_cmp t t)) (nat_cmp-refl p) ∙ nat_cmp-refl t
+qual-refl (Setup p) = tied_itself nat_cmp_total p
+qual-refl (Exe p t) = ap (λ o. ordering_then o (nat_cmp t t)) (tied_itself nat_cmp_total p) ∙ tied_itself nat_cmp_total t
 
 part-refl : (q : Part) → part_cmp q q ≡ Equal
 part-refl Package = refl
-part-refl (Flag n) = nat_cmp-refl n
+part-refl (Flag n) = tied_itself nat_cmp_total n
 part-refl Tests = refl
 part-refl Benches = refl
 
 pub same_var-refl : (v : Var) → same_var v v ≡ true
 same_var-refl v =
-    ap (λ o. is_equal (ordering_then o (ordering_then (nat_cmp v.«package» v.«package») (part_cmp v.part v.part)))) (qual-refl v.qual)
-    ∙ ap (λ o. is_equal (ordering_then o (part_cmp v.part v.part))) (nat_cmp-refl v.«package»)
-    ∙ ap is_equal (part-refl v.part)
+    ap (λ o. is_eq (ordering_then o (ordering_then (nat_cmp v.«package» v.«package») (part_cmp v.part v.part)))) (qual-refl v.qual)
+    ∙ ap (λ o. is_eq (ordering_then o (part_cmp v.part v.part))) (tied_itself nat_cmp_total v.«package»)
+    ∙ ap is_eq (part-refl v.part)

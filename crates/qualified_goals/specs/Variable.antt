@@ -1,6 +1,6 @@
 -- Variables, which are equal where they name the same part of a package under one qualifier.
 use Rattle.std.specs.Prelude.{Bool, true, false}
-use Rattle.std.specs.Ordering.{nat_cmp, ordering_then, is_lt}
+use Rattle.std.specs.Ordering.{nat_cmp, ordering_then, is_eq, is_lt}
 use Rattle.std.specs.declared.cmp.Ordering.{Ordering}
 use Rattle.std.specs.declared.cmp.Ordering.TheVariants.{Less, Equal, Greater}
 use Rattle.qualified_goals.specs.declared.variable.Qual.{Qual}
@@ -40,15 +40,9 @@ part_cmp Benches q = Greater
 abbrev pub var_cmp : Var → Var → Ordering
 var_cmp v w = ordering_then (qual_cmp v.qual w.qual) (ordering_then (nat_cmp v.package w.package) (part_cmp v.part w.part))
 
--- whether two things that were compared are equal
-abbrev pub is_equal : Ordering → Bool
-is_equal Less = false
-is_equal Equal = true
-is_equal Greater = false
-
 -- whether two variables are one
 abbrev pub same_var : Var → Var → Bool
-same_var v w = is_equal (var_cmp v w)
+same_var v w = is_eq (var_cmp v w)
 
 -- whether a variable comes before another one
 abbrev pub is_before : Var → Var → Bool

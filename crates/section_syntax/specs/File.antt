@@ -2,7 +2,7 @@
 use Rattle.std.specs.Prelude.{◌≡◌, ℕ, if◌then◌else◌, List, [], ◌∷◌, ◌++◌, map, Option, Some, None}
 use Rattle.std.specs.Char.{to_ascii_lowercase}
 use Rattle.plan_types.specs.Bytes.{joined_text}
-use Rattle.plan_types.specs.Name.{is_package_name}
+use Rattle.text_grammar.specs.Words.{package_name}
 use Rattle.plan_types.specs.declared.element.Element.{Element}
 use Rattle.plan_types.specs.declared.range.Spec.{Spec}
 use Rattle.plan_types.specs.declared.version.Version.{Version}
@@ -20,10 +20,6 @@ use Rattle.section_syntax.specs.declared.part.SectionKind.{SectionKind}
 use Rattle.section_syntax.specs.declared.part.SectionKind.TheVariants as kinds
 use Rattle.section_syntax.specs.declared.words.HeadWord.{HeadWord}
 use Rattle.section_syntax.specs.declared.words.HeadWord.TheVariants as words
-
--- the name of a package, where the text is one
-abbrev pub package_name : List ℕ → Option (List ℕ)
-package_name text = if is_package_name text then Some text else None
 
 -- what a field beside the sections says, where it is read
 abbrev pub HeadSays : HeadWord → List ℕ → Option Head → Type 0

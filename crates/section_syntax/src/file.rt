@@ -5,14 +5,15 @@ ghost use Rattle.plan_types.specs.Bytes.{joined_text};
 ghost use Rattle.section_syntax.specs.declared.part.Head.{Head};
 ghost use Rattle.section_syntax.specs.declared.part.HeadField.{HeadField};
 ghost use Rattle.section_syntax.specs.declared.part.Section.{Section};
-ghost use Rattle.section_syntax.specs.File.{HeadSays, Says, IsFile, SectionIs, headed, package_name, section_name};
+ghost use Rattle.section_syntax.specs.File.{HeadSays, Says, IsFile, SectionIs, headed, section_name};
 ghost use Rattle.cabal_lexer.specs.Tree.{Tree, in_front, tree_of};
 ghost use Rattle.section_syntax.specs.Words.{head_word, section_kind};
 
 use crate::items::{Inside, read_parts};
 use crate::part::{File, Head, HeadField, Section, SectionKind};
 use crate::words::{HeadWord, build_type, head_word, section_kind};
-use plan_types::{Element, List, NoMemory, Spec, Text, is_package_name, joined_text};
+use plan_types::{Element, List, NoMemory, Spec, Text, joined_text};
+use text_grammar::package_name;
 use std::alloc::Global;
 use version_range::version_of;
 
@@ -89,16 +90,6 @@ fn push_head(line: u32, head: Option<Head>, heads: &mut List<HeadField>) -> Resu
     match head {
         Some(head) => heads.push(HeadField { line, head }),
         None => Ok(()),
-    }
-}
-
-fn package_name(text: Text) -> Option<Text>
-    ensures { result ≡ package_name text }
-{
-    if is_package_name(text.as_bytes()) {
-        Some(text)
-    } else {
-        None
     }
 }
 

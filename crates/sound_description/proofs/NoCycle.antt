@@ -11,7 +11,8 @@ use Rattle.plan_types.specs.declared.dependency.LibName.{LibName}
 use Rattle.plan_types.specs.declared.dependency.LibName.TheVariants as lib
 use Rattle.plan_types.specs.declared.description.Component.{Component}
 use Rattle.plan_types.specs.declared.description.GuardedDep.{GuardedDep}
-use Rattle.component_cycle.specs.Cycle.{IsEdge, IsFirstOnCycle, IsPath, one, more}
+use Rattle.component_cycle.specs.Cycle.{IsFirstOnCycle}
+use Rattle.common_laws.specs.Graphs.{Needs, IsPath, last, more}
 use Rattle.package_declarations.specs.Cycles as numbers
 use Rattle.package_declarations.specs.Cycles.{number_in, targets}
 use Rattle.package_declarations.specs.Declarations.{as_list}
@@ -93,17 +94,17 @@ module _ (components : List Component) (once : IsDistinct same_text (map (λ d. 
           | false ↦ λ e. absurd (false≢true e)
         ]
 
-    edge : (from : Component) (i : ℕ) → IsAt components from i → needs from other ≡ true → IsEdge (numbers.needs components) i k
+    edge : (from : Component) (i : ℕ) → IsAt components from i → needs from other ≡ true → Needs (numbers.needs components) i k
     edge from i there e =
         let of = λ (c : Component). flat_map (λ (guarded : GuardedDep). targets components guarded.dep) c.deps in
         subst (λ ys. Contains ys k) (sym (get_or-map of components i from [] there.0 ∙ ap of there.1))
         (any-contains (λ (guarded : GuardedDep). guarded.dep.internal && asks_for guarded.dep.kind guarded.dep other) (λ guarded. targets components guarded.dep) k (λ guarded h. one-dep guarded.dep h) from.deps e)
 
-  path : (from to : Component) → Leads components from to → (i j : ℕ) → IsAt components from i → IsAt components to j → IsPath (numbers.needs components) i j
-  path a b (at_once from to there e) i j p q = one (edge to j q from i p e)
+  path : (from to : Component) → Leads components from to → (i j : ℕ) → IsAt components from i → IsAt components to j → IsPath (Needs (numbers.needs components)) i j
+  path a b (at_once from to there e) i j p q = last (edge to j q from i p e)
   path a b (by_way_of from next to there e way) i j p q =
       let at : IsAt components next there.0 = (there.1, there.2) in
-      more there.0 (edge next there.0 at from i p e) (path next to way there.0 j at q)
+      more {w = there.0} (edge next there.0 at from i p e) (path next to way there.0 j at q)
 
   pub no_cycle : IsFirstOnCycle (numbers.needs components) None → HasNoCycle components
   no_cycle none component there way =

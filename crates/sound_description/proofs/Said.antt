@@ -8,7 +8,8 @@ use Rattle.plan_types.specs.Name.{is_package_name}
 use Rattle.plan_types.specs.declared.range.Spec.{Spec}
 use Rattle.plan_types.specs.declared.version.Version.{Version}
 use Rattle.version_range.specs.Version.{is_version, IsVersionOf}
-use Rattle.section_syntax.specs.File.{package_name, HeadSays, headed, SectionIs, Says}
+use Rattle.text_grammar.specs.Words.{package_name}
+use Rattle.section_syntax.specs.File.{HeadSays, headed, SectionIs, Says}
 use Rattle.section_syntax.specs.Items.{AreParts}
 use Rattle.cabal_lexer.specs.Tree.{Tree, end, field, section}
 use Rattle.section_syntax.specs.Words.{head_word, section_kind}

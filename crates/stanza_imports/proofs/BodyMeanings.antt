@@ -23,14 +23,12 @@ use Rattle.stanza_imports.proofs.FirstLines.{first_line-append}
 use Rattle.stanza_imports.proofs.StanzaLookups.{by_number, by_none}
 use Rattle.stanza_imports.proofs.BodyTurns.{told_at, in_front, length-in_turn, in_turn-append}
 use Rattle.std.proofs.lemmas.Bool.{and_from, and_parts}
-use Rattle.stanza_imports.specs.Bodies.{step_parts, body_parts, table, first_bad, weight, capped, weight_of, summary}
+use Rattle.common_laws.specs.Small.{capped, capped-add}
+use Rattle.stanza_imports.specs.Bodies.{step_parts, body_parts, table, first_bad, weight, weight_of, summary}
 use Rattle.stanza_imports.specs.Parts.{bad_visibility}
 
 pub first_bad-append : (xs ys : List SectionPart) → first_bad (xs ++ ys) ≡ lesser (first_bad xs) (first_bad ys)
 first_bad-append xs ys = ap first_line (flat_map-append bad_visibility xs ys) ∙ first_line-append (flat_map bad_visibility xs) (flat_map bad_visibility ys)
-
-capped-add : (a b : ℕ) → capped (capped a + capped b) ≡ capped (a + b)
-capped-add a b = grind (arith, common_steps)
 
 weight-append : (xs ys : List SectionPart) → weight_of (xs ++ ys) ≡ capped (weight_of xs + weight_of ys)
 weight-append xs ys =

@@ -4,7 +4,7 @@ use Rattle.std.specs.Prelude.{sum, sum_by}
 use Rattle.std.proofs.lemmas.Grind.{common_steps}
 use Rattle.std.proofs.lemmas.List.Sums.{sum-map, sum_by_push}
 use Rattle.common_laws.specs.Lists.{map-map}
-use Rattle.stanza_imports.specs.Bodies.{capped}
+use Rattle.common_laws.specs.Small.{capped}
 
 capped-more : (a b : ℕ) → capped (capped a + b) ≡ capped (a + b)
 capped-more a b = grind (arith, common_steps)

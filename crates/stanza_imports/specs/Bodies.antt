@@ -41,10 +41,6 @@ first_bad parts = first_line (flat_map bad_visibility parts)
 abbrev pub weight : SectionPart → ℕ
 weight part = 1 + length (deps_said part.said)
 
--- as far as numbers go
-abbrev pub capped : ℕ → ℕ
-capped n = min n (2 ^ 64 - 1)
-
 -- what parts hold in all
 abbrev pub weight_of : List SectionPart → ℕ
 weight_of parts = capped (sum_by weight parts)

@@ -14,7 +14,8 @@ use Rattle.stanza_imports.specs.declared.stanzas.Built.{Built}
 use Rattle.stanza_imports.specs.declared.stanzas.Stanzas as tables
 use Rattle.stanza_imports.specs.declared.stanzas.Step.{Step}
 use Rattle.stanza_imports.specs.declared.stanzas.Summary.{Summary}
-use Rattle.stanza_imports.specs.Bodies.{body_parts, table, capped, summary, built_component, shown_in}
+use Rattle.common_laws.specs.Small.{capped}
+use Rattle.stanza_imports.specs.Bodies.{body_parts, table, summary, built_component, shown_in}
 use Rattle.stanza_imports.specs.declared.stanzas.Step.TheVariants as step
 
 -- what is known of these parts and those behind them

@@ -7,7 +7,8 @@ ghost use Rattle.stanza_imports.specs.Lines.{first_line, lesser};
 ghost use Rattle.stanza_imports.specs.Imports.{under, with_imports_replaced};
 ghost use Rattle.stanza_imports.specs.KnownStanzas.{all_replaced, imported};
 ghost use Rattle.stanza_imports.specs.Standing.{Adds, Grows, IsBodyOf, IsMore, Knows, Means, Standing, joined, summary_under, bad_in};
-ghost use Rattle.stanza_imports.specs.Bodies.{body_parts, table, weight, capped, summary, total_weight, placed_part, Stand};
+ghost use Rattle.common_laws.specs.Small.{capped};
+ghost use Rattle.stanza_imports.specs.Bodies.{body_parts, table, weight, summary, total_weight, placed_part, Stand};
 ghost use Rattle.stanza_imports.specs.Walk.{left_parts, frames_parts, costs, left_cost, frames_cost};
 ghost use Rattle.stanza_imports.specs.Parts.{is_named_library, bad_visibility, bad_visibilities};
 
@@ -222,7 +223,8 @@ impl<'a> Stanzas<'a> {
     }
 }
 
-// The walk is a stack and no recursion, since stanzas may import one another to any depth. What is left of a body waits below the stanza that it imports.
+// The walk is a stack and no recursion, since stanzas may import one another to any depth. What is left of a body waits below the
+// stanza that it imports.
 fn go_on<'b, 'a>(
     alloc: Global,
     branches: List<Shared<Cond>>,

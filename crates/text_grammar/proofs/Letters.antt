@@ -5,7 +5,7 @@ use Rattle.std.specs.Char.{to_ascii_lowercase}
 use Rattle.std.specs.List.{list_all}
 use Rattle.std.proofs.lemmas.Bool.{false≢true, and_parts, eqb-true, eq-eqb}
 use Rattle.plan_types.specs.declared.refusal.Cause.{Cause}
-use Rattle.text_grammar.specs.Reading.{◌>>=◌, pass_after, is_letter, letter_after, word_due}
+use Rattle.text_grammar.specs.Reading.{◌>>=◌, pass_after, is_letter, letter_after, word_due, valued}
 use Rattle.text_grammar.specs.Parts.{Worded, worded}
 use Rattle.plan_types.specs.Bytes.{is_blank}
 use Rattle.text_grammar.specs.Parts.{Led, led}
@@ -14,7 +14,7 @@ use Rattle.text_grammar.proofs.Fronts.{Reader, errs, Apart, ends_kept, apart_bef
 use Rattle.text_grammar.proofs.Spaces.{Never, never_starts, starts_same, NotDigits, starts_like}
 use Rattle.text_grammar.proofs.ChainParts.{ok_parts}
 use Rattle.text_grammar.proofs.Marks.{led_at, led_reads, led_read, led_fault}
-use Rattle.text_grammar.proofs.Steps.{Good, valued}
+use Rattle.text_grammar.proofs.Steps.{Good}
 
 -- ---- a language and a wider one
 

@@ -4,7 +4,7 @@ use Rattle.std.specs.Prelude.{◌==◌}
 use Rattle.std.proofs.lemmas.Bool.{false≢true}
 use Rattle.plan_types.specs.declared.refusal.Cause.{Cause}
 use Rattle.plan_types.specs.Bytes.{is_blank, begins_with}
-use Rattle.text_grammar.specs.Reading.{◌>>=◌, byte_after, byte_due}
+use Rattle.text_grammar.specs.Reading.{◌>>=◌, byte_after, byte_due, valued}
 use Rattle.text_grammar.specs.Parts.{Led}
 use Rattle.text_grammar.proofs.TextKind.{Kind, miss}
 use Rattle.text_grammar.proofs.Fronts.{Reader, errs, Apart, ends_kept, apart_before, apart_within, Read, Like, Fault, due_fault, fault_up_like}
@@ -143,10 +143,6 @@ good_done {A} kind x = record {
     reads text y rest done a = refl
 
 -- ---- the same texts, with other values
-
-abbrev pub valued : {A B : Type 0} → (A → B) → Result (A × List ℕ) Cause → Result (B × List ℕ) Cause
-valued f (Ok p) = Ok (f p.0, p.1)
-valued f (Err cause) = Err cause
 
 module _ {A B : Type 0} (kind : Kind) (L : List ℕ → A → Type 0) (R : Reader A) (g : Good kind L R) (f : A → B) (K : List ℕ → B → Type 0)
     (to : (text : List ℕ) (x : A) → L text x → K text (f x)) (from : (text : List ℕ) (y : B) → K text y → (x : A) × L text x × (y ≡ f x)) (Q : Reader B) (same : (text : List ℕ) → Q text ≡ valued f (R text)) where

@@ -48,6 +48,11 @@ byte_due missing byte text = elim (byte_after byte text) [ None ↦ Err (missing
 abbrev pub behind_twice : (List ℕ → Cause) → ℕ → List ℕ → Result (Option (List ℕ)) Cause
 behind_twice missing byte text = elim (byte_after byte (skip_blanks text)) [ None ↦ Ok None | Some more ↦ byte_due missing byte more >>= λ rest. Ok (Some rest) ]
 
+-- what is read, as another value
+abbrev pub valued : {A B : Type 0} → (A → B) → Result (A × List ℕ) Cause → Result (B × List ℕ) Cause
+valued f (Ok p) = Ok (f p.0, p.1)
+valued f (Err cause) = Err cause
+
 -- an operand behind them
 abbrev pub next_at : {A : Type 0} → (List ℕ → Result (A × List ℕ) Cause) → (List ℕ → Cause) → ℕ → List ℕ → Result (Option (A × List ℕ)) Cause
 next_at operand missing byte text = behind_twice missing byte text >>= λ found. elim found [ None ↦ Ok None | Some rest ↦ operand rest >>= λ p. Ok (Some p) ]

@@ -3,6 +3,7 @@ use Rattle.std.specs.Prelude.{ℕ, Bool, true, false, ◌||◌, ◌==◌, if◌t
 use Rattle.std.specs.Char.{to_ascii_lowercase}
 use Rattle.std.specs.List.{slice_split}
 use Rattle.plan_types.specs.Bytes.{is_blank, same_text}
+use Rattle.plan_types.specs.Name.{is_package_name}
 use Rattle.text_grammar.specs.declared.word.Between.{Between}
 use Rattle.text_grammar.specs.declared.word.Between.TheVariants.{Spaces, SpacesAndCommas, BlanksAndCommas}
 
@@ -24,6 +25,10 @@ words between text = filter is_filled (slice_split (is_between between) text)
 -- whether a text is this word, in any case
 abbrev pub is_word : List ℕ → List ℕ → Bool
 is_word text word = same_text (map to_ascii_lowercase text) word
+
+-- the name of a package, where a text is one
+abbrev pub package_name : List ℕ → Option (List ℕ)
+package_name text = if is_package_name text then Some text else None
 
 -- true or false, in any case
 abbrev pub boolean : List ℕ → Option Bool

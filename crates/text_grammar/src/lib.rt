@@ -8,4 +8,4 @@ mod bytes;
 mod word;
 
 pub use bytes::{begins_with, byte_after, skip_blanks};
-pub use word::{Between, boolean, is_between, words};
+pub use word::{Between, boolean, is_between, package_name, words};

@@ -1,9 +1,9 @@
 // Words that stand between separators, and words that stand as values.
 ghost use Rattle.std.specs.Prelude.{◌≡◌, ◌<◌, [], ◌∷◌, length, not, IfOk, MatchOption};
 ghost use Rattle.std.specs.List.{prefix_len};
-ghost use Rattle.text_grammar.specs.Words.{boolean, is_between, words};
+ghost use Rattle.text_grammar.specs.Words.{boolean, is_between, package_name, words};
 
-use plan_types::{List, NoMemory, Text};
+use plan_types::{List, NoMemory, Text, is_package_name};
 use std::alloc::Global;
 
 /// What stands between the words of a text.
@@ -23,6 +23,17 @@ pub fn boolean(text: &[u8]) -> Option<bool>
         Some(true)
     } else if text.eq_ignore_ascii_case(b"false") {
         Some(false)
+    } else {
+        None
+    }
+}
+
+/// A text that is a package's name.
+pub fn package_name(text: Text) -> Option<Text>
+    ensures { result ≡ package_name text }
+{
+    if is_package_name(text.as_bytes()) {
+        Some(text)
     } else {
         None
     }

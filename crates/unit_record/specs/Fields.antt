@@ -1,12 +1,11 @@
 -- What the fields of a record say.
 use Rattle.std.specs.Prelude.{◌≡◌, ℕ, if◌then◌else◌, List, [], ◌∷◌, codes, flat_map, Option, Some, None}
 use Rattle.plan_types.specs.Bytes.{joined_text, same_text}
-use Rattle.plan_types.specs.Name.{is_package_name}
 use Rattle.plan_types.specs.declared.element.Element.{Element, Element-F, fold-Element}
 use Rattle.plan_types.specs.declared.element.Element.TheOpen as element
 use Rattle.plan_types.specs.declared.version.Version.{Version}
 use Rattle.version_range.specs.Version.{IsVersionOf}
-use Rattle.text_grammar.specs.Words.{words}
+use Rattle.text_grammar.specs.Words.{package_name, words}
 use Rattle.text_grammar.specs.declared.word.Between.TheVariants.{BlanksAndCommas}
 use Rattle.unit_record.specs.Words.{is_unit_id}
 use Rattle.unit_record.specs.declared.field.FieldWord.{FieldWord}
@@ -42,10 +41,6 @@ field_word name =
     else if same_text name (codes "depends") then fields.Depends
     else if same_text name (codes "lib-name") then fields.LibName
     else fields.Unread
-
--- the name of a package, where a text is one
-abbrev pub package_name : List ℕ → Option (List ℕ)
-package_name text = if is_package_name text then Some text else None
 
 -- the id of a unit, where a text is one
 abbrev pub unit_id : List ℕ → Option (List ℕ)

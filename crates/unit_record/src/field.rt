@@ -1,12 +1,12 @@
 // A field of a record, and what it says.
 ghost use Rattle.std.specs.Prelude.{◌≡◌, IfOk};
 ghost use Rattle.plan_types.specs.Bytes.{joined_text};
-ghost use Rattle.unit_record.specs.Fields.{FieldSays, field_word, package_name, unit_id};
+ghost use Rattle.unit_record.specs.Fields.{FieldSays, field_word, unit_id};
 
 use crate::words::is_unit_id;
-use plan_types::{List, NoMemory, Text, Version, is_package_name, joined_text};
+use plan_types::{List, NoMemory, Text, Version, joined_text};
 use std::alloc::Global;
-use text_grammar::{Between, words};
+use text_grammar::{Between, package_name, words};
 use version_range::version_of;
 
 /// Fields that are read.
@@ -78,16 +78,6 @@ fn said_as(alloc: Global, word: FieldWord, values: &List<Text>) -> Result<Said, 
         }
         FieldWord::LibName => Ok(Said::LibName),
         FieldWord::Unread => Ok(Said::Unread),
-    }
-}
-
-fn package_name(text: Text) -> Option<Text>
-    ensures { result ≡ package_name text }
-{
-    if is_package_name(text.as_bytes()) {
-        Some(text)
-    } else {
-        None
     }
 }
 

@@ -7,6 +7,7 @@ use Rattle.std.specs.Ordering.{is_lt, is_le, is_gt, is_ge, is_eq, nat_cmp, order
 use Rattle.std.specs.List.{starts_with}
 use Rattle.std.proofs.lemmas.Bool.Decides.{nat_tests}
 use Rattle.std.proofs.lemmas.Bool.{false≢true}
+use Rattle.std.proofs.lemmas.Cmp.{nat_cmp_total, tied_itself}
 use Rattle.plan_types.specs.declared.version.Version.{Version}
 use Rattle.plan_types.specs.Members.{order, major_end}
 use Rattle.version_range.specs.Version.{IsVersion, IsNumber}
@@ -42,11 +43,8 @@ up_to (suc n ∷ vs) [] = grind (arith, nat_tests)
 up_to [] (x ∷ xs) = refl
 up_to (v ∷ vs) (x ∷ xs) = then_le (nat_cmp v x) (order vs (xs ++ 0 ∷ [])) (order vs xs) (up_to vs xs)
 
-same : (x : ℕ) → nat_cmp x x ≡ Equal
-same x = grind (arith, nat_tests)
-
 then_same : (x : ℕ) (o : Ordering) → ordering_then (nat_cmp x x) o ≡ o
-then_same x o = ap (λ p. ordering_then p o) (same x)
+then_same x o = ap (λ p. ordering_then p o) (tied_itself nat_cmp_total x)
 
 pub itself : (xs : List ℕ) → order xs xs ≡ Equal
 itself [] = refl

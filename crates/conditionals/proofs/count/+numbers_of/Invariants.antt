@@ -1,7 +1,7 @@
 use Rattle.std.proofs.Common.{◌≡◌, ◌≤◌, ◌+◌, ◌*◌, length, true, false}
 use Rattle.plan_types.specs.declared.condition.Cond.{size-Cond}
 use Rattle.conditionals.specs.Paths.{paths_of}
-use Rattle.conditionals.proofs.Numbers.{capped}
+use Rattle.common_laws.specs.Small.{capped}
 use Rattle.conditionals.proofs.count.+numbers_of.Given as goal
 
 abbrev pub decreases-numbers_of : goal.decreases-numbers_of

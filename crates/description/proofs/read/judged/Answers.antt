@@ -2,12 +2,13 @@ use Rattle.std.proofs.Common.{subst, sym, ◌∙◌}
 use Rattle.std.specs.declared.result.Result.TheVariants.{Ok, Err}
 use Rattle.description.specs.Description.{ComesTo}
 use Rattle.description.specs.FaultOrder.{is_at}
-use Rattle.description.proofs.TurnedOutcomes.{told-ok, told-err}
+use Rattle.std.proofs.lemmas.Result.{IfOk-weaker}
+use Rattle.description.proofs.TurnedOutcomes.{told-err}
 use Rattle.description.proofs.read.judged.Goals as goal
 
 pub returns-in-None-clause-description : goal.returns-in-None-clause-description
 returns-in-None-clause-description c =
-    told-ok c.faultless.result _ _ (λ d comes tells stand.
+    IfOk-weaker c.faultless.result _ _ (λ d comes tells stand.
     subst (λ o. ComesTo c.args.file.now c.args.digest o (Ok d)) (sym c.in-None.is ∙ c.in_ok-first.ensures tells stand) (comes tells stand)) c.faultless.ensures.description
 
 pub returns-in-None-clause-fault : goal.returns-in-None-clause-fault

@@ -1,5 +1,5 @@
 use Rattle.std.proofs.Common.{sym, ◌∙◌, subst}
-use Rattle.component_cycle.specs.Cycle.{IsGraph}
+use Rattle.common_laws.specs.Graphs.{IsGraph}
 use Rattle.package_declarations.proofs.Numbering.{needs-graph}
 use Rattle.package_declarations.proofs.cycle.first_circular.Goals as goal
 

@@ -4,7 +4,8 @@ use Rattle.std.proofs.lemmas.List.{take_all}
 use Rattle.stanza_imports.specs.declared.stanzas.Built.{Built}
 use Rattle.stanza_imports.proofs.Weights.{sum-shown, weight-push}
 use Rattle.common_laws.specs.Lists.{take_at}
-use Rattle.stanza_imports.specs.Bodies.{table, capped, Shown, built_component}
+use Rattle.common_laws.specs.Small.{capped}
+use Rattle.stanza_imports.specs.Bodies.{table, Shown, built_component}
 use Rattle.stanza_imports.proofs.stanzas.total_weight.Goals as goal
 
 pub loop-one-preserved : goal.loop-one-preserved

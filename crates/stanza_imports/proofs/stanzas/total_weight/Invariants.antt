@@ -1,7 +1,7 @@
 use Rattle.std.proofs.Common.{◌≡◌, take}
 use Rattle.std.specs.Prelude.{sum_by}
 use Rattle.stanza_imports.specs.declared.stanzas.Built.{Built}
-use Rattle.stanza_imports.specs.Bodies.{capped}
+use Rattle.common_laws.specs.Small.{capped}
 use Rattle.stanza_imports.proofs.stanzas.total_weight.Given as goal
 
 abbrev pub invariant-loop-one : goal.invariant-loop-one

@@ -1,9 +1,11 @@
 -- a step of each turn
 use Rattle.std.proofs.Common.{◌+◌, arith, sym, subst}
 use Rattle.std.specs.Prelude.{IfOk, OnErr}
+use Rattle.std.proofs.lemmas.Result.{IfOk-weaker}
+use Rattle.common_laws.specs.Small.{on-err}
 use Rattle.backjump.specs.declared.walk.Turn.TheVariants.{Look, Try, Back}
 use Rattle.backjump.specs.Walk.{Goes, Stops, load}
-use Rattle.backjump.proofs.Bounds.{ok-map, on-err, stops-still, goes-still}
+use Rattle.backjump.proofs.Bounds.{stops-still, goes-still}
 use Rattle.backjump.proofs.walk.Walk.advance.Goals as goal
 
 pub returns-in-Look-clause-ok : goal.returns-in-Look-clause-ok
@@ -11,7 +13,7 @@ returns-in-Look-clause-ok g c =
     let p = g.C.Choices.problem c.args.choices.now in
     let w = c.args.self.now in
     subst (λ turn. IfOk c.look.result (Goes p c.args.limit w c.look.new.self turn c.args.steps.now c.args.steps.now)) (sym c.in-Look.is)
-    (ok-map c.look.result _ (Goes p c.args.limit w c.look.new.self Look c.args.steps.now c.args.steps.now)
+    (IfOk-weaker c.look.result _ (Goes p c.args.limit w c.look.new.self Look c.args.steps.now c.args.steps.now)
     (λ step h visited at. goes-still p c.args.limit w c.look.new.self Look visited (load w Look) c.args.steps.now step (omega arith) (h visited at))
     c.look.ensures)
 
@@ -28,7 +30,7 @@ returns-in-Back-clause-ok g c =
     let w = c.args.self.now in
     let set = c.in-Back.set in
     subst (λ turn. IfOk c.fall.result (Goes p c.args.limit w c.fall.new.self turn c.args.steps.now c.args.steps.now)) (sym c.in-Back.is)
-    (ok-map c.fall.result _ (Goes p c.args.limit w c.fall.new.self (Back set) c.args.steps.now c.args.steps.now)
+    (IfOk-weaker c.fall.result _ (Goes p c.args.limit w c.fall.new.self (Back set) c.args.steps.now c.args.steps.now)
     (λ step h visited at. goes-still p c.args.limit w c.fall.new.self (Back set) visited (load w Try + 1) c.args.steps.now step (omega arith) (h p c.args.limit visited at))
     c.fall.ensures)
 

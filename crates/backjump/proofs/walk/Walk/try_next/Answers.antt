@@ -1,9 +1,11 @@
 -- the last node gives a value to choose, or has none left
 use Rattle.std.proofs.Common.{◌+◌, arith}
+use Rattle.std.proofs.lemmas.Result.{IfOk-weaker}
+use Rattle.common_laws.specs.Small.{on-err}
 use Rattle.backjump.specs.declared.walk.Turn.TheVariants.{Try}
 use Rattle.backjump.specs.Walk.{Goes, Stops, load}
 use Rattle.backjump.proofs.Moves.{with_tree, try-none, try-some}
-use Rattle.backjump.proofs.Bounds.{ok-map, on-err, value-within, stops-still, goes-still, goes-tried, same-length, same-length-none}
+use Rattle.backjump.proofs.Bounds.{value-within, stops-still, goes-still, goes-tried, same-length, same-length-none}
 use Rattle.backjump.proofs.walk.Walk.try_next.Goals as goal
 
 pub choose-requires : goal.choose-requires
@@ -16,7 +18,7 @@ returns-in-None-clause-ok g c =
     let p = g.C.Choices.problem c.args.choices.now in
     let w = c.args.self.now in
     let tree = c.next_value.new.self in
-    ok-map c.exhaust.result _ (Goes p c.args.limit w c.exhaust.new.self Try c.args.steps.now c.args.steps.now)
+    IfOk-weaker c.exhaust.result _ (Goes p c.args.limit w c.exhaust.new.self Try c.args.steps.now c.args.steps.now)
     (λ step h visited at.
     goes-still p c.args.limit w c.exhaust.new.self Try visited (load (with_tree w tree) Try) c.args.steps.now step
     (omega (arith, same-length-none p c.args.limit w visited tree c.in-None.ensures at))
@@ -35,7 +37,7 @@ returns-in-Some-clause-ok g c =
     let w = c.args.self.now in
     let n = c.in-Some.value in
     let tree = c.next_value.new.self in
-    ok-map c.choose.result _ (Goes p c.args.limit w c.choose.new.self Try c.args.steps.now c.choose.new.steps)
+    IfOk-weaker c.choose.result _ (Goes p c.args.limit w c.choose.new.self Try c.args.steps.now c.choose.new.steps)
     (λ step h visited at.
     goes-tried p c.args.limit w c.choose.new.self visited (4 + load (with_tree w tree) Try) c.args.steps.now c.choose.new.steps step
     (omega (arith, same-length p c.args.limit w visited n tree c.in-Some.ensures at)) c.choose.ensures.ticks

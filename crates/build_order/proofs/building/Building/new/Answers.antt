@@ -2,7 +2,8 @@ use Rattle.std.proofs.Common.{◌≤◌, ◌+◌, ℕ, List, inl, inr, ⊎_elim,
 use Rattle.std.specs.Prelude.{Contains}
 use Rattle.std.proofs.lemmas.Bool.{cases_eq}
 use Rattle.build_order.specs.Building.{NoNode}
-use Rattle.build_order.proofs.Kept.{same, begins, settled, no_item}
+use Rattle.common_laws.specs.Lists.{contains-none}
+use Rattle.build_order.proofs.Kept.{same, begins, settled}
 use Rattle.build_order.proofs.building.Building.new.Goals as goal
 
 pub loop-node-init : goal.loop-node-init
@@ -20,7 +21,7 @@ loop-node-preserved c =
     let n = c.loop-node.node in
     record {
       sound = settled c.args.needs.now (λ u. n ≤ u) (λ u. n + 1 ≤ u) c.loop-node.building c.settle.new.self n 0 c.requires inv.sound
-          (record { within = c.loop-node-test.true; unplaced = λ h. no_item n (subst (λ (o : List ℕ). Contains o n) inv.order h); met = λ k lt l. absurd (omega (arith, lt)) })
+          (record { within = c.loop-node-test.true; unplaced = λ h. contains-none n (subst (λ (o : List ℕ). Contains o n) inv.order h); met = λ k lt l. absurd (omega (arith, lt)) })
           (λ u p. ⊎_elim (λ i. inl i) (λ d. inr (omega (arith, p, d))) (cases_eq u n)) e.order e.placed e.settled;
       order = e.order ∙ inv.order;
     }

@@ -3,7 +3,8 @@ use Rattle.std.specs.Prelude.{Contains, count_by}
 use Rattle.std.proofs.lemmas.List.Elements.{Contains-append_left, Contains-push, Contains-push_cases}
 use Rattle.build_order.specs.declared.building.Wait.{Wait}
 use Rattle.build_order.specs.Building.{IsMetBefore, NoNode}
-use Rattle.build_order.proofs.Kept.{IsIn, same, settled, marked_keeps, marked_met, less_left, no_item}
+use Rattle.common_laws.specs.Lists.{contains-none}
+use Rattle.build_order.proofs.Kept.{IsIn, same, settled, marked_keeps, marked_met, less_left}
 use Rattle.build_order.proofs.building.Building.place.Goals as goal
 
 pub loop-wait-init : goal.loop-wait-init
@@ -48,7 +49,7 @@ loop-wait-preserved c =
 pub returns-clause-sound : goal.returns-clause-sound
 returns-clause-sound c =
     same c.args.needs.now (IsIn c.loop-wait.waits) NoNode _ _ _ _ _ _ _ _ refl refl refl refl
-    (λ u l p. no_item p.0 (subst (λ ws. Contains ws p.0) c.in_default.ensures.0 p.1)) c.loop-wait.invariant.sound
+    (λ u l p. contains-none p.0 (subst (λ ws. Contains ws p.0) c.in_default.ensures.0 p.1)) c.loop-wait.invariant.sound
 
 pub returns-clause-less : goal.returns-clause-less
 returns-clause-less c =

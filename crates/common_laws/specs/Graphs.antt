@@ -1,0 +1,23 @@
+-- Paths, and graphs in which each node has the list of those that it needs.
+use Rattle.std.specs.Prelude.{◌≡◌, ◌<◌, ℕ, Bool, true, false, List, [], length, All, Contains, slice_index_or}
+
+-- one edge or more, each from where the one before it ends
+pub data IsPath {X : Type 0} (Edge : X → X → Type 0) : X → X → Type 0 where
+  last : {v w : X} → Edge v w → IsPath Edge v w
+  more : {v w x : X} → Edge v w → IsPath Edge w x → IsPath Edge v x
+
+-- no path leads back to where it began
+abbrev pub HasNoCycle : {X : Type 0} → (X → X → Type 0) → Type 0
+HasNoCycle Edge = (v : _) → IsPath Edge v v → ⊥
+
+-- u needs v
+abbrev pub Needs : List (List ℕ) → ℕ → ℕ → Type 0
+Needs needs u v = Contains (slice_index_or needs u []) v
+
+-- each node that is needed is there
+abbrev pub IsGraph : List (List ℕ) → Type 0
+IsGraph needs = All (All (λ v. v < length needs)) needs
+
+-- a node has a mark
+abbrev pub IsMarked : List Bool → ℕ → Type 0
+IsMarked marked u = slice_index_or marked u false ≡ true
