@@ -5,7 +5,7 @@ use Rattle.std.proofs.lemmas.Bool.{cases_eq}
 use Rattle.std.proofs.lemmas.List.{take_more, take_all}
 use Rattle.std.proofs.lemmas.List.Elements.{Contains-append_left, Contains-push, Contains-push_cases}
 use Rattle.common_laws.specs.Lists.{contains-none}
-use Rattle.common_laws.specs.Graphs.{IsMarked}
+use Rattle.common_laws.specs.Graphs.{IsMarked, marked_within}
 
 abbrev pub Is : Bool → Type 0
 Is b = (b ≡ true) ⊎ (b ≡ true → ⊥)
@@ -17,11 +17,6 @@ is false = inr (λ e. cc)
 -- each node is marked or isn't
 pub is_marked : (led : List Bool) (i : ℕ) → IsMarked led i ⊎ (IsMarked led i → ⊥)
 is_marked led i = is (get_or led i false)
-
-pub marked_within : (led : List Bool) (i : ℕ) → IsMarked led i → i < length led
-marked_within [] i h = absurd (cc)
-marked_within (b ∷ bs) zero h = omega arith
-marked_within (b ∷ bs) (suc i) h = let k = marked_within bs i h in omega arith
 
 -- from some marks and what waits to more marks, where those that are new wait
 pub record Marks (gone : List ℕ) (old new : List Bool) (before behind : List ℕ) : Type 0 where

@@ -4,9 +4,8 @@ use Rattle.std.specs.Prelude.{Contains, count_by}
 use Rattle.std.proofs.lemmas.List.Elements.{Contains-append_left, Contains-push, Contains-push_cases}
 use Rattle.common_laws.specs.Lists.{contains-none}
 use Rattle.broken_units.specs.Leads.{IsUser, Leads, here, over}
-use Rattle.common_laws.specs.Graphs.{IsMarked, Needs}
-use Rattle.broken_units.proofs.Marked.{Marks, is_marked, marked_within}
-use Rattle.broken_units.proofs.Table.{needs_within}
+use Rattle.common_laws.specs.Graphs.{IsMarked, Needs, marked_within, needs_within}
+use Rattle.broken_units.proofs.Marked.{Marks, is_marked}
 
 -- Each node that is marked leads to one that was marked at first, and what needs a marked node is marked, or that node waits.
 pub record Search (needs : List (List ℕ)) (first led : List Bool) (waiting : List ℕ) : Type 0 where

@@ -7,7 +7,7 @@ use Rattle.std.proofs.lemmas.List.{get_or_read, get_or-set_same, get_or-set_othe
 use Rattle.std.proofs.lemmas.List.Elements.{Contains-append_left, Contains-push, Contains-push_cases}
 use Rattle.common_laws.specs.Lists.{contains-none}
 use Rattle.broken_units.specs.Leads.{IsUser}
-use Rattle.common_laws.specs.Graphs.{Needs}
+use Rattle.common_laws.specs.Graphs.{Needs, needs_within}
 
 abbrev pub Added : List (List ℕ) → ℕ → ℕ → ℕ → ℕ → Type 0
 Added users node user u v = IsUser users u v ⊎ ((u ≡ user) × (v ≡ node) × (v < length users))
@@ -68,11 +68,6 @@ none_pushed (x ∷ xs) h (suc v) = none_pushed xs (λ w. h (suc w)) v
 
 pub no_user : (users : List (List ℕ)) → ((v : ℕ) → get_or users v [] ≡ []) → (u v : ℕ) → IsUser users u v → ⊥
 no_user users h u v l = contains-none u (subst (λ us. Contains us u) (h v) l)
-
-pub needs_within : (needs : List (List ℕ)) (u v : ℕ) → Needs needs u v → u < length needs
-needs_within [] u v (k, l, e) = absurd (omega (arith, l))
-needs_within (n ∷ ns) zero v h = omega arith
-needs_within (n ∷ ns) (suc u) v h = let i = needs_within ns u v h in omega arith
 
 module _ (needs : List (List ℕ)) where
   -- the users, where the first nodes were gone through

@@ -5,11 +5,12 @@ use Rattle.std.proofs.lemmas.Bool.{cases_eq, cases_lt}
 use Rattle.std.proofs.lemmas.List.{get_or_default, get_or-set_same, get_or-set_other, length-set, length-replicate}
 use Rattle.std.proofs.lemmas.List.Sums.{sum_by-set}
 use Rattle.std.proofs.lemmas.List.Elements.{Contains-append_left, Contains-push, Contains-push_cases}
+use Rattle.std.proofs.lemmas.Bool.{false_from_ne_true}
 use Rattle.build_order.specs.declared.building.Wait.{Wait}
 use Rattle.build_order.specs.declared.building.Building.{Building}
 use Rattle.build_order.specs.Order.{IsReady, IsLeastReady, IsBuildOrder}
 use Rattle.common_laws.specs.Lists.{contains-none}
-use Rattle.common_laws.specs.Graphs.{Needs, IsMarked}
+use Rattle.common_laws.specs.Graphs.{IsMarked, Needs, marked_within}
 use Rattle.build_order.specs.Building.{AreMet, IsFirstUnmet, IsTakenAsLeast, IsMetBefore, IsWait, NoNode, Alone, Keeps, IsSound, BecomesReady, HasToWait, needs_of}
 
 
@@ -17,11 +18,6 @@ pub default_past : {X : Type 0} (n i : ℕ) (d : X) → get_or (replicate n d) i
 default_past zero i d = refl
 default_past (suc n) zero d = refl
 default_past (suc n) (suc i) d = default_past n i d
-
-marked_within : (marks : List Bool) (i : ℕ) → IsMarked marks i → i < length marks
-marked_within [] i h = absurd (cc)
-marked_within (b ∷ bs) zero h = omega arith
-marked_within (b ∷ bs) (suc i) h = let k = marked_within bs i h in omega arith
 
 -- a place of a list with one more behind it
 pub push_split : (front order rest : List ℕ) (u node : ℕ) → order ++ node ∷ [] ≡ front ++ u ∷ rest → ((front ≡ order) × (u ≡ node)) ⊎ ((less : List ℕ) × (order ≡ front ++ u ∷ less))
@@ -286,9 +282,6 @@ module _ (needs : List (List ℕ)) where
           met = λ k lt l. old (get_or (needs_of needs w.node) k 0) (i.before.met k lt l);
         }
 
-unmarked : (b : Bool) → (b ≡ true → ⊥) → b ≡ false
-unmarked true n = absurd (n refl)
-unmarked false n = refl
 
 -- one where there is no mark
 abbrev left : Bool → ℕ
@@ -296,6 +289,6 @@ left b = cond (not b) 1 0
 
 pub less_left : (marks : List Bool) (i : ℕ) → i < length marks → (IsMarked marks i → ⊥) → count_by not (set marks i true) < count_by not marks
 less_left marks i l n =
-    let one : left (get_or marks i false) ≡ 1 = ap left (unmarked (get_or marks i false) n) in
+    let one : left (get_or marks i false) ≡ 1 = ap left (false_from_ne_true (get_or marks i false) n) in
     let e : count_by not (set marks i true) + left (get_or marks i false) ≡ count_by not marks + 0 = sum_by-set left marks i true false l in
     omega (arith, e, one)

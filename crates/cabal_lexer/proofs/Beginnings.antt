@@ -17,6 +17,7 @@ use Rattle.cabal_lexer.proofs.Runs.{front_passes}
 use Rattle.cabal_lexer.proofs.Pieces.{Piece, prefix-past, trim-behind, trim_start-behind, trim-same}
 use Rattle.std.proofs.lemmas.Bool.{and_from, and_parts}
 use Rattle.std.proofs.Math.Bool.{and-false}
+use Rattle.std.proofs.lemmas.Str.Ascii.{lowercase-lowercase}
 
 pub record IsName (name : List ℕ) : Type 0 where
   pub bytes : list_all is_name_byte name ≡ true
@@ -32,8 +33,6 @@ lower-byte b h = grind (arith, nat_tests)
 lower-letter : (b : ℕ) → is_letter b ≡ is_letter (to_ascii_lowercase b)
 lower-letter b = grind (arith, nat_tests)
 
-lower-twice : (b : ℕ) → to_ascii_lowercase (to_ascii_lowercase b) ≡ to_ascii_lowercase b
-lower-twice b = grind (arith, nat_tests)
 
 lower-hyphen : (b : ℕ) → (to_ascii_lowercase b == 45) ≡ (b == 45)
 lower-hyphen b = grind (arith, nat_tests)
@@ -52,7 +51,7 @@ lower-letters (b ∷ x) = ap (λ v. v || list_any is_letter (map to_ascii_lowerc
 lower-same : (x : List ℕ) → lower_case (lower_case x) ≡ lower_case x
 unfolding lower_case
 lower-same [] = refl
-lower-same (b ∷ x) = ap (λ v. v ∷ map to_ascii_lowercase (map to_ascii_lowercase x)) (lower-twice b) ∙ ap (λ v. to_ascii_lowercase b ∷ v) (lower-same x)
+lower-same (b ∷ x) = ap (λ v. v ∷ map to_ascii_lowercase (map to_ascii_lowercase x)) (lowercase-lowercase b) ∙ ap (λ v. to_ascii_lowercase b ∷ v) (lower-same x)
 
 lower-code : (n : ℕ) (x : List ℕ) → is_comment x ≡ false → is_comment (lower_case (take n x)) ≡ false
 unfolding lower_case is_comment

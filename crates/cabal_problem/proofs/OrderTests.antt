@@ -6,21 +6,12 @@ use Rattle.std.proofs.lemmas.Bool.{false≢true, eqb-true, eq-eqb, lt-ltb, and_f
 use Rattle.std.proofs.lemmas.List.FromFn.{length-range_with_len, get_or-range_with_len}
 use Rattle.std.proofs.lemmas.List.Sorted.{Contains-permutation, IsPermutation-sym, length_permutation}
 use Rattle.std.proofs.lemmas.Map.Keys.{IsDistinct-IsPermutation}
+use Rattle.std.specs.Cmp.{nat_eq_equiv}
 use Rattle.common_laws.specs.Lists.{all-from, any-at}
 use Rattle.choice_problem.specs.Written.{is_among, has_each_below, is_once, is_order}
 use Rattle.choice_problem.specs.WrittenLaws.{each-from}
 use Rattle.solver_index.proofs.ListLaws.{range-has}
 use Rattle.cabal_problem.proofs.Findings.{each-at}
-
-eq-flips : (x y : ℕ) → nat_eq x y ≡ nat_eq y x
-eq-flips x y =
-    elim (nat_eq x y) as (λ b. nat_eq x y ≡ b → b ≡ nat_eq y x) [
-      | true ↦ λ e. sym (eq-eqb y x (sym (eqb-true x y e)))
-      | false ↦ λ e. elim (nat_eq y x) as (λ b. nat_eq y x ≡ b → false ≡ b) [
-        | true ↦ λ k. absurd (false≢true (sym e ∙ eq-eqb x y (sym (eqb-true y x k))))
-        | false ↦ λ k. refl
-      ] refl
-    ] refl
 
 once-from : (values : List ℕ) → IsDistinct nat_eq values → is_once values ≡ true
 unfolding IsDistinct
@@ -30,7 +21,7 @@ once-from (n ∷ values) h =
     (elim (is_among values n) as (λ b. is_among values n ≡ b → not b ≡ true) [
       | true ↦ λ e.
           let found = any-at (λ m. nat_eq m n) values e in
-          absurd (false≢true (sym (each-at (λ y. nat_eq n y ≡ false) values found.0 h.0 found.1) ∙ eq-flips n found.0 ∙ found.2))
+          absurd (false≢true (sym (each-at (λ y. nat_eq n y ≡ false) values found.0 h.0 found.1) ∙ nat_eq_equiv.symm n found.0 ∙ found.2))
       | false ↦ λ e. refl
     ] refl)
     (once-from values h.1)
@@ -63,5 +54,5 @@ permuted_is_order n values h =
           lt-ltb x (length values) (subst (λ m. x < m) (sym long) (let place = (range-has 0 n x (Contains-permutation values (range_with_len 0 n) x back k)).1 in omega (arith, place)))))
           (and_from (has_each_below (length values) values) (is_once values)
           (each-from (length values) values (λ x less. Contains-permutation (range_with_len 0 n) values x h (in-range n x (subst (λ m. x < m) long less))))
-          (once-from values (IsDistinct-IsPermutation nat_eq eq-flips (range_with_len 0 n) values h (range-once 0 n)))),
+          (once-from values (IsDistinct-IsPermutation nat_eq nat_eq_equiv.symm (range_with_len 0 n) values h (range-once 0 n)))),
     )

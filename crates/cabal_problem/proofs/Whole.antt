@@ -5,6 +5,8 @@ use Rattle.std.specs.List.{filter, flat_map, list_all, list_any}
 use Rattle.std.proofs.lemmas.Bool.{false≢true, eqb-true, and_right}
 use Rattle.std.proofs.lemmas.List.{map-append}
 use Rattle.std.proofs.lemmas.List.Elements.{Contains-get_or, filter-append}
+use Rattle.std.specs.Cmp.{both_ways}
+use Rattle.std.proofs.Math.Bool.{and-or_distrib_left}
 use Rattle.plan_types.specs.declared.condition.Env.{Env}
 use Rattle.plan_types.specs.declared.dependency.Dep.{Dep}
 use Rattle.plan_types.specs.declared.description.CompKind.{CompKind}
@@ -44,7 +46,6 @@ use Rattle.cabal_problem.specs.WholeDemands.{is_set, parts_under, whole_request,
 use Rattle.cabal_problem.specs.Groups.{AreGroups, AsksForSame, IsGroup, IsInGroups}
 use Rattle.cabal_problem.proofs.Findings.{entry-sound}
 use Rattle.cabal_problem.proofs.GroupLaws.{groups-append, groups-same, listed-there, one-same, requested-there}
-use Rattle.common_laws.specs.Small.{both-ways, and-or}
 use Rattle.plan_types.specs.Packages.{entries_of}
 
 -- ---- what an assignment makes
@@ -56,12 +57,12 @@ value-says (Some zero) false = refl
 value-says (Some (suc zero)) true = refl
 value-says (Some (suc zero)) false = refl
 value-says (Some (suc (suc n))) true =
-    both-ways (nat_eq (suc (suc n)) 1 || false) false (λ h. elim (nat_eq (suc (suc n)) 1) as (λ b. nat_eq (suc (suc n)) 1 ≡ b → b || false ≡ true → false ≡ true) [
+    both_ways (nat_eq (suc (suc n)) 1 || false) false (λ h. elim (nat_eq (suc (suc n)) 1) as (λ b. nat_eq (suc (suc n)) 1 ≡ b → b || false ≡ true → false ≡ true) [
       | true ↦ λ e k. let same = eqb-true (suc (suc n)) 1 e in absurd (omega (arith, same))
       | false ↦ λ e k. k
     ] refl h) (λ h. absurd (false≢true h))
 value-says (Some (suc (suc n))) false =
-    both-ways (nat_eq (suc (suc n)) 0 || false) false (λ h. elim (nat_eq (suc (suc n)) 0) as (λ b. nat_eq (suc (suc n)) 0 ≡ b → b || false ≡ true → false ≡ true) [
+    both_ways (nat_eq (suc (suc n)) 0 || false) false (λ h. elim (nat_eq (suc (suc n)) 0) as (λ b. nat_eq (suc (suc n)) 0 ≡ b → b || false ≡ true → false ≡ true) [
       | true ↦ λ e k. let same = eqb-true (suc (suc n)) 0 e in absurd (omega (arith, same))
       | false ↦ λ e k. k
     ] refl h) (λ h. absurd (false≢true h))
@@ -127,7 +128,7 @@ module _ (env : Env) (index : Index) (project : Project) (names : NameTable) (or
     any-yes A [] = sym (and_right (is_made A owner) false refl)
     any-yes A (flat ∷ flats) =
         (λ i. yes-is A flat i || any-yes A flats i)
-        ∙ and-or (is_made A owner) (are_met (parts_under names owner A) flat.when) (list_any (λ f. are_met (parts_under names owner A) f.when) flats)
+        ∙ sym (and-or_distrib_left (is_made A owner) (are_met (parts_under names owner A) flat.when) (list_any (λ f. are_met (parts_under names owner A) f.when) flats))
 
     -- an entry of a dependency asks for the same
     entry-same : (at : Outward) (d : Demand) → Contains (map demand (demands_at env at)) d → AsksForSame (request at) d

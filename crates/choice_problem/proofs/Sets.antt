@@ -2,12 +2,12 @@
 use Rattle.std.proofs.Common.{◌≡◌, suc, ◌+◌, ◌<◌, ◌≤◌, arith, length, get_or, insert, Bool, true, false, cond, ◌&&◌, ◌||◌, List, [], ◌∷◌, ◌++◌, Some, None, refl, sym, ap, ◌∙◌, subst, inl, inr, add-one}
 use Rattle.std.specs.List.{Contains, slice_get}
 use Rattle.std.proofs.lemmas.Bool.{false≢true, or_right, and_parts, and_from}
+use Rattle.std.specs.Cmp.{both_ways}
 use Rattle.qualified_goals.specs.declared.variable.Var.{Var}
 use Rattle.qualified_goals.specs.Variable.{same_var, is_before}
 use Rattle.qualified_goals.specs.SameVariable.{same_var-is, same_var-refl}
 use Rattle.choice_problem.specs.ConflictSet.{is_rising, has, with_var, first_of, set_of, union, place_of}
 use Rattle.common_laws.specs.Lists.{contains-head, contains-tail, contains-none, contains-cases}
-use Rattle.common_laws.specs.Small.{both-ways}
 use Rattle.qualified_goals.proofs.Order.{before-itself, before-trans, before-back, before-neither}
 
 pub same-not : (v w : Var) → (v ≡ w → ⊥) → same_var v w ≡ false
@@ -210,7 +210,7 @@ set-same xs ys same = rising-same (set_of xs) (set_of ys) (rising-set_of xs) (ri
 
 pub set-alike : (xs ys : List Var) → ((v : Var) → Contains xs v → Contains ys v) → ((v : Var) → Contains ys v → Contains xs v) → set_of xs ≡ set_of ys
 set-alike xs ys there back =
-    set-same xs ys (λ v. both-ways (has xs v) (has ys v) (λ h. contains-has ys v (there v (has-contains xs v h))) (λ h. contains-has xs v (back v (has-contains ys v h))))
+    set-same xs ys (λ v. both_ways (has xs v) (has ys v) (λ h. contains-has ys v (there v (has-contains xs v h))) (λ h. contains-has xs v (back v (has-contains ys v h))))
 
 -- the first of some variables
 

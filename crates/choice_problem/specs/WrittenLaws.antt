@@ -15,8 +15,8 @@ use Rattle.choice_problem.specs.Problem.{Problem, IsOrderBelow, IsBeside, IsRoot
 use Rattle.choice_problem.specs.Trail.{choice_of}
 use Rattle.choice_problem.specs.Written.{is_among, is_listed, order_of, begins_with, problem_of, AreLawful, has_each_below, is_once, is_order, are_listed_once, is_beside, is_empty, is_condition, are_lawful}
 use Rattle.common_laws.specs.Lists.{contains-head, contains-tail, contains-filter, map-contains, all-at, all-from, any-at, any-from, all-where, pairs-cons, pairs-head, pairs-tail, pairs-nil}
-use Rattle.qualified_goals.specs.SameVariable.{is_eq-is, qual-is, qual-refl, same_var-is, same_var-refl}
-use Rattle.common_laws.specs.Small.{not-from, not-to}
+use Rattle.qualified_goals.specs.SameVariable.{qual-is, qual-refl, same_var-is, same_var-refl}
+use Rattle.common_laws.specs.Small.{is-equal, not-from, not-to}
 
 -- orders
 
@@ -114,7 +114,7 @@ beside-at owner c h =
     let quals = is_eq (qual_cmp c.var.qual owner.var.qual) in
     let names = nat_eq c.var.«package» owner.var.«package» in
     record {
-      same_qualifier = qual-is c.var.qual owner.var.qual (is_eq-is (qual_cmp c.var.qual owner.var.qual) ((and_parts quals names h).0));
+      same_qualifier = qual-is c.var.qual owner.var.qual (is-equal (qual_cmp c.var.qual owner.var.qual) ((and_parts quals names h).0));
       same_package = eqb-true c.var.«package» owner.var.«package» ((and_parts quals names h).1);
     }
 

@@ -1,5 +1,6 @@
 -- Paths, and graphs in which each node has the list of those that it needs.
-use Rattle.std.specs.Prelude.{◌≡◌, ◌<◌, ℕ, Bool, true, false, List, [], length, All, Contains, slice_index_or}
+use Rattle.std.proofs.Common.{arith}
+use Rattle.std.specs.Prelude.{◌≡◌, ◌<◌, ℕ, zero, suc, Bool, true, false, List, [], ◌∷◌, length, All, Contains, slice_index_or}
 
 -- one edge or more, each from where the one before it ends
 pub data IsPath {X : Type 0} (Edge : X → X → Type 0) : X → X → Type 0 where
@@ -21,3 +22,13 @@ IsGraph needs = All (All (λ v. v < length needs)) needs
 -- a node has a mark
 abbrev pub IsMarked : List Bool → ℕ → Type 0
 IsMarked marked u = slice_index_or marked u false ≡ true
+
+pub needs_within : (needs : List (List ℕ)) (u v : ℕ) → Needs needs u v → u < length needs
+needs_within [] u v (k, l, e) = absurd (omega (arith, l))
+needs_within (n ∷ ns) zero v h = omega arith
+needs_within (n ∷ ns) (suc u) v h = let i = needs_within ns u v h in omega arith
+
+pub marked_within : (marks : List Bool) (u : ℕ) → IsMarked marks u → u < length marks
+marked_within [] u h = absurd (cc)
+marked_within (b ∷ bs) zero h = omega arith
+marked_within (b ∷ bs) (suc u) h = let k = marked_within bs u h in omega arith

@@ -1,21 +1,16 @@
 -- Small laws of tests, orders, options and texts.
-use Rattle.std.proofs.Common.{◌≡◌, ℕ, Bool, true, false, not, ◌&&◌, ◌||◌, List, ◌∷◌, ◌+◌, min, ◌-◌, ◌^◌, arith, Option, Some, None, refl, sym, ap, ◌∙◌, subst}
+use Rattle.std.proofs.Common.{◌≡◌, ℕ, Bool, true, false, not, ◌||◌, List, ◌∷◌, ◌+◌, ◌<◌, min, ◌-◌, ◌^◌, arith, Option, Some, None, refl, sym, ap, ◌∙◌, subst}
 use Rattle.std.specs.Prelude.{IfSome, OnErr, Result, Ok, Err}
 use Rattle.std.specs.declared.cmp.Ordering.{Ordering}
 use Rattle.std.specs.declared.cmp.Ordering.TheVariants.{Less, Equal, Greater}
-use Rattle.std.specs.Ordering.{is_lt, ordering_then}
+use Rattle.std.specs.Ordering.{is_eq, is_lt, ordering_then}
 use Rattle.std.proofs.lemmas.Bool.{false≢true}
 use Rattle.std.proofs.lemmas.Grind.{common_steps}
 use Rattle.std.proofs.lemmas.Slice.Eq.{bytes_eq-Decides}
 use Rattle.plan_types.specs.Bytes.{same_text}
+use Rattle.plan_types.specs.Name.{is_letter_or_digit}
 
 -- ---- tests
-
--- two tests of which each follows from the other
-pub both-ways : (a b : Bool) → (a ≡ true → b ≡ true) → (b ≡ true → a ≡ true) → a ≡ b
-both-ways true b h k = sym (h refl)
-both-ways false true h k = k refl
-both-ways false false h k = refl
 
 pub not-from : (a : Bool) → (a ≡ true → ⊥) → not a ≡ true
 not-from true h = absurd (h refl)
@@ -25,23 +20,11 @@ pub not-to : (a : Bool) → not a ≡ true → a ≡ true → ⊥
 not-to true h k = false≢true h
 not-to false h k = false≢true k
 
-pub or-assoc : (a b c : Bool) → (a || b) || c ≡ a || (b || c)
-or-assoc true b c = refl
-or-assoc false b c = refl
-
-pub and-assoc : (a b c : Bool) → (a && b) && c ≡ a && (b && c)
-and-assoc true b c = refl
-and-assoc false b c = refl
-
 pub or-last : (a b : Bool) → (a || (b || false)) ≡ (b || a)
 or-last true true = refl
 or-last true false = refl
 or-last false true = refl
 or-last false false = refl
-
-pub and-or : (a b c : Bool) → ((a && b) || (a && c)) ≡ (a && (b || c))
-and-or true b c = refl
-and-or false b c = refl
 
 -- ---- orders
 
@@ -49,6 +32,11 @@ pub is-less : (o : Ordering) → is_lt o ≡ true → o ≡ Less
 is-less Less e = refl
 is-less Equal e = absurd (false≢true e)
 is-less Greater e = absurd (false≢true e)
+
+pub is-equal : (o : Ordering) → is_eq o ≡ true → o ≡ Equal
+is-equal Less e = absurd (false≢true e)
+is-equal Equal e = refl
+is-equal Greater e = absurd (false≢true e)
 
 pub second-equal : (first second : Ordering) → ordering_then first second ≡ Equal → second ≡ Equal
 second-equal Less second e = absurd (cc e)
@@ -77,7 +65,10 @@ capped n = min n (2 ^ 64 - 1)
 pub capped-add : (a b : ℕ) → capped (capped a + capped b) ≡ capped (a + b)
 capped-add a b = grind (arith, common_steps)
 
--- ---- texts
+-- ---- bytes and texts
+
+pub letter-small : (b : ℕ) → is_letter_or_digit b ≡ true → b < 128
+letter-small b h = grind (arith, common_steps)
 
 pub same-is : (xs ys : List ℕ) → same_text xs ys ≡ true → xs ≡ ys
 same-is xs ys e = (bytes_eq-Decides xs ys).0 e

@@ -10,8 +10,8 @@ use Rattle.component_cycle.specs.declared.search.State.TheVariants.{Unseen, OnPa
 use Rattle.component_cycle.specs.declared.search.Search.{Search}
 use Rattle.component_cycle.specs.Cycle.{IsOnCycle, IsFirstOnCycle}
 use Rattle.common_laws.specs.Lists.{contains-none}
-use Rattle.common_laws.specs.Graphs.{Needs, IsPath, last, more}
-use Rattle.component_cycle.proofs.Reaches.{from-edge}
+use Rattle.common_laws.specs.Graphs.{IsPath, Needs, last, more, needs_within}
+use Rattle.component_cycle.proofs.Reaches.{needs_within}
 use Rattle.component_cycle.specs.Search.{state, IsSound, Leads, is_on_cycle}
 
 abbrev pub start : ℕ → Search
@@ -85,8 +85,8 @@ module _ (needs : List (List ℕ)) (s : Search) (h : IsSound needs s None) (idle
         ] refl
 
     first-edge : (u v : ℕ) → IsPath (Needs needs) u v → u < length needs
-    first-edge u v (last edge) = from-edge needs u v edge
-    first-edge u v (more {w = x} edge p) = from-edge needs u x edge
+    first-edge u v (last edge) = needs_within needs u v edge
+    first-edge u v (more {w = x} edge p) = needs_within needs u x edge
 
     -- a node is on a cycle exactly if its state says so
     says : (u : ℕ) → IsOnCycle needs u → is_on_cycle (state s u) ≡ true

@@ -2,7 +2,7 @@
 use Rattle.std.proofs.Common.{◌≢◌, ◌<◌, ℕ, List, [], length, subst, sym, ap, inl, inr, arith}
 use Rattle.std.proofs.lemmas.Bool.{cases_lt}
 use Rattle.std.proofs.lemmas.List.{get_or_past}
-use Rattle.common_laws.specs.Graphs.{Needs, IsGraph, IsPath, last, more}
+use Rattle.common_laws.specs.Graphs.{IsGraph, IsPath, Needs, last, more, needs_within}
 use Rattle.component_cycle.specs.Search.{Reaches}
 
 pub path-join : (needs : List (List ℕ)) (u v w : ℕ) → IsPath (Needs needs) u v → IsPath (Needs needs) v w → IsPath (Needs needs) u w
@@ -27,12 +27,5 @@ path-keeps needs P closed u v h (last e) = closed u v h e
 path-keeps needs P closed u v h (more {w = x} e p) = path-keeps needs P closed x v (closed u x h e) p
 
 -- what a node beyond the graph needs
-pub from-edge : (needs : List (List ℕ)) (u v : ℕ) → Needs needs u v → u < length needs
-from-edge needs u v (k, l, e) =
-    elim (cases_lt u (length needs)) [
-      | inl less ↦ less
-      | inr past ↦ let none = ap length (get_or_past needs u [] past) in absurd (omega (arith, none, l))
-    ]
-
 pub to-edge : (needs : List (List ℕ)) → IsGraph needs → (u v : ℕ) → Needs needs u v → v < length needs
-to-edge needs h u v (k, l, e) = let below = h u [] (from-edge needs u v (k, l, e)) k v l in omega (arith, below, e)
+to-edge needs h u v (k, l, e) = let below = h u [] (needs_within needs u v (k, l, e)) k v l in omega (arith, below, e)

@@ -18,7 +18,7 @@ use Rattle.constraint_set.specs.Rules.{rule_bars, is_set, rules_of, rules_on, se
 use Rattle.constraint_set.specs.declared.numbered_scope.NumberedScope.{NumberedScope}
 use Rattle.constraint_set.specs.declared.rules.Setting.{Setting}
 use Rattle.std.proofs.Math.Bool.{and-false, or-false}
-use Rattle.common_laws.specs.Small.{and-or}
+use Rattle.std.proofs.Math.Bool.{and-or_distrib_left}
 
 setup-holds : (o : Option ℕ) (qual : Qual) → (p : ℕ) → numbered_holds (setup_of o) (Setup p) ≡ is_number o p
 setup-holds None qual p = refl
@@ -77,7 +77,7 @@ set-values : (scope : NumberedScope) (qual : Qual) (on : Bool) (values : List Bo
 set-values scope qual on [] = sym (and-false (numbered_holds scope qual))
 set-values scope qual on (value ∷ values) =
     ap (λ b. (numbered_holds scope qual && is_value value on) || b) (set-values scope qual on values)
-    ∙ and-or (numbered_holds scope qual) (is_value value on) (list_any (λ v. is_value v on) values)
+    ∙ sym (and-or_distrib_left (numbered_holds scope qual) (is_value value on) (list_any (λ v. is_value v on) values))
 
 one-setting : (names : NameTable) (v : Var) (on : Bool) (c : Constraint) → list_any (is_set v.qual on) (settings_on names v.«package» v.part c) ≡ (is_met names c v && asks names c.what v.part on)
 one-setting names v on c =

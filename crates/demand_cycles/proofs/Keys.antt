@@ -13,7 +13,7 @@ use Rattle.common_laws.specs.Lists.{without}
 use Rattle.choice_problem.proofs.Sets.{has-append}
 use Rattle.demand_cycles.specs.Side.{are_once, with_key, with_keys}
 use Rattle.std.proofs.Math.Bool.{or-false}
-use Rattle.common_laws.specs.Small.{or-assoc}
+use Rattle.std.proofs.Math.Bool.{or_assoc}
 use Rattle.goal_links.proofs.Keys.{found-has}
 
 one-more : (keys : List Var) (v : Var) → are_once keys ≡ true → has keys v ≡ false → are_once (keys ++ v ∷ []) ≡ true
@@ -53,7 +53,7 @@ has-with_key keys v u =
 pub has-with_keys : (keys vars : List Var) (u : Var) → has (with_keys keys vars) u ≡ has keys u || has vars u
 has-with_keys keys [] u = sym (or-false (has keys u))
 has-with_keys keys (v ∷ vars) u =
-    has-with_keys (with_key keys v) vars u ∙ ap (λ b. b || has vars u) (has-with_key keys v u) ∙ or-assoc (has keys u) (same_var v u) (has vars u)
+    has-with_keys (with_key keys v) vars u ∙ ap (λ b. b || has vars u) (has-with_key keys v u) ∙ or_assoc (has keys u) (same_var v u) (has vars u)
 
 -- the keys stay in front
 with_key-front : (keys : List Var) (v : Var) → (more : List Var) × (with_key keys v ≡ keys ++ more)

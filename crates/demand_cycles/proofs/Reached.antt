@@ -3,6 +3,7 @@ use Rattle.std.proofs.Common.{◌≡◌, ℕ, zero, suc, ◌+◌, ◌<◌, ◌�
 use Rattle.std.specs.List.{Contains}
 use Rattle.std.proofs.lemmas.Bool.{false≢true, or_cases, or_left, or_right}
 use Rattle.std.proofs.lemmas.List.{take-append-le, length-map}
+use Rattle.std.specs.Cmp.{both_ways}
 use Rattle.qualified_goals.specs.declared.variable.Var.{Var}
 use Rattle.qualified_goals.specs.Variable.{same_var}
 use Rattle.choice_problem.specs.ConflictSet.{has}
@@ -14,7 +15,6 @@ use Rattle.choice_problem.proofs.Paths.{Way, start, step, leads-way, way-leads}
 use Rattle.demand_cycles.specs.Cycles.{HasEdge, AreAncestors, leads_to_any}
 use Rattle.demand_cycles.specs.Side.{IsPartReached, with_keys}
 use Rattle.demand_cycles.proofs.Keys.{with_keys-once, has-with_keys, with_keys-front, once-within}
-use Rattle.common_laws.specs.Small.{both-ways}
 
 pub leads-goal : (edges : List Edge) (goals : List Var) (v w : Var) → Contains goals w → Way edges v w → leads_to_any edges goals v ≡ true
 leads-goal edges goals v w h way = any-from (λ (w : Var). leads (length edges) edges v w) goals w h (way-leads edges v w way)
@@ -95,7 +95,7 @@ pub reached-all : (edges : List Edge) (goals keys : List Var) (place : ℕ) → 
 reached-all edges goals keys place part done v =
     let whole = take-whole place keys done in
     let closed : (w u : Var) → has keys w ≡ true → HasEdge edges u w → has keys u ≡ true = λ w u h edge. part.closed w u (ap (λ l. has l w) whole ∙ h) edge in
-    both-ways (has keys v) (leads_to_any edges goals v) (part.sound v) (λ h.
+    both_ways (has keys v) (leads_to_any edges goals v) (part.sound v) (λ h.
     let on = goal-of edges goals v h in
     closed-way edges keys closed v on.0 on.2 (part.begun on.0 (contains-has goals on.0 on.1)))
 

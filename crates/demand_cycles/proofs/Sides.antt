@@ -4,11 +4,11 @@ use Rattle.std.specs.List.{Contains}
 use Rattle.std.specs.Prelude.{nat_lt}
 use Rattle.std.proofs.lemmas.Bool.{false≢true, and_cases, and_parts, or_cases, or_left, or_right, ltb-true, ltb-false}
 use Rattle.std.proofs.lemmas.List.{length-map}
+use Rattle.std.specs.Cmp.{both_ways}
 use Rattle.qualified_goals.specs.declared.variable.Var.{Var}
 use Rattle.choice_problem.specs.ConflictSet.{has}
 use Rattle.choice_problem.specs.Conflict.{Edge}
 use Rattle.common_laws.specs.Lists.{contains-head, contains-none, contains-cases, contains-map, map-contains}
-use Rattle.common_laws.specs.Small.{both-ways}
 use Rattle.choice_problem.proofs.Paths.{Way, start, step, way-join}
 use Rattle.demand_cycles.specs.Cycles.{HasEdge, leads_to_any}
 use Rattle.demand_cycles.specs.declared.side.Side.{Side}
@@ -77,7 +77,7 @@ pub met-leads : (edges : List Edge) (from end : Var) (ahead back : List Var) (i 
     → (nat_lt i (length ahead) && not (has ahead end)) && (nat_lt j (length back) && not (has back from)) ≡ false
     → has ahead end || has back from ≡ leads_to_any edges (end ∷ []) from
 met-leads edges from end ahead back i j a b told =
-    both-ways (has ahead end || has back from) (leads_to_any edges (end ∷ []) from)
+    both_ways (has ahead end || has back from) (leads_to_any edges (end ∷ []) from)
     (λ met. elim (or_cases (has ahead end) (has back from) met) [
       | inl k ↦ leads-back edges from end (a.sound end k)
       | inr k ↦ b.sound from k

@@ -1,9 +1,10 @@
 -- The first of faults that stand in several lists.
 use Rattle.std.proofs.Common.{◌≡◌, ℕ, ◌<◌, ◌≤◌, Bool, true, false, ◌&&◌, ◌||◌, ◌==◌, List, [], ◌∷◌, ◌++◌, sym, ap, ◌∙◌, refl, arith, if◌then◌else◌, ◌+◌, take, get_or, length, flat_map, ◌⊎◌, inl, inr}
-use Rattle.std.proofs.lemmas.Bool.{false≢true, ltb-true, ltb-false, lt-ltb, eqb-true, eq-eqb, and_parts, or_cases, or_parts}
+use Rattle.std.proofs.lemmas.Bool.{false_from_ne_true, false≢true, ltb-true, ltb-false, lt-ltb, eqb-true, eq-eqb, and_parts, or_cases, or_parts}
 use Rattle.std.specs.Prelude.{Option, Some, None, nat_lt}
 use Rattle.std.proofs.lemmas.List.{append-nil, map-append, take_more}
 use Rattle.std.proofs.lemmas.Grind.{flat_map-append}
+use Rattle.std.proofs.Math.Bool.{or-true}
 use Rattle.plan_types.specs.declared.refusal.Cause.{Cause}
 use Rattle.description.specs.Faults.{at}
 use Rattle.description.specs.FaultOrder.{earlier, first, is_before, rank}
@@ -28,10 +29,6 @@ before-to a b (inr both) =
     ap (λ t. nat_lt a.line b.line || (t && nat_lt (rank a.cause) (rank b.cause))) (eq-eqb a.line b.line both.0)
     ∙ ap (λ t. nat_lt a.line b.line || t) (lt-ltb (rank a.cause) (rank b.cause) both.1)
     ∙ or-true (nat_lt a.line b.line)
-  where
-    or-true : (t : Bool) → (t || true) ≡ true
-    or-true true = refl
-    or-true false = refl
 
 not-from : (a b : At) → is_before a b ≡ false → (b.line ≤ a.line) × (a.line ≡ b.line → rank b.cause ≤ rank a.cause)
 not-from a b h =
@@ -48,11 +45,7 @@ no-before a b c p q (inr both) =
 
 -- what isn't before something isn't before what that isn't before
 not-before : (a b c : At) → is_before b a ≡ false → is_before c b ≡ false → is_before c a ≡ false
-not-before a b c p q = decided (is_before c a) (λ h. no-before a b c p q (before-from c a h))
-  where
-    decided : (t : Bool) → (t ≡ true → ⊥) → t ≡ false
-    decided true never = absurd (never refl)
-    decided false never = refl
+not-before a b c p q = false_from_ne_true (is_before c a) (λ h. no-before a b c p q (before-from c a h))
 
 before-before : (a b c : At) → is_before b a ≡ true → is_before c b ≡ true → is_before c a ≡ true
 before-before a b c p q = before-to c a (joined (before-from b a p) (before-from c b q))

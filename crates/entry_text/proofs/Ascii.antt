@@ -7,9 +7,8 @@ use Rattle.std.proofs.lemmas.Bool.{and_parts, eqb-true}
 use Rattle.std.proofs.lemmas.Str.Ascii.{IsAscii-nil, IsAscii-cons}
 use Rattle.std.proofs.lemmas.Grind.{common_steps}
 use Rattle.plan_types.specs.Name.{is_letter, is_letter_or_digit, is_group, is_package_name}
+use Rattle.common_laws.specs.Small.{letter-small}
 
-low_byte : (b : ℕ) → is_letter_or_digit b ≡ true → b < 128
-low_byte b h = grind (arith, common_steps)
 
 -- groups of letters and digits
 abbrev plain : List (List ℕ) → Bool
@@ -28,7 +27,7 @@ is_dash b = b == 45
 by_group : (b : ℕ) (bs : List ℕ) (t : Bool) → (plain (slice_split is_dash bs) ≡ true → IsAscii bs) → is_dash b ≡ t
     → plain (cond t ([] ∷ slice_split is_dash bs) (onto_first b (slice_split is_dash bs))) ≡ true → IsAscii (b ∷ bs)
 by_group b bs true others q k = IsAscii-cons b bs (omega (arith, eqb-true b 45 q)) (others k)
-by_group b bs false others q k = let p = plain_first b (slice_split is_dash bs) k in IsAscii-cons b bs (low_byte b p.0) (others p.1)
+by_group b bs false others q k = let p = plain_first b (slice_split is_dash bs) k in IsAscii-cons b bs (letter-small b p.0) (others p.1)
 
 plain_ascii : (text : List ℕ) → plain (slice_split is_dash text) ≡ true → IsAscii text
 plain_ascii [] h = IsAscii-nil

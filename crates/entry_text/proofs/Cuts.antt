@@ -3,7 +3,7 @@ use Rattle.std.proofs.Common.{◌≡◌, ℕ, ◌+◌, ◌<◌, ◌≤◌, Bool,
 use Rattle.std.specs.Prelude.{◌==◌}
 use Rattle.std.proofs.lemmas.Bool.{and_from, true≢false, eqb-true}
 use Rattle.std.proofs.lemmas.List.{take_more, take_all, map-append}
-use Rattle.common_laws.specs.Small.{and-assoc}
+use Rattle.std.proofs.Math.Bool.{and_assoc}
 use Rattle.entry_text.specs.Entries.{depth_behind, left_open, commas_inside, Pieces, joined, are_blanks, without_last}
 
 pub open_push : (depth : ℕ) (text : List ℕ) (b : ℕ) → left_open depth (text ++ b ∷ []) ≡ depth_behind (left_open depth text) b
@@ -18,7 +18,7 @@ inside_push depth [] b = by (not (b == 44 && depth == 0))
     by false = refl
 inside_push depth (x ∷ xs) b =
     ap (λ t. not (x == 44 && depth == 0) && t) (inside_push (depth_behind depth x) xs b)
-    ∙ sym (and-assoc (not (x == 44 && depth == 0)) (commas_inside (depth_behind depth x) xs) (not (b == 44 && left_open (depth_behind depth x) xs == 0)))
+    ∙ sym (and_assoc (not (x == 44 && depth == 0)) (commas_inside (depth_behind depth x) xs) (not (b == 44 && left_open (depth_behind depth x) xs == 0)))
 
 -- a blank last one of several
 pub blank_last : (piece : List ℕ) (pieces : List (List ℕ)) (end : List ℕ) → are_blanks end ≡ true → without_last (piece ∷ (pieces ++ end ∷ [])) ≡ piece ∷ pieces

@@ -4,13 +4,14 @@ use Rattle.std.specs.List.{list_any, slice_get}
 use Rattle.std.proofs.lemmas.Bool.{and_right}
 use Rattle.std.proofs.lemmas.List.Folds.{list_all-append}
 use Rattle.std.proofs.lemmas.Option.{same_Some}
+use Rattle.std.proofs.Math.Bool.{and-or_distrib_left}
+use Rattle.std.specs.Cmp.{second_so}
 use Rattle.plan_types.specs.declared.dependency.Dep.{Dep}
 use Rattle.plan_types.specs.declared.description.CompKind.{CompKind}
 use Rattle.plan_types.specs.declared.index.FlatDep.{FlatDep}
 use Rattle.conditionals.specs.Paths.{Path, says, holds}
 use Rattle.flatten.specs.Counting.{Parts, flags_of, are_met}
 use Rattle.flatten.specs.Demands.{stanza_of, literal_of, flat_of}
-use Rattle.common_laws.specs.Small.{and-or}
 
 path_is_met : (parts : Parts) (path : Path) → are_met parts (map literal_of path) ≡ holds (flags_of parts) path
 path_is_met parts [] = refl
@@ -26,7 +27,7 @@ any_is_met parts kind dep [] = sym (and_right (are_met parts (stanza_of kind)) f
 any_is_met parts kind dep (path ∷ paths) =
     let stanza = are_met parts (stanza_of kind) in
     (λ i. is_met parts kind dep path i || any_is_met parts kind dep paths i)
-    ∙ and-or stanza (holds (flags_of parts) path) (list_any (holds (flags_of parts)) paths)
+    ∙ sym (and-or_distrib_left stanza (holds (flags_of parts) path) (list_any (holds (flags_of parts)) paths))
 
 -- an entry at a place is the path at that place
 pub record IsFrom (kind : CompKind) (dep : Dep) (paths : List Path) (i : ℕ) (flat : FlatDep) : Type 0 where
@@ -42,8 +43,4 @@ from_path kind dep (path ∷ paths) (suc i) flat e =
     record { path = found.path; there = found.there; is = found.is }
 
 pub holds_too : (parts : Parts) (kind : CompKind) (dep : Dep) (path : Path) (flat : FlatDep) → flat_of kind dep path ≡ flat → are_met parts flat.when ≡ true → holds (flags_of parts) path ≡ true
-holds_too parts kind dep path flat is met = right (are_met parts (stanza_of kind)) (holds (flags_of parts) path) (sym (is_met parts kind dep path) ∙ ap (λ one. are_met parts one.when) is ∙ met)
-  where
-    right : (b c : Bool) → (b && c) ≡ true → c ≡ true
-    right true c e = e
-    right false c e = absurd (cc e)
+holds_too parts kind dep path flat is met = second_so (are_met parts (stanza_of kind)) (holds (flags_of parts) path) (sym (is_met parts kind dep path) ∙ ap (λ one. are_met parts one.when) is ∙ met)

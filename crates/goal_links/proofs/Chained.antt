@@ -6,7 +6,8 @@ use Rattle.std.specs.Option.{option_to_list}
 use Rattle.std.proofs.Math.Seq.{ext_get_or, get_or-append_seam}
 use Rattle.std.proofs.lemmas.List.{length-set, get_or-set_same, get_or-set_other, get_or-map, get_or_append_left, length-append, map-append, length-map}
 use Rattle.std.proofs.lemmas.Bool.{false≢true}
-use Rattle.common_laws.specs.Lists.{contains-head, contains-tail, contains-left, contains-right, contains-append, contains-none, contains-cases, get-any}
+use Rattle.std.proofs.lemmas.List.{get_or_default}
+use Rattle.common_laws.specs.Lists.{contains-head, contains-tail, contains-left, contains-right, contains-append, contains-none, contains-cases}
 use Rattle.goal_links.specs.declared.ring.Node.{Node}
 use Rattle.goal_links.specs.declared.chains.Cell.{Cell}
 use Rattle.goal_links.specs.Beside.{last_of, first_of, behind_first}
@@ -421,7 +422,7 @@ module _ (ends nodes : List Node) (cells : List Cell) (h : AreChains ends nodes 
     end-fits = chain-fits ends nodes now.chains entry (ap (λ (v : Chained). v.chains) is) has
 
     end-at : end ≡ ends_at ends entry
-    end-at = end-is ∙ get-any ends entry end no_node end-fits
+    end-at = end-is ∙ get_or_default ends entry end no_node end-fits
 
     pub first-tells : Tells now entry end.next
     first-tells =
@@ -454,7 +455,7 @@ module _ (ends nodes : List Node) (cells : List Cell) (h : AreChains ends nodes 
       in-own = ap (λ (v : Chained). has_node (chain_with v cell) cell) is ∙ linked
 
       node-at : node ≡ get_or nodes cell no_node
-      node-at = node-is ∙ get-any nodes cell node no_node (cell-within ends nodes cells h own own-fits cell in-own)
+      node-at = node-is ∙ get_or_default nodes cell node no_node (cell-within ends nodes cells h own own-fits cell in-own)
 
       pub next-told : node.next ≡ first_of (behind (Some cell) (chain_with now cell))
       next-told =
@@ -475,10 +476,10 @@ module _ (ends nodes : List Node) (cells : List Cell) (h : AreChains ends nodes 
     module _ (last : last_of (chain_with now cell) ≡ Some cell) (row : Cell) (row-is : row ≡ get_or cells cell row) (mid : List Node) (mid-is : mid ≡ nodes)
         (end : Node) (end-is : end ≡ get_or ends row.entry end) where
       row-entry : row.entry ≡ (cell_at cells cell).entry
-      row-entry = ap (λ (x : Cell). x.entry) (row-is ∙ get-any cells cell row no_cell cell-fits)
+      row-entry = ap (λ (x : Cell). x.entry) (row-is ∙ get_or_default cells cell row no_cell cell-fits)
 
       row-end : end ≡ ends_at ends row.entry
-      row-end = end-is ∙ get-any ends row.entry end no_node (entry-fits ends nodes cells h cell row.entry cell-fits row-entry)
+      row-end = end-is ∙ get_or_default ends row.entry end no_node (entry-fits ends nodes cells h cell row.entry cell-fits row-entry)
 
       row-last : last_of (chain_at (chains_of ends nodes) row.entry) ≡ Some cell
       row-last = ap (λ n. last_of (chain_at (chains_of ends nodes) n)) row-entry ∙ ap (λ (v : Chained). last_of (chain_with v cell)) is ∙ last

@@ -1,6 +1,6 @@
 -- What was read of the project files so far.
 use Rattle.std.proofs.Common.{◌≡◌, Bool, true, false, ◌||◌, List, [], ◌∷◌, ◌++◌, codes, refl, sym, ap, ◌∙◌, append_assoc}
-use Rattle.common_laws.specs.Small.{or-assoc}
+use Rattle.std.proofs.Math.Bool.{or_assoc}
 use Rattle.outside_folder.specs.Calls.{content_at}
 use Rattle.outside_folder.specs.Files.{Bytes, Files}
 use Rattle.outside_folder.specs.declared.calls.Content.{Content}
@@ -43,7 +43,7 @@ none_read files paths read missed path rest is goes = record {
   large = goes.large ∙ ap (λ c. large_or path c (first_too_large files rest)) (sym is);
   missed_is =
       goes.missed_is ∙ ap (λ c. missed || missed_or path c (is_missed files rest)) (sym is)
-      ∙ sym (or-assoc missed (is_main path) (is_missed files rest));
+      ∙ sym (or_assoc missed (is_main path) (is_missed files rest));
 }
 
 or-none : (b : Bool) → (b || false) ≡ b

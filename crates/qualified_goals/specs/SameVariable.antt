@@ -12,12 +12,7 @@ use Rattle.qualified_goals.specs.declared.variable.Part.{Part}
 use Rattle.qualified_goals.specs.declared.variable.Part.TheVariants.{Package, Flag, Tests, Benches}
 use Rattle.qualified_goals.specs.declared.variable.Var.{Var}
 use Rattle.qualified_goals.specs.Variable.{qual_cmp, part_cmp, var_cmp, same_var}
-use Rattle.common_laws.specs.Small.{second-equal}
-
-pub is_eq-is : (o : Ordering) → is_eq o ≡ true → o ≡ Equal
-is_eq-is Less h = absurd (false≢true h)
-is_eq-is Equal h = refl
-is_eq-is Greater h = absurd (false≢true h)
+use Rattle.common_laws.specs.Small.{is-equal, second-equal}
 
 then-first : (a b : Ordering) → ordering_then a b ≡ Equal → a ≡ Equal
 then-first Less b h = h
@@ -56,7 +51,7 @@ part-is Benches Benches h = refl
 
 pub same_var-is : (v w : Var) → same_var v w ≡ true → v ≡ w
 same_var-is v w h =
-    let e = is_eq-is (var_cmp v w) h in
+    let e = is-equal (var_cmp v w) h in
     let q = qual-is v.qual w.qual (then-first (qual_cmp v.qual w.qual) (ordering_then (nat_cmp v.«package» w.«package») (part_cmp v.part w.part)) e) in
     let rest = second-equal (qual_cmp v.qual w.qual) (ordering_then (nat_cmp v.«package» w.«package») (part_cmp v.part w.part)) e in
     let n = exact_unsigned v.«package» w.«package» (then-first (nat_cmp v.«package» w.«package») (part_cmp v.part w.part) rest) in

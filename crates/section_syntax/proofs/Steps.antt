@@ -3,6 +3,7 @@ use Rattle.std.proofs.Common.{◌≡◌, ℕ, Bool, ◌&&◌, true, false, ◌+�
 use Rattle.std.specs.Prelude.{Option, None, Some}
 use Rattle.std.specs.declared.result.Result.{Result}
 use Rattle.std.proofs.lemmas.List.{map-append}
+use Rattle.std.proofs.Math.Bool.{and_assoc}
 use Rattle.plan_types.specs.Bytes.{joined_text}
 use Rattle.plan_types.specs.declared.condition.Cond.{Cond}
 use Rattle.plan_types.specs.declared.element.Element.{Element}
@@ -29,9 +30,6 @@ pub begins-under : (spec : Spec) (branches : List Branch) → may_import spec br
 begins-under spec [] = refl
 begins-under spec (outer ∷ branches) = refl
 
-and-on : (a b c : Bool) → (a && (b && c)) ≡ ((a && b) && c)
-and-on true b c = refl
-and-on false b c = refl
 
 module _ (spec : Spec) (kind : SectionKind) where
   pub field_goes : {item : Element} (line : ℕ) (name : List ℕ) (values : List (List ℕ)) {word : FieldWord} {fits : Bool} (front : Tree) (chain : Option Cond) (branches : List Cond) (found : Option Said) (old : List SectionPart) {new : List SectionPart} →
@@ -54,7 +52,7 @@ module _ (spec : Spec) (kind : SectionKind) where
       after ≡ import_fits spec kind (in_front item front) branches
   field_tells line name values {fits = fits} front branches is word-is after-is fits-is =
       after-is ∙ ap (λ w. is_import w && fits) word-is ∙ ap (λ b. is_import (field_word kind name) && b) fits-is
-      ∙ and-on (is_import (field_word kind name)) (are_imports kind front) (may_import spec branches)
+      ∙ sym (and_assoc (is_import (field_word kind name)) (are_imports kind front) (may_import spec branches))
       ∙ ap (λ t. import_fits spec kind t branches) (sym (ap (λ i. in_front i front) is ∙ field_in_front line name values front))
 
   pub section_tells : {item : Element} (line : ℕ) (name args : List ℕ) (items : List Element) (front : Tree) (branches : List Cond) →

@@ -4,6 +4,7 @@ use Rattle.std.specs.List.{Contains}
 use Rattle.std.proofs.lemmas.Bool.{false≢true, cases_lt}
 use Rattle.std.proofs.lemmas.List.{append-nil}
 use Rattle.std.proofs.lemmas.List.Elements.{Contains-append_left, Contains-append_right, Contains-append_cases}
+use Rattle.std.specs.Cmp.{both_ways}
 use Rattle.plan_types.specs.declared.index.Entry.{Entry}
 use Rattle.plan_types.specs.declared.range.Range.{Range}
 use Rattle.plan_types.specs.declared.version.Version.{Version}
@@ -156,16 +157,11 @@ module _ (newer older : Bool) (has f : Version → Bool) (relaxes : Relaxes newe
   down none (inr (inl n)) = inr (inl (n.0, (under none n.1.0, λ s. n.1.1 (over none s))))
   down none (inr (inr o)) = inr (inr (o.0, (over-down o.1.0, λ s. o.1.1 (under-up s))))
 
-  both-ways : (a b : Bool) → (a ≡ true → b ≡ true) → (b ≡ true → a ≡ true) → a ≡ b
-  both-ways true b h k = sym (h refl)
-  both-ways false true h k = k refl
-  both-ways false false h k = refl
-
   pub relaxed-same : f v ≡ f w
   relaxed-same =
       elim (has v) as (λ t. has v ≡ t → f v ≡ f w) [
         | true ↦ λ e. (relaxes v nv).1 (inl e) ∙ sym ((relaxes w nw).1 (inl (same ∙ e)))
-        | false ↦ λ e. both-ways (f v) (f w) (λ h. (relaxes w nw).1 (up e ((relaxes v nv).0 h))) (λ h. (relaxes v nv).1 (down e ((relaxes w nw).0 h)))
+        | false ↦ λ e. both_ways (f v) (f w) (λ h. (relaxes w nw).1 (up e ((relaxes v nv).0 h))) (λ h. (relaxes v nv).1 (down e ((relaxes w nw).0 h)))
       ] refl
 
 pub relaxed-follows : (newer older : Bool) (has f : Version → Bool) → Relaxes newer older has f → Follows has f

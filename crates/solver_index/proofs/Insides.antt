@@ -25,12 +25,12 @@ use Rattle.solver_index.proofs.Calm.{itself-follows, relaxed-follows, same-follo
 use Rattle.solver_index.proofs.ListLaws.{rising-below}
 use Rattle.solver_index.proofs.Relaxed.{are-relaxed}
 use Rattle.std.proofs.lemmas.Bool.{and_parts}
+use Rattle.std.specs.Cmp.{both_ways}
 use Rattle.common_laws.specs.Lists.{filter-same, contains-none, all-at}
-use Rattle.common_laws.specs.Small.{both-ways}
 use Rattle.plan_types.specs.Packages.{entries_of}
 
 one-relaxed : (newer older : Bool) (has f g : Version → Bool) → Relaxes newer older has f → Relaxes newer older has g → (v : Version) → HasNumbers v → f v ≡ g v
-one-relaxed newer older has f g h k v numbers = both-ways (f v) (g v) (λ e. (k v numbers).1 ((h v numbers).0 e)) (λ e. (h v numbers).1 ((k v numbers).0 e))
+one-relaxed newer older has f g h k v numbers = both_ways (f v) (g v) (λ e. (k v numbers).1 ((h v numbers).0 e)) (λ e. (h v numbers).1 ((k v numbers).0 e))
 
 pub relaxed-let : {E : Type 0} (project : Project) (owner : Instance) (dep : Dep) (r : Result (List Version) E) → has_versions dep.range ≡ true
     → IfOk r (λ cuts. Relaxes (relaxes project.newer owner dep.«package») (relaxes project.older owner dep.«package») (members dep.range) (inside cuts))

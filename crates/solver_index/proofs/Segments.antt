@@ -5,10 +5,11 @@ use Rattle.std.specs.List.Sorted.{IsNonDecreasing}
 use Rattle.std.proofs.lemmas.Bool.{cases_lt}
 use Rattle.std.proofs.lemmas.List.{append-nil}
 use Rattle.std.proofs.lemmas.List.Elements.{filter-append}
+use Rattle.std.proofs.lemmas.List.{get_or_default}
 use Rattle.solver_index.specs.Places.{between, rising}
 use Rattle.solver_index.specs.TurningPlaces.{IsFree}
 use Rattle.solver_index.proofs.ListLaws.{between-has, between-join, between-none, rising-between}
-use Rattle.common_laws.specs.Lists.{filter-all, filter-nothing, get-any}
+use Rattle.common_laws.specs.Lists.{filter-all, filter-nothing}
 
 module _ (test : ℕ → Bool) where
   pub segment-kept : (front : List ℕ) (first last : ℕ) → ((i : ℕ) → first ≤ i → i < last → test first ≡ test i) → test first ≡ true → front ++ between first last ≡ front ++ filter test (between first last)
@@ -33,7 +34,7 @@ module _ (test : ℕ → Bool) where
 -- no turn lies in a segment that ends at the next one
 pub free-segment : (turns : List ℕ) (index first i : ℕ) → IsNonDecreasing turns → index < length turns → ((k : ℕ) → k < index → get_or turns k 0 ≤ first) → i < get_or turns index 0 → IsFree turns first i
 free-segment turns index first i rise here earlier less t (k, below, is) after =
-    let same : get_or turns k 0 ≡ t = get-any turns k 0 t below ∙ is in
+    let same : get_or turns k 0 ≡ t = get_or_default turns k 0 t below ∙ is in
     elim (cases_lt k index) [
       | inl before ↦ let least = earlier k before in absurd (omega (arith, least, same, after))
       | inr behind ↦ let most = rise index k 0 behind below in omega (arith, most, same, less)
@@ -42,6 +43,6 @@ free-segment turns index first i rise here earlier less t (k, below, is) after =
 -- nor in the one behind the last
 pub free-end : (turns : List ℕ) (first i : ℕ) → ((k : ℕ) → k < length turns → get_or turns k 0 ≤ first) → IsFree turns first i
 free-end turns first i earlier t (k, below, is) after =
-    let same : get_or turns k 0 ≡ t = get-any turns k 0 t below ∙ is in
+    let same : get_or turns k 0 ≡ t = get_or_default turns k 0 t below ∙ is in
     let least = earlier k below in
     absurd (omega (arith, least, same, after))

@@ -9,6 +9,7 @@ use Rattle.std.proofs.lemmas.List.Folds.{length-prefix_len}
 use Rattle.std.proofs.lemmas.List.Splits.{slice_split-cons_yes, slice_split-cons_no}
 use Rattle.std.proofs.lemmas.List.Sums.{prefix_len-le-length, prefix_len_stops}
 use Rattle.std.proofs.lemmas.Str.{IsCharBoundary-end, IsCharBoundary-before_ascii}
+use Rattle.std.proofs.lemmas.Bool.{not-false}
 use Rattle.text_grammar.specs.Words.{is_between, is_filled}
 use Rattle.text_grammar.specs.declared.word.Between.{Between}
 use Rattle.text_grammar.specs.declared.word.Between.TheVariants.{Spaces, SpacesAndCommas, BlanksAndCommas}
@@ -75,14 +76,11 @@ module _ (p : ℕ → Bool) where
   no_word [] h = refl
   no_word (b ∷ bs) h = no_word-cons b bs (p b) refl (no_word bs) h
 
-  not_true : (t : Bool) → not t ≡ false → t ≡ true
-  not_true true h = refl
-  not_true false h = absurd (cc)
 
   -- a text may be cut behind a word
   pub boundary_until : (text : List ℕ) → PassesAscii p → IsCharBoundary text (until text)
   boundary_until text ascii = elim (cases_lt (until text) (length text)) [
-    | inl lt ↦ IsCharBoundary-before_ascii text (until text) lt (ascii (get_or text (until text) 0) (not_true _ (prefix_len_stops (λ b. not (p b)) text 0 lt)))
+    | inl lt ↦ IsCharBoundary-before_ascii text (until text) lt (ascii (get_or text (until text) 0) (not-false _ (prefix_len_stops (λ b. not (p b)) text 0 lt)))
     | inr ge ↦ let le = prefix_len-le-length (λ b. not (p b)) text in
         subst (λ n. IsCharBoundary text n) (omega arith) (IsCharBoundary-end text)
   ]

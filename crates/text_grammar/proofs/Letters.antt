@@ -14,7 +14,7 @@ use Rattle.text_grammar.proofs.Fronts.{Reader, errs, Apart, ends_kept, apart_bef
 use Rattle.text_grammar.proofs.Spaces.{Never, never_starts, starts_same, NotDigits, starts_like}
 use Rattle.text_grammar.proofs.ChainParts.{ok_parts}
 use Rattle.text_grammar.proofs.Marks.{led_at, led_reads, led_read, led_fault}
-use Rattle.text_grammar.proofs.Steps.{Good}
+use Rattle.text_grammar.proofs.Steps.{Good, errs_valued, valued_itself}
 
 -- ---- a language and a wider one
 
@@ -226,10 +226,6 @@ pair_led {A} kind K K' R R' k never never' = record {
 -- ---- the same texts, with other values
 
 module _ {A B : Type 0} (kind : Kind) (f : A → B) where
-  errs_valued : (r : Result (A × List ℕ) Cause) → errs r ≡ true → errs (valued f r) ≡ true
-  errs_valued (Ok p) h = h
-  errs_valued (Err cause) h = h
-
   reads_map : (L : List ℕ → A → Type 0) (R : Reader A) → Reads kind.digits L R → (K : List ℕ → B → Type 0) → ((text : List ℕ) (x : A) → L text x → K text (f x)) → ((text : List ℕ) (y : B) → K text y → (x : A) × L text x × (y ≡ f x))
       → (Q : Reader B) → ((text : List ℕ) → Q text ≡ valued f (R text)) → Reads kind.digits K Q
   reads_map L R g K to from Q same = record {
@@ -262,8 +258,8 @@ module _ {A B : Type 0} (kind : Kind) (f : A → B) where
             fault_up_like kind L L' R R' K K' Q Q' []
             (λ t x l. ([], f x, subst (λ u. K u (f x)) (sym (append-nil t)) (to t x l))) (λ t x l. ([], f x, subst (λ u. K' u (f x)) (sym (append-nil t)) (to' t x l)))
             text cause f' refl
-            (λ again like e. ap errs (same (f'.front ++ again)) ∙ errs_valued (R (f'.front ++ again)) e)
-            (λ again like e. ap errs (same' (f'.front ++ again)) ∙ errs_valued (R' (f'.front ++ again)) e)
+            (λ again like e. ap errs (same (f'.front ++ again)) ∙ errs_valued f (R (f'.front ++ again)) e)
+            (λ again like e. ap errs (same' (f'.front ++ again)) ∙ errs_valued f (R' (f'.front ++ again)) e)
 
     pub pair_map : Pair kind K K' Q Q'
     pair_map = record {
@@ -278,11 +274,7 @@ pub pair_as : {A : Type 0} (kind : Kind) (L L' : List ℕ → A → Type 0) (R R
     → ((text : List ℕ) (x : A) → L text x → K text x) → ((text : List ℕ) (x : A) → K text x → L text x) → ((text : List ℕ) (x : A) → L' text x → K' text x) → ((text : List ℕ) (x : A) → K' text x → L' text x)
     → (Q Q' : Reader A) → ((text : List ℕ) → Q text ≡ R text) → ((text : List ℕ) → Q' text ≡ R' text) → Pair kind K K' Q Q'
 pair_as {A} kind L L' R R' g K K' to from to' from' Q Q' same same' =
-    pair_map kind (λ x. x) L L' R R' g K K' to (λ text x l. (x, from text x l, refl)) to' (λ text x l. (x, from' text x l, refl)) Q Q' (λ text. same text ∙ pure (R text)) (λ text. same' text ∙ pure (R' text))
-  where
-    pure : (r : Result (A × List ℕ) Cause) → r ≡ valued (λ x. x) r
-    pure (Ok p) = refl
-    pure (Err cause) = refl
+    pair_map kind (λ x. x) L L' R R' g K K' to (λ text x l. (x, from text x l, refl)) to' (λ text x l. (x, from' text x l, refl)) Q Q' (λ text. same text ∙ valued_itself (R text)) (λ text. same' text ∙ valued_itself (R' text))
 
 -- ---- words in any case, in texts without digits
 

@@ -144,12 +144,16 @@ good_done {A} kind x = record {
 
 -- ---- the same texts, with other values
 
+pub errs_valued : {A B : Type 0} (f : A → B) (r : Result (A × List ℕ) Cause) → errs r ≡ true → errs (valued f r) ≡ true
+errs_valued f (Ok p) h = h
+errs_valued f (Err cause) h = h
+
+pub valued_itself : {A : Type 0} (r : Result (A × List ℕ) Cause) → r ≡ valued (λ x. x) r
+valued_itself (Ok p) = refl
+valued_itself (Err cause) = refl
+
 module _ {A B : Type 0} (kind : Kind) (L : List ℕ → A → Type 0) (R : Reader A) (g : Good kind L R) (f : A → B) (K : List ℕ → B → Type 0)
     (to : (text : List ℕ) (x : A) → L text x → K text (f x)) (from : (text : List ℕ) (y : B) → K text y → (x : A) × L text x × (y ≡ f x)) (Q : Reader B) (same : (text : List ℕ) → Q text ≡ valued f (R text)) where
-  errs_valued : (r : Result (A × List ℕ) Cause) → errs r ≡ true → errs (valued f r) ≡ true
-  errs_valued (Ok p) h = h
-  errs_valued (Err cause) h = h
-
   map_read : (text : List ℕ) (y : B) (rest : List ℕ) → Q text ≡ Ok (y, rest) → Read K (Apart kind.digits) text y rest
   map_read text y rest h = by (R text) refl
     where
@@ -169,7 +173,7 @@ module _ {A B : Type 0} (kind : Kind) (L : List ℕ → A → Type 0) (R : Reade
           let is : why ≡ cause = cc (h, same text, ap (valued f) q) in
           let completes : (t : List ℕ) (x : A) → L t x → (end : List ℕ) × (y : B) × K (t ++ end) y = λ t x l. ([], f x, subst (λ u. K u (f x)) (sym (append-nil t)) (to t x l)) in
           let f' = g.fault text cause (q ∙ ap Err is) in
-          let passes : (again : List ℕ) → Like kind.digits again f'.rest → errs (R (f'.front ++ again)) ≡ true → errs (Q (f'.front ++ again)) ≡ true = λ again like e. ap errs (same (f'.front ++ again)) ∙ errs_valued (R (f'.front ++ again)) e in
+          let passes : (again : List ℕ) → Like kind.digits again f'.rest → errs (R (f'.front ++ again)) ≡ true → errs (Q (f'.front ++ again)) ≡ true = λ again like e. ap errs (same (f'.front ++ again)) ∙ errs_valued f (R (f'.front ++ again)) e in
           fault_up_like kind L L R R K K Q Q [] completes completes text cause f' refl passes passes
 
   pub good_map : Good kind K Q
@@ -182,8 +186,4 @@ module _ {A B : Type 0} (kind : Kind) (L : List ℕ → A → Type 0) (R : Reade
 -- the same reader and the same language, said otherwise
 pub good_as : {A : Type 0} (kind : Kind) (L : List ℕ → A → Type 0) (R : Reader A) → Good kind L R → (K : List ℕ → A → Type 0) → ((text : List ℕ) (x : A) → L text x → K text x) → ((text : List ℕ) (x : A) → K text x → L text x)
     → (Q : Reader A) → ((text : List ℕ) → Q text ≡ R text) → Good kind K Q
-good_as {A} kind L R g K to from Q same = good_map kind L R g (λ x. x) K to (λ text x l. (x, from text x l, refl)) Q (λ text. same text ∙ pure (R text))
-  where
-    pure : (r : Result (A × List ℕ) Cause) → r ≡ valued (λ x. x) r
-    pure (Ok p) = refl
-    pure (Err cause) = refl
+good_as {A} kind L R g K to from Q same = good_map kind L R g (λ x. x) K to (λ text x l. (x, from text x l, refl)) Q (λ text. same text ∙ valued_itself (R text))

@@ -1,5 +1,6 @@
 -- Chains of sets that are joined alike.
 use Rattle.std.proofs.Common.{◌≡◌, Bool, true, false, ◌&&◌, ◌||◌, List, [], ◌∷◌, ◌++◌, ◌≤◌, arith, refl, sym, ap, ◌∙◌}
+use Rattle.std.proofs.Math.Bool.{and_assoc, or_assoc}
 use Rattle.plan_types.specs.declared.version.Version.{Version}
 use Rattle.version_range.specs.declared.merge.Joint.{Joint}
 use Rattle.version_range.specs.declared.merge.Joint.TheVariants.{Both, Either}
@@ -7,13 +8,12 @@ use Rattle.plan_types.specs.declared.range.Range.{Range, size-Range}
 use Rattle.plan_types.specs.Members.{members}
 use Rattle.version_range.specs.Version.{has_versions}
 use Rattle.version_range.specs.Cuts.{HasNumbers, inside, join, joined, IsSplit}
-use Rattle.common_laws.specs.Small.{and-assoc, or-assoc}
 
 pub joined_append : (j : Joint) (xs ys : List (List Version)) (v : Version) → joined j (xs ++ ys) v ≡ join j (joined j xs v) (joined j ys v)
 joined_append Both [] ys v = refl
 joined_append Either [] ys v = refl
-joined_append Both (x ∷ xs) ys v = ap (λ t. inside x v && t) (joined_append Both xs ys v) ∙ sym (and-assoc (inside x v) (joined Both xs v) (joined Both ys v))
-joined_append Either (x ∷ xs) ys v = ap (λ t. inside x v || t) (joined_append Either xs ys v) ∙ sym (or-assoc (inside x v) (joined Either xs v) (joined Either ys v))
+joined_append Both (x ∷ xs) ys v = ap (λ t. inside x v && t) (joined_append Both xs ys v) ∙ sym (and_assoc (inside x v) (joined Both xs v) (joined Both ys v))
+joined_append Either (x ∷ xs) ys v = ap (λ t. inside x v || t) (joined_append Either xs ys v) ∙ sym (or_assoc (inside x v) (joined Either xs v) (joined Either ys v))
 
 pub joined_one : (j : Joint) (x : List Version) (v : Version) → joined j (x ∷ []) v ≡ inside x v
 joined_one Both x v = by (inside x v)

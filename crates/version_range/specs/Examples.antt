@@ -10,6 +10,7 @@ use Rattle.plan_types.specs.declared.version.Version.{Version}
 use Rattle.plan_types.specs.Members.{order}
 use Rattle.version_range.specs.Cuts.{inside, SomeAbove, IsRelaxed}
 use Rattle.std.specs.Fmt.{digits}
+use Rattle.common_laws.specs.Small.{is-equal}
 use Rattle.plan_types.specs.declared.range.Range.TheVariants.{Any, AtLeast, Either}
 use Rattle.plan_types.specs.declared.range.Spec.TheVariants.{V2_4}
 use Rattle.version_range.specs.declared.operator.Operator.TheVariants as operator
@@ -65,13 +66,8 @@ is_one v = is_eq (order v.parts (1 ∷ []))
 
 none_above_two : SomeAbove is_one (one_number 2) → ⊥
 none_above_two s =
-    let same = exact_bytes s.0.parts (1 ∷ []) (equal (order s.0.parts (1 ∷ [])) s.2) in
+    let same = exact_bytes s.0.parts (1 ∷ []) (is-equal (order s.0.parts (1 ∷ [])) s.2) in
     false≢true (ap (λ parts. is_lt (order (2 ∷ []) parts)) (sym same) ∙ s.3)
-  where
-    equal : (o : Ordering) → is_eq o ≡ true → o ≡ Equal
-    equal Less e = absurd (false≢true e)
-    equal Equal e = refl
-    equal Greater e = absurd (false≢true e)
 
 newer_has_two : IsRelaxed true false is_one (one_number 2)
 newer_has_two = inr (inl (refl, ((one_number 1, lit≤ tt, refl, refl), none_above_two)))

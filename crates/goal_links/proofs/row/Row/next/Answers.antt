@@ -1,5 +1,5 @@
 use Rattle.std.proofs.Common.{◌≡◌, Option, Some, None, ℕ, List, ◌∷◌, IfSome, true, sym, ap, ◌∙◌, subst, arith}
-use Rattle.common_laws.specs.Lists.{get-any}
+use Rattle.std.proofs.lemmas.List.{get_or_default}
 use Rattle.goal_links.specs.declared.ring.Node.{Node}
 use Rattle.goal_links.specs.Beside.{first_of}
 use Rattle.goal_links.specs.Ring.{IsRing, ring_of, no_node}
@@ -19,7 +19,7 @@ returns-in-Some-clause-next c =
     let ns = ring_of c.self.inside.ends c.self.inside.nodes.items in
     let in' = stands c.args.place c.in-Some.node ns c.args.self.now.linked (ap (λ (v : Line). v.linked) c.self.view_is) c.requires c.in-Some.is in
     let within = linked-within c.self.inside.ends c.self.inside.nodes.items ns c.self.invariant c.in-Some.node in' in
-    ap (λ (n : Node). n.next) (c.index.ensures ∙ get-any c.self.inside.nodes.items c.in-Some.node c.index.result.now no_node within)
+    ap (λ (n : Node). n.next) (c.index.ensures ∙ get_or_default c.self.inside.nodes.items c.in-Some.node c.index.result.now no_node within)
     ∙ linked-next c.self.inside.ends c.self.inside.nodes.items ns c.self.invariant c.in-Some.node in'
     ∙ ap (λ p. first_of (behind p ns)) (sym c.in-Some.is) ∙ ap (λ (l : List ℕ). first_of (behind c.args.place l)) (ap (λ (v : Line). v.linked) c.self.view_is)
 

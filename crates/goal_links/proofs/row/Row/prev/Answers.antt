@@ -1,5 +1,5 @@
 use Rattle.std.proofs.Common.{sym, ap, ◌∙◌, subst, arith}
-use Rattle.common_laws.specs.Lists.{get-any}
+use Rattle.std.proofs.lemmas.List.{get_or_default}
 use Rattle.goal_links.specs.declared.ring.Node.{Node}
 use Rattle.goal_links.specs.Ring.{ring_of, no_node}
 use Rattle.goal_links.specs.Row.{Line, StandsIn, has_node, without_node}
@@ -18,6 +18,6 @@ returns c =
     let ns = ring_of c.self.inside.ends c.self.inside.nodes.items in
     let in' = ap (λ (v : Line). has_node v.linked c.args.node) c.self.view_is ∙ c.requires in
     let within = linked-within c.self.inside.ends c.self.inside.nodes.items ns c.self.invariant c.args.node in' in
-    let is = ap (λ (n : Node). n.prev) (c.index.ensures ∙ get-any c.self.inside.nodes.items c.args.node c.index.result.now no_node within) in
+    let is = ap (λ (n : Node). n.prev) (c.index.ensures ∙ get_or_default c.self.inside.nodes.items c.args.node c.index.result.now no_node within) in
     subst (λ l. StandsIn (without_node c.args.node l) c.index.result.now.prev) (ap (λ (v : Line). v.linked) c.self.view_is)
     (subst (StandsIn (without_node c.args.node ns)) (sym is) (prev-stands c.self.inside.ends c.self.inside.nodes.items c.self.invariant c.args.node in'))
