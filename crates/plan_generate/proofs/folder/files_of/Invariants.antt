@@ -1,0 +1,16 @@
+-- the packages so far, and what was drawn for them
+use Rattle.std.proofs.Common.{◌≡◌, ◌-◌, ◌≤◌}
+use Rattle.std.specs.Prelude.{flat_map}
+use Rattle.std.specs.List.{range_with_len}
+use Rattle.outside_folder.specs.MemFile.{told}
+use Rattle.plan_generate.specs.Draws.{after_draws, draws_before}
+use Rattle.plan_generate.specs.Generated.{package_files}
+use Rattle.plan_generate.proofs.folder.files_of.Given as goal
+
+abbrev pub invariant-loop-package : goal.invariant-loop-package
+invariant-loop-package l =
+    record {
+      some : 1 ≤ l.package;
+      files : told l.files ≡ flat_map (package_files l.number) (range_with_len 1 (l.package - 1));
+      drawn : l.draws.last ≡ after_draws l.number (draws_before l.package 1);
+    }

@@ -1,0 +1,4 @@
+pub mod Draws
+pub mod Text
+pub mod Generated
+pub mod Examples

@@ -1,0 +1,43 @@
+-- The texts of the files.
+use Rattle.std.specs.Prelude.{ℕ, ◌-◌, ◌%◌, ◌&&◌, ◌==◌, List, [], ◌∷◌, ◌++◌, length, replicate, flat_map, codes, if◌then◌else◌}
+use Rattle.std.specs.Fmt.{decimal}
+
+-- a text with the end of its line
+abbrev pub line : List ℕ → List ℕ
+line text = text ++ 10 ∷ []
+
+-- a package's name: its number with five digits
+abbrev pub name : ℕ → List ℕ
+name package = codes "g" ++ replicate (5 - length (decimal package)) 48 ++ decimal package
+
+-- a name behind others
+abbrev pub name_behind : ℕ → List ℕ
+name_behind package = codes ", " ++ name package
+
+-- the line of the packages on which a library depends, where there are any
+abbrev pub depends_line : List ℕ → List ℕ
+depends_line [] = []
+depends_line (package ∷ packages) = line (codes "  build-depends: " ++ name package ++ flat_map name_behind packages)
+
+-- a package with a library that depends on these
+abbrev pub plain_text : List ℕ → ℕ → List ℕ → List ℕ
+plain_text package version needs =
+    line (codes "cabal-version: 2.4") ++ line (codes "name: " ++ package) ++ line (codes "version: " ++ decimal version) ++ line (codes "library")
+    ++ depends_line needs
+
+-- a dependency on a package that isn't there, while a flag is on, and the flag
+abbrev pub flag_text : List ℕ
+flag_text =
+    line (codes "  if flag(f)") ++ line (codes "    build-depends: missing") ++ line (codes "flag f") ++ line (codes "  default: True")
+
+-- version 3 of each seventh package has that flag
+abbrev pub flag_of : ℕ → ℕ → List ℕ
+flag_of package version = if (package % 7 == 0) && (version == 3) then flag_text else []
+
+-- the file of a version
+abbrev pub version_text : ℕ → ℕ → List ℕ → List ℕ
+version_text package version needs = plain_text (name package) version needs ++ flag_of package version
+
+-- where it stands
+abbrev pub version_path : ℕ → ℕ → List ℕ
+version_path package version = codes "index/" ++ name package ++ codes "/" ++ decimal version ++ codes "/" ++ name package ++ codes ".cabal"

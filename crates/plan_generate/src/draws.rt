@@ -1,0 +1,56 @@
+// Numbers that are drawn, each from the one before it, and the packages that they stand for.
+ghost use Rattle.std.specs.Prelude.{◌≡◌, ◌<◌, ◌^◌, IfOk};
+ghost use Rattle.plan_generate.specs.Draws.{after_draws, draws_each, drawn, needed, needs_after};
+
+use plan_types::{List, NoMemory};
+use std::alloc::Global;
+
+/// The number that was drawn last.
+pub struct Draws {
+    last: u64,
+    ghost small: { last < 2 ^ 31 },
+}
+
+impl Draws {
+    pub fn new(seed: u64) -> Draws
+        requires { seed < 2 ^ 31 }
+        ensures { result.last ≡ seed }
+    {
+        Draws { last: seed }
+    }
+
+    fn draw(&mut self) -> u64
+        ensures number { result ≡ drawn self.old.last }
+        ensures last { self.new.last ≡ drawn self.old.last }
+    {
+        let last = self.last;
+        self.last = (1_103_515_245 * last + 12_345) % 2_147_483_648;
+        self.last
+    }
+
+    /// Two packages before this one, or one that was drawn twice; none for the first, and nothing is drawn.
+    pub fn draw_needs(&mut self, alloc: Global, package: u64) -> Result<List<u64>, NoMemory>
+        ensures needs { IfOk result (λ needs. needs ≡ needs_after self.old.last package) }
+        ensures last { self.new.last ≡ after_draws self.old.last (draws_each package) }
+    {
+        let mut needs = List::new(alloc);
+        if package <= 1 {
+            return Ok(needs);
+        }
+        let first = needed(package, self.draw());
+        let second = needed(package, self.draw());
+        needs.push(first)?;
+        if first != second {
+            needs.push(second)?;
+        }
+        Ok(needs)
+    }
+}
+
+fn needed(package: u64, draw: u64) -> u64
+    requires bound { draw < 2 ^ 31 }
+    requires later { 1 < package }
+    ensures { result ≡ needed package draw }
+{
+    1 + draw % (package - 1)
+}
