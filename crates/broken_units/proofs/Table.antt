@@ -31,7 +31,6 @@ module _ (users : List (List ℕ)) (node user : ℕ) (old new : List ℕ) (withi
   pub added : (u v : ℕ) → IsUser (set users node new) u v ↔ Added users node user u v
   added u v = ⊎_elim (λ e. subst (λ w. IsUser (set users node new) u w ↔ Added users node user u w) (sym e) (here u)) (λ n. there u v n) (cases_eq v node)
 
-
 module _ (old : List (List ℕ)) (user : ℕ) (nodes : List ℕ) where
   -- the users so far, where the first nodes were gone through
   abbrev pub With : List (List ℕ) → List ℕ → Type 0

@@ -13,7 +13,6 @@ use Rattle.common_laws.specs.Lists.{contains-none}
 use Rattle.common_laws.specs.Graphs.{IsMarked, Needs, marked_within}
 use Rattle.build_order.specs.Building.{AreMet, IsFirstUnmet, IsTakenAsLeast, IsMetBefore, IsWait, NoNode, Alone, Keeps, IsSound, BecomesReady, HasToWait, needs_of}
 
-
 pub default_past : {X : Type 0} (n i : ℕ) (d : X) → get_or (replicate n d) i d ≡ d
 default_past zero i d = refl
 default_past (suc n) zero d = refl
@@ -281,7 +280,6 @@ module _ (needs : List (List ℕ)) where
           unplaced = behind w.node i.before.unplaced (idle node w i);
           met = λ k lt l. old (get_or (needs_of needs w.node) k 0) (i.before.met k lt l);
         }
-
 
 -- one where there is no mark
 abbrev left : Bool → ℕ

@@ -33,7 +33,6 @@ lower-byte b h = grind (arith, nat_tests)
 lower-letter : (b : ℕ) → is_letter b ≡ is_letter (to_ascii_lowercase b)
 lower-letter b = grind (arith, nat_tests)
 
-
 lower-hyphen : (b : ℕ) → (to_ascii_lowercase b == 45) ≡ (b == 45)
 lower-hyphen b = grind (arith, nat_tests)
 

@@ -5,6 +5,7 @@ use Rattle.choice_problem.specs.declared.problem.Choice.{Choice}
 use Rattle.choice_problem.specs.Assignment.{Assignment, is_one_of}
 use Rattle.choice_problem.specs.Problem.{IsChoice, IsDemand}
 use Rattle.choice_problem.specs.General.{Request, General}
+use Rattle.common_laws.specs.Graphs.{HasNoCycle}
 
 -- the values are those of known variables of the set, and of their domains
 pub record IsAssignmentIn (g : General) (set : Var → Bool) (A : Assignment) : Type 0 where

@@ -11,7 +11,6 @@ use Rattle.component_cycle.specs.declared.search.Search.{Search}
 use Rattle.component_cycle.specs.Cycle.{IsOnCycle, IsFirstOnCycle}
 use Rattle.common_laws.specs.Lists.{contains-none}
 use Rattle.common_laws.specs.Graphs.{IsPath, Needs, last, more, needs_within}
-use Rattle.component_cycle.proofs.Reaches.{needs_within}
 use Rattle.component_cycle.specs.Search.{state, IsSound, Leads, is_on_cycle}
 
 abbrev pub start : ℕ → Search
@@ -23,7 +22,6 @@ start-unseen n v =
       | inl less ↦ get_or-replicate n v Unseen Unseen less
       | inr past ↦ get_or_past (replicate n Unseen) v Unseen (omega (arith, length-replicate n Unseen, past))
     ]
-
 
 pub start-sound : (needs : List (List ℕ)) → IsSound needs (start (length needs)) None
 start-sound needs =

@@ -82,7 +82,7 @@ impl Constraints {
         requires { has_versions range.now ≡ true }
         ensures { (project : Project) (names : NameTable) → StandsFor project names self.now →
             IfOk result (λ cuts. Relaxes (relaxes project.newer owner.now dep.now) (relaxes project.older owner.now dep.now)
-                (members range.now) (inside cuts)) }
+            (members range.now) (inside cuts)) }
     {
         let newer = self.newer.relaxes(owner, dep);
         let older = self.older.relaxes(owner, dep);

@@ -9,7 +9,6 @@ use Rattle.std.proofs.lemmas.Grind.{common_steps}
 use Rattle.plan_types.specs.Name.{is_letter, is_letter_or_digit, is_group, is_package_name}
 use Rattle.common_laws.specs.Small.{letter-small}
 
-
 -- groups of letters and digits
 abbrev plain : List (List ℕ) → Bool
 plain groups = list_all (list_all is_letter_or_digit) groups

@@ -76,7 +76,6 @@ module _ (p : ℕ → Bool) where
   no_word [] h = refl
   no_word (b ∷ bs) h = no_word-cons b bs (p b) refl (no_word bs) h
 
-
   -- a text may be cut behind a word
   pub boundary_until : (text : List ℕ) → PassesAscii p → IsCharBoundary text (until text)
   boundary_until text ascii = elim (cases_lt (until text) (length text)) [

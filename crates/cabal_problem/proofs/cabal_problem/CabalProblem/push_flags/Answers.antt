@@ -1,7 +1,7 @@
 use Rattle.std.proofs.Common.{◌<◌, ◌++◌, length, get_or, take, ap, ◌∙◌, sym, append_assoc, arith}
 use Rattle.cabal_problem.specs.Rows.{flag_row, in_pairs}
 use Rattle.cabal_problem.proofs.RowDemands.{pairs-more}
-use Rattle.common_laws.specs.Lists.{get-any}
+use Rattle.std.proofs.lemmas.List.{get_or_default}
 use Rattle.cabal_problem.proofs.cabal_problem.CabalProblem.push_flags.Goals as goal
 
 pub loop-place-preserved : goal.loop-place-preserved
@@ -14,4 +14,4 @@ loop-place-preserved c =
     let number = get_or numbers i 0 in
     let within : i < length numbers = omega (arith, c.requires, c.loop-place-test.true) in
     c.in_ok-push_flag.ensures ∙ ap (λ l. l ++ make decl number) c.loop-place.invariant ∙ append_assoc c.args.found.now (in_pairs make (take i flags) (take i numbers)) (make decl number)
-    ∙ ap (λ l. c.args.found.now ++ l) (sym (pairs-more make flags numbers i decl number c.loop-place-test.true c.index-flags-place.is within (get-any numbers i 0 number within)))
+    ∙ ap (λ l. c.args.found.now ++ l) (sym (pairs-more make flags numbers i decl number c.loop-place-test.true c.index-flags-place.is within (get_or_default numbers i 0 number within)))
