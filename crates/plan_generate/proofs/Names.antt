@@ -12,28 +12,28 @@ use Rattle.common_laws.specs.Small.{tail_same}
 use Rattle.plan_generate.specs.Text.{name}
 
 -- not the byte between the names of a path
-pub abbrev IsInside : ℕ → Type 0
+abbrev pub IsInside : ℕ → Type 0
 IsInside b = (b == 47) ≡ false
 
 pub digits-inside : (ds : List ℕ) → AllDigits 10 ds → All IsInside ds
-digits-inside [] h = All-nil
-digits-inside (d ∷ ds) h = All-cons d ds (let range = digit_from_value d h.0 in grind (arith, common_steps)) (digits-inside ds h.1)
+digits-inside [] h = All-nil IsInside
+digits-inside (d ∷ ds) h = All-cons IsInside d ds (let range = digit_from_value d h.0 in grind (arith, common_steps)) (digits-inside ds h.1)
 
-module _ (package : ℕ) (few : package ≤ 2000) where
-  pub name-length : length (name package) ≡ 6
+module _ (number : ℕ) (few : number ≤ 2000) where
+  pub name-length : length (name number) ≡ 6
   name-length =
-      let short : length (decimal package) ≤ 5 = length-decimal-le 5 package (omega arith) (omega arith) (omega arith) in
-      let both = length-append (replicate (5 - length (decimal package)) 48) (decimal package) in
-      let zeros = length-replicate (5 - length (decimal package)) 48 in
+      let short : length (decimal number) ≤ 5 = length-decimal-le 5 number (omega arith) (omega arith) (omega arith) in
+      let both = length-append (replicate (5 - length (decimal number)) 48) (decimal number) in
+      let zeros = length-replicate {A = ℕ} (5 - length (decimal number)) 48 in
       omega (arith, short, both, zeros)
 
-  pub name-inside : All IsInside (name package)
+  pub name-inside : All IsInside (name number)
   name-inside =
-      All-append (codes "g") (replicate (5 - length (decimal package)) 48 ++ decimal package)
-        (All-cons 103 [] refl All-nil)
-        (All-append (replicate (5 - length (decimal package)) 48) (decimal package)
-          (All-replicate (5 - length (decimal package)) 48 refl)
-          (digits-inside (decimal package) ((decimal_is_IsNumeral package (omega arith)).0.1)))
+      All-append IsInside (codes "g") (replicate (5 - length (decimal number)) 48 ++ decimal number)
+      (All-cons IsInside 103 [] refl (All-nil IsInside))
+      (All-append IsInside (replicate (5 - length (decimal number)) 48) (decimal number)
+      (All-replicate IsInside (5 - length (decimal number)) 48 refl)
+      (digits-inside (decimal number) ((decimal_is_IsNumeral number (omega arith)).0.1)))
 
 -- zeros in front of digits of which the first is none
 same-digits : (m n : ℕ) (ds es : List ℕ) → 48 < get_or ds 0 0 → 48 < get_or es 0 0 → replicate m 48 ++ ds ≡ replicate n 48 ++ es → ds ≡ es
@@ -45,5 +45,5 @@ same-digits (suc m) (suc n) ds es h k e = same-digits m n ds es h k (tail_same e
 pub name-tells : (p q : ℕ) → 0 < p → p ≤ 2000 → 0 < q → q ≤ 2000 → name p ≡ name q → p ≡ q
 name-tells p q p-some p-few q-some q-few e =
     decimal_injective p q (omega arith) (omega arith)
-      (same-digits (5 - length (decimal p)) (5 - length (decimal q)) (decimal p) (decimal q)
-        (first_decimal p p-some (omega arith)) (first_decimal q q-some (omega arith)) (tail_same e))
+    (same-digits (5 - length (decimal p)) (5 - length (decimal q)) (decimal p) (decimal q)
+    (first_decimal p p-some (omega arith)) (first_decimal q q-some (omega arith)) (tail_same e))

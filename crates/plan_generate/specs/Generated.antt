@@ -12,20 +12,20 @@ told_file file = (file.path, file.bytes)
 
 -- a version of a package, for the number of packages that there are
 abbrev pub version_file : ℕ → ℕ → ℕ → Bytes × Bytes
-version_file number package version = (version_path package version, version_text package version (needs_of number package version))
+version_file count number version = (version_path number version, version_text number version (needs_of count number version))
 
 -- the three versions of a package
 abbrev pub package_files : ℕ → ℕ → Files
-package_files number package = map (version_file number package) (1 ∷ 2 ∷ 3 ∷ [])
+package_files count number = map (version_file count number) (1 ∷ 2 ∷ 3 ∷ [])
 
 -- the numbers of all packages
 abbrev pub packages : ℕ → List ℕ
-packages number = range_with_len 1 number
+packages count = range_with_len 1 count
 
 -- the local package, which depends on all
 abbrev pub main_file : ℕ → Bytes × Bytes
-main_file number = (codes "main.cabal", plain_text (codes "main") 1 (packages number))
+main_file count = (codes "main.cabal", plain_text (codes "main") 1 (packages count))
 
 -- all files
 abbrev pub generated : ℕ → Files
-generated number = flat_map (package_files number) (packages number) ++ main_file number ∷ []
+generated count = flat_map (package_files count) (packages count) ++ main_file count ∷ []

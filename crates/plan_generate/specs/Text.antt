@@ -8,21 +8,21 @@ line text = text ++ 10 ∷ []
 
 -- a package's name: its number with five digits
 abbrev pub name : ℕ → List ℕ
-name package = codes "g" ++ replicate (5 - length (decimal package)) 48 ++ decimal package
+name number = codes "g" ++ replicate (5 - length (decimal number)) 48 ++ decimal number
 
 -- a name behind others
 abbrev pub name_behind : ℕ → List ℕ
-name_behind package = codes ", " ++ name package
+name_behind number = codes ", " ++ name number
 
 -- the line of the packages on which a library depends, where there are any
 abbrev pub depends_line : List ℕ → List ℕ
 depends_line [] = []
-depends_line (package ∷ packages) = line (codes "  build-depends: " ++ name package ++ flat_map name_behind packages)
+depends_line (number ∷ packages) = line (codes "  build-depends: " ++ name number ++ flat_map name_behind packages)
 
 -- a package with a library that depends on these
 abbrev pub plain_text : List ℕ → ℕ → List ℕ → List ℕ
-plain_text package version needs =
-    line (codes "cabal-version: 2.4") ++ line (codes "name: " ++ package) ++ line (codes "version: " ++ decimal version) ++ line (codes "library")
+plain_text called version needs =
+    line (codes "cabal-version: 2.4") ++ line (codes "name: " ++ called) ++ line (codes "version: " ++ decimal version) ++ line (codes "library")
     ++ depends_line needs
 
 -- a dependency on a package that isn't there, while a flag is on, and the flag
@@ -32,12 +32,12 @@ flag_text =
 
 -- version 3 of each seventh package has that flag
 abbrev pub flag_of : ℕ → ℕ → List ℕ
-flag_of package version = if (package % 7 == 0) && (version == 3) then flag_text else []
+flag_of number version = if (number % 7 == 0) && (version == 3) then flag_text else []
 
 -- the file of a version
 abbrev pub version_text : ℕ → ℕ → List ℕ → List ℕ
-version_text package version needs = plain_text (name package) version needs ++ flag_of package version
+version_text number version needs = plain_text (name number) version needs ++ flag_of number version
 
 -- where it stands
 abbrev pub version_path : ℕ → ℕ → List ℕ
-version_path package version = codes "index/" ++ name package ++ codes "/" ++ decimal version ++ codes "/" ++ name package ++ codes ".cabal"
+version_path number version = codes "index/" ++ name number ++ codes "/" ++ decimal version ++ codes "/" ++ name number ++ codes ".cabal"

@@ -6,6 +6,7 @@ use plan_types::{List, NoMemory};
 use std::alloc::Global;
 
 /// The number that was drawn last.
+#[derive(Drop)]
 pub struct Draws {
     last: u64,
     ghost small: { last < 2 ^ 31 },
@@ -29,16 +30,16 @@ impl Draws {
     }
 
     /// Two packages before this one, or one that was drawn twice; none for the first, and nothing is drawn.
-    pub fn draw_needs(&mut self, alloc: Global, package: u64) -> Result<List<u64>, NoMemory>
-        ensures needs { IfOk result (λ needs. needs ≡ needs_after self.old.last package) }
-        ensures last { self.new.last ≡ after_draws self.old.last (draws_each package) }
+    pub fn draw_needs(&mut self, alloc: Global, number: u64) -> Result<List<u64>, NoMemory>
+        ensures needs { IfOk result (λ needs. needs ≡ needs_after self.old.last number) }
+        ensures last { self.new.last ≡ after_draws self.old.last (draws_each number) }
     {
         let mut needs = List::new(alloc);
-        if package <= 1 {
+        if number <= 1 {
             return Ok(needs);
         }
-        let first = needed(package, self.draw());
-        let second = needed(package, self.draw());
+        let first = needed(number, self.draw());
+        let second = needed(number, self.draw());
         needs.push(first)?;
         if first != second {
             needs.push(second)?;
@@ -47,10 +48,10 @@ impl Draws {
     }
 }
 
-fn needed(package: u64, draw: u64) -> u64
+fn needed(number: u64, draw: u64) -> u64
     requires bound { draw < 2 ^ 31 }
-    requires later { 1 < package }
-    ensures { result ≡ needed package draw }
+    requires later { 1 < number }
+    ensures { result ≡ needed number draw }
 {
-    1 + draw % (package - 1)
+    1 + draw % (number - 1)
 }

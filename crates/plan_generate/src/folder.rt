@@ -12,12 +12,12 @@ use plan_types::{List, NoMemory, Text};
 use std::alloc::Global;
 
 /// The folder of so many packages. No call on it fails.
-pub fn generate(alloc: Global, number: u32) -> Result<MemFolder, NoMemory>
-    requires { (1 ≤ number) × (number ≤ 2000) }
-    ensures files { IfOk result (λ folder. mem_files folder ≡ generated number) }
+pub fn generate(alloc: Global, count: u32) -> Result<MemFolder, NoMemory>
+    requires { (1 ≤ count) × (count ≤ 2000) }
+    ensures files { IfOk result (λ folder. mem_files folder ≡ generated count) }
     ensures no_fault { IfOk result (λ folder. mem_fail_at folder ≡ []) }
 {
-    let files = files_of(alloc, number as u64)?;
+    let files = files_of(alloc, count as u64)?;
     match MemFolder::new(alloc, files, List::new(alloc)) {
         Ok(folder) => Ok(folder),
         Err(MemFault::NoMemory) => Err(NoMemory),
@@ -25,16 +25,16 @@ pub fn generate(alloc: Global, number: u32) -> Result<MemFolder, NoMemory>
     }
 }
 
-fn files_of(alloc: Global, number: u64) -> Result<List<MemFile>, NoMemory>
-    requires { number ≤ 2000 }
-    ensures { IfOk result (λ files. told files ≡ generated number) }
+fn files_of(alloc: Global, count: u64) -> Result<List<MemFile>, NoMemory>
+    requires { count ≤ 2000 }
+    ensures { IfOk result (λ files. told files ≡ generated count) }
 {
-    let mut draws = Draws::new(number);
+    let mut draws = Draws::new(count);
     let mut files = List::new(alloc);
-    for package in 1..number + 1 {
-        push_package(alloc, &mut files, &mut draws, package)?;
+    for number in 1..count + 1 {
+        push_package(alloc, &mut files, &mut draws, number)?;
     }
-    files.push(main_file(alloc, number)?)?;
+    files.push(main_file(alloc, count)?)?;
     Ok(files)
 }
 
@@ -43,16 +43,16 @@ fn push_package(
     alloc: Global,
     files: &mut List<MemFile>,
     draws: &mut Draws,
-    package: u64,
+    number: u64,
 ) -> Result<(), NoMemory>
-    requires { 1 ≤ package }
-    ensures files { (seed : ℕ) → draws.old.last ≡ after_draws seed (draws_before package 1) →
-        OnOk result (told files.new ≡ told files.old ++ package_files seed package) }
-    ensures last { (seed : ℕ) → draws.old.last ≡ after_draws seed (draws_before package 1) →
-        OnOk result (draws.new.last ≡ after_draws seed (draws_before (package + 1) 1)) }
+    requires { 1 ≤ number }
+    ensures files { (seed : ℕ) → draws.old.last ≡ after_draws seed (draws_before number 1) →
+        OnOk result (told files.new ≡ told files.old ++ package_files seed number) }
+    ensures last { (seed : ℕ) → draws.old.last ≡ after_draws seed (draws_before number 1) →
+        OnOk result (draws.new.last ≡ after_draws seed (draws_before (number + 1) 1)) }
 {
     for version in 1..4 {
-        files.push(version_file(alloc, draws, package, version)?)?;
+        files.push(version_file(alloc, draws, number, version)?)?;
     }
     Ok(())
 }
@@ -60,37 +60,37 @@ fn push_package(
 fn version_file(
     alloc: Global,
     draws: &mut Draws,
-    package: u64,
+    number: u64,
     version: u64,
 ) -> Result<MemFile, NoMemory>
-    ensures file { (seed : ℕ) → draws.old.last ≡ after_draws seed (draws_before package version) →
-        IfOk result (λ file. told_file file ≡ version_file seed package version) }
-    ensures last { draws.new.last ≡ after_draws draws.old.last (draws_each package) }
+    ensures file { (seed : ℕ) → draws.old.last ≡ after_draws seed (draws_before number version) →
+        IfOk result (λ file. told_file file ≡ version_file seed number version) }
+    ensures last { draws.new.last ≡ after_draws draws.old.last (draws_each number) }
 {
-    let needs = draws.draw_needs(alloc, package)?;
-    let text = version_text(alloc, package, version, needs.as_slice())?;
-    let path = version_path(alloc, package, version)?;
+    let needs = draws.draw_needs(alloc, number)?;
+    let text = version_text(alloc, number, version, needs.as_slice())?;
+    let path = version_path(alloc, number, version)?;
     file_of(alloc, path, &text)
 }
 
 // The local package, which depends on all.
-fn main_file(alloc: Global, number: u64) -> Result<MemFile, NoMemory>
-    requires { number ≤ 2000 }
-    ensures { IfOk result (λ file. told_file file ≡ main_file number) }
+fn main_file(alloc: Global, count: u64) -> Result<MemFile, NoMemory>
+    requires { count ≤ 2000 }
+    ensures { IfOk result (λ file. told_file file ≡ main_file count) }
 {
-    let packages = packages(alloc, number)?;
+    let packages = packages(alloc, count)?;
     let text = plain_text(alloc, "main", 1, packages.as_slice())?;
     let path = Text::from_str(alloc, "main.cabal")?;
     file_of(alloc, path, &text)
 }
 
-fn packages(alloc: Global, number: u64) -> Result<List<u64>, NoMemory>
-    requires { number ≤ 2000 }
-    ensures { IfOk result (λ all. all ≡ packages number) }
+fn packages(alloc: Global, count: u64) -> Result<List<u64>, NoMemory>
+    requires { count ≤ 2000 }
+    ensures { IfOk result (λ all. all ≡ packages count) }
 {
     let mut all = List::new(alloc);
-    for package in 1..number + 1 {
-        all.push(package)?;
+    for number in 1..count + 1 {
+        all.push(number)?;
     }
     Ok(all)
 }

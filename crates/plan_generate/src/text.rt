@@ -8,14 +8,14 @@ use std::alloc::Global;
 const FLAG: &str = "  if flag(f)\n    build-depends: missing\nflag f\n  default: True\n";
 
 /// The path of the file of a version.
-pub fn version_path(alloc: Global, package: u64, version: u64) -> Result<Text, NoMemory>
-    ensures { IfOk result (λ path. path ≡ version_path package version) }
+pub fn version_path(alloc: Global, number: u64, version: u64) -> Result<Text, NoMemory>
+    ensures { IfOk result (λ path. path ≡ version_path number version) }
 {
     let mut path = Text::from_str(alloc, "index/")?;
-    push_name(alloc, &mut path, package)?;
-    let number = format!(in alloc; "/{version}/")?;
-    path.push_str(number.as_str())?;
-    push_name(alloc, &mut path, package)?;
+    push_name(alloc, &mut path, number)?;
+    let middle = format!(in alloc; "/{version}/")?;
+    path.push_str(middle.as_str())?;
+    push_name(alloc, &mut path, number)?;
     path.push_str(".cabal")?;
     Ok(path)
 }
@@ -23,38 +23,35 @@ pub fn version_path(alloc: Global, package: u64, version: u64) -> Result<Text, N
 /// The file of a version, which depends on these packages.
 pub fn version_text(
     alloc: Global,
-    package: u64,
+    number: u64,
     version: u64,
     needs: &[u64],
 ) -> Result<Text, NoMemory>
-    ensures { IfOk result (λ text. text ≡ version_text package version needs.now) }
+    ensures { IfOk result (λ text. text ≡ version_text number version needs.now) }
 {
     let mut name = Text::new(alloc);
-    push_name(alloc, &mut name, package)?;
+    push_name(alloc, &mut name, number)?;
     let mut text = plain_text(alloc, name.as_str(), version, needs)?;
-    push_flag(&mut text, package, version)?;
+    push_flag(&mut text, number, version)?;
     Ok(text)
 }
 
 /// The file of a package with a library that depends on these.
-pub fn plain_text(
-    alloc: Global,
-    package: &str,
-    version: u64,
-    needs: &[u64],
-) -> Result<Text, NoMemory>
-    ensures { IfOk result (λ text. text ≡ plain_text package.now version needs.now) }
+pub fn plain_text(alloc: Global, name: &str, version: u64, needs: &[u64]) -> Result<Text, NoMemory>
+    ensures { IfOk result (λ text. text ≡ plain_text name.now version needs.now) }
 {
-    let head = format!(in alloc; "cabal-version: 2.4\nname: {package}\nversion: {version}\nlibrary\n")?;
+    let head = format!(in alloc;
+        "cabal-version: 2.4\nname: {name}\nversion: {version}\nlibrary\n"
+    )?;
     let mut text = Text::from_string(head);
     push_depends(alloc, &mut text, needs)?;
     Ok(text)
 }
 
-fn push_name(alloc: Global, text: &mut Text, package: u64) -> Result<(), NoMemory>
-    ensures { OnOk result (text.new ≡ text.old ++ name package) }
+fn push_name(alloc: Global, text: &mut Text, number: u64) -> Result<(), NoMemory>
+    ensures { OnOk result (text.new ≡ text.old ++ name number) }
 {
-    let name = format!(in alloc; "g{package:05}")?;
+    let name = format!(in alloc; "g{number:05}")?;
     text.push_str(name.as_str())
 }
 
@@ -80,10 +77,10 @@ fn push_others(alloc: Global, text: &mut Text, others: &[u64]) -> Result<(), NoM
     Ok(())
 }
 
-fn push_flag(text: &mut Text, package: u64, version: u64) -> Result<(), NoMemory>
-    ensures { OnOk result (text.new ≡ text.old ++ flag_of package version) }
+fn push_flag(text: &mut Text, number: u64, version: u64) -> Result<(), NoMemory>
+    ensures { OnOk result (text.new ≡ text.old ++ flag_of number version) }
 {
-    if package % 7 == 0 && version == 3 {
+    if number % 7 == 0 && version == 3 {
         text.push_str(FLAG)
     } else {
         Ok(())

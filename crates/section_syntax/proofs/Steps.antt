@@ -30,7 +30,6 @@ pub begins-under : (spec : Spec) (branches : List Branch) → may_import spec br
 begins-under spec [] = refl
 begins-under spec (outer ∷ branches) = refl
 
-
 module _ (spec : Spec) (kind : SectionKind) where
   pub field_goes : {item : Element} (line : ℕ) (name : List ℕ) (values : List (List ℕ)) {word : FieldWord} {fits : Bool} (front : Tree) (chain : Option Cond) (branches : List Cond) (found : Option Said) (old : List SectionPart) {new : List SectionPart} →
       item ≡ Field line name values → word ≡ field_word kind name → fits ≡ import_fits spec kind front branches → FieldSays spec word line (joined_text values) fits found →

@@ -13,8 +13,8 @@ use crate::items::{Inside, read_parts};
 use crate::part::{File, Head, HeadField, Section, SectionKind};
 use crate::words::{HeadWord, build_type, head_word, section_kind};
 use plan_types::{Element, List, NoMemory, Spec, Text, joined_text};
-use text_grammar::package_name;
 use std::alloc::Global;
+use text_grammar::package_name;
 use version_range::version_of;
 
 /// What the fields and sections of a file say, for its cabal-version.

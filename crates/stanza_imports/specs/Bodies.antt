@@ -1,6 +1,7 @@
 -- What bodies stand for whose imports are numbers.
 use Rattle.std.specs.Prelude.{◌≡◌, ℕ, length, List, [], ◌∷◌, ◌++◌, map, flat_map, get_or, sum_by, ◌+◌, ◌-◌, ◌^◌, min, Option}
 use Rattle.plan_types.specs.declared.description.CompKind.{CompKind}
+use Rattle.common_laws.specs.Small.{capped}
 use Rattle.section_syntax.specs.declared.part.SectionPart.{SectionPart}
 use Rattle.section_syntax.specs.declared.part.Section.{Section}
 use Rattle.section_syntax.specs.declared.part.SectionKind.TheVariants as kinds

@@ -7,10 +7,10 @@ use Rattle.plan_generate.specs.Draws.{after_draws, draws_before}
 use Rattle.plan_generate.specs.Generated.{package_files}
 use Rattle.plan_generate.proofs.folder.files_of.Given as goal
 
-abbrev pub invariant-loop-package : goal.invariant-loop-package
-invariant-loop-package l =
+abbrev pub invariant-loop-number : goal.invariant-loop-number
+invariant-loop-number l =
     record {
-      some : 1 ≤ l.package;
-      files : told l.files ≡ flat_map (package_files l.number) (range_with_len 1 (l.package - 1));
-      drawn : l.draws.last ≡ after_draws l.number (draws_before l.package 1);
+      some : 1 ≤ l.number;
+      files : told l.files ≡ flat_map (package_files l.count) (range_with_len 1 (l.number - 1));
+      drawn : l.draws.last ≡ after_draws l.count (draws_before l.number 1);
     }

@@ -10,8 +10,8 @@ abbrev pub invariant-loop-version : goal.invariant-loop-version
 invariant-loop-version l =
     record {
       some : 1 ≤ l.version;
-      files : (seed : ℕ) → l.fn.draws.last ≡ after_draws seed (draws_before l.package 1)
-          → told l.files ≡ told l.fn.files ++ map (version_file seed l.package) (take (l.version - 1) (1 ∷ 2 ∷ 3 ∷ []));
-      drawn : (seed : ℕ) → l.fn.draws.last ≡ after_draws seed (draws_before l.package 1)
-          → l.draws.last ≡ after_draws seed (draws_before l.package l.version);
+      files : (seed : ℕ) → l.fn.draws.last ≡ after_draws seed (draws_before l.number 1)
+          → told l.files ≡ told l.fn.files ++ map (version_file seed l.number) (take (l.version - 1) (1 ∷ 2 ∷ 3 ∷ []));
+      drawn : (seed : ℕ) → l.fn.draws.last ≡ after_draws seed (draws_before l.number 1)
+          → l.draws.last ≡ after_draws seed (draws_before l.number l.version);
     }
