@@ -1,7 +1,7 @@
 -- A package's name has six bytes, none of which divides a path, and tells it from others.
-use Rattle.std.proofs.Common.{◌≡◌, ℕ, zero, suc, ◌+◌, ◌-◌, ◌<◌, ◌≤◌, false, List, [], ◌∷◌, ◌++◌, length, get_or, refl, sym, ap, ◌∙◌, length-append, arith}
+use Rattle.std.proofs.Common.{◌≡◌, ℕ, zero, suc, ◌-◌, ◌<◌, ◌≤◌, false, List, [], ◌∷◌, ◌++◌, length, get_or, refl, ap, ◌∙◌, length-append, append-nil, ◌^◌, arith}
 use Rattle.std.specs.Prelude.{replicate, codes, All, ◌==◌}
-use Rattle.std.specs.Fmt.{decimal}
+use Rattle.std.specs.Fmt.{char_count, decimal, format_spec, padded_integral, styled_decimal}
 use Rattle.std.specs.Str.Parse.{AllDigits}
 use Rattle.std.proofs.lemmas.Fmt.{decimal_is_IsNumeral, decimal_injective, first_decimal, length-decimal-le}
 use Rattle.std.proofs.lemmas.List.{length-replicate}
@@ -47,3 +47,10 @@ name-tells p q p-some p-few q-some q-few e =
     decimal_injective p q (omega arith) (omega arith)
     (same-digits (5 - length (decimal p)) (5 - length (decimal q)) (decimal p) (decimal q)
     (first_decimal p p-some (omega arith)) (first_decimal q q-some (omega arith)) (tail_same e))
+
+-- how a number with five digits is written
+pub five-digits : (n : ℕ) → styled_decimal (format_spec 32 0 4 5 (2 ^ 64 - 1)) n ≡ replicate (5 - length (decimal n)) 48 ++ decimal n
+unfolding padded_integral char_count
+five-digits n =
+    let short : 5 - length (decimal n) - 0 - 0 ≡ 5 - length (decimal n) = omega arith in
+    ap (λ k. replicate k 48 ++ (decimal n ++ [])) short ∙ ap (λ ds. replicate (5 - length (decimal n)) 48 ++ ds) (append-nil (decimal n))

@@ -1,4 +1,4 @@
-use Rattle.std.proofs.Common.{ℕ, ap, ◌∙◌, sym, take, map, ◌-◌, ◌++◌, ◌∷◌, [], append_assoc, arith}
+use Rattle.std.proofs.Common.{ap, ◌∙◌, sym, take, map, ◌-◌, ◌++◌, ◌∷◌, [], append_assoc, arith}
 use Rattle.std.proofs.lemmas.List.{map_push, take_all}
 use Rattle.outside_folder.specs.MemFile.{told}
 use Rattle.plan_generate.specs.Draws.{after_draws, draws_before, draws_each}
@@ -32,4 +32,4 @@ pub returns-clause-files : goal.returns-clause-files
 returns-clause-files c = λ seed is.
     c.loop-version.invariant.files seed is
     ∙ ap (λ versions. told c.args.files.now ++ map (version_file seed c.args.number) versions)
-        (take_all (c.loop-version.version - 1) (1 ∷ 2 ∷ 3 ∷ []) (omega (arith, c.loop-version-test.false)))
+    (take_all (c.loop-version.version - 1) (1 ∷ 2 ∷ 3 ∷ []) (omega (arith, c.loop-version-test.false)))

@@ -10,14 +10,14 @@ returns c =
     let own = name c.in-Some.first.now in
     let others = flat_map name_behind c.in-Some.others.now in
     let end = 10 ∷ [] in
-    let needs : c.args.needs.now ≡ c.in-Some.first.now ∷ c.in-Some.others.now = c.in-Some.ensures.cases in
+    let needs : c.args.needs.now ≡ c.in-Some.first.now ∷ c.in-Some.others.now = c.in-Some.ensures.cases.0 in
     on_ok_weaker c.push_str-2.result
-      (λ is.
-        is
-        ∙ ap (λ l. l ++ end) c.in_ok-push_others.ensures
-        ∙ ap (λ l. (l ++ others) ++ end) (c.in_ok-push_name.ensures ∙ ap (λ l. l ++ own) c.in_ok-push_str.ensures.ok)
-        ∙ ap (λ l. (l ++ others) ++ end) (append_assoc before word own)
-        ∙ ap (λ l. l ++ end) (append_assoc before (word ++ own) others)
-        ∙ append_assoc before ((word ++ own) ++ others) end
-        ∙ ap (λ l. before ++ depends_line l) (sym needs))
-      c.push_str-2.ensures.ok
+    (λ is.
+    is
+    ∙ ap (λ l. l ++ end) c.in_ok-push_others.ensures
+    ∙ ap (λ l. (l ++ others) ++ end) (c.in_ok-push_name.ensures ∙ ap (λ l. l ++ own) c.in_ok-push_str.ensures.ok)
+    ∙ ap (λ l. (l ++ others) ++ end) (append_assoc before word own)
+    ∙ ap (λ l. l ++ end) (append_assoc before (word ++ own) others)
+    ∙ append_assoc before ((word ++ own) ++ others) end
+    ∙ ap (λ l. before ++ depends_line l) (sym needs))
+    c.push_str-2.ensures.ok
