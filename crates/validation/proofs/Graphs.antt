@@ -4,6 +4,7 @@ use Rattle.std.specs.List.{Contains, list_any, slice_get}
 use Rattle.std.specs.Option.{option_to_list}
 use Rattle.std.proofs.lemmas.Bool.{and_parts, and_from}
 use Rattle.std.proofs.lemmas.List.{map-append}
+use Rattle.std.proofs.lemmas.List.Elements.{Contains-get_or}
 use Rattle.qualified_goals.specs.declared.variable.Var.{Var}
 use Rattle.choice_problem.specs.declared.problem.Choice.{Choice}
 use Rattle.choice_problem.specs.declared.problem.Demand.{Demand}
@@ -14,15 +15,14 @@ use Rattle.choice_problem.specs.Trail.{value_in}
 use Rattle.choice_problem.specs.Active.{asks_for}
 use Rattle.choice_problem.specs.Conflict.{Edge, edges_from, edges_by, edges_of}
 use Rattle.choice_problem.specs.ConflictSet.{has}
-use Rattle.common_laws.specs.Lists.{contains-head, contains-tail, contains-none, contains-cases, contains-filter, contains-flat_map, flat_map-contains, filter-contains}
+use Rattle.common_laws.specs.Lists.{contains-head, contains-tail, contains-none, contains-cases, contains-filter, contains-flat_map, flat_map-contains, filter-contains, any-from}
 use Rattle.choice_problem.proofs.Sets.{has-append}
 use Rattle.validation.specs.declared.mentions.Mention.{Mention}
 use Rattle.validation.specs.Mentions.{places_on}
 use Rattle.demand_cycles.specs.Cycles.{HasEdge, first_of_condition, owner_of}
-use Rattle.validation.specs.Stack.{demand_at, demands_at, places_of, vars_at, mention_of, are_naming, names, watchers_by, watchers_from, owners_of, turned, is_first, is_owned_by, target_by, targets_by, AreTargets, IsSettled}
+use Rattle.validation.specs.Stack.{no_demand, demand_at, demands_at, places_of, vars_at, mention_of, are_naming, names, watchers_by, watchers_from, owners_of, turned, is_first, is_owned_by, target_by, targets_by, AreTargets, IsSettled}
 use Rattle.validation.specs.View.{View}
 use Rattle.validation.proofs.Stacks.{targets-tail}
-use Rattle.std.proofs.Math.Bool.{or-true}
 
 -- the demands at the places on a variable are those whose target it is
 demands-on : (listed : List Demand) (v : Var) (ms : List Mention) → AreTargets listed ms → demands_at listed (places_on v ms) ≡ filter (asks_for v) (demands_at listed (places_of ms))
@@ -108,24 +108,11 @@ waits-has n v (d ∷ demands) =
     ∙ has-append (vars_at (watchers_by n d.when)) (vars_at (watchers_from (suc n) demands)) v
     ∙ ap (λ b. b || has (vars_at (watchers_from (suc n) demands)) v) (naming-has n v d.when) ∙ ap (λ b. names v d || b) (waits-has (suc n) v demands)
 
-any-contains : (test : Demand → Bool) (ds : List Demand) (d : Demand) → Contains ds d → test d ≡ true → list_any test ds ≡ true
-any-contains test [] d h k = absurd (contains-none d h)
-any-contains test (x ∷ ds) d h k =
-    elim (contains-cases x ds d h) [
-      | inl e ↦ ap (λ b. b || list_any test ds) (ap test e ∙ k)
-      | inr r ↦ ap (λ b. test x || b) (any-contains test ds d r k) ∙ or-true (test x)
-    ]
-
-at-contains : (listed : List Demand) (k : ℕ) → k < length listed → Contains listed (demand_at listed k)
-at-contains [] k h = absurd (omega (arith, h))
-at-contains (d ∷ listed) zero h = contains-head d listed
-at-contains (d ∷ listed) (suc k) h = contains-tail d listed (demand_at listed k) (at-contains listed k (omega (arith, h)))
-
 active-listed : (listed : List Demand) (ms : List Mention) (d : Demand) → AreTargets listed ms → Contains (demands_at listed (places_of ms)) d → Contains listed d
 active-listed listed [] d h k = absurd (contains-none d k)
 active-listed listed (m ∷ ms) d h k =
     elim (contains-cases (demand_at listed m.place) (demands_at listed (places_of ms)) d k) [
-      | inl e ↦ subst (λ x. Contains listed x) e (at-contains listed m.place (h.within [] m ms refl))
+      | inl e ↦ subst (λ x. Contains listed x) e (Contains-get_or listed m.place no_demand (h.within [] m ms refl))
       | inr r ↦ active-listed listed ms d (targets-tail listed m ms h) r
     ]
 
@@ -136,7 +123,7 @@ edge-chosen listed ms watchers v w h waiting (e, within, from, target) =
     let found = contains-flat_map edges_by all e within in
     let owns = owner-of-edge found.0.when found.0 e refl found.2 in
     let named = naming-owner found.0 e v owns from in
-    ap (λ ws. has (vars_at ws) v) waiting ∙ waits-has 0 v listed ∙ any-contains (names v) listed found.0 (active-listed listed ms found.0 h found.1) named
+    ap (λ ws. has (vars_at ws) v) waiting ∙ waits-has 0 v listed ∙ any-from (names v) listed found.0 (active-listed listed ms found.0 h found.1) named
 
 pub active-at : (listed : List Demand) (ms : List Mention) (k : ℕ) (m : Mention) → k < length ms → m ≡ get_or ms k m → slice_get (demands_at listed (places_of ms)) k ≡ Some (demand_at listed m.place)
 active-at listed [] k m h e = absurd (omega (arith, h))

@@ -17,15 +17,8 @@ use Rattle.choice_problem.proofs.Ends.{lasting-start}
 use Rattle.choice_problem.proofs.Rules.{front-some, front-none, rest-none}
 use Rattle.validation.specs.View.{View, Represents, listed_counts, counts_before, view_of}
 use Rattle.validation.specs.Stack.{made, turned}
+use Rattle.validation.proofs.Stacks.{seen-same}
 use Rattle.validation.proofs.Views.{after-push, made-turned, counts-push, listed-push, known-open}
-
-abbrev pub shown : List Choice → List Demand → List Demand → List ℕ → List ℕ → View
-shown trail listed active listed_before active_before =
-    record { trail = trail; listed = listed; active = active; listed_before = listed_before; active_before = active_before }
-
-pub shown-same : (t u : List Choice) (l m a b : List Demand) (n k i j : List ℕ) → t ≡ u → l ≡ m → a ≡ b → n ≡ k → i ≡ j → shown t l a n i ≡ shown u m b k j
-shown-same t u l m a b n k i j e f g h o =
-    ap (λ x. shown x l a n i) e ∙ ap (λ x. shown u x a n i) f ∙ ap (λ x. shown u m x n i) g ∙ ap (λ x. shown u m b x i) h ∙ ap (λ x. shown u m b k x) o
 
 -- a choice that a stack may try
 pub record Ready (p : Problem) (x : View) (c : Choice) : Type 0 where
@@ -79,7 +72,7 @@ stands-made p x y c demands h d e lasting =
     ap (λ (s : View). s.listed_before) e ∙ ap (λ l. l ++ length x.listed ∷ []) (ap (λ (s : View). s.listed_before) h.stands.same)
     ∙ ap (λ l. listed_counts p [] x.trail ++ length l ∷ []) (ap (λ (s : View). s.listed) h.stands.same) ∙ sym (listed-push p x.trail c) in
     let same : y ≡ view_of p (x.trail ++ c ∷ []) =
-    shown-same y.trail (x.trail ++ c ∷ []) y.listed (demands_after p (x.trail ++ c ∷ [])) y.active (active p (x.trail ++ c ∷ [])) y.listed_before
+    seen-same y.trail (x.trail ++ c ∷ []) y.listed (demands_after p (x.trail ++ c ∷ [])) y.active (active p (x.trail ++ c ∷ [])) y.listed_before
     (listed_counts p [] (x.trail ++ c ∷ [])) y.active_before (counts_before p [] (x.trail ++ c ∷ [])) trail listed after were counts in
     record {
       choices = subst (λ (t : List Choice). All (IsChoice p) t) (sym trail) (All-push (IsChoice p) x.trail c h.stands.choices h.choice);
@@ -135,7 +128,7 @@ stands-new p x roots lawful is e =
     let counts : x.active_before ≡ [] = ap (λ (s : View). s.active_before) e in
     let were : x.listed_before ≡ [] = ap (λ (s : View). s.listed_before) e in
     let same : x ≡ view_of p [] =
-    shown-same x.trail [] x.listed (p.roots ++ []) x.active (p.roots ++ []) x.listed_before [] x.active_before [] trail listed acts were counts in
+    seen-same x.trail [] x.listed (p.roots ++ []) x.active (p.roots ++ []) x.listed_before [] x.active_before [] trail listed acts were counts in
     record {
       choices = subst (λ (t : List Choice). All (IsChoice p) t) (sym trail) (All-nil (IsChoice p));
       new = subst (λ (t : List Choice). AreNew t) (sym trail) before_any;
