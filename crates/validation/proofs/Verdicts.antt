@@ -16,8 +16,11 @@ use Rattle.choice_problem.proofs.Active.{active-push}
 use Rattle.choice_problem.proofs.Ends.{lasting-start}
 use Rattle.choice_problem.proofs.Rules.{front-some, front-none, rest-none}
 use Rattle.validation.specs.View.{View, Represents, listed_counts, counts_before, view_of}
+use Rattle.validation.specs.Pending.{count_before}
 use Rattle.validation.specs.Stack.{made, turned}
+use Rattle.validation.specs.Verdict.{set_after}
 use Rattle.validation.proofs.Stacks.{seen-same}
+use Rattle.validation.proofs.Weighed.{before-is}
 use Rattle.validation.proofs.Views.{after-push, made-turned, counts-push, listed-push, known-open}
 
 -- a choice that a stack may try
@@ -105,13 +108,19 @@ conflict-early p x c set h e =
     front-some (barred_set p c ∷ refused_set p x.trail c ∷ []) (broken_set p x.trail c ∷ lasting_sets (x.trail ++ c ∷ []) (active p (x.trail ++ c ∷ []))) set
     (ap first_set (sym (early-is p x c h)) ∙ sym e)
 
-pub conflict-late : (p : Problem) (x y : View) (c : Choice) (demands : List Demand) (before : ℕ) (o : Option (List Var)) → Ready p x c → demands ≡ p.demands c → y ≡ made x c demands
+conflict-late : (p : Problem) (x y : View) (c : Choice) (demands : List Demand) (before : ℕ) (o : Option (List Var)) → Ready p x c → demands ≡ p.demands c → y ≡ made x c demands
     → before ≡ length x.active → None ≡ first_set (early p x c) → o ≡ first_set (late y before) → conflict p x.trail c ≡ o
 unfolding conflict
 conflict-late p x y c demands before o h d e count none is =
     front-none (barred_set p c ∷ refused_set p x.trail c ∷ []) (broken_set p x.trail c ∷ lasting_sets (x.trail ++ c ∷ []) (active p (x.trail ++ c ∷ [])))
     (ap first_set (sym (early-is p x c h)) ∙ sym none)
     ∙ sym (is ∙ ap first_set (late-is p x y c demands before h d e count))
+
+-- the conflict of a choice that the early rules allow is the first set of the others, as of the stack with it
+pub conflict-weighed : (p : Problem) (x : View) (c : Choice) (demands : List Demand) (o : Option (List Var)) → Ready p x c → demands ≡ p.demands c
+    → None ≡ first_set (early p x c) → o ≡ set_after (made x c demands) → conflict p x.trail c ≡ o
+conflict-weighed p x c demands o h d none is =
+    conflict-late p x (made x c demands) c demands (count_before (made x c demands)) o h d refl (before-is x c demands) none is
 
 pub none-lasting : (y : View) (before : ℕ) → None ≡ first_set (late y before) → lasting_set y.trail y.active ≡ None
 none-lasting y before h = rest-none (set_of_first (find (is_broken y.trail) (drop before y.active)) ∷ []) (lasting_sets y.trail y.active) (sym h)
