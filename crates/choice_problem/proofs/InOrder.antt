@@ -1,14 +1,14 @@
 -- Rising lists of variables: what stands at a place, one variable less, and the least.
 use Rattle.std.proofs.Common.{◌≡◌, ℕ, zero, suc, ◌+◌, ◌<◌, ◌≤◌, arith, add-one, length, get_or, insert, Bool, true, false, not, cond, ◌&&◌, ◌||◌, List, [], ◌∷◌, Option, Some, None, refl, sym, ap, ◌∙◌}
-use Rattle.std.specs.Prelude.{find}
 use Rattle.std.specs.List.{slice_get, remove}
 use Rattle.std.specs.List.Sorted.{IsPartitionedBy}
 use Rattle.std.proofs.lemmas.Bool.{false≢true, and_parts, and_from}
+use Rattle.std.proofs.lemmas.Option.{slice_get-get_or}
 use Rattle.qualified_goals.specs.declared.variable.Var.{Var}
 use Rattle.qualified_goals.specs.Variable.{same_var, is_before}
-use Rattle.qualified_goals.specs.SameVariable.{same_var-is, same_var-refl}
+use Rattle.qualified_goals.specs.SameVariable.{same_var-is}
 use Rattle.choice_problem.specs.ConflictSet.{is_rising, has, with_var, without, place_of}
-use Rattle.qualified_goals.proofs.Order.{before-trans, before-back, before-neither}
+use Rattle.qualified_goals.proofs.Order.{before-trans, before-back}
 use Rattle.choice_problem.proofs.Sets.{has-contains, rising-tail, rising-below, insert-place, before-not-same, same-back}
 use Rattle.std.proofs.Math.Bool.{or-false}
 
@@ -159,11 +159,6 @@ with-there v (w ∷ vars) h k =
       ] refl
     ] refl
 
-get-some : (vars : List Var) (n : ℕ) (d : Var) → n < length vars → slice_get vars n ≡ Some (get_or vars n d)
-get-some [] n d h = absurd (omega (arith, h))
-get-some (v ∷ vars) zero d h = refl
-get-some (v ∷ vars) (suc n) d h = get-some vars n d (omega (arith, h))
-
 get-none : (vars : List Var) (n : ℕ) → length vars ≤ n → slice_get vars n ≡ None
 get-none [] n h = refl
 get-none (v ∷ vars) zero h = absurd (omega (arith, h))
@@ -171,7 +166,7 @@ get-none (v ∷ vars) (suc n) h = get-none vars n (omega (arith, h))
 
 pub there-some : (v : Var) (vars : List Var) (n : ℕ) (w : Var) → is_rising vars ≡ true → n ≡ place_of v vars → n < length vars → w ≡ get_or vars n w → same_var w v ≡ has vars v
 there-some v vars n w h e within is =
-    ap (λ x. same_var x v) is ∙ sym (ap (is_there v) (get-some vars n w within)) ∙ ap (λ k. is_there v (slice_get vars k)) e ∙ there v vars h
+    ap (λ x. same_var x v) is ∙ sym (ap (is_there v) (slice_get-get_or vars n w within)) ∙ ap (λ k. is_there v (slice_get vars k)) e ∙ there v vars h
 
 pub there-none : (v : Var) (vars : List Var) (n : ℕ) → is_rising vars ≡ true → n ≡ place_of v vars → length vars ≤ n → false ≡ has vars v
 there-none v vars n h e past = sym (ap (is_there v) (get-none vars n past)) ∙ ap (λ k. is_there v (slice_get vars k)) e ∙ there v vars h
@@ -202,35 +197,3 @@ parted-place v (w ∷ vars) (suc n) bound before after =
     let more : n ≡ place_of v vars =
     parted-place v vars n (omega (arith, bound)) (λ k d h. before (suc k) d (omega (arith, h))) (λ k d h l. after (suc k) d (omega (arith, h)) (omega (arith, l))) in
     sym (ap (λ b. cond b (place_of v vars + 1) 0) (before 0 w (omega arith)) ∙ add-one (place_of v vars) ∙ ap suc (sym more))
-
--- the first variable behind one
-
-next-place : (v : Var) (w : Var) (vars : List Var) → has (w ∷ vars) v ≡ has vars v → slice_get (w ∷ vars) (cond (has (w ∷ vars) v) (place_of v vars + 1 + 1) (place_of v vars + 1)) ≡ slice_get vars (cond (has vars v) (place_of v vars + 1) (place_of v vars))
-next-place v w vars e =
-    ap (λ b. slice_get (w ∷ vars) (cond b (place_of v vars + 1 + 1) (place_of v vars + 1))) e
-    ∙ elim (has vars v) as (λ b. slice_get (w ∷ vars) (cond b (place_of v vars + 1 + 1) (place_of v vars + 1)) ≡ slice_get vars (cond b (place_of v vars + 1) (place_of v vars))) [
-      | true ↦ ap (slice_get (w ∷ vars)) (add-one (place_of v vars + 1))
-      | false ↦ ap (slice_get (w ∷ vars)) (add-one (place_of v vars))
-    ]
-
-first-found : (v : Var) (vars : List Var) → is_rising (v ∷ vars) ≡ true → find (is_before v) vars ≡ slice_get vars 0
-first-found v [] h = refl
-first-found v (x ∷ vars) h = ap (λ b. cond b (Some x) (find (is_before v) vars)) ((and_parts (is_before v x) (is_rising (x ∷ vars)) h).0)
-
-pub found-behind : (v : Var) (vars : List Var) → is_rising vars ≡ true → slice_get vars (cond (has vars v) (place_of v vars + 1) (place_of v vars)) ≡ find (is_before v) vars
-found-behind v [] h = refl
-found-behind v (w ∷ vars) h =
-    elim (is_before w v) as (λ b. is_before w v ≡ b
-    → slice_get (w ∷ vars) (cond (has (w ∷ vars) v) (cond b (place_of v vars + 1) 0 + 1) (cond b (place_of v vars + 1) 0)) ≡ cond (is_before v w) (Some w) (find (is_before v) vars)) [
-      | true ↦ λ e.
-          next-place v w vars (ap (λ b. b || has vars v) (before-not-same w v e)) ∙ found-behind v vars (rising-tail w vars h)
-          ∙ sym (ap (λ b. cond b (Some w) (find (is_before v) vars)) (before-back w v e))
-      | false ↦ λ e. elim (is_before v w) as (λ b. is_before v w ≡ b → slice_get (w ∷ vars) (cond (has (w ∷ vars) v) 1 0) ≡ cond b (Some w) (find (is_before v) vars)) [
-        | true ↦ λ f.
-            ap (λ b. slice_get (w ∷ vars) (cond b 1 0)) (ap (λ b. b || has vars v) (same-back w v ∙ before-not-same v w f) ∙ not-behind w vars v h e)
-        | false ↦ λ f.
-            let same : v ≡ w = before-neither v w f e in
-            ap (λ b. slice_get (w ∷ vars) (cond b 1 0)) (ap (λ x. same_var w x || has vars v) same ∙ ap (λ b. b || has vars v) (same_var-refl w))
-            ∙ sym (first-found w vars h) ∙ ap (λ x. find (is_before x) vars) (sym same)
-      ] refl
-    ] refl

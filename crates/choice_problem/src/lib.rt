@@ -23,7 +23,7 @@ pub use outcome::{Counts, Outcome};
 pub use plan_types::Limit;
 pub use problem::{Choice, Choices, Demand};
 pub use qualified_goals::{Names, Part, Qual, Var, is_before, is_same};
-pub use rising::{place_behind, place_of, stands_at};
+pub use rising::{place_of, stands_at};
 pub use steps::Steps;
 pub use table::Table;
 pub use trail::Trail;

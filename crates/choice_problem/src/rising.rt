@@ -1,6 +1,6 @@
 // Lists of variables in goal order, each once: at which place of one a variable stands.
-ghost use Rattle.std.specs.Prelude.{◌≡◌, IsTrue, Some, slice_get};
-ghost use Rattle.choice_problem.specs.ConflictSet.{is_rising, has, place_of, first_behind};
+ghost use Rattle.std.specs.Prelude.{◌≡◌, IsTrue};
+ghost use Rattle.choice_problem.specs.ConflictSet.{is_rising, has, place_of};
 
 use crate::{Var, is_before, is_same};
 
@@ -21,18 +21,5 @@ pub fn stands_at(vars: &[Var], place: usize, v: Var) -> bool
     match vars.get(place) {
         Some(w) => is_same(*w, v),
         None => false,
-    }
-}
-
-/// The first place whose variable is behind this one, found by halves.
-pub fn place_behind(vars: &[Var], v: Var) -> usize
-    requires { IsTrue (is_rising vars.now) }
-    ensures { slice_get vars.now result ≡ first_behind (Some v) vars.now }
-{
-    let place = place_of(vars, v);
-    if stands_at(vars, place, v) {
-        place + 1
-    } else {
-        place
     }
 }

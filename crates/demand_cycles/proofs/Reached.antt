@@ -2,16 +2,18 @@
 use Rattle.std.proofs.Common.{◌≡◌, ℕ, zero, suc, ◌+◌, ◌<◌, ◌≤◌, ◌↔◌, true, false, List, [], ◌∷◌, ◌++◌, Some, length, take, map, slice_get, refl, sym, ap, ◌∙◌, subst, inl, inr, ◌⊎◌, arith, length-append}
 use Rattle.std.specs.List.{Contains}
 use Rattle.std.proofs.lemmas.Bool.{false≢true, or_cases, or_left, or_right}
-use Rattle.std.proofs.lemmas.List.{take-append-le, length-map}
+use Rattle.std.proofs.lemmas.List.{take-append-le, length-map, take_all}
+use Rattle.std.proofs.lemmas.Option.{slice_get_within}
 use Rattle.std.specs.Cmp.{both_ways}
 use Rattle.qualified_goals.specs.declared.variable.Var.{Var}
 use Rattle.qualified_goals.specs.Variable.{same_var}
 use Rattle.choice_problem.specs.ConflictSet.{has}
 use Rattle.choice_problem.specs.Conflict.{Edge, leads}
 use Rattle.qualified_goals.specs.SameVariable.{same_var-is}
-use Rattle.common_laws.specs.Lists.{contains-head, contains-tail, contains-left, contains-right, map-contains, any-from, any-at}
+use Rattle.common_laws.specs.Lists.{contains-left, contains-right, map-contains, any-from, any-at}
 use Rattle.choice_problem.proofs.Sets.{has-contains, contains-has}
 use Rattle.choice_problem.proofs.Paths.{Way, start, step, leads-way, way-leads}
+use Rattle.goal_links.proofs.Mapped.{get-contains}
 use Rattle.demand_cycles.specs.Cycles.{HasEdge, AreAncestors, leads_to_any}
 use Rattle.demand_cycles.specs.Side.{IsPartReached, with_keys}
 use Rattle.demand_cycles.proofs.Keys.{with_keys-once, has-with_keys, with_keys-front, once-within}
@@ -44,21 +46,11 @@ front-cases (x ∷ keys) (suc place) v w e h =
       | inr rest ↦ elim (front-cases keys place v w e rest) [ inl k ↦ inl (or_right (same_var x w) (has (take place keys) w) k) | inr k ↦ inr k ]
     ]
 
-get-within : {X : Type 0} (xs : List X) (place : ℕ) (x : X) → slice_get xs place ≡ Some x → place < length xs
-get-within [] place x e = absurd (cc e)
-get-within (y ∷ xs) zero x e = omega arith
-get-within (y ∷ xs) (suc place) x e = omega (arith, get-within xs place x e)
-
-pub get-contains : {X : Type 0} (xs : List X) (place : ℕ) (x : X) → slice_get xs place ≡ Some x → Contains xs x
-get-contains [] place x e = absurd (cc e)
-get-contains (y ∷ xs) zero x e = subst (λ z. Contains (y ∷ xs) z) (cc e) (contains-head y xs)
-get-contains (y ∷ xs) (suc place) x e = contains-tail y xs x (get-contains xs place x e)
-
 pub reached-more : (edges : List Edge) (goals keys : List Var) (place : ℕ) (v : Var) (sources : List Var) → IsPartReached edges goals keys place
     → slice_get keys place ≡ Some v → ((u : Var) → (Contains sources u) ↔ (HasEdge edges u v)) → IsPartReached edges goals (with_keys keys sources) (place + 1)
 reached-more edges goals keys place v sources part e all =
     let front = with_keys-front keys sources in
-    let inside : place < length keys = get-within keys place v e in
+    let inside : place < length keys = slice_get_within keys place v e in
     let one : place + 1 ≡ suc place = omega arith in
     let same : take (place + 1) (with_keys keys sources) ≡ take (suc place) keys =
     ap (λ n. take n (with_keys keys sources)) one ∙ ap (take (suc place)) front.1 ∙ take-append-le (suc place) keys front.0 (omega (arith, inside)) in
@@ -85,15 +77,9 @@ closed-way : (edges : List Edge) (keys : List Var) → ((w u : Var) → has keys
 closed-way edges keys closed v w (start e) h = ap (has keys) e ∙ h
 closed-way edges keys closed v w (step e h k way) g = closed e.to v (closed-way edges keys closed e.to w way g) (e, h, k, refl)
 
-take-whole : {X : Type 0} (n : ℕ) (xs : List X) → length xs ≤ n → take n xs ≡ xs
-take-whole zero [] h = refl
-take-whole (suc n) [] h = refl
-take-whole zero (x ∷ xs) h = absurd (omega (arith, h))
-take-whole (suc n) (x ∷ xs) h = ap (λ l. x ∷ l) (take-whole n xs (omega (arith, h)))
-
 pub reached-all : (edges : List Edge) (goals keys : List Var) (place : ℕ) → IsPartReached edges goals keys place → length keys ≤ place → AreAncestors edges goals keys
 reached-all edges goals keys place part done v =
-    let whole = take-whole place keys done in
+    let whole = take_all place keys done in
     let closed : (w u : Var) → has keys w ≡ true → HasEdge edges u w → has keys u ≡ true = λ w u h edge. part.closed w u (ap (λ l. has l w) whole ∙ h) edge in
     both_ways (has keys v) (leads_to_any edges goals v) (part.sound v) (λ h.
     let on = goal-of edges goals v h in

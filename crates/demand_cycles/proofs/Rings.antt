@@ -1,8 +1,10 @@
 -- Demands on cycles: each cycle passes an edge that the first demands don't have, where those have no cycle.
-use Rattle.std.proofs.Common.{◌≡◌, ◌↔◌, ℕ, zero, suc, ◌+◌, ◌≤◌, Bool, true, false, cond, List, [], ◌∷◌, ◌++◌, Some, None, length, take, drop, slice_get, refl, sym, ap, ◌∙◌, subst, inl, inr, ◌⊎◌, arith, append_assoc, append-nil, add-one}
+use Rattle.std.proofs.Common.{◌≡◌, ◌↔◌, ℕ, ◌+◌, ◌≤◌, Bool, true, false, cond, List, [], ◌∷◌, ◌++◌, Some, None, length, take, drop, slice_get, refl, sym, ap, ◌∙◌, subst, inl, inr, ◌⊎◌, arith, append_assoc, append-nil}
 use Rattle.std.specs.Prelude.{option_to_list, flat_map, filter}
 use Rattle.std.specs.List.{Contains, list_any}
 use Rattle.std.proofs.lemmas.Bool.{false≢true, false_from_ne_true}
+use Rattle.std.proofs.lemmas.List.{take-append-drop, drop_all}
+use Rattle.std.proofs.lemmas.Option.{slice_get_within, get_or_from_slice_get}
 use Rattle.qualified_goals.specs.declared.variable.Var.{Var}
 use Rattle.choice_problem.specs.declared.problem.Choice.{Choice}
 use Rattle.choice_problem.specs.declared.problem.Demand.{Demand}
@@ -10,7 +12,7 @@ use Rattle.choice_problem.specs.ConflictSet.{has, set_of}
 use Rattle.choice_problem.specs.Conflict.{Edge, leads, edges_from, edges_by, edges_of, named_by, lies_on_cycle, circular, set_of_all}
 use Rattle.qualified_goals.specs.Variable.{same_var}
 use Rattle.qualified_goals.specs.SameVariable.{same_var-is, same_var-refl}
-use Rattle.common_laws.specs.Lists.{contains-head, contains-none, contains-cases, contains-append, contains-right, contains-flat_map, flat_map-contains, contains-filter, filter-none, filter-contains, any-from, any-at}
+use Rattle.common_laws.specs.Lists.{contains-head, contains-none, contains-cases, contains-append, contains-right, contains-flat_map, flat_map-contains, contains-filter, filter-none, filter-contains, any-from, any-at, drop_at}
 use Rattle.choice_problem.proofs.Paths.{Way, start, step, way-join, way-edge, leads-way, way-leads}
 use Rattle.demand_cycles.specs.Cycles.{HasEdge, AreAncestors, leads_to_any, first_of_condition, owner_of, owners_on_cycles}
 
@@ -151,16 +153,11 @@ hit-joined olds news d none h lies =
           hit-by all news from.0 ring.edge.to from.1 (record { edge = e; by = from.2; back = back }) a
     ])
 
-split : (n : ℕ) (demands : List Demand) → take n demands ++ drop n demands ≡ demands
-split zero demands = refl
-split (suc n) [] = refl
-split (suc n) (d ∷ demands) = ap (λ l. d ∷ l) (split n demands)
-
 hit-of : (demands : List Demand) (n : ℕ) (d : Demand) → circular (take n demands) ≡ [] → Contains (circular demands) d → Hit (edges_of demands) (drop n demands) d.target
 unfolding circular
 hit-of demands n d none h =
     let found = contains-filter (lies_on_cycle (edges_of demands)) demands d h in
-    let e = split n demands in
+    let e = take-append-drop n demands in
     subst (λ l. Hit (edges_of l) (drop n demands) d.target) e
     (hit-joined (take n demands) (drop n demands) d none (subst (λ l. Contains l d) (sym e) found.0) (subst (λ l. lies_on_cycle (edges_of l) d ≡ true) (sym e) found.1))
 
@@ -201,7 +198,7 @@ new-circular demands n v h =
     let edges = edges_of demands in
     let from = contains-flat_map (λ (x : Demand). option_to_list (owner_of x)) (filter (lies_on_cycle edges) (drop n demands)) v h in
     let new = contains-filter (lies_on_cycle edges) (drop n demands) from.0 from.1 in
-    (from.0, filter-contains (lies_on_cycle edges) demands from.0 (subst (λ l. Contains l from.0) (split n demands) (contains-right (take n demands) (drop n demands) from.0 new.0)) new.1)
+    (from.0, filter-contains (lies_on_cycle edges) demands from.0 (subst (λ l. Contains l from.0) (take-append-drop n demands) (contains-right (take n demands) (drop n demands) from.0 new.0)) new.1)
 
 pub the-set : (demands : List Demand) (n : ℕ) (owners : List Var) → owners ≡ owners_on_cycles (edges_of demands) (drop n demands) → (length owners ≡ 0 → ⊥)
     → set_of_all (circular demands) ≡ Some (set_of (flat_map named_by (circular demands)))
@@ -212,19 +209,8 @@ the-set demands n (v ∷ owners) e some =
 
 -- one demand after another
 
-drop-at : {X : Type 0} (xs : List X) (n : ℕ) (x : X) → slice_get xs n ≡ Some x → drop n xs ≡ x ∷ drop (suc n) xs
-drop-at [] n x e = absurd (cc e)
-drop-at (y ∷ xs) zero x e = ap (λ z. z ∷ xs) (cc e)
-drop-at (y ∷ xs) (suc n) x e = drop-at xs n x e
-
 drop-next : {X : Type 0} (xs : List X) (n : ℕ) (x : X) → slice_get xs n ≡ Some x → drop n xs ≡ x ∷ drop (n + 1) xs
-drop-next xs n x e = drop-at xs n x e ∙ ap (λ m. x ∷ drop m xs) (sym (add-one n))
-
-drop-past : {X : Type 0} (xs : List X) (n : ℕ) → length xs ≤ n → drop n xs ≡ []
-drop-past [] zero h = refl
-drop-past [] (suc n) h = refl
-drop-past (x ∷ xs) zero h = absurd (omega (arith, h))
-drop-past (x ∷ xs) (suc n) h = drop-past xs n (omega (arith, h))
+drop-next xs n x e = drop_at xs n x (slice_get_within xs n x e) (sym (get_or_from_slice_get xs n x x e))
 
 -- what a list made of the demands that pass gets at each
 module _ (test : Demand → Bool) (f : Demand → List Var) where
@@ -242,4 +228,4 @@ module _ (test : Demand → Bool) (f : Demand → List Var) where
       sym (ap (λ l. vars ++ flat_map f (filter test l)) (drop-next demands n d e) ∙ ap (λ b. vars ++ flat_map f (cond b (d ∷ filter test rest) (filter test rest))) lies)
 
   pub kept-all : (demands : List Demand) (n : ℕ) (vars : List Var) → length demands ≤ n → vars ++ flat_map f (filter test (drop n demands)) ≡ vars
-  kept-all demands n vars done = ap (λ l. vars ++ flat_map f (filter test l)) (drop-past demands n done) ∙ append-nil vars
+  kept-all demands n vars done = ap (λ l. vars ++ flat_map f (filter test l)) (drop_all n demands done) ∙ append-nil vars

@@ -1,10 +1,10 @@
 -- Lists of nodes: what is in them, and what stands beside a node.
-use Rattle.std.proofs.Common.{◌≡◌, ℕ, eqb, eqb-true, eq-eqb, ne_eqb, true, false, not, cond, ◌||◌, List, [], ◌∷◌, ◌++◌, Option, Some, None, refl, sym, ap, ◌∙◌, subst, inl, inr}
+use Rattle.std.proofs.Common.{◌≡◌, ℕ, ◌<◌, IfSome, eqb, eqb-true, eq-eqb, ne_eqb, true, false, not, cond, ◌||◌, List, [], ◌∷◌, ◌++◌, Option, Some, None, refl, sym, ap, ◌∙◌, subst, inl, inr}
 use Rattle.std.specs.List.{Contains}
 use Rattle.std.proofs.lemmas.Bool.{false≢true, or_right}
-use Rattle.common_laws.specs.Lists.{contains-head, contains-tail, contains-none, contains-cases, contains-left, contains-right, contains-append}
+use Rattle.common_laws.specs.Lists.{contains-head, contains-tail, contains-none, contains-cases, contains-left, contains-right, contains-append, contains-filter}
 use Rattle.goal_links.specs.Beside.{last_from, last_of, first_of, beside_from, behind_first}
-use Rattle.goal_links.specs.Row.{has_node, without_node, behind}
+use Rattle.goal_links.specs.Row.{AreBelow, StandsIn, has_node, without_node, behind}
 use Rattle.goal_links.proofs.Paths.{AreOnce, once-start, once-back, once-apart, last-contains}
 use Rattle.goal_links.proofs.Rings.{has-contains}
 
@@ -94,3 +94,12 @@ without-other (m ∷ ns) n k h =
       | true ↦ λ e. without-other ns n k h ∙ sym (ap (λ b. b || has_node ns k) (ne_eqb k m (λ i. h (i ∙ sym (eqb-true n m e)))))
       | false ↦ λ e. ap (λ b. eqb k m || b) (without-other ns n k h)
     ] refl
+
+-- a place among the nodes that are left is one among all
+pub stands-without : (n : ℕ) (ns : List ℕ) (place : Option ℕ) → StandsIn (without_node n ns) place → StandsIn ns place
+stands-without n ns None h = tt
+stands-without n ns (Some k) h = contains-has ns k (contains-filter (λ m. not (eqb n m)) ns k (has-contains (without_node n ns) k h)).0
+
+pub place-below : (count : ℕ) (ns : List ℕ) (place : Option ℕ) → AreBelow count ns → StandsIn ns place → IfSome place (λ n. n < count)
+place-below count ns None h k = tt
+place-below count ns (Some n) h k = h n k

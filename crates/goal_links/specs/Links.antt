@@ -1,5 +1,5 @@
 -- Entries of variables that are linked in goal order, each with a chain of cells.
-use Rattle.std.specs.Prelude.{◌≡◌, ℕ, ◌<◌, true, cond, IsTrue, List, [], ◌∷◌, ◌++◌, length, map, Option, Some, None, IfSome, slice_get, slice_index_or, slice_set}
+use Rattle.std.specs.Prelude.{◌≡◌, ℕ, ◌<◌, Bool, true, false, cond, IsTrue, List, [], ◌∷◌, ◌++◌, length, map, Option, Some, None, IfSome, slice_get, slice_index_or, slice_set}
 use Rattle.std.specs.Option.{option_map}
 use Rattle.qualified_goals.specs.declared.variable.Var.{Var}
 use Rattle.qualified_goals.specs.declared.variable.Qual.TheVariants.{Top}
@@ -30,6 +30,11 @@ no_var = record { qual = Top; «package» = 0; part = Package }
 -- the variable of an entry
 abbrev pub var_at : List Var → ℕ → Var
 var_at vars entry = slice_index_or vars entry no_var
+
+-- whether a place is an entry whose variable stands before another one
+abbrev pub is_entry_before : List Var → Var → Option ℕ → Bool
+is_entry_before vars v None = false
+is_entry_before vars v (Some n) = is_before (var_at vars n) v
 
 -- each variable has one entry
 abbrev pub HaveOneEntry : List Var → Type 0

@@ -7,7 +7,7 @@ ghost use Rattle.goal_links.specs.declared.chains.Cell.{Cell};
 ghost use Rattle.goal_links.specs.Beside.{first_of, last_of};
 ghost use Rattle.goal_links.specs.Row.{has_node, without_node, behind, StandsIn, AreBelow};
 ghost use Rattle.goal_links.specs.Chains.{cell_at, chain_at};
-ghost use Rattle.goal_links.specs.Links.{Entries, HaveOneEntry, var_at, MayReturn, WasLinked, vars_behind, registered, with_cell, with_cells, linked, unlinked, chain_with, lengthened, shortened};
+ghost use Rattle.goal_links.specs.Links.{Entries, HaveOneEntry, is_entry_before, var_at, MayReturn, WasLinked, vars_behind, registered, with_cell, with_cells, linked, unlinked, chain_with, lengthened, shortened};
 
 use crate::chains::{Cell, Chains};
 use crate::row::Row;
@@ -22,7 +22,7 @@ use std::marker::Model;
 pub struct Links {
     vars: Vars,
     row: Row,
-    // One that is linked still, from which the next place is looked for.
+    // One that is linked still, near which the next place is looked for.
     recent: Option<usize>,
     chains: Chains,
 }
@@ -258,7 +258,7 @@ fn number(place: Option<usize>) -> Option<u64>
     }
 }
 
-// The last entry before a variable. The walk begins at the recent one where that is before it.
+// The last entry before a variable.
 fn place_before(vars: &Vars, row: &Row, recent: Option<usize>, v: Var) -> Option<usize>
     requires below { AreBelow (length vars.now) row.now.linked }
     requires recent { StandsIn row.now.linked recent }
@@ -276,15 +276,47 @@ fn place_before(vars: &Vars, row: &Row, recent: Option<usize>, v: Var) -> Option
     place
 }
 
+// A place before a variable. It is looked for from the recent entry back and from the front on in turn, so that the nearer
+// of the two decides how long it takes.
 fn start(vars: &Vars, row: &Row, recent: Option<usize>, v: Var) -> Option<usize>
     requires below { AreBelow (length vars.now) row.now.linked }
     requires recent { StandsIn row.now.linked recent }
     ensures linked { StandsIn row.now.linked result }
     ensures before { IfSome result (λ n. is_before (var_at vars.now n) v ≡ true) }
 {
-    match recent {
-        Some(n) if is_before(vars.at(n), v) => Some(n),
-        _ => None,
+    let mut place = None;
+    let mut back = recent;
+    while let Some(ahead) = row.next(place) {
+        if is_entry_before(vars, back, v) {
+            return back;
+        }
+        if !is_before(vars.at(ahead), v) {
+            return place;
+        }
+        place = Some(ahead);
+        back = in_front(row, back);
+    }
+    place
+}
+
+fn is_entry_before(vars: &Vars, place: Option<usize>, v: Var) -> bool
+    requires { IfSome place (λ n. n < length vars.now) }
+    ensures { result ≡ is_entry_before vars.now v place }
+{
+    match place {
+        Some(n) => is_before(vars.at(n), v),
+        None => false,
+    }
+}
+
+// What stands in front of an entry.
+fn in_front(row: &Row, place: Option<usize>) -> Option<usize>
+    requires { StandsIn row.now.linked place }
+    ensures { StandsIn row.now.linked result }
+{
+    match place {
+        Some(n) => row.prev(n),
+        None => None,
     }
 }
 

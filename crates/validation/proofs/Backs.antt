@@ -1,6 +1,6 @@
 -- What a trail stands for with its last choice taken back.
-use Rattle.std.proofs.Common.{◌≡◌, ℕ, zero, suc, ◌≤◌, arith, length, take, Bool, true, false, cond, ◌&&◌, ◌||◌, List, [], ◌∷◌, ◌++◌, filter, refl, sym, ap, ◌∙◌, subst, length-append, None}
-use Rattle.std.specs.List.{Contains, All, list_any}
+use Rattle.std.proofs.Common.{◌≡◌, ℕ, zero, suc, ◌≤◌, arith, length, take, true, false, ◌&&◌, ◌||◌, List, [], ◌∷◌, ◌++◌, refl, sym, ap, ◌∙◌, subst, length-append, None}
+use Rattle.std.specs.List.{All, list_any}
 use Rattle.std.proofs.lemmas.Bool.{false≢true, and_parts, and_from}
 use Rattle.std.proofs.lemmas.Grind.{flat_map-append}
 use Rattle.std.proofs.Math.Seq.{take-append_seam}
@@ -12,26 +12,19 @@ use Rattle.choice_problem.specs.Problem.{Problem, IsChoice}
 use Rattle.choice_problem.specs.Trail.{AreNew, demands_after}
 use Rattle.choice_problem.specs.Active.{active, made_active}
 use Rattle.choice_problem.specs.Conflict.{Edge, edges_by, edges_of, leads, lies_on_cycle, circular, cycle_set, set_of_all, first_set, lasting_sets, lasting_set}
-use Rattle.common_laws.specs.Lists.{contains-head, contains-tail, contains-left, filter-none}
+use Rattle.common_laws.specs.Each.{some-then}
+use Rattle.common_laws.specs.Lists.{contains-head, contains-left, filter-none, filter-nothing}
+use Rattle.common_laws.specs.Passing.{any-front}
 use Rattle.choice_problem.proofs.Active.{active-push}
 use Rattle.choice_problem.proofs.Conflicts.{none-named}
 use Rattle.choice_problem.proofs.Rules.{each-none}
 use Rattle.choice_problem.proofs.TrailEnds.{new-split, new-front}
 use Rattle.validation.specs.View.{View, Represents, listed_counts, counts_before, view_of}
 use Rattle.validation.specs.Stack.{undone, front_of, last_number}
-use Rattle.validation.proofs.Stacks.{front-of, last-number}
+use Rattle.validation.proofs.Stacks.{front-of, last-number, seen-same}
 use Rattle.validation.proofs.Views.{after-push, counts-push, listed-push, all-front}
-use Rattle.validation.proofs.Verdicts.{shown-same}
 
 -- fewer demands have no more cycles
-
-any-more : (p q : Edge → Bool) → ((e : Edge) → p e ≡ true → q e ≡ true) → (edges more : List Edge) → list_any p edges ≡ true → list_any q (edges ++ more) ≡ true
-any-more p q h [] more k = absurd (false≢true k)
-any-more p q h (e ∷ edges) more k =
-    elim (p e) as (λ b. p e ≡ b → b || list_any p edges ≡ true → q e || list_any q (edges ++ more) ≡ true) [
-      | true ↦ λ is l. ap (λ b. b || list_any q (edges ++ more)) (h e is)
-      | false ↦ λ is l. ap (λ b. q e || b) (any-more p q h edges more l) ∙ elim (q e) as (λ b. b || true ≡ true) [ true ↦ refl | false ↦ refl ]
-    ] refl k
 
 leads-more : (n m : ℕ) (edges more : List Edge) (v w : Var) → n ≤ m → leads n edges v w ≡ true → leads m (edges ++ more) v w ≡ true
 leads-more zero zero edges more v w h k = k
@@ -41,33 +34,20 @@ leads-more (suc n) (suc m) edges more v w h k =
     elim (same_var v w) as (λ b. b || list_any (λ e. same_var e.from v && leads n edges e.to w) edges ≡ true
     → b || list_any (λ e. same_var e.from v && leads m (edges ++ more) e.to w) (edges ++ more) ≡ true) [
       | true ↦ λ l. refl
-      | false ↦ λ l. any-more (λ e. same_var e.from v && leads n edges e.to w) (λ e. same_var e.from v && leads m (edges ++ more) e.to w)
+      | false ↦ λ l. any-front (λ e. same_var e.from v && leads m (edges ++ more) e.to w) edges more
+          (some-then (λ e. same_var e.from v && leads n edges e.to w) (λ e. same_var e.from v && leads m (edges ++ more) e.to w) edges
           (λ e s. and_from (same_var e.from v) (leads m (edges ++ more) e.to w) ((and_parts (same_var e.from v) (leads n edges e.to w) s).0)
-          (leads-more n m edges more e.to w (omega (arith, h)) ((and_parts (same_var e.from v) (leads n edges e.to w) s).1)))
-          edges more l
+          (leads-more n m edges more e.to w (omega (arith, h)) ((and_parts (same_var e.from v) (leads n edges e.to w) s).1))) l)
     ] k
-
-any-same : (p q : Edge → Bool) → ((e : Edge) → p e ≡ true → q e ≡ true) → (edges : List Edge) → list_any p edges ≡ true → list_any q edges ≡ true
-any-same p q h [] k = k
-any-same p q h (e ∷ edges) k =
-    elim (p e) as (λ b. p e ≡ b → b || list_any p edges ≡ true → q e || list_any q edges ≡ true) [
-      | true ↦ λ is l. ap (λ b. b || list_any q edges) (h e is)
-      | false ↦ λ is l. ap (λ b. q e || b) (any-same p q h edges l) ∙ elim (q e) as (λ b. b || true ≡ true) [ true ↦ refl | false ↦ refl ]
-    ] refl k
 
 lies-more : (edges more : List Edge) (d : Demand) → lies_on_cycle edges d ≡ true → lies_on_cycle (edges ++ more) d ≡ true
 lies-more edges more d h =
-    any-same (λ e. leads (length edges) edges e.to e.from) (λ e. leads (length (edges ++ more)) (edges ++ more) e.to e.from)
-    (λ e k. leads-more (length edges) (length (edges ++ more)) edges more e.to e.from (omega (arith, length-append edges more)) k) (edges_by d) h
-
-none-kept : (test : Demand → Bool) (ds : List Demand) → ((d : Demand) → Contains ds d → test d ≡ false) → filter test ds ≡ []
-none-kept test [] h = refl
-none-kept test (d ∷ ds) h =
-    ap (λ b. cond b (d ∷ filter test ds) (filter test ds)) (h d (contains-head d ds)) ∙ none-kept test ds (λ x k. h x (contains-tail d ds x k))
+    some-then (λ e. leads (length edges) edges e.to e.from) (λ e. leads (length (edges ++ more)) (edges ++ more) e.to e.from) (edges_by d)
+    (λ e k. leads-more (length edges) (length (edges ++ more)) edges more e.to e.from (omega (arith, length-append edges more)) k) h
 
 pub acyclic-front : (xs ys : List Demand) → circular (xs ++ ys) ≡ [] → circular xs ≡ []
 unfolding circular
-acyclic-front xs ys h = none-kept (lies_on_cycle (edges_of xs)) xs (λ d k.
+acyclic-front xs ys h = filter-nothing (lies_on_cycle (edges_of xs)) xs (λ d k.
     elim (lies_on_cycle (edges_of xs) d) as (λ b. lies_on_cycle (edges_of xs) d ≡ b → b ≡ false) [
       | true ↦ λ e. absurd (false≢true (
           sym (filter-none (lies_on_cycle (edges_of (xs ++ ys))) (xs ++ ys) h d (contains-left xs ys d k))
@@ -101,7 +81,7 @@ stands-undone p x y h some e =
     let counts : y.active_before ≡ counts_before p [] front =
     ap (λ (s : View). s.active_before) e ∙ ap front_of active_marks ∙ front-of (counts_before p [] front) (length (active p front)) in
     let same : y ≡ view_of p front =
-    shown-same y.trail front y.listed (demands_after p front) y.active (active p front) y.listed_before (listed_counts p [] front) y.active_before
+    seen-same y.trail front y.listed (demands_after p front) y.active (active p front) y.listed_before (listed_counts p [] front) y.active_before
     (counts_before p [] front) trail listed acts were counts in
     record {
       choices = subst (λ (t : List Choice). All (IsChoice p) t) (sym trail)

@@ -10,17 +10,20 @@ use Rattle.validation.specs.Mentions.{places_on}
 use Rattle.validation.specs.Stack.{no_demand, demand_at, demands_at, mention_of, are_naming, names, watchers_by, watchers_from, AllBelow}
 use Rattle.validation.proofs.Walks.{places-append}
 
+pub below-any : (n : ℕ) (xs : List ℕ) (k d : ℕ) → AllBelow n xs → k < length xs → get_or xs k d < n
+below-any n [] k d h within = absurd (omega (arith, within))
+below-any n (x ∷ xs) zero d h within = h.0
+below-any n (x ∷ xs) (suc k) d h within = below-any n xs k d h.1 (omega (arith, within))
+
 pub below-at : (n : ℕ) (xs : List ℕ) (k : ℕ) → AllBelow n xs → k < length xs → get_or xs k 0 < n
-below-at n [] k h within = absurd (omega (arith, within))
-below-at n (x ∷ xs) zero h within = h.0
-below-at n (x ∷ xs) (suc k) h within = below-at n xs k h.1 (omega (arith, within))
+below-at n xs k h within = below-any n xs k 0 h within
 
 pub below-filter : (n : ℕ) (test : ℕ → Bool) (xs : List ℕ) → AllBelow n xs → AllBelow n (filter test xs)
 below-filter n test [] h = tt
 below-filter n test (x ∷ xs) h =
     elim (test x) as (λ b. AllBelow n (cond b (x ∷ filter test xs) (filter test xs))) [ true ↦ (h.0, below-filter n test xs h.1) | false ↦ below-filter n test xs h.1 ]
 
-below-append : (n : ℕ) (xs ys : List ℕ) → AllBelow n xs → AllBelow n ys → AllBelow n (xs ++ ys)
+pub below-append : (n : ℕ) (xs ys : List ℕ) → AllBelow n xs → AllBelow n ys → AllBelow n (xs ++ ys)
 below-append n [] ys h k = k
 below-append n (x ∷ xs) ys h k = (h.0, below-append n xs ys h.1 k)
 

@@ -1,5 +1,5 @@
 -- The edges of the active demands, by their targets and by what they wait for.
-use Rattle.std.proofs.Common.{◌≡◌, ℕ, zero, suc, ◌<◌, arith, length, get_or, Bool, true, false, cond, ◌&&◌, ◌||◌, List, [], ◌∷◌, Some, map, filter, refl, sym, ap, ◌∙◌, subst, inl, inr}
+use Rattle.std.proofs.Common.{◌≡◌, ◌↔◌, ℕ, zero, suc, ◌<◌, arith, length, get_or, true, false, cond, ◌&&◌, ◌||◌, List, [], ◌∷◌, Some, map, filter, refl, sym, ap, ◌∙◌, subst, inl, inr}
 use Rattle.std.specs.List.{Contains, list_any, slice_get}
 use Rattle.std.specs.Option.{option_to_list}
 use Rattle.std.proofs.lemmas.Bool.{and_parts, and_from}
@@ -14,15 +14,15 @@ use Rattle.choice_problem.specs.Trail.{value_in}
 use Rattle.choice_problem.specs.Active.{asks_for}
 use Rattle.choice_problem.specs.Conflict.{Edge, edges_from, edges_by, edges_of}
 use Rattle.choice_problem.specs.ConflictSet.{has}
-use Rattle.common_laws.specs.Lists.{contains-head, contains-tail, contains-none, contains-cases, contains-filter, contains-flat_map, flat_map-contains, filter-contains}
-use Rattle.choice_problem.proofs.Sets.{has-append}
+use Rattle.common_laws.specs.Lists.{contains-head, contains-none, contains-cases, contains-filter, contains-flat_map, flat_map-contains, filter-contains, any-from}
+use Rattle.choice_problem.proofs.Sets.{same-back, has-append}
 use Rattle.validation.specs.declared.mentions.Mention.{Mention}
 use Rattle.validation.specs.Mentions.{places_on}
 use Rattle.demand_cycles.specs.Cycles.{HasEdge, first_of_condition, owner_of}
-use Rattle.validation.specs.Stack.{demand_at, demands_at, places_of, vars_at, mention_of, are_naming, names, watchers_by, watchers_from, owners_of, turned, is_first, is_owned_by, target_by, targets_by, AreTargets, IsSettled}
+use Rattle.validation.specs.Stack.{demand_at, demands_at, places_of, vars_at, mention_of, are_naming, names, watchers_by, watchers_from, owners_of, turned, is_first, is_owned_by, source_on, sources_on, target_by, targets_by, AreTargets, IsSettled}
+use Rattle.validation.specs.Pending.{AreOwned}
 use Rattle.validation.specs.View.{View}
 use Rattle.validation.proofs.Stacks.{targets-tail}
-use Rattle.std.proofs.Math.Bool.{or-true}
 
 -- the demands at the places on a variable are those whose target it is
 demands-on : (listed : List Demand) (v : Var) (ms : List Mention) → AreTargets listed ms → demands_at listed (places_on v ms) ≡ filter (asks_for v) (demands_at listed (places_of ms))
@@ -101,42 +101,26 @@ naming-has n v (c ∷ rest) =
       | false ↦ λ e. ap (λ b. same_var c.var v || b) (naming-has n v rest)
     ] refl
 
-waits-has : (n : ℕ) (v : Var) (demands : List Demand) → has (vars_at (watchers_from n demands)) v ≡ list_any (names v) demands
+pub waits-has : (n : ℕ) (v : Var) (demands : List Demand) → has (vars_at (watchers_from n demands)) v ≡ list_any (names v) demands
 waits-has n v [] = refl
 waits-has n v (d ∷ demands) =
     ap (λ vs. has vs v) (map-append (λ m. m.var) (watchers_by n d.when) (watchers_from (suc n) demands))
     ∙ has-append (vars_at (watchers_by n d.when)) (vars_at (watchers_from (suc n) demands)) v
     ∙ ap (λ b. b || has (vars_at (watchers_from (suc n) demands)) v) (naming-has n v d.when) ∙ ap (λ b. names v d || b) (waits-has (suc n) v demands)
 
-any-contains : (test : Demand → Bool) (ds : List Demand) (d : Demand) → Contains ds d → test d ≡ true → list_any test ds ≡ true
-any-contains test [] d h k = absurd (contains-none d h)
-any-contains test (x ∷ ds) d h k =
-    elim (contains-cases x ds d h) [
-      | inl e ↦ ap (λ b. b || list_any test ds) (ap test e ∙ k)
-      | inr r ↦ ap (λ b. test x || b) (any-contains test ds d r k) ∙ or-true (test x)
-    ]
-
-at-contains : (listed : List Demand) (k : ℕ) → k < length listed → Contains listed (demand_at listed k)
-at-contains [] k h = absurd (omega (arith, h))
-at-contains (d ∷ listed) zero h = contains-head d listed
-at-contains (d ∷ listed) (suc k) h = contains-tail d listed (demand_at listed k) (at-contains listed k (omega (arith, h)))
-
-active-listed : (listed : List Demand) (ms : List Mention) (d : Demand) → AreTargets listed ms → Contains (demands_at listed (places_of ms)) d → Contains listed d
-active-listed listed [] d h k = absurd (contains-none d k)
-active-listed listed (m ∷ ms) d h k =
-    elim (contains-cases (demand_at listed m.place) (demands_at listed (places_of ms)) d k) [
-      | inl e ↦ subst (λ x. Contains listed x) e (at-contains listed m.place (h.within [] m ms refl))
-      | inr r ↦ active-listed listed ms d (targets-tail listed m ms h) r
-    ]
-
-pub edge-chosen : (listed : List Demand) (ms watchers : List Mention) (v w : Var) → AreTargets listed ms → watchers ≡ watchers_from 0 listed
-    → HasEdge (edges_of (demands_at listed (places_of ms))) v w → has (vars_at watchers) v ≡ true
-edge-chosen listed ms watchers v w h waiting (e, within, from, target) =
-    let all = demands_at listed (places_of ms) in
-    let found = contains-flat_map edges_by all e within in
+-- an edge leaves a variable that a demand names
+pub edge-names : (demands listed : List Demand) (v w : Var) → ((d : Demand) → Contains demands d → Contains listed d) → HasEdge (edges_of demands) v w → list_any (names v) listed ≡ true
+edge-names demands listed v w within (e, there, from, target) =
+    let found = contains-flat_map edges_by demands e there in
     let owns = owner-of-edge found.0.when found.0 e refl found.2 in
-    let named = naming-owner found.0 e v owns from in
-    ap (λ ws. has (vars_at ws) v) waiting ∙ waits-has 0 v listed ∙ any-contains (names v) listed found.0 (active-listed listed ms found.0 h found.1) named
+    any-from (names v) listed found.0 (within found.0 found.1) (naming-owner found.0 e v owns from)
+
+-- where a variable owns all demands, edges leave it alone
+pub edge-owned : (demands : List Demand) (u v w : Var) → AreOwned u demands → HasEdge (edges_of demands) v w → same_var u v ≡ true
+edge-owned demands u v w owned (e, there, from, target) =
+    let found = contains-flat_map edges_by demands e there in
+    let owns = owner-of-edge found.0.when found.0 e refl found.2 in
+    same-back u v ∙ ap (λ x. same_var x u) (sym (owns.from ∙ from)) ∙ sym (ap (is_first u) owns.condition) ∙ owned found.0 found.1
 
 pub active-at : (listed : List Demand) (ms : List Mention) (k : ℕ) (m : Mention) → k < length ms → m ≡ get_or ms k m → slice_get (demands_at listed (places_of ms)) k ≡ Some (demand_at listed m.place)
 active-at listed [] k m h e = absurd (omega (arith, h))
@@ -181,3 +165,39 @@ edge-targets x from v settled (e, within, leaves, enters) =
     let known = (settled d).0 found.1 in
     let kept = filter-contains test x.listed d known.0 (and_from (names from d) (is_yes (value_in x.trail) d) (naming-owner d e from owns leaves) known.1) in
     flat_map-contains (target_by from) (turned x.trail from x.listed) d v kept (edge-target d e from v owns leaves enters)
+
+-- the owners of demands on a variable, and the targets of those that one owns
+
+pub sources-are : (demands : List Demand) (to v : Var) → (Contains (sources_on to demands) v) ↔ (HasEdge (edges_of demands) v to)
+sources-are demands to v = (
+  λ h.
+      let found = contains-flat_map (source_on to) demands v h in
+      let d = found.0 in
+      let mine : Edge = record { from = v; to = d.target } in
+      elim (asks_for to d) as (λ b. asks_for to d ≡ b → Contains (cond b (option_to_list (owner_of d)) []) v → HasEdge (edges_of demands) v to) [
+        | true ↦ λ e k. (mine, flat_map-contains edges_by demands d mine found.1 (edge-of-owner d.when d v refl k), refl, same_var-is d.target to e)
+        | false ↦ λ e k. absurd (contains-none v k)
+      ] refl found.2,
+  λ (e, within, from, target).
+      let found = contains-flat_map edges_by demands e within in
+      let d = found.0 in
+      let owns = owner-of-edge d.when d e refl found.2 in
+      let asked : asks_for to d ≡ true = ap (λ w. same_var w to) (owns.to ∙ target) ∙ same_var-refl to in
+      let owner : owner_of d ≡ Some v = ap first_of_condition owns.condition ∙ ap Some (owns.from ∙ from) in
+      flat_map-contains (source_on to) demands d v found.1
+      (subst (λ b. Contains (cond b (option_to_list (owner_of d)) []) v) (sym asked) (subst (λ o. Contains (option_to_list o) v) (sym owner) (contains-head v []))),
+)
+
+pub targets-are : (demands : List Demand) (from v : Var) → (Contains (targets_by from demands) v) ↔ (HasEdge (edges_of demands) from v)
+targets-are demands from v = (
+  λ h.
+      let found = contains-flat_map (target_by from) demands v h in
+      let d = found.0 in
+      let mine : Edge = record { from = from; to = v } in
+      (mine, flat_map-contains edges_by demands d mine found.1 (target-edge d.when d.target from v found.2), refl, refl),
+  λ (e, within, leaves, enters).
+      let found = contains-flat_map edges_by demands e within in
+      let d = found.0 in
+      let owns = owner-of-edge d.when d e refl found.2 in
+      flat_map-contains (target_by from) demands d v found.1 (edge-target d e from v owns leaves enters),
+)

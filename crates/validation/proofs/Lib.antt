@@ -11,3 +11,4 @@ pub mod Views
 pub mod Verdicts
 pub mod Settles
 pub mod Backs
+pub mod Weighed

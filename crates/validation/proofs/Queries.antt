@@ -1,5 +1,5 @@
 -- What a stack is asked: the demands on a variable, the first that passes a test, and the least that is open.
-use Rattle.std.proofs.Common.{◌≡◌, ℕ, zero, suc, ◌<◌, arith, length, get_or, drop, Bool, true, false, not, cond, ◌&&◌, ◌||◌, List, [], ◌∷◌, Some, is_none, find, map, filter, refl, sym, ap, ◌∙◌, subst}
+use Rattle.std.proofs.Common.{◌≡◌, ℕ, zero, suc, ◌<◌, arith, length, get_or, Bool, true, false, not, cond, ◌&&◌, ◌||◌, List, [], ◌∷◌, Some, is_none, find, map, filter, refl, sym, ap, ◌∙◌, subst}
 use Rattle.std.specs.List.{slice_get}
 use Rattle.qualified_goals.specs.declared.variable.Var.{Var}
 use Rattle.choice_problem.specs.declared.problem.Choice.{Choice}
@@ -9,12 +9,11 @@ use Rattle.qualified_goals.specs.SameVariable.{same_var-is}
 use Rattle.choice_problem.specs.Assignment.{is_one_of}
 use Rattle.choice_problem.specs.Trail.{value_in}
 use Rattle.choice_problem.specs.Active.{is_waited_for, asks_for, waiting}
-use Rattle.choice_problem.specs.Conflict.{is_broken, refuses}
+use Rattle.choice_problem.specs.Conflict.{refuses}
 use Rattle.choice_problem.specs.ConflictSet.{has, is_rising}
 use Rattle.choice_problem.proofs.Sets.{set-same, set_of-rising}
 use Rattle.validation.specs.declared.mentions.Mention.{Mention}
 use Rattle.validation.specs.Mentions.{places_on}
-use Rattle.validation.specs.Checks.{is_broken_in}
 use Rattle.validation.specs.Stack.{demand_at, demands_at, places_of, vars_at, AllBelow, AreTargets, AreOpen}
 use Rattle.validation.proofs.Stacks.{targets-tail}
 
@@ -62,15 +61,6 @@ find-asks listed v (m ∷ ms) h =
 
 pub refuses-only : (c : Choice) (d : Demand) → same_var d.target c.var ≡ false → refuses c d ≡ false
 refuses-only c d h = ap (λ b. b && not (is_one_of (Some c.val) d.allowed)) h
-
-demands-drop : (n : ℕ) (listed : List Demand) (ms : List Mention) → demands_at listed (places_of (drop n ms)) ≡ drop n (demands_at listed (places_of ms))
-demands-drop zero listed ms = refl
-demands-drop (suc n) listed [] = refl
-demands-drop (suc n) listed (m ∷ ms) = demands-drop n listed ms
-
-pub find-broken : (n : ℕ) (listed : List Demand) (ms : List Mention) (trail : List Choice)
-    → find (is_broken trail) (drop n (demands_at listed (places_of ms))) ≡ find (is_broken_in (value_in trail)) (demands_at listed (places_of (drop n ms)))
-find-broken n listed ms trail = ap (find (is_broken trail)) (sym (demands-drop n listed ms))
 
 -- the targets that are waited for
 

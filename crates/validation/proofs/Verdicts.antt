@@ -16,16 +16,12 @@ use Rattle.choice_problem.proofs.Active.{active-push}
 use Rattle.choice_problem.proofs.Ends.{lasting-start}
 use Rattle.choice_problem.proofs.Rules.{front-some, front-none, rest-none}
 use Rattle.validation.specs.View.{View, Represents, listed_counts, counts_before, view_of}
+use Rattle.validation.specs.Pending.{count_before}
 use Rattle.validation.specs.Stack.{made, turned}
+use Rattle.validation.specs.Verdict.{set_after}
+use Rattle.validation.proofs.Stacks.{seen-same}
+use Rattle.validation.proofs.Weighed.{before-is}
 use Rattle.validation.proofs.Views.{after-push, made-turned, counts-push, listed-push, known-open}
-
-abbrev pub shown : List Choice → List Demand → List Demand → List ℕ → List ℕ → View
-shown trail listed active listed_before active_before =
-    record { trail = trail; listed = listed; active = active; listed_before = listed_before; active_before = active_before }
-
-pub shown-same : (t u : List Choice) (l m a b : List Demand) (n k i j : List ℕ) → t ≡ u → l ≡ m → a ≡ b → n ≡ k → i ≡ j → shown t l a n i ≡ shown u m b k j
-shown-same t u l m a b n k i j e f g h o =
-    ap (λ x. shown x l a n i) e ∙ ap (λ x. shown u x a n i) f ∙ ap (λ x. shown u m x n i) g ∙ ap (λ x. shown u m b x i) h ∙ ap (λ x. shown u m b k x) o
 
 -- a choice that a stack may try
 pub record Ready (p : Problem) (x : View) (c : Choice) : Type 0 where
@@ -79,7 +75,7 @@ stands-made p x y c demands h d e lasting =
     ap (λ (s : View). s.listed_before) e ∙ ap (λ l. l ++ length x.listed ∷ []) (ap (λ (s : View). s.listed_before) h.stands.same)
     ∙ ap (λ l. listed_counts p [] x.trail ++ length l ∷ []) (ap (λ (s : View). s.listed) h.stands.same) ∙ sym (listed-push p x.trail c) in
     let same : y ≡ view_of p (x.trail ++ c ∷ []) =
-    shown-same y.trail (x.trail ++ c ∷ []) y.listed (demands_after p (x.trail ++ c ∷ [])) y.active (active p (x.trail ++ c ∷ [])) y.listed_before
+    seen-same y.trail (x.trail ++ c ∷ []) y.listed (demands_after p (x.trail ++ c ∷ [])) y.active (active p (x.trail ++ c ∷ [])) y.listed_before
     (listed_counts p [] (x.trail ++ c ∷ [])) y.active_before (counts_before p [] (x.trail ++ c ∷ [])) trail listed after were counts in
     record {
       choices = subst (λ (t : List Choice). All (IsChoice p) t) (sym trail) (All-push (IsChoice p) x.trail c h.stands.choices h.choice);
@@ -112,13 +108,19 @@ conflict-early p x c set h e =
     front-some (barred_set p c ∷ refused_set p x.trail c ∷ []) (broken_set p x.trail c ∷ lasting_sets (x.trail ++ c ∷ []) (active p (x.trail ++ c ∷ []))) set
     (ap first_set (sym (early-is p x c h)) ∙ sym e)
 
-pub conflict-late : (p : Problem) (x y : View) (c : Choice) (demands : List Demand) (before : ℕ) (o : Option (List Var)) → Ready p x c → demands ≡ p.demands c → y ≡ made x c demands
+conflict-late : (p : Problem) (x y : View) (c : Choice) (demands : List Demand) (before : ℕ) (o : Option (List Var)) → Ready p x c → demands ≡ p.demands c → y ≡ made x c demands
     → before ≡ length x.active → None ≡ first_set (early p x c) → o ≡ first_set (late y before) → conflict p x.trail c ≡ o
 unfolding conflict
 conflict-late p x y c demands before o h d e count none is =
     front-none (barred_set p c ∷ refused_set p x.trail c ∷ []) (broken_set p x.trail c ∷ lasting_sets (x.trail ++ c ∷ []) (active p (x.trail ++ c ∷ [])))
     (ap first_set (sym (early-is p x c h)) ∙ sym none)
     ∙ sym (is ∙ ap first_set (late-is p x y c demands before h d e count))
+
+-- the conflict of a choice that the early rules allow is the first set of the others, as of the stack with it
+pub conflict-weighed : (p : Problem) (x : View) (c : Choice) (demands : List Demand) (o : Option (List Var)) → Ready p x c → demands ≡ p.demands c
+    → None ≡ first_set (early p x c) → o ≡ set_after (made x c demands) → conflict p x.trail c ≡ o
+conflict-weighed p x c demands o h d none is =
+    conflict-late p x (made x c demands) c demands (count_before (made x c demands)) o h d refl (before-is x c demands) none is
 
 pub none-lasting : (y : View) (before : ℕ) → None ≡ first_set (late y before) → lasting_set y.trail y.active ≡ None
 none-lasting y before h = rest-none (set_of_first (find (is_broken y.trail) (drop before y.active)) ∷ []) (lasting_sets y.trail y.active) (sym h)
@@ -135,7 +137,7 @@ stands-new p x roots lawful is e =
     let counts : x.active_before ≡ [] = ap (λ (s : View). s.active_before) e in
     let were : x.listed_before ≡ [] = ap (λ (s : View). s.listed_before) e in
     let same : x ≡ view_of p [] =
-    shown-same x.trail [] x.listed (p.roots ++ []) x.active (p.roots ++ []) x.listed_before [] x.active_before [] trail listed acts were counts in
+    seen-same x.trail [] x.listed (p.roots ++ []) x.active (p.roots ++ []) x.listed_before [] x.active_before [] trail listed acts were counts in
     record {
       choices = subst (λ (t : List Choice). All (IsChoice p) t) (sym trail) (All-nil (IsChoice p));
       new = subst (λ (t : List Choice). AreNew t) (sym trail) before_any;

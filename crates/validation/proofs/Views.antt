@@ -1,7 +1,7 @@
 -- What a trail with one choice more stands for.
-use Rattle.std.proofs.Common.{◌≡◌, arith, length, Bool, true, false, not, cond, ◌&&◌, ◌||◌, IsTrue, List, [], ◌∷◌, ◌++◌, Some, None, map, filter, refl, sym, ap, ◌∙◌, subst, inl, inr, append_assoc, append-nil, length-append}
+use Rattle.std.proofs.Common.{◌≡◌, arith, length, true, false, not, cond, ◌&&◌, ◌||◌, IsTrue, List, [], ◌∷◌, ◌++◌, Some, None, map, filter, refl, sym, ap, ◌∙◌, subst, inl, inr, append_assoc, append-nil, length-append}
 use Rattle.std.specs.List.{Contains, All, flat_map, list_all}
-use Rattle.std.proofs.lemmas.Bool.{false≢true, and_parts}
+use Rattle.std.proofs.lemmas.Bool.{and_parts}
 use Rattle.std.proofs.Math.ListN.{get_or-append}
 use Rattle.std.proofs.lemmas.Grind.{flat_map-append}
 use Rattle.std.proofs.lemmas.List.Elements.{All-contains}
@@ -9,7 +9,7 @@ use Rattle.qualified_goals.specs.declared.variable.Var.{Var}
 use Rattle.choice_problem.specs.declared.problem.Choice.{Choice}
 use Rattle.choice_problem.specs.declared.problem.Demand.{Demand}
 use Rattle.qualified_goals.specs.Variable.{same_var}
-use Rattle.qualified_goals.specs.SameVariable.{same_var-is, same_var-refl}
+use Rattle.qualified_goals.specs.SameVariable.{same_var-is}
 use Rattle.choice_problem.specs.Problem.{Problem, IsChoice, IsDemand, IsRoot, IsOwned, Lawful}
 use Rattle.choice_problem.specs.Assignment.{is_one_of, is_made, is_yes}
 use Rattle.choice_problem.specs.Trail.{value_in, demands_after}
@@ -19,7 +19,7 @@ use Rattle.common_laws.specs.Lists.{map-contains, filter-alike}
 use Rattle.choice_problem.specs.General.{general}
 use Rattle.choice_problem.proofs.Active.{active-demand, open-plain}
 use Rattle.choice_problem.proofs.Trails.{next-open}
-use Rattle.choice_problem.proofs.Sets.{contains-has}
+use Rattle.choice_problem.proofs.Sets.{same-back, contains-has}
 use Rattle.validation.specs.View.{listed_counts, counts_before}
 use Rattle.validation.specs.Stack.{are_naming, names, turned}
 use Rattle.choice_problem.proofs.TrailEnds.{value-push}
@@ -28,13 +28,6 @@ use Rattle.choice_problem.proofs.TrailEnds.{value-push}
 
 value-free : (trail : List Choice) (c : Choice) (v : Var) → value_in trail c.var ≡ None → same_var v c.var ≡ true → value_in trail v ≡ None
 value-free trail c v h e = ap (value_in trail) (same_var-is v c.var e) ∙ h
-
-same-back : (v w : Var) → same_var v w ≡ true → same_var w v ≡ true
-same-back v w h = ap (same_var w) (same_var-is v w h) ∙ same_var-refl w
-
-or-right-true : (a b : Bool) → a ≡ false → (a || b) ≡ b
-or-right-true true b h = absurd (false≢true (sym h))
-or-right-true false b h = refl
 
 turns-naming : (trail : List Choice) (c : Choice) → value_in trail c.var ≡ None → (when : List Choice) → list_all (is_made (value_in (trail ++ c ∷ []))) when ≡ true
     → not (list_all (is_made (value_in trail)) when) ≡ are_naming c.var when
@@ -46,8 +39,7 @@ turns-naming trail c free (d ∷ rest) h =
     elim (same_var d.var c.var) as (λ b. same_var d.var c.var ≡ b → not (is_made (value_in trail) d && list_all (is_made (value_in trail)) rest) ≡ b || are_naming c.var rest) [
       | true ↦ λ e. ap (λ o. not (is_one_of o (d.val ∷ []) && list_all (is_made (value_in trail)) rest)) (value-free trail c d.var free e)
       | false ↦ λ e.
-          let other : same_var c.var d.var ≡ false =
-          elim (same_var c.var d.var) as (λ b. same_var c.var d.var ≡ b → b ≡ false) [ true ↦ λ k. absurd (false≢true (sym e ∙ same-back c.var d.var k)) | false ↦ λ k. refl ] refl in
+          let other : same_var c.var d.var ≡ false = same-back c.var d.var ∙ e in
           let same : after d.var ≡ value_in trail d.var = value-push trail c d.var free ∙ ap (λ b. cond b (Some c.val) (value_in trail d.var)) other in
           let made : is_made (value_in trail) d ≡ true = ap (λ o. is_one_of o (d.val ∷ [])) (sym same) ∙ first in
           ap (λ b. not (b && list_all (is_made (value_in trail)) rest)) made ∙ more

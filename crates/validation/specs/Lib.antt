@@ -3,4 +3,4 @@ pub mod Verdict
 pub mod Mentions
 pub mod Open
 pub mod Stack
-pub mod Checks
+pub mod Pending

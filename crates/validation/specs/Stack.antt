@@ -1,5 +1,5 @@
 -- What a stack of choices stands for, and how what it holds hangs together.
-use Rattle.std.specs.Prelude.{◌≡◌, ◌↔◌, ℕ, suc, ◌-◌, ◌<◌, ◌≤◌, Bool, true, false, cond, ◌&&◌, List, [], ◌∷◌, ◌++◌, length, take, map, filter, Option, None, is_none, slice_index_or, option_to_list, flat_map, find}
+use Rattle.std.specs.Prelude.{◌≡◌, ◌↔◌, ℕ, suc, ◌-◌, ◌<◌, ◌≤◌, Bool, true, false, cond, ◌&&◌, List, [], ◌∷◌, ◌++◌, length, take, map, filter, None, is_none, slice_index_or, option_to_list, flat_map}
 use Rattle.std.specs.List.{Contains, list_any}
 use Rattle.qualified_goals.specs.declared.variable.Var.{Var}
 use Rattle.qualified_goals.specs.declared.variable.Qual.TheVariants.{Top}
@@ -7,6 +7,7 @@ use Rattle.qualified_goals.specs.declared.variable.Part.TheVariants.{Package}
 use Rattle.choice_problem.specs.declared.problem.Choice.{Choice}
 use Rattle.choice_problem.specs.declared.problem.Demand.{Demand}
 use Rattle.qualified_goals.specs.Variable.{same_var}
+use Rattle.choice_problem.specs.Active.{asks_for}
 use Rattle.choice_problem.specs.Assignment.{is_yes}
 use Rattle.choice_problem.specs.Trail.{value_in}
 use Rattle.choice_problem.specs.ConflictSet.{is_rising, has}
@@ -16,7 +17,6 @@ use Rattle.validation.specs.declared.mentions.Mention.{Mention}
 use Rattle.validation.specs.declared.stack.Mark.{Mark}
 use Rattle.validation.specs.View.{View}
 use Rattle.validation.specs.Open.{Keeps}
-use Rattle.validation.specs.Checks.{is_broken_in}
 use Rattle.demand_cycles.specs.Cycles.{owner_of}
 
 -- what stands behind the last demand
@@ -152,17 +152,21 @@ AllBelow n (x ∷ xs) = (x < n) × AllBelow n xs
 abbrev pub names : Var → Demand → Bool
 names v d = are_naming v d.when
 
+-- whether a demand names a variable and is Yes
+abbrev pub is_turned : List Choice → Var → Demand → Bool
+is_turned trail v d = names v d && is_yes (value_in trail) d
+
+-- the place of a demand, where it names a variable and is Yes
+abbrev pub place_turned : List Choice → Var → List Demand → ℕ → List ℕ
+place_turned trail v listed place = cond (is_turned trail v (demand_at listed place)) (place ∷ []) []
+
 -- the demands that name a variable and are Yes
 abbrev pub turned : List Choice → Var → List Demand → List Demand
-turned trail v listed = filter (λ d. names v d && is_yes (value_in trail) d) listed
+turned trail v listed = filter (is_turned trail v) listed
 
 -- the demands that a variable's choice owns are listed, and those active that turn Yes
 abbrev pub grown : View → Var → List Demand → View
 grown s v demands = with_active (with_listed s demands) (turned s.trail v (s.listed ++ demands))
-
--- the first demand at some places that is broken, as far as some values are known
-abbrev pub first_broken : (Var → Option ℕ) → List Demand → List Mention → Option Demand
-first_broken values listed active = find (is_broken_in values) (demands_at listed (places_of active))
 
 -- a choice made, with the demands that it owns, and those active that turn Yes
 abbrev pub made : View → Choice → List Demand → View
@@ -171,6 +175,14 @@ made s c demands = with_active (with_listed (held s c) demands) (turned (s.trail
 -- the owners of some demands
 abbrev pub owners_of : List Demand → List Var
 owners_of demands = flat_map (λ d. option_to_list (owner_of d)) demands
+
+-- the owner of a demand that is on a variable
+abbrev pub source_on : Var → Demand → List Var
+source_on v d = cond (asks_for v d) (option_to_list (owner_of d)) []
+
+-- the owners of those of some demands that are on a variable
+abbrev pub sources_on : Var → List Demand → List Var
+sources_on v demands = flat_map (source_on v) demands
 
 -- whether a variable is that of the first choice of a condition
 abbrev pub is_first : Var → List Choice → Bool

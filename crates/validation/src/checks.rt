@@ -4,14 +4,14 @@ ghost use Rattle.std.specs.Option.{option_map};
 ghost use Rattle.choice_problem.specs.declared.problem.Demand.{Demand};
 ghost use Rattle.choice_problem.specs.Assignment.{is_made, is_yes};
 ghost use Rattle.choice_problem.specs.Active.{vars_of, vars_of_first};
-ghost use Rattle.choice_problem.specs.Conflict.{named_by, refuses, set_of_first};
+ghost use Rattle.choice_problem.specs.Conflict.{is_broken, named_by, refuses, set_of_first};
 ghost use Rattle.choice_problem.specs.ConflictSet.{set_of};
 ghost use Rattle.choice_problem.specs.Trail.{value_in};
-ghost use Rattle.validation.specs.Stack.{demand_at, demands_at, owners_of, is_owned_by, target_by, targets_by, AllBelow};
-ghost use Rattle.validation.specs.Checks.{is_broken_in};
+ghost use Rattle.validation.specs.Stack.{AllBelow, are_naming, demand_at, demands_at, is_owned_by, is_turned, owners_of, place_turned, source_on, sources_on, target_by, targets_by, turned};
 ghost use Rattle.demand_cycles.specs.Cycles.{owner_of};
 
-use choice_problem::{Choice, ConflictSet, Demand, Trail, Var, is_same};
+use crate::values::Values;
+use choice_problem::{Choice, ConflictSet, Demand, Var, is_same};
 use demand_cycles::push_owner;
 use plan_types::NoMemory;
 use std::alloc::Global;
@@ -22,8 +22,8 @@ pub(crate) fn refuses(c: Choice, d: &Demand) -> bool
     is_same(d.target, c.var) && !d.allowed.as_slice().contains(&c.val)
 }
 
-pub(crate) fn is_broken(trail: &Trail, d: &Demand) -> bool
-    ensures { result ≡ is_broken_in (value_in trail.now) d.now }
+fn is_broken(trail: &Values<'_>, d: &Demand) -> bool
+    ensures { result ≡ is_broken trail.now d.now }
 {
     match trail.value_of(d.target) {
         Some(n) => !d.allowed.as_slice().contains(&n),
@@ -45,6 +45,20 @@ pub(crate) fn first_refusing(listed: &[Demand], places: &[usize], c: Choice) -> 
     None
 }
 
+/// The first of the demands at some places that the choices break.
+pub(crate) fn first_broken(listed: &[Demand], places: &[usize], trail: &Values<'_>) -> Option<usize>
+    requires { AllBelow (length listed.now) places.now }
+    ensures found { find (is_broken trail.now) (demands_at listed.now places.now) ≡ option_map (demand_at listed.now) result }
+    ensures within { IfSome result (λ place. place < length listed.now) }
+{
+    for place in places {
+        if is_broken_at(trail, listed, *place) {
+            return Some(*place);
+        }
+    }
+    None
+}
+
 fn refuses_at(listed: &[Demand], place: usize, c: Choice) -> bool
     requires { place < length listed.now }
     ensures { result ≡ refuses c (demand_at listed.now place) }
@@ -52,9 +66,9 @@ fn refuses_at(listed: &[Demand], place: usize, c: Choice) -> bool
     refuses(c, &listed[place])
 }
 
-pub(crate) fn is_broken_at(trail: &Trail, listed: &[Demand], place: usize) -> bool
+fn is_broken_at(trail: &Values<'_>, listed: &[Demand], place: usize) -> bool
     requires { place < length listed.now }
-    ensures { result ≡ is_broken_in (value_in trail.now) (demand_at listed.now place) }
+    ensures { result ≡ is_broken trail.now (demand_at listed.now place) }
 {
     is_broken(trail, &listed[place])
 }
@@ -115,7 +129,7 @@ pub(crate) fn reason_at(
 pub(crate) fn yes_among(
     alloc: Global,
     listed: &[Demand],
-    trail: &Trail,
+    trail: &Values<'_>,
     places: &[usize],
 ) -> Result<Vec<usize>, NoMemory>
     requires { AllBelow (length listed.now) places.now }
@@ -130,26 +144,77 @@ pub(crate) fn yes_among(
     Ok(found)
 }
 
-fn is_yes_at(trail: &Trail, listed: &[Demand], place: usize) -> bool
+fn is_yes_at(trail: &Values<'_>, listed: &[Demand], place: usize) -> bool
     requires { place < length listed.now }
     ensures { result ≡ is_yes (value_in trail.now) (demand_at listed.now place) }
 {
     is_yes(trail, &listed[place])
 }
 
-fn is_yes(trail: &Trail, d: &Demand) -> bool
+fn is_yes(trail: &Values<'_>, d: &Demand) -> bool
     ensures { result ≡ is_yes (value_in trail.now) d.now }
 {
     d.when.as_slice().iter().all(|c| is_made(trail, *c))
 }
 
-fn is_made(trail: &Trail, c: Choice) -> bool
+fn is_made(trail: &Values<'_>, c: Choice) -> bool
     ensures { result ≡ is_made (value_in trail.now) c }
 {
     match trail.value_of(c.var) {
         Some(n) => n == c.val,
         None => false,
     }
+}
+
+/// The places of the demands that name a variable and are Yes.
+pub(crate) fn turned_among(
+    alloc: Global,
+    demands: &[Demand],
+    trail: &Values<'_>,
+    v: Var,
+) -> Result<Vec<usize>, NoMemory>
+    ensures demands { IfOk result (λ found. demands_at demands.now found.items ≡ turned trail.now v demands.now) }
+    ensures within { IfOk result (λ found. AllBelow (length demands.now) found.items) }
+{
+    let mut found = Vec::new(alloc);
+    let count = demands.len();
+    for place in 0..count {
+        push_turned(&mut found, demands, trail, place, v)?;
+    }
+    Ok(found)
+}
+
+fn push_turned(
+    found: &mut Vec<usize>,
+    demands: &[Demand],
+    trail: &Values<'_>,
+    place: usize,
+    v: Var,
+) -> Result<(), NoMemory>
+    requires { place < length demands.now }
+    ensures { OnOk result (found.new.items ≡ found.old.items ++ place_turned trail.now v demands.now place) }
+{
+    let demand = demand_in(demands, place);
+    if is_turned(demand, trail, v) {
+        found.push(place)?;
+    }
+    Ok(())
+}
+
+fn is_turned(demand: &Demand, trail: &Values<'_>, v: Var) -> bool
+    ensures { result ≡ is_turned trail.now v demand.now }
+{
+    if !are_naming(demand.when.as_slice(), v) {
+        return false;
+    }
+    is_yes(trail, demand)
+}
+
+/// Whether one of some choices is of a variable.
+pub(crate) fn are_naming(choices: &[Choice], v: Var) -> bool
+    ensures { result ≡ are_naming v choices.now }
+{
+    choices.iter().any(|c| is_same(c.var, v))
 }
 
 pub(crate) fn owners_at(
@@ -172,6 +237,39 @@ fn push_owner_at(owners: &mut Vec<Var>, listed: &[Demand], place: usize) -> Resu
     ensures { OnOk result (owners.new.items ≡ owners.old.items ++ option_to_list (owner_of (demand_at listed.now place))) }
 {
     push_owner(owners, &listed[place])?;
+    Ok(())
+}
+
+/// The owners of those of the demands at some places that are on a variable.
+pub(crate) fn owners_on(
+    alloc: Global,
+    listed: &[Demand],
+    places: &[usize],
+    to: Var,
+) -> Result<Vec<Var>, NoMemory>
+    requires { AllBelow (length listed.now) places.now }
+    ensures { IfOk result (λ owners. owners.items ≡ sources_on to (demands_at listed.now places.now)) }
+{
+    let mut owners = Vec::new(alloc);
+    for place in places {
+        push_owner_on(&mut owners, listed, *place, to)?;
+    }
+    Ok(owners)
+}
+
+fn push_owner_on(
+    owners: &mut Vec<Var>,
+    listed: &[Demand],
+    place: usize,
+    to: Var,
+) -> Result<(), NoMemory>
+    requires { place < length listed.now }
+    ensures { OnOk result (owners.new.items ≡ owners.old.items ++ source_on to (demand_at listed.now place)) }
+{
+    let demand = demand_in(listed, place);
+    if is_same(demand.target, to) {
+        push_owner(owners, demand)?;
+    }
     Ok(())
 }
 

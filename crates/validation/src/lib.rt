@@ -5,9 +5,11 @@
 mod checks;
 mod mentions;
 mod open;
-mod settled;
+mod pending;
+mod picked;
 mod stack;
 mod state;
+mod values;
 mod verdict;
 
 pub use state::State;

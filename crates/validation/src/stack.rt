@@ -1,25 +1,24 @@
 // What a state keeps of its choices, and how it is taken back.
-ghost use Rattle.std.specs.Prelude.{◌≡◌, ◌≢◌, ◌<◌, ◌↔◌, ◌++◌, [], ◌∷◌, true, None, Some, IfOk, OnOk, OnErr, IsTrue, IfSome, List, is_none, ◌&&◌, length, take, drop, map, find, slice_get};
-ghost use Rattle.std.specs.List.{Contains};
-ghost use Rattle.std.specs.Option.{option_map};
+ghost use Rattle.std.specs.Prelude.{◌≡◌, ◌≢◌, ◌<◌, ◌↔◌, ◌++◌, [], ◌∷◌, true, None, Some, IfOk, OnOk, OnErr, IsTrue, IfSome, List, is_none, ◌&&◌, length, take, map, find, slice_get};
+ghost use Rattle.std.specs.List.{Contains, list_any};
 ghost use Rattle.qualified_goals.specs.declared.variable.Var.{Var};
 ghost use Rattle.choice_problem.specs.Trail.{value_in};
 ghost use Rattle.choice_problem.specs.Active.{asks_for, vars_of_first, waiting};
-ghost use Rattle.choice_problem.specs.Conflict.{edges_of, refuses, is_broken, set_of_first};
+ghost use Rattle.choice_problem.specs.Conflict.{edges_of, refuses, set_of_first};
 ghost use Rattle.choice_problem.specs.ConflictSet.{first_behind, has, set_of};
-ghost use Rattle.validation.specs.Checks.{is_broken_in};
 ghost use Rattle.validation.specs.Open.{StayKept, is_chosen_in};
 ghost use Rattle.demand_cycles.specs.Cycles.{HasEdge};
 ghost use Rattle.validation.specs.declared.mentions.Mention.{Mention};
 ghost use Rattle.validation.specs.View.{View};
-ghost use Rattle.validation.specs.Stack.{AreOpen, IsSettled, vars_at, demand_at, are_naming, watchers_by, undone, held, with_listed, with_active, HasListed, HasActivated, HasGrown, AllBelow, grown, first_broken, turned, made, demands_at, places_of};
+ghost use Rattle.validation.specs.Stack.{AreOpen, IsSettled, vars_at, demand_at, watchers_by, undone, held, names, with_listed, with_active, HasListed, HasActivated, HasGrown, AllBelow, grown, turned, made, demands_at};
 
 use crate::checks::{
-    demand_in, first_refusing, is_broken_at, owners_at, reason_at, set_at, targets_at, yes_among,
+    are_naming, demand_in, first_refusing, owners_at, reason_at, set_at, targets_at, yes_among,
 };
 use crate::mentions::{Mention, Mentions};
 use crate::open::OpenVars;
-use choice_problem::{Choice, ConflictSet, Demand, Trail, Var, is_same};
+use crate::values::Values;
+use choice_problem::{Choice, ConflictSet, Demand, Trail, Var};
 use plan_types::{List, NoMemory};
 use std::alloc::Global;
 use std::marker::Model;
@@ -82,6 +81,27 @@ impl Stack {
         ensures { result.now ≡ self.now.trail }
     {
         &self.trail
+    }
+
+    /// The values that the choices give.
+    pub(crate) fn values(&self) -> Values<'_>
+        ensures { result ≡ self.now.trail }
+    {
+        Values::of(&self.trail)
+    }
+
+    /// The values that the choices give, and one choice more.
+    pub(crate) fn values_with(&self, c: Choice) -> Values<'_>
+        requires { value_in self.now.trail c.var ≡ None }
+        ensures { result ≡ self.now.trail ++ c ∷ [] }
+    {
+        Values::with(&self.trail, c)
+    }
+
+    pub(crate) fn listed(&self) -> &[Demand]
+        ensures { result.now ≡ self.now.listed }
+    {
+        self.listed.as_slice()
     }
 
     pub(crate) fn into_trail(self) -> List<Choice>
@@ -175,18 +195,18 @@ impl Stack {
         Ok(())
     }
 
-    /// The places of the listed demands that name a variable and are Yes.
-    pub(crate) fn turned(&self, alloc: Global, v: Var) -> Result<Vec<usize>, NoMemory>
-        ensures demands { IfOk result (λ found. demands_at self.now.listed found.items ≡ turned self.now.trail v self.now.listed) }
+    /// The places of the listed demands that name a variable and are Yes after some choices.
+    pub(crate) fn turned(
+        &self,
+        alloc: Global,
+        trail: &Values<'_>,
+        v: Var,
+    ) -> Result<Vec<usize>, NoMemory>
+        ensures demands { IfOk result (λ found. demands_at self.now.listed found.items ≡ turned trail.now v self.now.listed) }
         ensures within { IfOk result (λ found. AllBelow (length self.now.listed) found.items) }
     {
         let places = self.watchers.places(alloc, v)?;
-        let found = yes_among(
-            alloc,
-            self.listed.as_slice(),
-            &self.trail,
-            places.as_slice(),
-        )?;
+        let found = yes_among(alloc, self.listed.as_slice(), trail, places.as_slice())?;
         Ok(found)
     }
 }
@@ -227,7 +247,8 @@ impl Stack {
         ensures err { OnErr result (HasGrown self.old self.new) }
     {
         self.list_all(demands)?;
-        let places = self.turned(alloc, v)?;
+        let trail = self.values();
+        let places = self.turned(alloc, &trail, v)?;
         self.activate_all(places.as_slice())?;
         Ok(())
     }
@@ -264,15 +285,6 @@ impl Stack {
         let set = set_at(alloc, self.listed.as_slice(), first)?;
         Ok(set)
     }
-
-    /// The set of the first active demand from a place on that the choices break.
-    pub(crate) fn broken(&self, alloc: Global, from: usize) -> Result<Option<ConflictSet>, NoMemory>
-        ensures { IfOk result (λ set. set ≡ set_of_first (find (is_broken self.now.trail) (drop from self.now.active))) }
-    {
-        let first = first_broken(&self.active, self.listed.as_slice(), &self.trail, from);
-        let set = set_at(alloc, self.listed.as_slice(), first)?;
-        Ok(set)
-    }
 }
 
 // The graph of the active demands, with an edge from the owner of each to its target.
@@ -306,32 +318,18 @@ impl Stack {
         requires { IsSettled self.now }
         ensures { IfOk result (λ found. (v : Var) → (Contains found v) ↔ (HasEdge (edges_of self.now.active) from v)) }
     {
-        let places = self.turned(alloc, from)?;
+        let trail = self.values();
+        let places = self.turned(alloc, &trail, from)?;
         let targets = targets_at(alloc, self.listed.as_slice(), places.as_slice(), from)?;
         Ok(List::from_vec(targets))
     }
 
-    /// Whether a variable is chosen. Edges leave only those, since a variable that no listed demand waits for owns none.
-    pub(crate) fn is_chosen(&self, v: Var) -> bool
-        ensures { (w : Var) → HasEdge (edges_of self.now.active) v w → result ≡ true }
+    /// Whether a listed demand names a variable. Edges leave only those.
+    pub(crate) fn names(&self, v: Var) -> bool
+        ensures { result ≡ list_any (names v) self.now.listed }
     {
         self.watchers.names(v)
     }
-}
-
-fn first_broken(active: &Mentions, listed: &[Demand], trail: &Trail, from: usize) -> Option<usize>
-    requires { AllBelow (length listed.now) (places_of active.now) }
-    ensures found { first_broken (value_in trail.now) listed.now (drop from active.now) ≡ option_map (demand_at listed.now) result }
-    ensures within { IfSome result (λ place. place < length listed.now) }
-{
-    let count = active.len();
-    for index in from..count {
-        let place = active.at(index).place;
-        if is_broken_at(trail, listed, place) {
-            return Some(place);
-        }
-    }
-    None
 }
 
 fn is_open(active: &Mentions, trail: &Trail, v: Var) -> bool
@@ -423,12 +421,6 @@ fn add_watchers(watchers: &mut Mentions, place: usize, when: &[Choice]) -> Resul
         rest = tail;
     }
     Ok(())
-}
-
-fn are_naming(choices: &[Choice], v: Var) -> bool
-    ensures { result ≡ are_naming v choices.now }
-{
-    choices.iter().any(|c| is_same(c.var, v))
 }
 
 fn add_level(

@@ -5,14 +5,16 @@ ghost use Rattle.choice_problem.specs.Problem.{Problem, IsChoice, Lawful};
 ghost use Rattle.choice_problem.specs.Active.{is_open, least_open, open_after, reason};
 ghost use Rattle.choice_problem.specs.Conflict.{lasting_set, conflict};
 ghost use Rattle.choice_problem.specs.ConflictSet.{set_of};
+ghost use Rattle.choice_problem.specs.Trail.{value_in};
+ghost use Rattle.validation.specs.Pending.{AreOwned};
 ghost use Rattle.validation.specs.View.{View, Represents, view_of};
-ghost use Rattle.validation.specs.Stack.{front_of, IsSettled};
+ghost use Rattle.validation.specs.Stack.{front_of, made, IsSettled};
 ghost use Rattle.validation.specs.Verdict.{verdict_of, Leaves, set_before, set_after};
 
 use crate::Verdict;
-use crate::settled::Settled;
+use crate::pending::Pending;
 use crate::stack::Stack;
-use choice_problem::{Choice, Choices, ConflictSet, Steps, Trail, Var};
+use choice_problem::{Choice, Choices, ConflictSet, Demand, Steps, Trail, Var};
 use demand_cycles::cycle_set_of;
 use plan_types::{List, NoMemory};
 use std::alloc::Global;
@@ -120,19 +122,11 @@ impl State {
             return Ok(Verdict::Conflict(set));
         }
         let demands = choices.demands(alloc, c)?;
-        let before = self.stack.count();
-        self.stack.make(alloc, c, demands)?;
-        match fault_after(alloc, &self.stack, before) {
-            Ok(None) => Ok(Verdict::Accepted),
-            Ok(Some(set)) => {
-                self.stack.undo();
-                Ok(Verdict::Conflict(set))
-            }
-            Err(refused) => {
-                self.stack.undo();
-                Err(refused)
-            }
+        if let Some(set) = fault_after(alloc, &self.stack, c, demands.as_slice())? {
+            return Ok(Verdict::Conflict(set));
         }
+        self.stack.make(alloc, c, demands)?;
+        Ok(Verdict::Accepted)
     }
 
     /// Takes the last accepted choice back. It takes no memory.
@@ -163,29 +157,37 @@ fn fault_before<C: Choices>(
     Ok(set)
 }
 
-// The set of a demand that became active and is broken, or of the first lasting rule.
-fn fault_after(alloc: Global, stack: &Stack, before: usize) -> Result<Option<ConflictSet>, NoMemory>
-    requires lasting { lasting_set (front_of stack.now.trail) (take before stack.now.active) ≡ None }
+// The set of a demand that would become active with a choice and be broken, or of the first lasting rule.
+fn fault_after(
+    alloc: Global,
+    stack: &Stack,
+    c: Choice,
+    demands: &[Demand],
+) -> Result<Option<ConflictSet>, NoMemory>
+    requires free { value_in stack.now.trail c.var ≡ None }
     requires settled { IsSettled stack.now }
-    ensures { IfOk result (λ set. set ≡ set_after stack.now.trail before stack.now.active) }
+    requires owned { AreOwned c.var demands.now }
+    requires lasting { lasting_set stack.now.trail stack.now.active ≡ None }
+    ensures { IfOk result (λ set. set ≡ set_after (made stack.now c demands.now)) }
 {
-    if let Some(set) = stack.broken(alloc, before)? {
+    let pending = Pending::of(alloc, stack, c, demands)?;
+    if let Some(set) = pending.broken(alloc)? {
         return Ok(Some(set));
     }
-    let set = lasting_fault(alloc, stack, before)?;
+    let before = pending.before();
+    let set = lasting_fault(alloc, &pending, before)?;
     Ok(set)
 }
 
 // The set of the first lasting rule, where these gave none before the last choice.
 fn lasting_fault(
     alloc: Global,
-    stack: &Stack,
+    pending: &Pending<'_>,
     before: usize,
 ) -> Result<Option<ConflictSet>, NoMemory>
-    requires lasting { lasting_set (front_of stack.now.trail) (take before stack.now.active) ≡ None }
-    requires settled { IsSettled stack.now }
-    ensures { IfOk result (λ set. set ≡ lasting_set stack.now.trail stack.now.active) }
+    requires { lasting_set (front_of pending.now.trail) (take before pending.now.active) ≡ None }
+    ensures { IfOk result (λ set. set ≡ lasting_set pending.now.trail pending.now.active) }
 {
-    let set = cycle_set_of(alloc, &Settled::of(stack), before)?;
+    let set = cycle_set_of(alloc, pending, before)?;
     Ok(set)
 }

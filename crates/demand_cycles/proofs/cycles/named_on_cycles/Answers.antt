@@ -4,7 +4,7 @@ use Rattle.choice_problem.specs.declared.problem.Demand.{Demand}
 use Rattle.choice_problem.specs.Conflict.{edges_of, named_by, lies_on_cycle, circular}
 use Rattle.demand_cycles.specs.declared.side.Side.{Side}
 use Rattle.demand_cycles.specs.Side.{IsSide}
-use Rattle.demand_cycles.proofs.Reached.{get-contains}
+use Rattle.goal_links.proofs.Mapped.{get-contains}
 use Rattle.demand_cycles.proofs.Rings.{kept-one, left-one, kept-all, lies-around}
 use Rattle.demand_cycles.proofs.cycles.named_on_cycles.Goals as goal
 use Rattle.demand_cycles.proofs.cycles.named_on_cycles.Goals.{then-is_around+in_ok-is_on_cycle+then-branch+in_ok-push_named, then-is_around+in_ok-is_on_cycle+else-branch, else-is_around}

@@ -1,6 +1,7 @@
-use Rattle.std.proofs.Common.{Result, Ok, Err, OnErr, ◌≡◌, ◌∙◌, ◌++◌, ◌∷◌, [], List, sym, ap, subst}
+use Rattle.std.proofs.Common.{◌≡◌, ◌∙◌, ◌++◌, ◌∷◌, [], List, sym, ap, subst}
 use Rattle.std.proofs.lemmas.Option.{slice_get_within}
 use Rattle.qualified_goals.specs.declared.variable.Var.{Var}
+use Rattle.choice_problem.proofs.Results.{on-err}
 use Rattle.goal_links.specs.declared.chains.Cell.{Cell}
 use Rattle.goal_links.specs.Links.{Entries, var_at}
 use Rattle.validation.specs.declared.mentions.Mention.{Mention}
@@ -47,10 +48,6 @@ returns-clause-ok c =
 pub invariant_of-self-in_err-cell : goal.invariant_of-self-in_err-cell
 invariant_of-self-in_err-cell c =
     subst (λ (s : Entries). AreMentions s) (sym (c.in_err-cell.ensures.err ∙ c.in_ok-entry.ensures.ok)) (registered-mentions c.self.inside.links c.args.mention.var c.self.invariant).0
-
-on-err : {T E : Type 0} (r : Result T E) (P : Type 0) → P → OnErr r P
-on-err (Ok t) P h = tt
-on-err (Err e) P h = h
 
 pub returns-in_err-cell-clause-err : goal.returns-in_err-cell-clause-err
 returns-in_err-cell-clause-err c =

@@ -14,14 +14,14 @@ yes_among-requires c =
 
 pub returns-clause-demands : goal.returns-clause-demands
 returns-clause-demands c =
-    subst (λ (x : View). demands_at x.listed c.in_ok-found.found.items ≡ turned x.trail c.args.v x.listed) c.self.view_is
-    (turned-seen c.args.v c.self.inside.trail c.self.inside.listed c.as_slice.result.now c.self.inside.watchers c.in_ok-places.places.items
+    subst (λ (x : View). demands_at x.listed c.in_ok-found.found.items ≡ turned c.args.trail.now c.args.v x.listed) c.self.view_is
+    (turned-seen c.args.v c.args.trail.now c.self.inside.listed c.as_slice.result.now c.self.inside.watchers c.in_ok-places.places.items
     c.as_slice-2.result.now c.in_ok-found.found.items c.self.invariant.waiting c.in_ok-places.ensures c.as_slice.ensures
     c.as_slice-2.ensures.value c.in_ok-found.ensures)
 
 pub returns-clause-within : goal.returns-clause-within
 returns-clause-within c =
-    let test = λ (k : ℕ). is_yes (value_in c.self.inside.trail) (demand_at c.as_slice.result.now k) in
+    let test = λ (k : ℕ). is_yes (value_in c.args.trail.now) (demand_at c.as_slice.result.now k) in
     let below =
     turned-below c.args.v c.self.inside.listed c.as_slice.result.now c.self.inside.watchers c.in_ok-places.places.items c.as_slice-2.result.now
     c.self.invariant.waiting c.in_ok-places.ensures c.as_slice.ensures c.as_slice-2.ensures.value in

@@ -1,9 +1,12 @@
-use Rattle.std.proofs.Common.{◌≡◌, ◌∙◌, sym, ap, [], ◌∷◌, ◌++◌, None}
+use Rattle.std.proofs.Common.{◌≡◌, ◌∙◌, sym, ap, [], ◌∷◌, ◌++◌, Some, None}
 use Rattle.choice_problem.specs.Conflict.{first_set, conflict}
 use Rattle.validation.specs.View.{View}
-use Rattle.validation.specs.Verdict.{verdict_of}
-use Rattle.validation.proofs.Verdicts.{ready, none-from, early, late, conflict-early, conflict-late, none-lasting, stands-made}
-use Rattle.validation.proofs.Settles.{settled-made}
+use Rattle.validation.specs.Pending.{count_before}
+use Rattle.validation.specs.Stack.{made}
+use Rattle.validation.specs.Verdict.{verdict_of, set_after}
+use Rattle.validation.proofs.Verdicts.{ready, none-from, early, conflict-early, conflict-weighed, none-lasting, stands-made}
+use Rattle.validation.proofs.Settles.{settled}
+use Rattle.validation.proofs.Weighed.{demands-owned}
 use Rattle.validation.proofs.state.State.choose_open.Goals as goal
 
 pub fault_before-requires : goal.fault_before-requires
@@ -33,42 +36,58 @@ make-requires-clause-asked g c =
     (ready (g.C.Choices.problem c.args.choices.now) c.self.inside.stack c.args.self.now c.args.c (g.met.C.Choices.lawful c.args.choices.now) c.self.view_is
     c.requires.stands c.requires.open c.requires.value).asked
 
+pub fault_after-requires-clause-free : goal.fault_after-requires-clause-free
+fault_after-requires-clause-free g c =
+    (ready (g.C.Choices.problem c.args.choices.now) c.self.inside.stack c.args.self.now c.args.c (g.met.C.Choices.lawful c.args.choices.now) c.self.view_is
+    c.requires.stands c.requires.open c.requires.value).free
+
 pub fault_after-requires-clause-settled : goal.fault_after-requires-clause-settled
 fault_after-requires-clause-settled g c =
     let p = g.C.Choices.problem c.args.choices.now in
     let lawful = g.met.C.Choices.lawful c.args.choices.now in
-    let mine = ready p c.self.inside.stack c.args.self.now c.args.c lawful c.self.view_is c.requires.stands c.requires.open c.requires.value in
-    settled-made p c.self.inside.stack c.make.new.self c.args.c c.in_ok-demands.demands lawful mine c.in_ok-demands.ensures c.in_ok-make.ensures.ok
+    settled p c.self.inside.stack lawful (ready p c.self.inside.stack c.args.self.now c.args.c lawful c.self.view_is c.requires.stands c.requires.open c.requires.value).stands
 
-pub returns-in-Ok-None-clause-verdict : goal.returns-in-Ok-None-clause-verdict
-returns-in-Ok-None-clause-verdict g c =
+pub fault_after-requires-clause-owned : goal.fault_after-requires-clause-owned
+fault_after-requires-clause-owned g c =
+    let p = g.C.Choices.problem c.args.choices.now in
+    let lawful = g.met.C.Choices.lawful c.args.choices.now in
+    let mine = ready p c.self.inside.stack c.args.self.now c.args.c lawful c.self.view_is c.requires.stands c.requires.open c.requires.value in
+    demands-owned p c.args.c c.as_slice.result.now lawful mine.choice (c.as_slice.ensures ∙ c.in_ok-demands.ensures)
+
+pub fault_after-requires-clause-lasting : goal.fault_after-requires-clause-lasting
+fault_after-requires-clause-lasting g c =
+    (ready (g.C.Choices.problem c.args.choices.now) c.self.inside.stack c.args.self.now c.args.c (g.met.C.Choices.lawful c.args.choices.now) c.self.view_is
+    c.requires.stands c.requires.open c.requires.value).stands.lasting
+
+pub returns-in-Some-2-clause-verdict : goal.returns-in-Some-2-clause-verdict
+returns-in-Some-2-clause-verdict g c =
     let p = g.C.Choices.problem c.args.choices.now in
     let x = c.self.inside.stack in
     let mine = ready p x c.args.self.now c.args.c (g.met.C.Choices.lawful c.args.choices.now) c.self.view_is c.requires.stands c.requires.open c.requires.value in
     let none : c.in_ok-set.field-0 ≡ None = none-from c.in_ok-set.field-0 c.in_default.not-Some in
     let first : None ≡ first_set (early p x c.args.c) = sym none ∙ c.in_ok-set.ensures in
-    let second : c.in-Ok-None.field-0 ≡ first_set (late c.make.new.self c.count-before.result) = c.in-Ok-None.ensures in
-    sym (ap verdict_of (ap (λ (s : View). conflict p s.trail c.args.c) (sym c.self.view_is) ∙ conflict-late p x c.make.new.self c.args.c c.in_ok-demands.demands c.count-before.result c.in-Ok-None.field-0 mine c.in_ok-demands.ensures c.in_ok-make.ensures.ok
-    c.count-before.ensures first second ∙ c.in-Ok-None.field-0-is))
+    sym (ap verdict_of (ap (λ (s : View). conflict p s.trail c.args.c) (sym c.self.view_is)
+    ∙ conflict-weighed p x c.args.c c.as_slice.result.now (Some c.in-Some-2.set) mine (c.as_slice.ensures ∙ c.in_ok-demands.ensures) first (sym c.in-Some-2.is ∙ c.in_ok-set-2.ensures)))
 
-pub returns-in-Ok-None-clause-leaves : goal.returns-in-Ok-None-clause-leaves
-returns-in-Ok-None-clause-leaves g c =
+pub returns-clause-verdict : goal.returns-clause-verdict
+returns-clause-verdict g c =
     let p = g.C.Choices.problem c.args.choices.now in
     let x = c.self.inside.stack in
     let mine = ready p x c.args.self.now c.args.c (g.met.C.Choices.lawful c.args.choices.now) c.self.view_is c.requires.stands c.requires.open c.requires.value in
-    let second : c.in-Ok-None.field-0 ≡ first_set (late c.make.new.self c.count-before.result) = c.in-Ok-None.ensures in
-    let lasting = none-lasting c.make.new.self c.count-before.result (sym c.in-Ok-None.field-0-is ∙ second) in (
+    let none : c.in_ok-set.field-0 ≡ None = none-from c.in_ok-set.field-0 c.in_default.not-Some in
+    let first : None ≡ first_set (early p x c.args.c) = sym none ∙ c.in_ok-set.ensures in
+    let last : c.in_ok-set-2.field-0 ≡ None = none-from c.in_ok-set-2.field-0 c.in_default-2.not-Some in
+    sym (ap verdict_of (ap (λ (s : View). conflict p s.trail c.args.c) (sym c.self.view_is)
+    ∙ conflict-weighed p x c.args.c c.as_slice.result.now None mine (c.as_slice.ensures ∙ c.in_ok-demands.ensures) first (sym last ∙ c.in_ok-set-2.ensures)))
+
+pub returns-clause-leaves : goal.returns-clause-leaves
+returns-clause-leaves g c =
+    let p = g.C.Choices.problem c.args.choices.now in
+    let x = c.self.inside.stack in
+    let mine = ready p x c.args.self.now c.args.c (g.met.C.Choices.lawful c.args.choices.now) c.self.view_is c.requires.stands c.requires.open c.requires.value in
+    let last : c.in_ok-set-2.field-0 ≡ None = none-from c.in_ok-set-2.field-0 c.in_default-2.not-Some in
+    let same : c.make.new.self ≡ made x c.args.c c.as_slice.result.now = c.in_ok-make.ensures.ok ∙ ap (made x c.args.c) (sym c.as_slice.ensures) in
+    let lasting = none-lasting c.make.new.self (count_before c.make.new.self) (sym last ∙ c.in_ok-set-2.ensures ∙ ap set_after (sym same)) in (
       stands-made p x c.make.new.self c.args.c c.in_ok-demands.demands mine c.in_ok-demands.ensures c.in_ok-make.ensures.ok lasting,
       ap (λ (s : View). s.trail) c.in_ok-make.ensures.ok ∙ ap (λ (s : View). s.trail ++ c.args.c ∷ []) c.self.view_is,
     )
-
-pub returns-in-Ok-Some-clause-verdict : goal.returns-in-Ok-Some-clause-verdict
-returns-in-Ok-Some-clause-verdict g c =
-    let p = g.C.Choices.problem c.args.choices.now in
-    let x = c.self.inside.stack in
-    let mine = ready p x c.args.self.now c.args.c (g.met.C.Choices.lawful c.args.choices.now) c.self.view_is c.requires.stands c.requires.open c.requires.value in
-    let none : c.in_ok-set.field-0 ≡ None = none-from c.in_ok-set.field-0 c.in_default.not-Some in
-    let first : None ≡ first_set (early p x c.args.c) = sym none ∙ c.in_ok-set.ensures in
-    let second : c.in-Ok-Some.field-0 ≡ first_set (late c.make.new.self c.count-before.result) = c.in-Ok-Some.ensures in
-    sym (ap verdict_of (ap (λ (s : View). conflict p s.trail c.args.c) (sym c.self.view_is) ∙ conflict-late p x c.make.new.self c.args.c c.in_ok-demands.demands c.count-before.result c.in-Ok-Some.field-0 mine c.in_ok-demands.ensures c.in_ok-make.ensures.ok
-    c.count-before.ensures first second ∙ c.in-Ok-Some.field-0-is))

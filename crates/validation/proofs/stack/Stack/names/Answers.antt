@@ -1,0 +1,14 @@
+use Rattle.std.proofs.Common.{◌∙◌, List, ap}
+use Rattle.std.specs.List.{list_any}
+use Rattle.choice_problem.specs.ConflictSet.{has}
+use Rattle.validation.specs.declared.mentions.Mention.{Mention}
+use Rattle.validation.specs.View.{View}
+use Rattle.validation.specs.Stack.{names, vars_at}
+use Rattle.validation.proofs.Graphs.{waits-has}
+use Rattle.validation.proofs.stack.Stack.names.Goals as goal
+
+pub returns : goal.returns
+returns c =
+    let s = c.self.inside in
+    c.names.ensures ∙ ap (λ (ms : List Mention). has (vars_at ms) c.args.v) c.self.invariant.waiting ∙ waits-has 0 c.args.v s.listed
+    ∙ ap (λ (x : View). list_any (names c.args.v) x.listed) c.self.view_is

@@ -1,0 +1,31 @@
+-- What a choice would make of a stack.
+use Rattle.std.specs.Prelude.{◌≡◌, ℕ, ◌+◌, true, List, [], ◌∷◌, ◌++◌, length, drop, find, Option, None}
+use Rattle.std.specs.List.{Contains}
+use Rattle.qualified_goals.specs.declared.variable.Var.{Var}
+use Rattle.choice_problem.specs.declared.problem.Choice.{Choice}
+use Rattle.choice_problem.specs.declared.problem.Demand.{Demand}
+use Rattle.choice_problem.specs.Conflict.{is_broken}
+use Rattle.choice_problem.specs.Trail.{value_in}
+use Rattle.validation.specs.View.{View}
+use Rattle.validation.specs.Stack.{IsSettled, is_owned_by, last_number, turned}
+
+-- each of some demands is owned by the variable
+abbrev pub AreOwned : Var → List Demand → Type 0
+AreOwned v demands = (d : Demand) → Contains demands d → is_owned_by v d ≡ true
+
+-- how many demands were active before the last choice
+abbrev pub count_before : View → ℕ
+count_before s = last_number s.active_before
+
+-- the first demand that became active with the last choice and is broken
+abbrev pub first_broken : View → Option Demand
+first_broken s = find (is_broken s.trail) (drop (count_before s) s.active)
+
+-- a choice may be made, and these demands turn Yes with it: some of those listed, and some of its own; and so many are active then
+pub record ArePending (s : View) (c : Choice) (demands woken fresh : List Demand) (count : ℕ) : Type 0 where
+  pub free : value_in s.trail c.var ≡ None
+  pub settled : IsSettled s
+  pub owned : AreOwned c.var demands
+  pub woken_is : woken ≡ turned (s.trail ++ c ∷ []) c.var s.listed
+  pub fresh_is : fresh ≡ turned (s.trail ++ c ∷ []) c.var demands
+  pub counted : count ≡ length s.active + (length woken + length fresh)

@@ -1,0 +1,174 @@
+// What a choice would make of a stack.
+ghost use Rattle.std.specs.Prelude.{◌≡◌, ◌+◌, ◌++◌, None, IfOk};
+ghost use Rattle.choice_problem.specs.Conflict.{set_of_first};
+ghost use Rattle.choice_problem.specs.Trail.{value_in};
+ghost use Rattle.validation.specs.Pending.{AreOwned, count_before, first_broken};
+ghost use Rattle.validation.specs.Stack.{IsSettled, made, targets_by};
+
+use crate::checks::turned_among;
+use crate::picked::Picked;
+use crate::stack::Stack;
+use choice_problem::{Choice, ConflictSet, Demand, Var, is_same};
+use demand_cycles::Graph;
+use plan_types::{List, NoMemory};
+use std::alloc::Global;
+use std::marker::Model;
+
+/// A stack, and a choice of an open variable with the demands that it owns: what they would make of the stack,
+/// which stays as it is.
+#[derive(Drop)]
+pub(crate) struct Pending<'a> {
+    stack: &'a Stack,
+    choice: Choice,
+    demands: &'a [Demand],
+    // The listed demands that would turn Yes, and those of the choice that would be so at once.
+    woken: Picked<'a>,
+    fresh: Picked<'a>,
+    // How many demands would be active.
+    count: usize,
+}
+
+impl<'a> Model for Pending<'a> {
+    ghost use Rattle.validation.specs.View.{View};
+    ghost use Rattle.validation.specs.Pending.{ArePending};
+    ghost use Rattle.validation.specs.Stack.{made};
+
+    ghost Value = { View };
+
+    ghost view = { λ p. made p.stack.now p.choice p.demands.now };
+
+    ghost invariant = { λ p. ArePending p.stack.now p.choice p.demands.now p.woken p.fresh p.count };
+}
+
+impl<'a> Pending<'a> {
+    pub(crate) fn of(
+        alloc: Global,
+        stack: &'a Stack,
+        choice: Choice,
+        demands: &'a [Demand],
+    ) -> Result<Pending<'a>, NoMemory>
+        requires free { value_in stack.now.trail choice.var ≡ None }
+        requires settled { IsSettled stack.now }
+        requires owned { AreOwned choice.var demands.now }
+        ensures { IfOk result (λ pending. pending ≡ made stack.now choice demands.now) }
+    {
+        let trail = stack.values_with(choice);
+        let places = stack.turned(alloc, &trail, choice.var)?;
+        let woken = Picked::of(stack.listed(), places);
+        let at_once = turned_among(alloc, demands, &trail, choice.var)?;
+        let fresh = Picked::of(demands, at_once);
+        let count = total(stack.count(), woken.len(), fresh.len())?;
+        Ok(Pending {
+            stack,
+            choice,
+            demands,
+            woken,
+            fresh,
+            count,
+        })
+    }
+
+    /// How many demands are active before the choice.
+    pub(crate) fn before(&self) -> usize
+        ensures { result ≡ count_before self.now }
+    {
+        self.stack.count()
+    }
+
+    /// The set of the first demand that would become active and be broken.
+    pub(crate) fn broken(&self, alloc: Global) -> Result<Option<ConflictSet>, NoMemory>
+        ensures { IfOk result (λ set. set ≡ set_of_first (first_broken self.now)) }
+    {
+        let trail = self.stack.values_with(self.choice);
+        if let Some(set) = self.woken.broken(alloc, &trail)? {
+            return Ok(Some(set));
+        }
+        let set = self.fresh.broken(alloc, &trail)?;
+        Ok(set)
+    }
+}
+
+impl<'a> Graph for Pending<'a> {
+    ghost demands = { λ s. s.active };
+
+    fn count(&self) -> usize {
+        self.count
+    }
+
+    fn demand(&self, place: usize) -> &Demand {
+        let before = self.stack.count();
+        if place < before {
+            return self.stack.demand(place);
+        }
+        let index = place - before;
+        let count = self.woken.len();
+        if index < count {
+            return self.woken.at(index);
+        }
+        self.fresh.at(index - count)
+    }
+
+    fn sources(&self, alloc: Global, to: Var) -> Result<List<Var>, NoMemory> {
+        let found = self.stack.sources(alloc, to)?;
+        let woken = self.woken.sources(alloc, to)?;
+        let fresh = self.fresh.sources(alloc, to)?;
+        let all = joined(found, woken, fresh)?;
+        Ok(all)
+    }
+
+    fn targets(&self, alloc: Global, from: Var) -> Result<List<Var>, NoMemory> {
+        let found = self.stack.targets(alloc, from)?;
+        let woken = self.woken.targets(alloc, from)?;
+        let fresh = targets_within(alloc, &self.fresh, self.choice.var, from)?;
+        let all = joined(found, woken, fresh)?;
+        Ok(all)
+    }
+
+    fn is_chosen(&self, v: Var) -> bool {
+        if is_same(self.choice.var, v) {
+            return true;
+        }
+        self.stack.names(v)
+    }
+}
+
+// The targets of those of some demands of one owner that a variable owns.
+fn targets_within(
+    alloc: Global,
+    demands: &Picked<'_>,
+    owner: Var,
+    from: Var,
+) -> Result<List<Var>, NoMemory>
+    requires { AreOwned owner demands.now }
+    ensures { IfOk result (λ found. found ≡ targets_by from demands.now) }
+{
+    if !is_same(owner, from) {
+        return Ok(List::new(alloc));
+    }
+    let found = demands.targets(alloc, from)?;
+    Ok(found)
+}
+
+fn joined(first: List<Var>, second: List<Var>, third: List<Var>) -> Result<List<Var>, NoMemory>
+    ensures { IfOk result (λ all. all ≡ first ++ (second ++ third)) }
+{
+    let mut all = first;
+    let mut more = second;
+    let mut last = third;
+    more.append(&mut last)?;
+    all.append(&mut more)?;
+    Ok(all)
+}
+
+// The sum of three counts. One that is too large for a number is too large for memory.
+fn total(first: usize, second: usize, third: usize) -> Result<usize, NoMemory>
+    ensures { IfOk result (λ sum. sum ≡ first + (second + third)) }
+{
+    let Some(more) = second.checked_add(third) else {
+        return Err(NoMemory);
+    };
+    match first.checked_add(more) {
+        Some(sum) => Ok(sum),
+        None => Err(NoMemory),
+    }
+}

@@ -1,0 +1,82 @@
+// Some of the demands of a list.
+ghost use Rattle.std.specs.Prelude.{◌≡◌, ◌<◌, Some, IfOk, length, find, slice_get};
+ghost use Rattle.choice_problem.specs.Conflict.{is_broken, set_of_first};
+ghost use Rattle.validation.specs.Stack.{AllBelow, demands_at, sources_on, targets_by};
+
+use crate::checks::{demand_in, first_broken, owners_on, set_at, targets_at};
+use crate::values::Values;
+use choice_problem::{ConflictSet, Demand, Var};
+use plan_types::{List, NoMemory};
+use std::alloc::Global;
+use std::marker::Model;
+
+/// Demands of a list, by their places.
+#[derive(Drop)]
+pub(crate) struct Picked<'a> {
+    listed: &'a [Demand],
+    places: Vec<usize>,
+}
+
+impl<'a> Model for Picked<'a> {
+    ghost use Rattle.std.specs.Prelude.{List, length};
+    ghost use Rattle.choice_problem.specs.declared.problem.Demand.{Demand};
+    ghost use Rattle.validation.specs.Stack.{AllBelow, demands_at};
+
+    ghost Value = { List Demand };
+
+    ghost view = { λ p. demands_at p.listed.now p.places.items };
+
+    ghost invariant = { λ p. AllBelow (length p.listed.now) p.places.items };
+}
+
+impl<'a> Picked<'a> {
+    pub(crate) fn of(listed: &'a [Demand], places: Vec<usize>) -> Picked<'a>
+        requires { AllBelow (length listed.now) places.items }
+        ensures { result ≡ demands_at listed.now places.items }
+    {
+        Picked { listed, places }
+    }
+
+    pub(crate) fn len(&self) -> usize
+        ensures { result ≡ length self.now }
+    {
+        self.places.len()
+    }
+
+    pub(crate) fn at(&self, index: usize) -> &Demand
+        requires { index < length self.now }
+        ensures { slice_get self.now index ≡ Some result.now }
+    {
+        let place = self.places[index];
+        demand_in(self.listed, place)
+    }
+
+    /// The set of the first that the choices break.
+    pub(crate) fn broken(
+        &self,
+        alloc: Global,
+        trail: &Values<'_>,
+    ) -> Result<Option<ConflictSet>, NoMemory>
+        ensures { IfOk result (λ set. set ≡ set_of_first (find (is_broken trail.now) self.now)) }
+    {
+        let first = first_broken(self.listed, self.places.as_slice(), trail);
+        let set = set_at(alloc, self.listed, first)?;
+        Ok(set)
+    }
+
+    /// The owners of those on a variable.
+    pub(crate) fn sources(&self, alloc: Global, to: Var) -> Result<List<Var>, NoMemory>
+        ensures { IfOk result (λ found. found ≡ sources_on to self.now) }
+    {
+        let owners = owners_on(alloc, self.listed, self.places.as_slice(), to)?;
+        Ok(List::from_vec(owners))
+    }
+
+    /// The targets of those that a variable owns.
+    pub(crate) fn targets(&self, alloc: Global, from: Var) -> Result<List<Var>, NoMemory>
+        ensures { IfOk result (λ found. found ≡ targets_by from self.now) }
+    {
+        let targets = targets_at(alloc, self.listed, self.places.as_slice(), from)?;
+        Ok(List::from_vec(targets))
+    }
+}
