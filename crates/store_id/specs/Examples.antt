@@ -9,7 +9,7 @@ use Rattle.plan_types.specs.declared.range.Spec.TheVariants.{V2_4}
 use Rattle.plan_nodes.specs.declared.node.NodeKind.TheVariants.{Store}
 use Rattle.plan_nodes.specs.declared.node.PlanNode.{PlanNode}
 use Rattle.store_id.specs.NodeText.{id_text, names_each_once}
-use Rattle.store_id.specs.Identifier.{own_name}
+use Rattle.store_id.specs.Identifier.{in_place_id, own_name}
 
 abbrev node : PlanNode
 node = record {
@@ -70,3 +70,8 @@ no-own-name = refl
 
 a-whole-package : own_name (codes "package") ≡ []
 a-whole-package = refl
+
+-- in its place
+in-place : in_place_id node ≡ codes "tool-1.20-inplace-run"
+unfolding digits
+in-place = refl

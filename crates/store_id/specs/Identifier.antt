@@ -1,4 +1,4 @@
--- Identifiers of what is built into the store.
+-- Identifiers of what is built into the store, and of what is built in its place.
 use Rattle.std.specs.Prelude.{ℕ, nat_lt, ◌==◌, if◌then◌else◌, List, [], ◌∷◌, ◌++◌, length, codes}
 use Rattle.std.specs.List.{position_or_len, after_first}
 use Rattle.hex.specs.Hex.{encode_lower}
@@ -7,7 +7,8 @@ use Rattle.plan_types.specs.declared.condition.Env.{Env}
 use Rattle.plan_types.specs.declared.condition.FlagSet.{FlagSet}
 use Rattle.plan_types.specs.declared.description.Description.{Description}
 use Rattle.plan_nodes.specs.declared.node.PlanNode.{PlanNode}
-use Rattle.store_id.specs.NodeText.{package_text, id_text}
+use Rattle.plan_nodes.specs.Line.{package_text}
+use Rattle.store_id.specs.NodeText.{id_text}
 
 -- the SHA-256 of a text, as digits in lower case
 abbrev pub digest_of : List ℕ → List ℕ
@@ -21,3 +22,7 @@ own_name component =
 -- the identifier of what is built into the store: package and version, the component's own name, and the digest of its text
 abbrev pub id_of : PlanNode → Description → List FlagSet → Env → List ℕ
 id_of node d flags env = package_text node ++ own_name node.component ++ codes "-" ++ digest_of (id_text node d flags env)
+
+-- the identifier of what is built in its place: package and version, `inplace`, and the component's own name
+abbrev pub in_place_id : PlanNode → List ℕ
+in_place_id node = package_text node ++ codes "-inplace" ++ own_name node.component

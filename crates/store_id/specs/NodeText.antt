@@ -8,6 +8,7 @@ use Rattle.plan_types.specs.declared.description.FlagDecl.{FlagDecl}
 use Rattle.plan_types.specs.Bytes.{same_text}
 use Rattle.version_range.specs.Version.{version_text}
 use Rattle.plan_nodes.specs.declared.node.PlanNode.{PlanNode}
+use Rattle.plan_nodes.specs.Line.{package_text}
 
 -- whether the flags name each declared one exactly once
 abbrev pub names_each_once : List FlagDecl → List FlagSet → Bool
@@ -16,10 +17,6 @@ names_each_once declared flags = list_all (λ flag. count_by (λ set. same_text 
 -- a line: a word with a blank behind it, and what it says
 abbrev pub line : List ℕ → List ℕ → List ℕ
 line word rest = word ++ rest ++ 10 ∷ []
-
--- a package and its version
-abbrev pub package_text : PlanNode → List ℕ
-package_text node = node.name ++ codes "-" ++ version_text node.version.parts
 
 -- what is built
 abbrev pub head_lines : PlanNode → List ℕ

@@ -1,11 +1,11 @@
-// Identifiers with the digest of their text.
+// Identifiers of what has a source: in its place, or with the digest of its text.
 ghost use Rattle.std.specs.Prelude.{◌≡◌, ◌++◌, IfOk, IsTrue, OnOk};
 ghost use Rattle.store_id.specs.NodeText.{names_each_once};
-ghost use Rattle.store_id.specs.Identifier.{digest_of, id_of, own_name};
+ghost use Rattle.store_id.specs.Identifier.{digest_of, id_of, in_place_id, own_name};
 ghost use Rattle.plan_nodes.specs.declared.node.NodeKind.TheVariants.{Store};
 
-use crate::node_text::{id_text, package_text};
-use plan_nodes::PlanNode;
+use crate::node_text::id_text;
+use plan_nodes::{PlanNode, package_text};
 use plan_types::{Description, Env, FlagSet, List, NoMemory, Text};
 use sha2::{Digest, Sha256};
 use std::alloc::Global;
@@ -29,6 +29,18 @@ pub fn id_of(
     push_own_name(&mut id, node.component.as_str())?;
     id.push_str("-")?;
     id.push_str(digest.as_str())?;
+    Ok(id)
+}
+
+/// The identifier of what is built in its place: package and version, `inplace`, and what follows the colon of the component's
+/// name.
+pub fn in_place_id(alloc: Global, node: &PlanNode) -> Result<Text, NoMemory>
+    ensures { IfOk result (λ id. id ≡ in_place_id node.now) }
+{
+    let mut id = package_text(alloc, node)?;
+    id.push_str("-inplace")?;
+    let component = node.component.as_str();
+    push_own_name(&mut id, component)?;
     Ok(id)
 }
 

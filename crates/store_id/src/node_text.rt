@@ -1,9 +1,9 @@
 // The text that tells one build from another, line for line.
 ghost use Rattle.std.specs.Prelude.{◌≡◌, ◌++◌, IfOk, IsTrue, OnOk, flat_map, count_by};
-ghost use Rattle.store_id.specs.NodeText.{names_each_once, id_text, line, package_text, head_lines, compiler_text, env_lines, is_on, switch_text, set_line, flag_line, needs_lines};
+ghost use Rattle.store_id.specs.NodeText.{names_each_once, id_text, line, head_lines, compiler_text, env_lines, is_on, switch_text, set_line, flag_line, needs_lines};
 ghost use Rattle.plan_types.specs.Bytes.{same_text};
 
-use plan_nodes::PlanNode;
+use plan_nodes::{PlanNode, package_text};
 use plan_types::{Description, Env, FlagDecl, FlagSet, List, NoMemory, Text};
 use std::alloc::Global;
 use version_range::print_version;
@@ -42,17 +42,6 @@ pub fn id_text(
     push_flags(&mut text, d.flags.as_slice(), flags.as_slice())?;
     push_line(&mut text, "cabal ", d.digest.as_str())?;
     push_needs(&mut text, node)?;
-    Ok(text)
-}
-
-/// A package and its version.
-pub fn package_text(alloc: Global, node: &PlanNode) -> Result<Text, NoMemory>
-    ensures { IfOk result (λ text. text ≡ package_text node.now) }
-{
-    let mut text = node.name.copy()?;
-    let version = print_version(alloc, &node.version)?;
-    text.push_str("-")?;
-    text.push_str(version.as_str())?;
     Ok(text)
 }
 

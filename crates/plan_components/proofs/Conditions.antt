@@ -1,0 +1,48 @@
+-- A dependency counts where its component is buildable and its branches are taken.
+use Rattle.std.proofs.Common.{◌≡◌, Bool, true, false, not, ◌&&◌, ◌||◌, List, [], flat_map, refl, ap, ◌∙◌}
+use Rattle.plan_types.specs.declared.condition.Env.{Env}
+use Rattle.plan_types.specs.declared.condition.FlagSet.{FlagSet}
+use Rattle.plan_types.specs.declared.description.Component.{Component}
+use Rattle.plan_types.specs.declared.description.GuardedDep.{GuardedDep}
+use Rattle.conditionals.specs.declared.value.Tri.{Tri}
+use Rattle.conditionals.specs.declared.value.Tri.TheVariants.{Yes, No, Unknown}
+use Rattle.conditionals.specs.Layers.{value-And}
+use Rattle.conditionals.specs.Paths.{is_wanted}
+use Rattle.conditionals.specs.Value.{and_then, flag_in, value}
+use Rattle.flatten.specs.WholeCondition.{whole_condition}
+use Rattle.common_laws.specs.Lists.{filter-nothing}
+use Rattle.plan_components.specs.declared.node.Node.{Node}
+use Rattle.plan_components.specs.Chosen.{Selection, holds}
+use Rattle.plan_components.specs.Needs.{component_needs, counts, dep_needs}
+
+both-yes : (a b : Tri) → is_wanted true (and_then a b) ≡ (is_wanted true a && is_wanted true b)
+both-yes Yes b = refl
+both-yes No b = refl
+both-yes Unknown b = refl
+
+whole-holds : (env : Env) (flags : List FlagSet) (component : Component) (guarded : GuardedDep)
+    → holds env flags (whole_condition component guarded) ≡ (holds env flags component.buildable && holds env flags guarded.when)
+whole-holds env flags component guarded =
+    ap (is_wanted true) (value-And env (flag_in flags) component.buildable guarded.when)
+    ∙ both-yes (value env (flag_in flags) component.buildable) (value env (flag_in flags) guarded.when)
+
+and-no : (a b : Bool) → b ≡ false → (a && b) ≡ false
+and-no true b h = h
+and-no false b h = refl
+
+module _ (selection : Selection) (flags : List FlagSet) (own : Bool) (component : Component) where
+  -- where the component is buildable, the branches decide
+  pub by_branches : (guarded : GuardedDep) → holds selection.env flags component.buildable ≡ true
+      → counts selection flags own component guarded ≡ ((own || not guarded.dep.internal) && holds selection.env flags guarded.when)
+  by_branches guarded h =
+      ap (λ b. (own || not guarded.dep.internal) && b) (whole-holds selection.env flags component guarded ∙ ap (λ b. b && holds selection.env flags guarded.when) h)
+
+  -- and where it isn't, nothing counts
+  none-counts : (guarded : GuardedDep) → holds selection.env flags component.buildable ≡ false → counts selection flags own component guarded ≡ false
+  none-counts guarded h =
+      and-no (own || not guarded.dep.internal) _ (whole-holds selection.env flags component guarded ∙ ap (λ b. b && holds selection.env flags guarded.when) h)
+
+  pub no_needs : (node : Node) → holds selection.env flags component.buildable ≡ false → component_needs selection node flags own component ≡ []
+  no_needs node h =
+      ap (flat_map (λ (g : GuardedDep). dep_needs selection node g.dep))
+      (filter-nothing (counts selection flags own component) component.deps (λ g inside. none-counts g h))

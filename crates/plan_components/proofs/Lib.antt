@@ -1,0 +1,7 @@
+pub mod Apart
+pub mod Conditions
+pub mod Nodes
+pub mod Putting
+pub mod Turns
+pub mod Values
+pub mod Walk

@@ -1,0 +1,310 @@
+// What a node needs.
+ghost use Rattle.std.specs.Prelude.{◌≡◌, ◌++◌, ◌&&◌, ◌||◌, IfOk, OnOk, flat_map, filter, map, not, slice_get, true};
+ghost use Rattle.std.specs.List.{list_any};
+ghost use Rattle.std.specs.Option.{option_copied};
+ghost use Rattle.flatten.specs.OwnComponents.{is_exe, is_lib};
+ghost use Rattle.cabal_problem.specs.ListedDemands.{qual_for};
+ghost use Rattle.cabal_problem.specs.Values.{package_var};
+ghost use Rattle.plan_components.specs.Apart.{are_apart};
+ghost use Rattle.plan_components.specs.Chosen.{body_at, chosen_flags, selection_of, holds};
+ghost use Rattle.plan_components.specs.Needs.{asked_pieces, asks, component_needs, counts, dep_needs, need_of, needs_by, needs_of, needs_under, one_needs, piece_needs, qual_of_dep, source_needs, unit_need, wanted_needs};
+ghost use Rattle.plan_components.specs.Wanted.{places};
+
+use crate::chosen::Chosen;
+use crate::components::{is_executable, is_lib};
+use crate::node::{Need, Node, Piece};
+use crate::owner::Owner;
+use crate::pieces::{as_pieces, node_of, only_whole};
+use plan_types::{Body, Component, Dep, DepKind, Description, GuardedDep, List, NoMemory, Text};
+use qualified_goals::Qual;
+use std::alloc::Global;
+
+/// What a node needs, in the order of its dependencies.
+pub(crate) fn needs_of(
+    alloc: Global,
+    chosen: &Chosen<'_>,
+    node: Node,
+) -> Result<List<Need>, NoMemory>
+    ensures { IfOk result (λ needs. needs ≡ needs_of (selection_of chosen.now) node) }
+{
+    match chosen.body(node.qual, node.package) {
+        None => Ok(List::new(alloc)),
+        Some(Body::Installed { needs, .. }) => unit_needs(alloc, chosen, node, needs.as_slice()),
+        Some(Body::Source { description, .. }) => source_needs(alloc, chosen, node, description),
+    }
+}
+
+// The units that an installed unit needs, by the names of their packages.
+fn unit_needs(
+    alloc: Global,
+    chosen: &Chosen<'_>,
+    node: Node,
+    names: &[Text],
+) -> Result<List<Need>, NoMemory>
+    ensures { IfOk result (λ needs. needs ≡ map (unit_need (selection_of chosen.now) node) names.now) }
+{
+    let mut needs = List::new(alloc);
+    for name in names {
+        needs.push(unit_need(chosen, node, name))?;
+    }
+    Ok(needs)
+}
+
+fn unit_need(chosen: &Chosen<'_>, node: Node, name: &Text) -> Need
+    ensures { result ≡ unit_need (selection_of chosen.now) node name.now }
+{
+    need_of(
+        DepKind::Library,
+        node.qual,
+        chosen.number(name),
+        Piece::Whole,
+    )
+}
+
+fn need_of(kind: DepKind, qual: Qual, package: u64, piece: Piece) -> Need
+    ensures { result ≡ need_of kind qual «package» piece }
+{
+    Need {
+        kind,
+        node: node_of(qual, package, piece),
+    }
+}
+
+fn source_needs(
+    alloc: Global,
+    chosen: &Chosen<'_>,
+    node: Node,
+    d: &Description,
+) -> Result<List<Need>, NoMemory>
+    requires { are_apart (map (λ decl. decl.name) d.now.flags) ≡ true }
+    ensures { IfOk result (λ needs. needs ≡ source_needs (selection_of chosen.now) node d.now) }
+{
+    let mut needs = List::new(alloc);
+    let flags = chosen.flags(alloc, node.qual, node.package, d)?;
+    let owner = Owner {
+        node,
+        flags: &flags,
+    };
+    push_piece(alloc, &mut needs, chosen, &owner, d)?;
+    Ok(needs)
+}
+
+fn push_piece(
+    alloc: Global,
+    needs: &mut List<Need>,
+    chosen: &Chosen<'_>,
+    owner: &Owner<'_>,
+    d: &Description,
+) -> Result<(), NoMemory>
+    ensures { OnOk result (needs.new ≡ needs.old
+        ++ piece_needs (selection_of chosen.now) owner.now.node owner.now.flags.now d.now owner.now.node.piece) }
+{
+    match owner.node.piece {
+        Piece::Whole => {
+            push_wanted(alloc, needs, chosen, owner, d.components.as_slice())?;
+            push_setup(alloc, needs, chosen, owner.node, d.setup.as_slice())
+        }
+        Piece::One(place) => {
+            let component = d.components.as_slice().get(place as usize);
+            push_one(alloc, needs, chosen, owner, component)
+        }
+    }
+}
+
+fn push_one(
+    alloc: Global,
+    needs: &mut List<Need>,
+    chosen: &Chosen<'_>,
+    owner: &Owner<'_>,
+    component: Option<&Component>,
+) -> Result<(), NoMemory>
+    ensures { OnOk result (needs.new ≡ needs.old
+        ++ one_needs (selection_of chosen.now) owner.now.node owner.now.flags.now (option_copied component.entry)) }
+{
+    match component {
+        Some(component) => push_component(alloc, needs, chosen, owner, true, component),
+        None => Ok(()),
+    }
+}
+
+// Those of the wanted components of a package that is built as a whole.
+fn push_wanted(
+    alloc: Global,
+    needs: &mut List<Need>,
+    chosen: &Chosen<'_>,
+    owner: &Owner<'_>,
+    components: &[Component],
+) -> Result<(), NoMemory>
+    ensures { OnOk result (needs.new ≡ needs.old
+        ++ wanted_needs (selection_of chosen.now) owner.now.node owner.now.flags.now components.now) }
+{
+    for component in components {
+        if owner.wants(chosen, component) {
+            push_component(alloc, needs, chosen, owner, false, component)?;
+        }
+    }
+    Ok(())
+}
+
+fn push_setup(
+    alloc: Global,
+    needs: &mut List<Need>,
+    chosen: &Chosen<'_>,
+    node: Node,
+    deps: &[Dep],
+) -> Result<(), NoMemory>
+    ensures { OnOk result (needs.new ≡ needs.old ++ flat_map (dep_needs (selection_of chosen.now) node) deps.now) }
+{
+    for dep in deps {
+        push_dep(alloc, needs, chosen, node, dep)?;
+    }
+    Ok(())
+}
+
+// Nothing counts of a component that isn't buildable.
+fn push_component(
+    alloc: Global,
+    needs: &mut List<Need>,
+    chosen: &Chosen<'_>,
+    owner: &Owner<'_>,
+    own: bool,
+    component: &Component,
+) -> Result<(), NoMemory>
+    ensures { OnOk result (needs.new ≡ needs.old
+        ++ component_needs (selection_of chosen.now) owner.now.node owner.now.flags.now own component.now) }
+{
+    if chosen.holds(owner.flags, component.buildable.get()) {
+        push_deps(alloc, needs, chosen, owner, own, component)?;
+    }
+    Ok(())
+}
+
+fn push_deps(
+    alloc: Global,
+    needs: &mut List<Need>,
+    chosen: &Chosen<'_>,
+    owner: &Owner<'_>,
+    own: bool,
+    component: &Component,
+) -> Result<(), NoMemory>
+    requires { holds chosen.now.env.now owner.now.flags.now component.now.buildable ≡ true }
+    ensures { OnOk result (needs.new ≡ needs.old
+        ++ component_needs (selection_of chosen.now) owner.now.node owner.now.flags.now own component.now) }
+{
+    for guarded in component.deps.as_slice() {
+        if counts(chosen, owner, own, component, guarded) {
+            push_dep(alloc, needs, chosen, owner.node, &guarded.dep)?;
+        }
+    }
+    Ok(())
+}
+
+// The component is buildable, so that its branches alone decide.
+fn counts(
+    chosen: &Chosen<'_>,
+    owner: &Owner<'_>,
+    own: bool,
+    component: &Component,
+    guarded: &GuardedDep,
+) -> bool
+    requires { holds chosen.now.env.now owner.now.flags.now component.now.buildable ≡ true }
+    ensures { result ≡ counts (selection_of chosen.now) owner.now.flags.now own component.now guarded.now }
+{
+    (own || !guarded.dep.internal) && chosen.holds(owner.flags, guarded.when.get())
+}
+
+fn push_dep(
+    alloc: Global,
+    needs: &mut List<Need>,
+    chosen: &Chosen<'_>,
+    node: Node,
+    dep: &Dep,
+) -> Result<(), NoMemory>
+    ensures { OnOk result (needs.new ≡ needs.old ++ dep_needs (selection_of chosen.now) node dep.now) }
+{
+    let package = chosen.number(&dep.package);
+    let qual = qual_of_dep(node, dep, package);
+    let pieces = asked_pieces(alloc, dep, chosen.body(qual, package))?;
+    push_pieces(needs, dep.kind, qual, package, pieces.as_slice())
+}
+
+fn push_pieces(
+    needs: &mut List<Need>,
+    kind: DepKind,
+    qual: Qual,
+    package: u64,
+    pieces: &[Piece],
+) -> Result<(), NoMemory>
+    ensures { OnOk result (needs.new ≡ needs.old ++ map (need_of kind qual «package») pieces.now) }
+{
+    for piece in pieces {
+        needs.push(need_of(kind, qual, package, *piece))?;
+    }
+    Ok(())
+}
+
+fn qual_of_dep(node: Node, dep: &Dep, package: u64) -> Qual
+    ensures { result ≡ qual_of_dep node dep.now «package» }
+{
+    if dep.internal {
+        return node.qual;
+    }
+    qual_for(dep.kind, node, package)
+}
+
+fn qual_for(kind: DepKind, node: Node, package: u64) -> Qual
+    ensures { result ≡ qual_for kind (package_var node.qual node.«package») «package» }
+{
+    match kind {
+        DepKind::Library => node.qual,
+        DepKind::Tool => Qual::Exe(node.package, package),
+        DepKind::Setup => Qual::Setup(node.package),
+    }
+}
+
+fn asked_pieces(alloc: Global, dep: &Dep, body: Option<&Body>) -> Result<List<Piece>, NoMemory>
+    ensures { IfOk result (λ pieces. pieces ≡ asked_pieces dep.now (option_copied body.entry)) }
+{
+    match body {
+        None => Ok(List::new(alloc)),
+        Some(Body::Installed { .. }) => only_whole(alloc),
+        Some(Body::Source { description, .. }) => {
+            let places = asked_places(alloc, dep, description.components.as_slice())?;
+            as_pieces(alloc, description.custom, places.as_slice())
+        }
+    }
+}
+
+fn asked_places(alloc: Global, dep: &Dep, components: &[Component]) -> Result<List<u64>, NoMemory>
+    ensures { IfOk result (λ found. found ≡ places (asks dep.now.kind dep.now) components.now) }
+{
+    let mut found = List::new(alloc);
+    for place in 0..components.len() {
+        if asks(dep, &components[place]) {
+            found.push(place as u64)?;
+        }
+    }
+    Ok(found)
+}
+
+fn asks(dep: &Dep, component: &Component) -> bool
+    ensures { result ≡ asks dep.now.kind dep.now component.now }
+{
+    match dep.kind {
+        DepKind::Library => asks_for_library(dep, component),
+        DepKind::Tool => is_exe(component, &dep.exe),
+        DepKind::Setup => asks_for_library(dep, component),
+    }
+}
+
+fn asks_for_library(dep: &Dep, component: &Component) -> bool
+    ensures { result ≡ list_any (is_lib component.now) dep.now.libs }
+{
+    dep.libs.as_slice().iter().any(|lib| is_lib(component, lib))
+}
+
+fn is_exe(component: &Component, exe: &Text) -> bool
+    ensures { result ≡ is_exe component.now exe.now }
+{
+    is_executable(component.kind) && component.name == *exe
+}

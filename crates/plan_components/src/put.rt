@@ -1,0 +1,43 @@
+// Nodes in the order in which they are put, each once.
+ghost use Rattle.std.specs.Prelude.{◌≡◌, ◌≢◌, [], ◌∷◌, AllPairs, IfOk, OnOk, map};
+ghost use Rattle.plan_components.specs.Steps.{Puts};
+
+use crate::node::{Need, Node};
+use indexmap::IndexSet;
+use plan_types::{List, NoMemory};
+use std::alloc::Global;
+
+fn put(nodes: &mut IndexSet<Node>, node: &Node) -> Result<(), NoMemory>
+    ensures { OnOk result (Puts (node.now ∷ []) nodes.old.keys nodes.new.keys) }
+{
+    nodes.insert(*node)?;
+    Ok(())
+}
+
+/// Puts these nodes behind others, unless they are among them.
+pub(crate) fn put_all(nodes: &mut IndexSet<Node>, others: &[Node]) -> Result<(), NoMemory>
+    ensures { OnOk result (Puts others.now nodes.old.keys nodes.new.keys) }
+{
+    for other in others {
+        put(nodes, other)?;
+    }
+    Ok(())
+}
+
+/// Puts the nodes that are needed.
+pub(crate) fn put_needed(nodes: &mut IndexSet<Node>, needs: &[Need]) -> Result<(), NoMemory>
+    ensures { OnOk result (Puts (map (λ need. need.node) needs.now) nodes.old.keys nodes.new.keys) }
+{
+    for need in needs {
+        put(nodes, &need.node)?;
+    }
+    Ok(())
+}
+
+/// The nodes as a list.
+pub(crate) fn listed(alloc: Global, nodes: &IndexSet<Node>) -> Result<List<Node>, NoMemory>
+    ensures nodes { IfOk result (λ list. list ≡ nodes.now.keys) }
+    ensures once { IfOk result (AllPairs (λ a b. a ≢ b)) }
+{
+    Ok(List::from_vec(Vec::from_slice(alloc, nodes.as_slice())?))
+}

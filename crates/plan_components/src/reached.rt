@@ -1,0 +1,63 @@
+// The nodes of a plan are looked at one after the other, each once; behind them stand those that they need.
+ghost use Rattle.std.specs.Prelude.{◌≡◌, ◌<◌, [], IfOk, OnOk, length};
+ghost use Rattle.plan_components.specs.Chosen.{selection_of};
+ghost use Rattle.plan_components.specs.Needs.{needed_nodes, needs_of};
+ghost use Rattle.plan_components.specs.Plan.{AreReached};
+ghost use Rattle.plan_components.specs.Steps.{Puts, node_at};
+ghost use Rattle.plan_components.specs.Wanted.{first_nodes};
+
+use crate::chosen::Chosen;
+use crate::needs::needs_of;
+use crate::node::{Need, Node};
+use crate::put::{listed, put_all, put_needed};
+use crate::wanted::first_nodes;
+use indexmap::IndexSet;
+use plan_types::{List, NoMemory};
+use std::alloc::Global;
+
+/// The nodes of a plan, and beside each what it needs.
+#[derive(Debug, Drop)]
+pub struct Reached {
+    pub nodes: List<Node>,
+    pub needs: List<List<Need>>,
+}
+
+/// The nodes of a plan: those with which it begins, and all that are needed.
+pub fn reach(alloc: Global, chosen: &Chosen<'_>) -> Result<Reached, NoMemory>
+    ensures { IfOk result (AreReached (selection_of chosen.now)) }
+{
+    let mut nodes = first_set(alloc, chosen)?;
+    let mut needs = List::new(alloc);
+    while needs.len() < nodes.len() {
+        let needed = visit(alloc, chosen, &mut nodes, needs.len())?;
+        needs.push(needed)?;
+    }
+    let nodes = listed(alloc, &nodes)?;
+    Ok(Reached { nodes, needs })
+}
+
+fn first_set(alloc: Global, chosen: &Chosen<'_>) -> Result<IndexSet<Node>, NoMemory>
+    ensures { IfOk result (λ nodes. Puts (first_nodes (selection_of chosen.now)) [] nodes.keys) }
+{
+    let mut nodes = IndexSet::new(alloc);
+    let first = first_nodes(alloc, chosen)?;
+    put_all(&mut nodes, first.as_slice())?;
+    Ok(nodes)
+}
+
+// What the node at a place needs, which is put behind the others.
+fn visit(
+    alloc: Global,
+    chosen: &Chosen<'_>,
+    nodes: &mut IndexSet<Node>,
+    place: usize,
+) -> Result<List<Need>, NoMemory>
+    requires { place < length nodes.old.keys }
+    ensures needs { IfOk result (λ needs. needs ≡ needs_of (selection_of chosen.now) (node_at nodes.old.keys place)) }
+    ensures put { OnOk result (Puts (needed_nodes (selection_of chosen.now) (node_at nodes.old.keys place)) nodes.old.keys nodes.new.keys) }
+{
+    let node = nodes[place];
+    let needs = needs_of(alloc, chosen, node)?;
+    put_needed(nodes, needs.as_slice())?;
+    Ok(needs)
+}
