@@ -17,10 +17,12 @@ use Rattle.index_files.specs.Units.{AreUnits, IsFormed, RecordComes, is_formed, 
 use Rattle.index_files.specs.declared.file.File.{File}
 use Rattle.index_files.specs.declared.local.Local.{Local}
 use Rattle.index_files.specs.declared.unit.Unit.{Unit}
-use Rattle.index_files.proofs.Lists.{all_more, map_append}
-use Rattle.index_files.proofs.Put.{distinct-last}
+use Rattle.common_laws.specs.Each.{each-append}
 use Rattle.plan_types.specs.Bytes.{same_text}
+use Rattle.std.specs.Cmp.Lexicographic.{nat_list_eq_equiv}
 use Rattle.std.proofs.lemmas.Bool.{and_parts}
+use Rattle.std.proofs.lemmas.List.{map-append}
+use Rattle.std.proofs.lemmas.Map.Keys.{IsDistinct-push}
 
 ok-or : {A : Type 0} → A → Result A Refusal → A
 ok-or a (Ok x) = x
@@ -34,7 +36,7 @@ not-err : {A : Type 0} (a : A) (r : Refusal) (s : Result A Refusal) → s ≡ Ok
 not-err a r s p q = let h = sym p ∙ q in cc h
 
 distinct-keys : {X : Type 0} (key : X → Bytes) (xs : List X) (x : X) → IsDistinct same_text (map key xs) → position (same_text (key x)) (map key xs) ≡ None → IsDistinct same_text (map key (xs ++ x ∷ []))
-distinct-keys key xs x h none = subst (IsDistinct same_text) (sym (map_append key xs (x ∷ []))) (distinct-last (map key xs) (key x) h (position-none (same_text (key x)) (map key xs) none))
+distinct-keys key xs x h none = subst (IsDistinct same_text) (sym (map-append key xs (x ∷ []))) (IsDistinct-push nat_list_eq_equiv (map key xs) (key x) h (position-none (same_text (key x)) (map key xs) none))
 
 -- ---- local packages
 
@@ -42,7 +44,7 @@ module _ (env : Env) where
   with-one : (taken : List Local) (local : Local) → AreFromFiles env taken → IsFromFile env local → (place : Option ℕ) → position (same_text (local_name local)) (local_names taken) ≡ place
       → (Rest : List Local → Type 0) (ls : List Local) → ((next : List Local) → AreFromFiles env next → Rest next → AreFromFiles env ls) → GoesOn {T = List Local} (unless_there place taken local) Rest (Ok ls) → AreFromFiles env ls
   with-one taken local a f None e Rest ls go h = go (taken ++ local ∷ [])
-      (record { once = distinct-keys local_name taken local a.once e; read = all_more (IsFromFile env) taken local a.read f }) h
+      (record { once = distinct-keys local_name taken local a.once e; read = each-append (IsFromFile env) taken (local ∷ []) a.read (f, tt) }) h
   with-one taken local a f (Some place) e Rest ls go h = absurd (not-err ls _ _ refl h)
 
   with-read : (taken : List Local) (file : File) (o : Result Source At) → AreFromFiles env taken → FileComes env file o

@@ -52,20 +52,6 @@ module _ (env : Env) (files : Files) (read : List ProjectText) (missed : Bool) w
         refl,
       )
 
--- what another answers with the halt of what asked no folder doesn't fail
-halt-in : {A : Type 0} → Result A Halt → Halt
-halt-in (Ok a) = halt.NoMemory
-halt-in (Err h) = h
-
-never-halted : {A : Type 0} (Is : Result A Refusal → Type 0) (h : Halt) → Settles Is (Err h) → h ≡ halt.Failed → ⊥
-never-halted Is halt.NoMemory s e = cc e
-never-halted Is halt.Failed s e = s
-never-halted Is (halt.Refused r) s e = cc e
-
-pub never-passed : {A B : Type 0} (Is : Result A Refusal → Type 0) (h : Halt) (r : Result B Halt) → Settles Is (Err h) → r ≡ Err h → r ≡ Err halt.Failed → ⊥
-unfolding halt-in
-never-passed Is h r s e k = never-halted Is h s (sym (ap halt-in e) ∙ ap halt-in k)
-
 -- ---- and the entries
 
 module _ (env : Env) (files : Files) where

@@ -1,6 +1,6 @@
 -- What was read of the project files so far.
 use Rattle.std.proofs.Common.{◌≡◌, Bool, true, false, ◌||◌, List, [], ◌∷◌, ◌++◌, codes, refl, sym, ap, ◌∙◌, append_assoc}
-use Rattle.common_laws.specs.Small.{or-assoc}
+use Rattle.std.proofs.Math.Bool.{or-false, or_assoc}
 use Rattle.outside_folder.specs.Calls.{content_at}
 use Rattle.outside_folder.specs.Files.{Bytes, Files}
 use Rattle.outside_folder.specs.declared.calls.Content.{Content}
@@ -43,12 +43,8 @@ none_read files paths read missed path rest is goes = record {
   large = goes.large ∙ ap (λ c. large_or path c (first_too_large files rest)) (sym is);
   missed_is =
       goes.missed_is ∙ ap (λ c. missed || missed_or path c (is_missed files rest)) (sym is)
-      ∙ sym (or-assoc missed (is_main path) (is_missed files rest));
+      ∙ sym (or_assoc missed (is_main path) (is_missed files rest));
 }
-
-or-none : (b : Bool) → (b || false) ≡ b
-or-none true = refl
-or-none false = refl
 
 -- nothing is missed but the main file
 main_alone : (main freeze local : Content) → missed_or (codes "cabal.project") main (missed_or (codes "cabal.project.freeze") freeze (missed_or (codes "cabal.project.local") local false)) ≡ is_missing main
@@ -65,5 +61,5 @@ main_alone (Holds bytes) (Holds other) (Holds more) = refl
 -- behind all files it is known whether there is a main one
 pub implicit_at_end : (files : Files) (read : List ProjectText) (missed : Bool) → GoesOn files project_files read missed [] → missed ≡ is_implicit files
 implicit_at_end files read missed goes =
-    sym (or-none missed) ∙ sym goes.missed_is
+    sym (or-false missed) ∙ sym goes.missed_is
     ∙ main_alone (content_at files (codes "cabal.project")) (content_at files (codes "cabal.project.freeze")) (content_at files (codes "cabal.project.local"))

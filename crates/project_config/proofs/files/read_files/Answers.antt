@@ -6,13 +6,15 @@ use Rattle.outside_folder.specs.Calls.{IsWithin as IsReadable, content_at}
 use Rattle.outside_folder.specs.declared.calls.Content.{Content}
 use Rattle.outside_folder.specs.declared.calls.Content.TheVariants.{Bytes as Holds, TooLarge}
 use Rattle.plan_types.specs.declared.refusal.Halt.{Halt}
-use Rattle.plan_types.specs.Refusal.{Answers}
+use Rattle.plan_types.specs.declared.refusal.Halt.TheVariants.{Failed}
+use Rattle.plan_types.specs.declared.project.Project.{Project}
+use Rattle.plan_types.specs.Refusal.{Answers, Settles}
 use Rattle.project_file.specs.Read.{IsProject}
 use Rattle.project_file.specs.declared.read.ProjectText.{ProjectText}
 use Rattle.project_file.proofs.Extra.{project-named}
 use Rattle.project_config.specs.Project.{AreSaid, project_files}
 use Rattle.project_config.specs.declared.files.FilesProject.{FilesProject}
-use Rattle.project_config.proofs.Locating.{all_said, large_said, never-passed, refused_said}
+use Rattle.project_config.proofs.Locating.{all_said, large_said, refused_said}
 use Rattle.project_config.proofs.Reading.{GoesOn, implicit_at_end, more_read}
 use Rattle.common_laws.specs.Small.{if_some, some_at}
 use Rattle.project_config.proofs.files.read_files.Goals as goal
@@ -65,7 +67,9 @@ returns-in_err-project-in-Bytes-clause-folder g c =
     let text : ProjectText = record { path = c.in-Some.path; bytes = c.in-Bytes.bytes } in
     let halts = c.in_err-project-in-Bytes.ensures taken.0 taken.1 in
     onward _ _ _ _ _
-    (λ e. absurd (never-passed (IsProject c.args.env.now (taken.0 ++ text ∷ [])) c.in_err-project-in-Bytes.field-0.0 c.from_residual-in_err-project-in-Bytes.result halts passed e))
+    (λ e.
+        let failed : c.in_err-project-in-Bytes.field-0.0 ≡ Failed = cc (passed, e) in
+        absurd (subst (λ (h : Halt). Settles {A = Project} (IsProject c.args.env.now (taken.0 ++ text ∷ [])) (Err h)) failed halts))
     c.loop-path.invariant.folder c.in_ok-content.ensures.folder
 
 pub returns-clause-told : goal.returns-clause-told
