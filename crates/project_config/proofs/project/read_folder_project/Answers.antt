@@ -25,3 +25,6 @@ pub returns-clause-told : goal.returns-clause-told
 returns-clause-told g c = if_some _ _ (λ files t.
     located_in c.args.env.now files c.in_ok-found.found (some_at _ _ files t c.in_ok-found.ensures.told) c.in_ok-locals.locals
     (some_at _ _ files (c.in_ok-found.ensures.folder.same_files ∙ t) c.in_ok-locals.ensures.told))
+
+pub returns-clause-freeze : goal.returns-clause-freeze
+returns-clause-freeze g c = if_some _ _ (λ files t. (some_at _ _ files t c.in_ok-found.ensures.told).2)
