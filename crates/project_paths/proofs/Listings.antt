@@ -3,11 +3,12 @@ use Rattle.std.proofs.Common.{◌≡◌, Bool, true, false, List, [], Option, So
 use Rattle.std.specs.Prelude.{IfSome, is_some, unwrap_or}
 use Rattle.std.specs.Cmp.Lexicographic.{nat_list_eq_equiv}
 use Rattle.std.proofs.lemmas.Bool.{false≢true}
-use Rattle.common_laws.specs.Small.{same-is}
+use Rattle.std.specs.Map.{lookup}
+use Rattle.common_laws.specs.Small.{if_some, same-is}
 use Rattle.plan_types.specs.Bytes.{same_text}
 use Rattle.outside_folder.specs.Files.{Bytes, Files}
 use Rattle.outside_folder.specs.declared.folder.Name.{Name}
-use Rattle.project_paths.specs.Listings.{AreListed, Puts, kept, listed, names_in}
+use Rattle.project_paths.specs.Listings.{Agree, AreListed, Puts, kept, listed, names_in}
 use Rattle.project_paths.specs.declared.listings.Listings.{Listings}
 
 -- what was listed before
@@ -17,6 +18,12 @@ kept-before files listings dir are there = by (listed listings dir) (are dir) th
     by : (found : Option (List Name)) → IfSome found (λ names. names ≡ names_in files dir) → is_some found ≡ true → unwrap_or found [] ≡ names_in files dir
     by None h t = absurd (false≢true t)
     by (Some names) h t = h
+
+-- before any listing
+pub none-listed : (listings : Listings) → listings.by_dir.entries ≡ [] → (tells : Option Files) → Agree tells listings
+none-listed listings empty tells = if_some _ _ (λ files t dir.
+    let none : listed listings dir ≡ None = ap (lookup (same_text dir)) empty in
+    subst (λ o. IfSome o (λ names. names ≡ names_in files dir)) (sym none) tt)
 
 module _ (files : Files) (old new : Listings) (dir : Bytes) (names : List Name) (is : names ≡ names_in files dir) (puts : Puts old new dir names) where
   -- what is listed now
