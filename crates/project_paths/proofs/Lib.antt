@@ -1,4 +1,4 @@
-pub mod Listings
+pub mod Kept
 pub mod Rows
 pub mod Texts
 pub mod Answered

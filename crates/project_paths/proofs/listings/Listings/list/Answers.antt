@@ -1,6 +1,7 @@
-use Rattle.std.proofs.Common.{sym, ◌∙◌}
+use Rattle.std.proofs.Common.{◌≡◌, Some, sym, ◌∙◌}
 use Rattle.common_laws.specs.Small.{if_some, some_at}
-use Rattle.project_paths.proofs.Listings.{kept-before, kept-now, listed-now}
+use Rattle.project_paths.specs.Listings.{AreListed}
+use Rattle.project_paths.proofs.Kept.{kept-before, kept-now, listed-now}
 use Rattle.project_paths.proofs.listings.Listings.list.Goals as goal
 
 pub returns-then-contains_key-clause-told : goal.returns-then-contains_key-clause-told
@@ -13,6 +14,6 @@ returns-clause-told g c = if_some _ _ (λ files t.
 
 pub returns-clause-agree : goal.returns-clause-agree
 returns-clause-agree g c = if_some _ _ (λ files t.
-    let before = sym c.in_ok-names.ensures.folder.same_files ∙ t in
-    listed-now files c.args.self.now c.put.new.self c.args.dir.now c.in_ok-names.names (some_at _ _ files before c.in_ok-names.ensures.told) c.in_ok-put.ensures
-    (some_at _ _ files before c.requires))
+    let before : g.F.Folder.tells c.args.folder.now ≡ Some files = sym c.in_ok-names.ensures.folder.same_files ∙ t in
+    let are = some_at (λ files. AreListed files c.args.self.now) (g.F.Folder.tells c.args.folder.now) files before c.requires in
+    listed-now files c.args.self.now c.put.new.self c.args.dir.now c.in_ok-names.names (some_at _ _ files before c.in_ok-names.ensures.told) c.in_ok-put.ensures are)

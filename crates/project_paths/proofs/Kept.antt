@@ -21,7 +21,7 @@ kept-before files listings dir are there = by (listed listings dir) (are dir) th
 
 -- before any listing
 pub none-listed : (listings : Listings) → listings.by_dir.entries ≡ [] → (tells : Option Files) → Agree tells listings
-none-listed listings empty tells = if_some _ _ (λ files t dir.
+none-listed listings empty tells = if_some (λ files. AreListed files listings) tells (λ files t dir.
     let none : listed listings dir ≡ None = ap (lookup (same_text dir)) empty in
     subst (λ o. IfSome o (λ names. names ≡ names_in files dir)) (sym none) tt)
 
