@@ -1,5 +1,5 @@
 -- Whether a flag stands in the parts of a condition.
-use Rattle.std.proofs.Common.{◌≡◌, Bool, true, false, ◌||◌, List, ℕ, sym, ap, ◌∙◌, refl}
+use Rattle.std.proofs.Common.{◌≡◌, Bool, true, false, ◌||◌, List, ℕ, sym, ap, ◌∙◌}
 use Rattle.std.proofs.Math.Bool.{or-false, or-true}
 use Rattle.plan_types.specs.declared.condition.Cond.{Cond}
 use Rattle.plan_types.specs.declared.condition.Cond.TheOpen as layer

@@ -1,7 +1,7 @@
-use Rattle.std.proofs.Common.{◌≡◌, [], ◌∷◌, ◌++◌, Option, Ok, Err, ap, subst, sym, ◌∙◌}
+use Rattle.std.proofs.Common.{◌≡◌, false, [], ◌∷◌, ◌++◌, Option, None, Ok, Err, refl, ap, subst, sym, ◌∙◌}
 use Rattle.std.proofs.lemmas.List.{nil_from_length}
 use Rattle.std.proofs.lemmas.Result.{err_from_is_err_and}
-use Rattle.outside_folder.proofs.Leaving.{onward}
+use Rattle.outside_folder.proofs.Leaving.{onward, still}
 use Rattle.outside_folder.specs.Calls.{IsWithin as IsReadable, content_at}
 use Rattle.outside_folder.specs.Files.{Bytes}
 use Rattle.outside_folder.specs.declared.calls.Content.{Content}
@@ -23,6 +23,18 @@ use Rattle.project_config.proofs.files.read_files.Goals as goal
 pub with_project_file-requires : goal.with_project_file-requires
 with_project_file-requires g c = subst (λ (content : Content). IsReadable content) c.in-Bytes.is c.in_ok-content.ensures.within
 
+pub loop-path-init : goal.loop-path-init
+loop-path-init g c = record {
+  taken = (
+    [],
+    c.empty_project-project.ensures c.args.env.now,
+    λ files t.
+        let all : c.into_iter-path-iterator.result.rest.items ≡ project_files = c.into_iter-path-iterator.ensures.into_iter_gives.0 ∙ c.into_vec-path-items.ensures ∙ c.in_ok-paths.ensures in
+        subst (GoesOn files project_files [] false None) (sym all) (record { texts = refl; large = refl; missed_is = refl; kept_is = refl }),
+  );
+  folder = still _ _ _ (λ never. never);
+}
+
 pub loop-path-preserved : goal.loop-path-preserved
 loop-path-preserved g c =
     let taken = c.loop-path.invariant.taken in record {
@@ -34,7 +46,7 @@ loop-path-preserved g c =
             let is : Holds c.in-Bytes.bytes ≡ content_at files c.in-Some.path = sym c.in-Bytes.is ∙ found ∙ ap (content_at files) c.as_str.ensures in
             let goes = subst (GoesOn files project_files taken.0 c.loop-path.implicit c.loop-path.freeze) c.in-Some.ensures.steps.0 (taken.2 files t) in
             let text : ProjectText = record { path = c.in-Some.path; bytes = c.in-Bytes.bytes } in
-            subst (λ (freeze : Option Bytes). GoesOn files project_files (taken.0 ++ text ∷ []) c.loop-path.implicit freeze c.next.new.self.rest.items) (sym c.kept.ensures)
+            subst (λ (freeze : Option Bytes). GoesOn files project_files (taken.0 ++ text ∷ []) c.loop-path.implicit freeze c.next.new.self.rest.items) (sym c.kept-freeze.ensures)
             (more_read files project_files taken.0 c.loop-path.implicit c.loop-path.freeze c.in-Some.path c.next.new.self.rest.items goes c.in-Bytes.bytes is),
       );
       folder = onward _ _ _ _ _ (λ e. absurd e) c.loop-path.invariant.folder c.in_ok-content.ensures.folder;
@@ -71,16 +83,15 @@ returns-in_err-project-in-Bytes-clause-folder g c =
     let halts = c.in_err-project-in-Bytes.ensures taken.0 taken.1 in
     onward _ _ _ _ _
     (λ e.
-        let failed : c.in_err-project-in-Bytes.field-0.0 ≡ Failed = cc (passed, e) in
-        absurd (subst (λ (h : Halt). Settles {A = Project} (IsProject c.args.env.now (taken.0 ++ text ∷ [])) (Err h)) failed halts))
+    let failed : c.in_err-project-in-Bytes.field-0.0 ≡ Failed = cc (passed, e) in
+    absurd (subst (λ (h : Halt). Settles {A = Project} (IsProject c.args.env.now (taken.0 ++ text ∷ [])) (Err h)) failed halts))
     c.loop-path.invariant.folder c.in_ok-content.ensures.folder
 
 pub returns-clause-told : goal.returns-clause-told
 returns-clause-told g c = if_some _ _ (λ files t.
     let taken = c.loop-path.invariant.taken in
     let none : c.loop-path.path-iterator.rest.items ≡ [] = nil_from_length _ (sym c.loop-path.path-iterator.rest.ok.0 ∙ c.in-None.ensures.steps.0) in
-    let goes = subst (GoesOn files project_files taken.0 c.loop-path.implicit c.loop-path.freeze) none (taken.2 files t) in
-    (
+    let goes = subst (GoesOn files project_files taken.0 c.loop-path.implicit c.loop-path.freeze) none (taken.2 files t) in (
       all_said c.args.env.now files taken.0 c.loop-path.implicit c.loop-path.freeze c.loop-path.project goes taken.1,
       implicit_at_end files taken.0 c.loop-path.implicit c.loop-path.freeze goes,
       kept_at_end files taken.0 c.loop-path.implicit c.loop-path.freeze goes,
