@@ -15,7 +15,7 @@ use Rattle.index_files.specs.InTurn.{GoesOn, InTurn}
 use Rattle.index_files.specs.Locals.{AreLocals, FileComes, local_name, local_names, local_path, with_file}
 use Rattle.index_files.specs.OnceEach.{unless_there}
 use Rattle.index_files.specs.Readings.{AreFromFiles, IsFromFile}
-use Rattle.index_files.specs.Units.{AreUnits, IsFormed, RecordComes, is_formed, place_of, unit_id, unit_ids, unit_name, unit_path, with_found, with_record, with_unit}
+use Rattle.index_files.specs.Units.{AreUnits, IsFormed, RecordComes, is_formed, place_of, unit_id, unit_ids, unit_path, with_record}
 use Rattle.index_files.specs.declared.file.File.{File}
 use Rattle.index_files.specs.declared.local.Local.{Local}
 use Rattle.index_files.specs.declared.unit.Unit.{Unit}

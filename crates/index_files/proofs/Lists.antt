@@ -1,5 +1,5 @@
 -- Lists that are gone through, and what is known where a folder tells its files.
-use Rattle.std.proofs.Common.{◌≡◌, ℕ, ◌+◌, ◌<◌, List, [], ◌∷◌, ◌++◌, length, map, take, drop, get_or, refl, sym, ◌∙◌, ap}
+use Rattle.std.proofs.Common.{◌≡◌, ℕ, ◌+◌, ◌<◌, List, [], ◌∷◌, ◌++◌, length, map, take, drop, get_or, sym, ◌∙◌, ap}
 use Rattle.std.proofs.lemmas.List.{map-append, take_more, take-append-drop}
 
 -- one more place
