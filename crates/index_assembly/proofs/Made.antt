@@ -1,5 +1,5 @@
 -- The index of what was gathered.
-use Rattle.std.proofs.Common.{◌≡◌, Bool, List, ◌++◌, map, sym, ◌∙◌, ap}
+use Rattle.std.proofs.Common.{◌≡◌, Bool, List, ◌++◌, map, ◌∙◌, ap}
 use Rattle.std.specs.Prelude.{flat_map}
 use Rattle.plan_types.specs.declared.dependency.Named.{Named}
 use Rattle.plan_types.specs.declared.index.Entry.{Entry}

@@ -2,7 +2,6 @@
 use Rattle.std.specs.Prelude.{◌≡◌, ◌↔◌, ℕ, Bool, true, false, List, [], ◌∷◌, length, map, flat_map, Option, Some, None}
 use Rattle.std.specs.List.{list_any}
 use Rattle.broken_units.specs.Leads.{IsMarked, Leads}
-use Rattle.outside_folder.specs.Files.{Bytes}
 use Rattle.index_files.specs.Units.{place_of}
 use Rattle.index_files.specs.declared.unit.Unit.{Unit}
 
