@@ -1,5 +1,5 @@
 // Which words have a reading: those that ask for a command.
-ghost use Rattle.std.specs.Prelude.{◌≡◌, ◌==◌, ◌&&◌, true, count_by};
+ghost use Rattle.std.specs.Prelude.{◌≡◌, ◌==◌, ◌&&◌, true, count_by, find};
 ghost use Rattle.std.specs.List.{list_any, list_all};
 ghost use Rattle.std.specs.Option.{option_copied, option_map_or};
 ghost use Rattle.command_line.specs.OptionName.{gives};
@@ -16,10 +16,18 @@ use plan_types::Text;
 pub fn asked(words: &[Text]) -> Option<CommandName>
     ensures { result ≡ asked words.now }
 {
-    commands()
-        .iter()
-        .copied()
-        .find(|command| asks_for(words, *command))
+    asked_among(words, &commands())
+}
+
+fn asked_among(words: &[Text], commands: &[CommandName]) -> Option<CommandName>
+    ensures { result ≡ find (asks_for words.now) commands.now }
+{
+    for command in commands {
+        if asks_for(words, *command) {
+            return Some(*command);
+        }
+    }
+    None
 }
 
 // The words are that of the command, and around it options that it takes, in any order.
