@@ -5,16 +5,16 @@ use Rattle.std.specs.Fmt.{decimal}
 use Rattle.std.specs.List.{join_with_byte, list_all, slice_split}
 use Rattle.std.specs.Option.{option_map_or}
 use Rattle.std.specs.Str.{IsAscii, all_ascii_digits}
-use Rattle.std.proofs.lemmas.Bool.Decides.{nat_tests}
-use Rattle.std.proofs.lemmas.Bool.{and_parts, eqb-true, leb-true, lt-ltb}
+use Rattle.std.proofs.lemmas.Bool.{and_from, and_parts, eqb-true, leb-true, lt-ltb}
 use Rattle.std.proofs.lemmas.List.Splits.{join_with_byte-slice_split, length-slice_split}
 use Rattle.plan_types.specs.Bytes.{begins_with}
 use Rattle.plan_types.specs.Name.{is_letter_or_digit}
+use Rattle.condition_text.specs.declared.name.Form.TheVariants.{Compiler}
 use Rattle.condition_text.specs.Grammar.{is_compiler_name}
 use Rattle.version_range.specs.Number.{is_count}
 use Rattle.version_range.specs.Version.{IsNumber, is_version, number_after, version_text}
 use Rattle.version_range.proofs.Numbers.{numeral_text}
-use Rattle.condition_text.proofs.Names.{ascii_all}
+use Rattle.condition_text.proofs.Names.{Run, name_ascii, run, run_reads}
 use Rattle.command_line.specs.Form.{is_compiler, is_part, is_version_text, parts_of}
 use Rattle.command_line.specs.Reading.{compiler_or}
 
@@ -61,12 +61,13 @@ version_reads text h = go (slice_split (λ b. b == 46) text) h (length-slice_spl
     go [] all some joined = absurd (omega arith)
     go (x ∷ xs) all some joined = let r = parts_joined x xs all in (r.0, sym joined ∙ r.1)
 
-letter_small : (b : ℕ) → is_letter_or_digit b ≡ true → b < 128
-letter_small b h = grind (arith, nat_tests)
-
+-- a compiler's name is read as one in a condition, and such names are ASCII
 pub compiler_ascii : (name : List ℕ) → is_compiler_name name ≡ true → IsAscii name
 compiler_ascii [] h = cc
-compiler_ascii (b ∷ bs) h = ascii_all is_letter_or_digit letter_small (b ∷ bs) h
+compiler_ascii (b ∷ bs) h =
+    let p = and_parts (is_letter_or_digit b) (list_all is_letter_or_digit bs) h in
+    let is_run : Run is_letter_or_digit is_letter_or_digit (b ∷ bs) (b ∷ bs) = run b bs (and_from (is_letter_or_digit b) (is_letter_or_digit b) p.0 p.0) p.1 in
+    name_ascii Compiler ((b ∷ bs) ++ []) (b ∷ bs) [] (run_reads is_letter_or_digit is_letter_or_digit (b ∷ bs) (b ∷ bs) [] is_run refl)
 
 -- the compiler that is taken where none is given has the form too
 pub compiler_formed : (given : Option (List ℕ)) → option_map_or is_compiler given true ≡ true → is_compiler (compiler_or given) ≡ true

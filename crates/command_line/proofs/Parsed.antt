@@ -1,9 +1,9 @@
--- Words that have a reading are the command with options around it, so that the parser takes them and finds their values.
-use Rattle.std.proofs.Common.{◌≡◌, ◌∙◌, ◌+◌, ◌≤◌, ◌&&◌, ◌||◌, ℕ, Bool, true, false, refl, sym, ap, ap₂, subst, arith, List, [], ◌∷◌, ◌++◌, map, take, drop, length, codes, cond}
-use Rattle.std.specs.Prelude.{◌==◌, nat_le}
+-- Words that have a reading are a command with options around it, so that the parser takes them and finds their values.
+use Rattle.std.proofs.Common.{◌≡◌, ◌∙◌, ◌+◌, ◌≤◌, ◌&&◌, ◌||◌, ℕ, Bool, true, false, refl, sym, ap, ap₂, subst, arith, List, [], ◌∷◌, ◌++◌, map, take, drop, length, cond}
+use Rattle.std.specs.Prelude.{◌==◌, Some, find, is_some, nat_le}
 use Rattle.std.specs.Option.{option_map_or}
 use Rattle.std.specs.List.{count_by, list_all, list_any}
-use Rattle.std.proofs.lemmas.Bool.{and_parts, eqb-true, leb-true}
+use Rattle.std.proofs.lemmas.Bool.{and_parts, eqb-true, false≢true, leb-true}
 use Rattle.std.proofs.lemmas.List.{take-append-drop}
 use Rattle.std.proofs.lemmas.List.Sums.{sum_by-cons}
 use Rattle.std.proofs.lemmas.Slice.Eq.{bytes_eq-Decides}
@@ -13,7 +13,9 @@ use Rattle.clap.specs.Takes.{takes}
 use Rattle.command_line.specs.declared.option_name.OptionName.{OptionName}
 use Rattle.command_line.specs.OptionName.{gives, name_of, prefix_of, value_in}
 use Rattle.command_line.specs.Form.{has_form}
-use Rattle.command_line.specs.Words.{given, has_reading, is_known, is_plan, is_well_given, options}
+use Rattle.command_line.specs.CommandName.{command_word, commands, taken_by}
+use Rattle.command_line.specs.declared.command_name.CommandName.{CommandName}
+use Rattle.command_line.specs.Words.{asked, asks_for, given, is_command, is_known, is_well_given, options}
 use Rattle.command_line.specs.Parser.{parser}
 use Rattle.command_line.proofs.Table.{each_option, rules}
 use Rattle.command_line.proofs.Walk.{Given, Once, word_of, words_around, rows_around, words_taken, values_given, counts_alike, finished_rows, walks}
@@ -32,18 +34,18 @@ any_option word (option ∷ others) some = go (gives option word) refl some (any
     go true is e more = ((option, value_in option word), is_given_word option word is)
     go false is e more = more e
 
-known_option : (word : Text) → is_known word ≡ true → is_plan word ≡ false → (g : Given) × (word ≡ word_of g)
-known_option word known other = any_option word options (ap (λ b. b || list_any (λ option. gives option word) options) (sym other) ∙ known)
+known_option : (command : CommandName) (word : Text) → is_known command word ≡ true → is_command command word ≡ false → (g : Given) × (word ≡ word_of g)
+known_option command word known other = any_option word (taken_by command) (ap (λ b. b || list_any (λ option. gives option word) (taken_by command)) (sym other) ∙ known)
 
 -- words of which none is the command
-only_options : (words : List Text) → list_all is_known words ≡ true → count_by is_plan words ≡ 0 → (gs : List Given) × (words ≡ map word_of gs)
-only_options [] known none = ([], refl)
-only_options (word ∷ words) known none =
-    let parts = and_parts (is_known word) (list_all is_known words) known in
-    let count : cond {A = ℕ} (is_plan word) 1 0 + count_by is_plan words ≡ 0 = sym (sum_by-cons (λ w. cond (is_plan w) 1 0) word words) ∙ none in
-    let other : is_plan word ≡ false = not_one (is_plan word) (count_by is_plan words) count in
-    let more = only_options words parts.1 (omega arith) in
-    let here = known_option word parts.0 other in
+only_options : (command : CommandName) (words : List Text) → list_all (is_known command) words ≡ true → count_by (is_command command) words ≡ 0 → (gs : List Given) × (words ≡ map word_of gs)
+only_options command [] known none = ([], refl)
+only_options command (word ∷ words) known none =
+    let parts = and_parts (is_known command word) (list_all (is_known command) words) known in
+    let count : cond {A = ℕ} (is_command command word) 1 0 + count_by (is_command command) words ≡ 0 = sym (sum_by-cons (λ w. cond (is_command command w) 1 0) word words) ∙ none in
+    let other : is_command command word ≡ false = not_one (is_command command word) (count_by (is_command command) words) count in
+    let more = only_options command words parts.1 (omega arith) in
+    let here = known_option command word parts.0 other in
     (here.0 ∷ more.0, ap₂ (λ w ws. w ∷ ws) here.1 more.1)
   where
     not_one : (b : Bool) (n : ℕ) → cond {A = ℕ} b 1 0 + n ≡ 0 → b ≡ false
@@ -51,64 +53,76 @@ only_options (word ∷ words) known none =
     not_one false n e = refl
 
 -- words of which one is the command
-around : (words : List Text) → list_all is_known words ≡ true → count_by is_plan words ≡ 1 → (before after : List Given) × (words ≡ words_around before after)
-around [] known one = absurd (omega arith)
-around (word ∷ words) known one =
-    let parts = and_parts (is_known word) (list_all is_known words) known in
-    go (is_plan word) refl (sym (sum_by-cons (λ w. cond (is_plan w) 1 0) word words) ∙ one) parts.0 parts.1 (around words parts.1)
+around : (command : CommandName) (words : List Text) → list_all (is_known command) words ≡ true → count_by (is_command command) words ≡ 1 → (before after : List Given) × (words ≡ words_around command before after)
+around command [] known one = absurd (omega arith)
+around command (word ∷ words) known one =
+    let parts = and_parts (is_known command word) (list_all (is_known command) words) known in
+    go (is_command command word) refl (sym (sum_by-cons (λ w. cond (is_command command w) 1 0) word words) ∙ one) parts.0 parts.1 (around command words parts.1)
   where
-    go : (b : Bool) → is_plan word ≡ b → cond {A = ℕ} b 1 0 + count_by is_plan words ≡ 1 → is_known word ≡ true → list_all is_known words ≡ true
-        → (count_by is_plan words ≡ 1 → (before after : List Given) × (words ≡ words_around before after))
-        → (before after : List Given) × (word ∷ words ≡ words_around before after)
+    go : (b : Bool) → is_command command word ≡ b → cond {A = ℕ} b 1 0 + count_by (is_command command) words ≡ 1 → is_known command word ≡ true → list_all (is_known command) words ≡ true
+        → (count_by (is_command command) words ≡ 1 → (before after : List Given) × (words ≡ words_around command before after))
+        → (before after : List Given) × (word ∷ words ≡ words_around command before after)
     go true is count known_word rest more =
-        let after = only_options words rest (omega arith) in
-        ([], after.0, ap₂ (λ w ws. w ∷ ws) ((bytes_eq-Decides word (codes "plan")).0 is) after.1)
+        let after = only_options command words rest (omega arith) in
+        ([], after.0, ap₂ (λ w ws. w ∷ ws) ((bytes_eq-Decides word (command_word command)).0 is) after.1)
     go false is count known_word rest more =
         let parts = more (omega arith) in
-        let here = known_option word known_word is in
+        let here = known_option command word known_word is in
         (here.0 ∷ parts.0, parts.1, ap₂ (λ w ws. w ∷ ws) here.1 parts.2)
 
 -- the parts of the test
-record Reads (words : List Text) : Type 0 where
-  known : list_all is_known words ≡ true
-  command : count_by is_plan words ≡ 1
+record Reads (words : List Text) (command : CommandName) : Type 0 where
+  known : list_all (is_known command) words ≡ true
+  once : count_by (is_command command) words ≡ 1
   options_are : (option : OptionName) → is_well_given words option ≡ true
 
-reads : (words : List Text) → has_reading words ≡ true → Reads words
-reads words h =
-    let p = and_parts (list_all is_known words) (count_by is_plan words == 1 && list_all (is_well_given words) options) h in
-    let q = and_parts (count_by is_plan words == 1) (list_all (is_well_given words) options) p.1 in
-    record { known = p.0; command = eqb-true (count_by is_plan words) 1 q.0; options_are = each_option (is_well_given words) q.1 }
+reads : (words : List Text) (command : CommandName) → asks_for words command ≡ true → Reads words command
+reads words command h =
+    let p = and_parts (list_all (is_known command) words) (count_by (is_command command) words == 1 && list_all (is_well_given words) options) h in
+    let q = and_parts (count_by (is_command command) words == 1) (list_all (is_well_given words) options) p.1 in
+    record { known = p.0; once = eqb-true (count_by (is_command command) words) 1 q.0; options_are = each_option (is_well_given words) q.1 }
+
+-- what is found passes
+asked_one : {X : Type 0} (test : X → Bool) (xs : List X) → is_some (find test xs) ≡ true → (x : X) × (test x ≡ true)
+asked_one test [] h = absurd (false≢true h)
+asked_one test (x ∷ xs) h =
+    elim (test x) as (λ b. test x ≡ b → is_some (cond b (Some x) (find test xs)) ≡ true → (x : _) × (test x ≡ true)) [
+      | true ↦ λ e k. (x, e)
+      | false ↦ λ e k. asked_one test xs k
+    ] refl h
 
 -- an option stands at most once, and its value has its form
 
 at_most_once : (words : List Text) (option : OptionName) → is_well_given words option ≡ true → count_by (gives option) words ≤ 1
 at_most_once words option well = leb-true (count_by (gives option) words) 1 (and_parts (nat_le (count_by (gives option) words) 1) (option_map_or (has_form option) (given option words) true) well).0
 
-pub well_formed : (words : List Text) → has_reading words ≡ true → (option : OptionName) → option_map_or (has_form option) (given option words) true ≡ true
+pub well_formed : (words : List Text) → is_some (asked words) ≡ true → (option : OptionName) → option_map_or (has_form option) (given option words) true ≡ true
 well_formed words h option =
-    (and_parts (nat_le (count_by (gives option) words) 1) (option_map_or (has_form option) (given option words) true) ((reads words h).options_are option)).1
+    let command = asked_one (asks_for words) commands h in
+    (and_parts (nat_le (count_by (gives option) words) 1) (option_map_or (has_form option) (given option words) true) ((reads words command.0 command.1).options_are option)).1
 
 -- what the parser makes of words that have a reading
 pub record Parses (words : List Text) : Type 0 where
   pub takes_them : takes parser words ≡ true
   pub values : (option : OptionName) → first_of (name_of option) (matches_of parser words) ≡ given option words
 
-parses_around : (before after : List Given) → Once (rows_around before after) → Parses (words_around before after)
-parses_around before after once =
-    let end = (walk rules [] nothing_held (words_around before after)).held in
+parses_around : (command : CommandName) (before after : List Given) → Once (rows_around command before after) → Parses (words_around command before after)
+parses_around command before after once =
+    let end = (walk rules [] nothing_held (words_around command before after)).held in
     record {
-      takes_them = words_taken before after once;
-      values = λ option. ap (first_of (name_of option)) (finished_rows end ∙ (walks before after once).ends.rows_are) ∙ values_given option before after;
+      takes_them = words_taken command before after once;
+      values = λ option. ap (first_of (name_of option)) (finished_rows end ∙ (walks command before after once).ends.rows_are) ∙ values_given command option before after;
     }
 
-pub parses : (words : List Text) → has_reading words ≡ true → Parses words
+pub parses : (words : List Text) → is_some (asked words) ≡ true → Parses words
 parses words h =
-    let r = reads words h in
-    let parts = around words r.known r.command in
-    let once : Once (rows_around parts.0 parts.1) = λ option.
-    subst (λ n. n ≤ 1) (sym (counts_alike option parts.0 parts.1 ∙ ap (count_by (gives option)) (sym parts.2))) (at_most_once words option (r.options_are option)) in
-    subst Parses (sym parts.2) (parses_around parts.0 parts.1 once)
+    let found = asked_one (asks_for words) commands h in
+    let command = found.0 in
+    let r = reads words command found.1 in
+    let parts = around command words r.known r.once in
+    let once : Once (rows_around command parts.0 parts.1) = λ option.
+    subst (λ n. n ≤ 1) (sym (counts_alike command option parts.0 parts.1 ∙ ap (count_by (gives option)) (sym parts.2))) (at_most_once words option (r.options_are option)) in
+    subst Parses (sym parts.2) (parses_around command parts.0 parts.1 once)
 
 pub map_same : (words : List Text) → map (λ word. word) words ≡ words
 map_same [] = refl

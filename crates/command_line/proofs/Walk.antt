@@ -1,4 +1,4 @@
--- What a parse makes of words that are the command and options.
+-- What a parse makes of words that are a command and options.
 use Rattle.std.proofs.Common.{◌≡◌, ◌∙◌, ◌+◌, ◌≤◌, ◌&&◌, ◌||◌, ℕ, Bool, true, false, refl, sym, ap, ap₂, subst, arith, List, [], ◌∷◌, ◌++◌, map, Some, None, codes, append-nil, append_assoc, cond}
 use Rattle.std.specs.List.{count_by, find, fold, list_all, list_any}
 use Rattle.std.proofs.lemmas.List.Sums.{fold-append, sum_by-append, sum_by-cons}
@@ -15,6 +15,9 @@ use Rattle.clap.specs.declared.parser.matches.ValueSource.TheVariants.{CommandLi
 use Rattle.clap.proofs.TakesLemmas.{leaf_takes}
 use Rattle.clap.proofs.SimpleLemmas.{is_nil}
 use Rattle.clap.proofs.WalkLemmas.{both}
+use Rattle.command_line.specs.CommandName.{command_word}
+use Rattle.command_line.specs.declared.command_name.CommandName.{CommandName}
+use Rattle.command_line.specs.declared.command_name.CommandName.TheVariants.{Plan}
 use Rattle.command_line.specs.declared.option_name.OptionName.{OptionName}
 use Rattle.command_line.specs.OptionName.{gives, name_of, prefix_of, value_in}
 use Rattle.command_line.specs.Words.{given}
@@ -44,9 +47,9 @@ used_fresh id value how rows fresh = rw (at_fresh id (λ _. []) [] rows fresh, a
 abbrev between : List Row → ℕ → Walk
 between rows position = record { held = record { rows = rows; pending = None; skip = 0 }; waiting = idle; position = position; is_trailing = false; stopped = None }
 
--- behind the command, which is used at the next word
-abbrev behind : List Row → Walk
-behind rows = record { held = record { rows = rows; pending = Some (codes "command", codes "plan" ∷ []); skip = 0 }; waiting = idle; position = 2; is_trailing = false; stopped = None }
+-- behind a command, which is used at the next word
+abbrev pub behind : CommandName → List Row → Walk
+behind command rows = record { held = record { rows = rows; pending = Some (codes "command", command_word command ∷ []); skip = 0 }; waiting = idle; position = 2; is_trailing = false; stopped = None }
 
 -- a word that is cut into the name of an option and a value
 record IsCut (word name v : Text) : Type 0 where
@@ -73,37 +76,37 @@ option_passes : (option : OptionName) (v : Text) (rows : List Row) (p : ℕ) →
     → turn_passes shape [] (between rows p) (prefix_of option ++ v) ≡ true
 option_passes option v rows p fresh = cut_passes (prefix_of option ++ v) (name_of option) v rows p (cut option v) fresh
 
-plan_walked : (rows : List Row) → walked rules [] (between rows 1) (codes "plan") ≡ behind rows
+command_walked : (command : CommandName) (rows : List Row) → walked rules [] (between rows 1) (command_word command) ≡ behind command rows
 unfolding walked
-plan_walked rows = refl
+command_walked Plan rows = refl
 
-plan_passes : (rows : List Row) → turn_passes shape [] (between rows 1) (codes "plan") ≡ true
-plan_passes rows = refl
+command_passes : (command : CommandName) (rows : List Row) → turn_passes shape [] (between rows 1) (command_word command) ≡ true
+command_passes Plan rows = refl
 
-behind_cut_walked : (word name v : Text) (rows : List Row) → IsCut word name v
-    → walked rules [] (behind rows) word
+behind_cut_walked : (command : CommandName) (word name v : Text) (rows : List Row) → IsCut word name v
+    → walked rules [] (behind command rows) word
     ≡ between (with_values name (reading_by command_rule) CommandLine (v ∷ []) (without name
-    (with_values (codes "command") (reading_by command_rule) CommandLine (codes "plan" ∷ []) (without (codes "command") rows)))) 2
+    (with_values (codes "command") (reading_by command_rule) CommandLine (command_word command ∷ []) (without (codes "command") rows)))) 2
 unfolding walked
-behind_cut_walked word name v rows is = rw (is.no_dashes, is.long, is.rule) refl
+behind_cut_walked command word name v rows is = rw (is.no_dashes, is.long, is.rule) refl
 
-behind_cut_passes : (word name v : Text) (rows : List Row) → IsCut word name v → has_row (codes "command") rows ≡ false
-    → has_row name (with_values (codes "command") (reading_by command_rule) CommandLine (codes "plan" ∷ []) (without (codes "command") rows)) ≡ false
-    → turn_passes shape [] (behind rows) word ≡ true
-behind_cut_passes word name v rows is fresh other = rw (is.no_dashes, is.long, is.rule, fresh, other) refl
+behind_cut_passes : (command : CommandName) (word name v : Text) (rows : List Row) → IsCut word name v → has_row (codes "command") rows ≡ false
+    → has_row name (with_values (codes "command") (reading_by command_rule) CommandLine (command_word command ∷ []) (without (codes "command") rows)) ≡ false
+    → turn_passes shape [] (behind command rows) word ≡ true
+behind_cut_passes command word name v rows is fresh other = rw (is.no_dashes, is.long, is.rule, fresh, other) refl
 
-behind_walked : (option : OptionName) (v : Text) (rows : List Row)
-    → walked rules [] (behind rows) (prefix_of option ++ v)
+behind_walked : (command : CommandName) (option : OptionName) (v : Text) (rows : List Row)
+    → walked rules [] (behind command rows) (prefix_of option ++ v)
     ≡ between (with_values (name_of option) (reading_by command_rule) CommandLine (v ∷ []) (without (name_of option)
-    (with_values (codes "command") (reading_by command_rule) CommandLine (codes "plan" ∷ []) (without (codes "command") rows)))) 2
-behind_walked option v rows = behind_cut_walked (prefix_of option ++ v) (name_of option) v rows (cut option v)
+    (with_values (codes "command") (reading_by command_rule) CommandLine (command_word command ∷ []) (without (codes "command") rows)))) 2
+behind_walked command option v rows = behind_cut_walked command (prefix_of option ++ v) (name_of option) v rows (cut option v)
 
-behind_passes : (option : OptionName) (v : Text) (rows : List Row) → has_row (codes "command") rows ≡ false
-    → has_row (name_of option) (with_values (codes "command") (reading_by command_rule) CommandLine (codes "plan" ∷ []) (without (codes "command") rows)) ≡ false
-    → turn_passes shape [] (behind rows) (prefix_of option ++ v) ≡ true
-behind_passes option v rows fresh other = behind_cut_passes (prefix_of option ++ v) (name_of option) v rows (cut option v) fresh other
+behind_passes : (command : CommandName) (option : OptionName) (v : Text) (rows : List Row) → has_row (codes "command") rows ≡ false
+    → has_row (name_of option) (with_values (codes "command") (reading_by command_rule) CommandLine (command_word command ∷ []) (without (codes "command") rows)) ≡ false
+    → turn_passes shape [] (behind command rows) (prefix_of option ++ v) ≡ true
+behind_passes command option v rows fresh other = behind_cut_passes command (prefix_of option ++ v) (name_of option) v rows (cut option v) fresh other
 
--- ---- words as options with their values, around the command
+-- ---- words as options with their values, around a command
 
 abbrev pub Given : Type 0
 Given = OptionName × Text
@@ -114,8 +117,8 @@ word_of g = prefix_of g.0 ++ g.1
 abbrev pub row_of : Given → Row
 row_of g = row (name_of g.0) g.1
 
-abbrev pub plan_row : Row
-plan_row = row (codes "command") (codes "plan")
+abbrev pub command_row : CommandName → Row
+command_row command = row (codes "command") (command_word command)
 
 abbrev pub is_row : OptionName → Row → Bool
 is_row option r = bytes_eq r.id (name_of option)
@@ -175,41 +178,41 @@ unfolding walk_passes
 passes_append w [] ys = refl
 passes_append w (x ∷ xs) ys = and_more (turn_passes shape [] w x) _ _ _ (passes_append (walked rules [] w x) xs ys)
 
--- ---- behind the command
+-- ---- behind a command
 
-no_plan_row : (gs : List Given) → has_row (codes "command") (map row_of gs) ≡ false
-no_plan_row [] = refl
-no_plan_row (g ∷ gs) = rw (not_command g.0) (no_plan_row gs)
+no_command_row : (gs : List Given) → has_row (codes "command") (map row_of gs) ≡ false
+no_command_row [] = refl
+no_command_row (g ∷ gs) = rw (not_command g.0) (no_command_row gs)
 
 -- what is held at the end: the rows in the order of the words
 pub record Ends (rows : List Row) (end : Held) : Type 0 where
   pub rows_are : (settled rules end).rows ≡ rows
   pub passes : settle_passes rules false end ≡ true
 
-plan_used : (rows : List Row) → has_row (codes "command") rows ≡ false
-    → with_values (codes "command") (reading_by command_rule) CommandLine (codes "plan" ∷ []) (without (codes "command") rows) ≡ rows ++ plan_row ∷ []
-plan_used rows fresh = used_fresh (codes "command") (codes "plan") (reading_by command_rule) rows fresh
+command_used : (command : CommandName) (rows : List Row) → has_row (codes "command") rows ≡ false
+    → with_values (codes "command") (reading_by command_rule) CommandLine (command_word command ∷ []) (without (codes "command") rows) ≡ rows ++ command_row command ∷ []
+command_used command rows fresh = used_fresh (codes "command") (command_word command) (reading_by command_rule) rows fresh
 
-after_plan : (gs : List Given) (rows : List Row) → has_row (codes "command") rows ≡ false → Once (rows ++ plan_row ∷ map row_of gs)
-    → Ends (rows ++ plan_row ∷ map row_of gs) (fold (walked rules []) (behind rows) (map word_of gs)).held
-    × (walk_passes shape [] (behind rows) (map word_of gs) ≡ true)
+after_command : (command : CommandName) (gs : List Given) (rows : List Row) → has_row (codes "command") rows ≡ false → Once (rows ++ command_row command ∷ map row_of gs)
+    → Ends (rows ++ command_row command ∷ map row_of gs) (fold (walked rules []) (behind command rows) (map word_of gs)).held
+    × (walk_passes shape [] (behind command rows) (map word_of gs) ≡ true)
 unfolding walk_passes
-after_plan [] rows fresh once = (record { rows_are = plan_used rows fresh; passes = rw fresh refl }, refl)
-after_plan (g ∷ gs) rows fresh once =
-    let now : List Row = rows ++ plan_row ∷ [] in
-    let regrouped : rows ++ plan_row ∷ map row_of (g ∷ gs) ≡ now ++ row_of g ∷ map row_of gs = regroup rows (map row_of (g ∷ gs)) plan_row in
+after_command command [] rows fresh once = (record { rows_are = command_used command rows fresh; passes = rw fresh refl }, refl)
+after_command command (g ∷ gs) rows fresh once =
+    let now : List Row = rows ++ command_row command ∷ [] in
+    let regrouped : rows ++ command_row command ∷ map row_of (g ∷ gs) ≡ now ++ row_of g ∷ map row_of gs = regroup rows (map row_of (g ∷ gs)) (command_row command) in
     let once_now : Once (now ++ row_of g ∷ map row_of gs) = subst Once regrouped once in
     let fresh_now : has_row (name_of g.0) now ≡ false = fresh_here g now (map row_of gs) once_now in
-    let used = plan_used rows fresh in
-    let step : walked rules [] (behind rows) (word_of g) ≡ between (now ++ row_of g ∷ []) 2 =
-    behind_walked g.0 g.1 rows
+    let used = command_used command rows fresh in
+    let step : walked rules [] (behind command rows) (word_of g) ≡ between (now ++ row_of g ∷ []) 2 =
+    behind_walked command g.0 g.1 rows
     ∙ ap (λ rs. between (with_values (name_of g.0) (reading_by command_rule) CommandLine (g.1 ∷ []) (without (name_of g.0) rs)) 2) used
     ∙ ap (λ rs. between rs 2) (used_fresh (name_of g.0) g.1 (reading_by command_rule) now fresh_now) in
     let whole : now ++ row_of g ∷ map row_of gs ≡ (now ++ row_of g ∷ []) ++ map row_of gs = regroup now (map row_of gs) (row_of g) in
     let once_rest : Once ((now ++ row_of g ∷ []) ++ (map row_of gs ++ [])) = subst Once (whole ∙ ap (λ rs. (now ++ row_of g ∷ []) ++ rs) (sym (append-nil (map row_of gs)))) once_now in
-    let ends : fold (walked rules []) (behind rows) (map word_of (g ∷ gs)) ≡ between ((now ++ row_of g ∷ []) ++ map row_of gs) 2 =
+    let ends : fold (walked rules []) (behind command rows) (map word_of (g ∷ gs)) ≡ between ((now ++ row_of g ∷ []) ++ map row_of gs) 2 =
     ap (λ w. fold (walked rules []) w (map word_of gs)) step ∙ options_walked gs (now ++ row_of g ∷ []) 2 [] once_rest in
-    let turn : turn_passes shape [] (behind rows) (word_of g) ≡ true = behind_passes g.0 g.1 rows fresh (ap (has_row (name_of g.0)) used ∙ fresh_now) in (
+    let turn : turn_passes shape [] (behind command rows) (word_of g) ≡ true = behind_passes command g.0 g.1 rows fresh (ap (has_row (name_of g.0)) used ∙ fresh_now) in (
       record {
         rows_are = ap (λ w. (settled rules w.held).rows) ends ∙ sym (regrouped ∙ whole);
         passes = ap (λ w. settle_passes rules false w.held) ends;
@@ -219,33 +222,33 @@ after_plan (g ∷ gs) rows fresh once =
 
 -- ---- the whole
 
-abbrev pub words_around : List Given → List Given → List Text
-words_around before after = map word_of before ++ codes "plan" ∷ map word_of after
+abbrev pub words_around : CommandName → List Given → List Given → List Text
+words_around command before after = map word_of before ++ command_word command ∷ map word_of after
 
-abbrev pub rows_around : List Given → List Given → List Row
-rows_around before after = map row_of before ++ plan_row ∷ map row_of after
+abbrev pub rows_around : CommandName → List Given → List Given → List Row
+rows_around command before after = map row_of before ++ command_row command ∷ map row_of after
 
 -- what a walk over the words comes to
-pub record Walks (before after : List Given) : Type 0 where
-  pub ends : Ends (rows_around before after) (walk rules [] nothing_held (words_around before after)).held
-  pub passes : walk_passes shape [] (walk_from nothing_held) (words_around before after) ≡ true
+pub record Walks (command : CommandName) (before after : List Given) : Type 0 where
+  pub ends : Ends (rows_around command before after) (walk rules [] nothing_held (words_around command before after)).held
+  pub passes : walk_passes shape [] (walk_from nothing_held) (words_around command before after) ≡ true
 
-pub walks : (before after : List Given) → Once (rows_around before after) → Walks before after
+pub walks : (command : CommandName) (before after : List Given) → Once (rows_around command before after) → Walks command before after
 unfolding walk_passes
-walks before after once =
+walks command before after once =
     let start : Walk = walk_from nothing_held in
-    let rest : List Text = codes "plan" ∷ map word_of after in
-    let to_plan : fold (walked rules []) start (map word_of before) ≡ between (map row_of before) 1 = options_walked before [] 1 (plan_row ∷ map row_of after) once in
-    let plan_met : walked rules [] (fold (walked rules []) start (map word_of before)) (codes "plan") ≡ behind (map row_of before) = ap (λ w. walked rules [] w (codes "plan")) to_plan ∙ plan_walked (map row_of before) in
-    let end = after_plan after (map row_of before) (no_plan_row before) once in
-    let parted : fold (walked rules []) start (words_around before after) ≡ fold (walked rules []) (behind (map row_of before)) (map word_of after) =
-    fold-append (walked rules []) start (map word_of before) rest ∙ ap (λ w. fold (walked rules []) w (map word_of after)) plan_met in
+    let rest : List Text = command_word command ∷ map word_of after in
+    let to_command : fold (walked rules []) start (map word_of before) ≡ between (map row_of before) 1 = options_walked before [] 1 (command_row command ∷ map row_of after) once in
+    let command_met : walked rules [] (fold (walked rules []) start (map word_of before)) (command_word command) ≡ behind command (map row_of before) = ap (λ w. walked rules [] w (command_word command)) to_command ∙ command_walked command (map row_of before) in
+    let end = after_command command after (map row_of before) (no_command_row before) once in
+    let parted : fold (walked rules []) start (words_around command before after) ≡ fold (walked rules []) (behind command (map row_of before)) (map word_of after) =
+    fold-append (walked rules []) start (map word_of before) rest ∙ ap (λ w. fold (walked rules []) w (map word_of after)) command_met in
     record {
-      ends = subst (λ w. Ends (rows_around before after) w.held) (sym parted) end.0;
+      ends = subst (λ w. Ends (rows_around command before after) w.held) (sym parted) end.0;
       passes = passes_append start (map word_of before) rest
-          ∙ ap₂ (λ a b. a && b) (options_pass before [] 1 (plan_row ∷ map row_of after) once)
-          (ap (λ w. turn_passes shape [] w (codes "plan") && walk_passes shape [] (walked rules [] w (codes "plan")) (map word_of after)) to_plan
-          ∙ ap₂ (λ a w. a && walk_passes shape [] w (map word_of after)) (plan_passes (map row_of before)) (plan_walked (map row_of before))
+          ∙ ap₂ (λ a b. a && b) (options_pass before [] 1 (command_row command ∷ map row_of after) once)
+          (ap (λ w. turn_passes shape [] w (command_word command) && walk_passes shape [] (walked rules [] w (command_word command)) (map word_of after)) to_command
+          ∙ ap₂ (λ a w. a && walk_passes shape [] w (map word_of after)) (command_passes command (map row_of before)) (command_walked command (map row_of before))
           ∙ end.1);
     }
 
@@ -274,19 +277,19 @@ find_past p (x ∷ xs) ys none = go (p x) none (find_past p xs ys)
     go true e more = cc
     go false e more = more e
 
-plan_given : (before after : List Given) → is_given (codes "command") (rows_around before after) ≡ true
-plan_given before after =
-    ap (λ found. option_map_or (λ r. explicit_source r.source) found false) (find_past (λ r. bytes_eq r.id (codes "command")) (map row_of before) (plan_row ∷ map row_of after) (no_plan_row before))
+command_given : (command : CommandName) (before after : List Given) → is_given (codes "command") (rows_around command before after) ≡ true
+command_given command before after =
+    ap (λ found. option_map_or (λ r. explicit_source r.source) found false) (find_past (λ r. bytes_eq r.id (codes "command")) (map row_of before) (command_row command ∷ map row_of after) (no_command_row before))
 
 valid : (rows : List Row) → is_given (codes "command") rows ≡ true → is_valid shape rows false ≡ true
 valid rows given = rw given refl
 
-pub words_taken : (before after : List Given) → Once (rows_around before after) → takes parser (words_around before after) ≡ true
-words_taken before after once =
-    let whole = walks before after once in
-    let end = (walk rules [] nothing_held (words_around before after)).held in
-    let is_valid_here : is_valid shape (finished rules end) false ≡ true = valid (finished rules end) (ap (is_given (codes "command")) (finished_rows end ∙ whole.ends.rows_are) ∙ plan_given before after) in
-    leaf_takes (built parser) nothing_held (words_around before after) refl (rw (whole.passes, whole.ends.passes, is_valid_here) refl)
+pub words_taken : (command : CommandName) (before after : List Given) → Once (rows_around command before after) → takes parser (words_around command before after) ≡ true
+words_taken command before after once =
+    let whole = walks command before after once in
+    let end = (walk rules [] nothing_held (words_around command before after)).held in
+    let is_valid_here : is_valid shape (finished rules end) false ≡ true = valid (finished rules end) (ap (is_given (codes "command")) (finished_rows end ∙ whole.ends.rows_are) ∙ command_given command before after) in
+    leaf_takes (built parser) nothing_held (words_around command before after) refl (rw (whole.passes, whole.ends.passes, is_valid_here) refl)
 
 -- ---- the values
 
@@ -303,14 +306,14 @@ value_found option (g ∷ gs) rows words same =
     go true e more = ap Some (sym e)
     go false e more = more
 
-plan_gives_none : (option : OptionName) → gives option (codes "plan") ≡ false
-plan_gives_none option = refl
+command_gives_none : (command : CommandName) (option : OptionName) → gives option (command_word command) ≡ false
+command_gives_none Plan option = refl
 
-pub values_given : (option : OptionName) (before after : List Given) → first_of (name_of option) (rows_around before after) ≡ given option (words_around before after)
-values_given option before after =
+pub values_given : (command : CommandName) (option : OptionName) (before after : List Given) → first_of (name_of option) (rows_around command before after) ≡ given option (words_around command before after)
+values_given command option before after =
     let behind_all : first_of (name_of option) (map row_of after) ≡ given option (map word_of after) =
     ap (first_of (name_of option)) (sym (append-nil (map row_of after))) ∙ value_found option after [] [] refl ∙ ap (given option) (append-nil (map word_of after)) in
-    value_found option before (plan_row ∷ map row_of after) (codes "plan" ∷ map word_of after) (rw (command_not option, plan_gives_none option) behind_all)
+    value_found option before (command_row command ∷ map row_of after) (command_word command ∷ map word_of after) (rw (command_not option, command_gives_none command option) behind_all)
 
 -- each option has as many rows as words
 same_count : (option : OptionName) (gs : List Given) (rows : List Row) (words : List Text) → count_by (is_row option) rows ≡ count_by (gives option) words
@@ -321,11 +324,11 @@ same_count option (g ∷ gs) rows words same =
     ∙ ap₂ (λ b n. cond b 1 0 + n) (sym (same_test option g.0 g.1)) (same_count option gs rows words same)
     ∙ sym (sum_by-cons (λ w. cond (gives option w) 1 0) (word_of g) (map word_of gs ++ words))
 
-pub counts_alike : (option : OptionName) (before after : List Given) → count_by (is_row option) (rows_around before after) ≡ count_by (gives option) (words_around before after)
-counts_alike option before after =
+pub counts_alike : (command : CommandName) (option : OptionName) (before after : List Given) → count_by (is_row option) (rows_around command before after) ≡ count_by (gives option) (words_around command before after)
+counts_alike command option before after =
     let behind_all : count_by (is_row option) (map row_of after) ≡ count_by (gives option) (map word_of after) =
     ap (count_by (is_row option)) (sym (append-nil (map row_of after))) ∙ same_count option after [] [] refl ∙ ap (count_by (gives option)) (append-nil (map word_of after)) in
-    same_count option before (plan_row ∷ map row_of after) (codes "plan" ∷ map word_of after)
-    (sum_by-cons (λ r. cond (is_row option r) 1 0) plan_row (map row_of after)
-    ∙ ap₂ (λ b n. cond b 1 0 + n) (command_not option ∙ sym (plan_gives_none option)) behind_all
-    ∙ sym (sum_by-cons (λ w. cond (gives option w) 1 0) (codes "plan") (map word_of after)))
+    same_count option before (command_row command ∷ map row_of after) (command_word command ∷ map word_of after)
+    (sum_by-cons (λ r. cond (is_row option r) 1 0) (command_row command) (map row_of after)
+    ∙ ap₂ (λ b n. cond b 1 0 + n) (command_not option ∙ sym (command_gives_none command option)) behind_all
+    ∙ sym (sum_by-cons (λ w. cond (gives option w) 1 0) (command_word command) (map word_of after)))

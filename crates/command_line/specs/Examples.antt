@@ -4,7 +4,7 @@ use Rattle.plan_types.specs.declared.limit.Limit.TheVariants.{Unlimited, At}
 use Rattle.command_line.specs.declared.option_name.OptionName.TheVariants.{Index}
 use Rattle.command_line.specs.declared.reading.Command.TheVariants.{Plan}
 use Rattle.command_line.specs.Form.{is_compiler, is_path, is_signed}
-use Rattle.command_line.specs.Words.{given, has_reading}
+use Rattle.command_line.specs.Words.{given}
 use Rattle.command_line.specs.Reading.{reading}
 use Rattle.version_range.specs.Number.{limit_of}
 
@@ -35,7 +35,7 @@ two-commands = refl
 twice : reading (codes "plan" ∷ codes "--index=a" ∷ codes "--index=b" ∷ []) ≡ None
 twice = refl
 
-shortened : has_reading (codes "plan" ∷ codes "--ind=a" ∷ []) ≡ false
+shortened : reading (codes "plan" ∷ codes "--ind=a" ∷ []) ≡ None
 shortened = refl
 
 up : is_path (codes "a/../b") ≡ false

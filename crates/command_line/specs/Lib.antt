@@ -1,4 +1,5 @@
 pub mod OptionName
+pub mod CommandName
 pub mod Form
 pub mod Words
 pub mod Reading

@@ -1,17 +1,19 @@
 -- The command that words mean.
-use Rattle.std.specs.Prelude.{ℕ, List, Option, Some, None, unwrap_or, codes, if◌then◌else◌}
+use Rattle.std.specs.Prelude.{ℕ, List, Option, unwrap_or, codes}
 use Rattle.std.specs.Str.{str_to_ascii_lowercase}
 use Rattle.plan_types.specs.declared.condition.Env.{Env}
 use Rattle.plan_types.specs.declared.index.Places.{Places}
+use Rattle.command_line.specs.declared.command_name.CommandName.{CommandName}
+use Rattle.command_line.specs.declared.command_name.CommandName.TheVariants as command
 use Rattle.command_line.specs.declared.option_name.OptionName.TheVariants.{Index, Installed, Os, Arch, Compiler, MaxBackjumps}
 use Rattle.command_line.specs.declared.reading.Command.{Command}
 use Rattle.command_line.specs.declared.reading.Command.TheVariants.{Plan}
 use Rattle.command_line.specs.declared.reading.Options.{Options}
 use Rattle.command_line.specs.Form.{compiler_name, compiler_digits, parts_of}
-use Rattle.command_line.specs.Words.{given, has_reading}
+use Rattle.command_line.specs.Words.{asked, given}
 use Rattle.conditionals.specs.Environment.{system_of}
 use Rattle.version_range.specs.Number.{limit_of}
-use Rattle.std.specs.Option.{option_and_then}
+use Rattle.std.specs.Option.{option_and_then, option_map}
 
 -- where index and installed packages are
 abbrev pub places_of : Option (List ℕ) → Option (List ℕ) → Places
@@ -38,6 +40,10 @@ options_of words = record {
   limit = option_and_then limit_of (given MaxBackjumps words);
 }
 
+-- what a command means with the options of its words
+abbrev pub meant : List (List ℕ) → CommandName → Command
+meant words command.Plan = Plan (options_of words)
+
 -- the command that words mean
 abbrev pub reading : List (List ℕ) → Option Command
-reading words = if has_reading words then Some (Plan (options_of words)) else None
+reading words = option_map (meant words) (asked words)

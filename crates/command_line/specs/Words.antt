@@ -1,8 +1,10 @@
 -- Which words have a reading.
-use Rattle.std.specs.Prelude.{ℕ, Bool, true, ◌==◌, ◌&&◌, ◌||◌, List, [], ◌∷◌, Option, option_map, codes, nat_le, count_by, find}
+use Rattle.std.specs.Prelude.{ℕ, Bool, true, ◌==◌, ◌&&◌, ◌||◌, List, [], ◌∷◌, Option, option_map, nat_le, count_by, find}
 use Rattle.std.specs.List.{list_all, list_any}
 use Rattle.std.specs.Option.{option_map_or}
 use Rattle.std.specs.Str.{bytes_eq}
+use Rattle.command_line.specs.CommandName.{command_word, commands, taken_by}
+use Rattle.command_line.specs.declared.command_name.CommandName.{CommandName}
 use Rattle.command_line.specs.declared.option_name.OptionName.{OptionName}
 use Rattle.command_line.specs.declared.option_name.OptionName.TheVariants.{Index, Installed, Os, Arch, Compiler, MaxBackjumps}
 use Rattle.command_line.specs.OptionName.{gives, value_in}
@@ -12,13 +14,13 @@ use Rattle.command_line.specs.Form.{has_form}
 abbrev pub options : List OptionName
 options = Index ∷ Installed ∷ Os ∷ Arch ∷ Compiler ∷ MaxBackjumps ∷ []
 
--- the command
-abbrev pub is_plan : List ℕ → Bool
-is_plan word = bytes_eq word (codes "plan")
+-- whether a word is that of a command
+abbrev pub is_command : CommandName → List ℕ → Bool
+is_command command word = bytes_eq word (command_word command)
 
--- the command, or an option with its value
-abbrev pub is_known : List ℕ → Bool
-is_known word = is_plan word || list_any (λ option. gives option word) options
+-- the word of a command, or an option that it takes, with its value
+abbrev pub is_known : CommandName → List ℕ → Bool
+is_known command word = is_command command word || list_any (λ option. gives option word) (taken_by command)
 
 -- what the words give an option
 abbrev pub given : OptionName → List (List ℕ) → Option (List ℕ)
@@ -28,6 +30,10 @@ given option words = option_map (value_in option) (find (gives option) words)
 abbrev pub is_well_given : List (List ℕ) → OptionName → Bool
 is_well_given words option = nat_le (count_by (gives option) words) 1 && option_map_or (has_form option) (given option words) true
 
--- one command, and options in any order around it
-abbrev pub has_reading : List (List ℕ) → Bool
-has_reading words = list_all is_known words && (count_by is_plan words == 1 && list_all (is_well_given words) options)
+-- the words ask for a command: its word, and around it options that it takes, in any order
+abbrev pub asks_for : List (List ℕ) → CommandName → Bool
+asks_for words command = list_all (is_known command) words && (count_by (is_command command) words == 1 && list_all (is_well_given words) options)
+
+-- the command that words ask for, where they ask for one
+abbrev pub asked : List (List ℕ) → Option CommandName
+asked words = find (asks_for words) commands

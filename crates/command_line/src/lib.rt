@@ -3,6 +3,7 @@
 //! which then gives their values and refuses for want of memory alone.
 #![tactic(auto)]
 
+mod command_name;
 mod form;
 mod option_name;
 mod parser;

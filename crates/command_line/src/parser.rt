@@ -1,9 +1,9 @@
 // The parser of words that have a reading.
-ghost use Rattle.std.specs.Prelude.{◌≡◌, true, IfOk, IfErr};
+ghost use Rattle.std.specs.Prelude.{◌≡◌, true, is_some, IfOk, IfErr};
 ghost use Rattle.clap.specs.Words.{app_of, first_value, found_of, kind_of, with_rule};
 ghost use Rattle.command_line.specs.declared.option_name.OptionName.{OptionName as Named};
 ghost use Rattle.command_line.specs.OptionName.{name_of};
-ghost use Rattle.command_line.specs.Words.{given, has_reading};
+ghost use Rattle.command_line.specs.Words.{asked, given};
 ghost use Rattle.command_line.specs.Parser.{bare, command_rule, parser, with_option};
 
 use crate::option_name::{OptionName, name_of};
@@ -15,7 +15,7 @@ use std::alloc::{AllocError, Global};
 
 /// What the parser finds in words that have a reading: for each option its value, where it has one.
 pub fn parsed<'a>(alloc: Global, words: &'a [Text]) -> Result<ArgMatches<'a>, Error>
-    requires { has_reading words.now ≡ true }
+    requires { is_some (asked words.now) ≡ true }
     ensures values { IfOk result (λ matches. (option : Named)
         → first_value (found_of matches) (name_of option) ≡ given option words.entry.now) }
     ensures no_memory { IfErr result (λ error. kind_of error ≡ ErrorKind.OutOfMemory) }

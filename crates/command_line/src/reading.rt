@@ -1,5 +1,5 @@
 // What words come to: a command and its options.
-ghost use Rattle.std.specs.Prelude.{◌≡◌, IfOk, IfErr, IsErrOf, Some, None, true, unwrap_or};
+ghost use Rattle.std.specs.Prelude.{◌≡◌, IfOk, IfErr, IsErrOf, Some, None, true, is_some, unwrap_or};
 ghost use Rattle.std.specs.Option.{option_and_then, option_copied};
 ghost use Rattle.std.specs.Str.{str_to_ascii_lowercase};
 ghost use Rattle.clap.specs.Words.{first_value, found_of};
@@ -7,13 +7,14 @@ ghost use Rattle.command_line.specs.declared.reading.WordsFault.TheVariants.{Usa
 ghost use Rattle.command_line.specs.OptionName.{name_of};
 ghost use Rattle.command_line.specs.Form.{compiler_digits, compiler_name, is_compiler, is_version_text, parts_of};
 ghost use Rattle.version_range.specs.Number.{limit_of};
-ghost use Rattle.command_line.specs.Words.{has_reading};
-ghost use Rattle.command_line.specs.Reading.{compiler_or, env_of, options_of, places_of, reading};
+ghost use Rattle.command_line.specs.Words.{asked};
+ghost use Rattle.command_line.specs.Reading.{compiler_or, env_of, meant, options_of, places_of, reading};
 
+use crate::command_name::CommandName;
 use crate::form::cut_at_last_dash;
 use crate::option_name::{OptionName, name_of};
 use crate::parser::parsed;
-use crate::words::has_reading;
+use crate::words::asked;
 use clap::ArgMatches;
 use conditionals::system_of;
 use plan_types::{Env, Limit, NoMemory, Places, Text, TextFault, Version};
@@ -59,15 +60,30 @@ pub fn read_words(alloc: Global, words: &[Text]) -> Result<Command, WordsFault>
     ensures usage { IfErr result (λ fault. fault ≡ Usage → reading words.now ≡ None) }
     ensures no_reading { reading words.now ≡ None → IsErrOf result Usage }
 {
-    if !has_reading(words) {
-        return Err(WordsFault::Usage);
+    match asked(words) {
+        None => Err(WordsFault::Usage),
+        Some(command) => {
+            let meant = meant(alloc, words, command)?;
+            Ok(meant)
+        }
     }
-    let options = options_of(alloc, words)?;
-    Ok(Command::Plan(options))
+}
+
+// What a command means with the options of its words.
+fn meant(alloc: Global, words: &[Text], command: CommandName) -> Result<Command, NoMemory>
+    requires { asked words.now ≡ Some command }
+    ensures { IfOk result (λ found. found ≡ meant words.now command) }
+{
+    match command {
+        CommandName::Plan => {
+            let options = options_of(alloc, words)?;
+            Ok(Command::Plan(options))
+        }
+    }
 }
 
 fn options_of(alloc: Global, words: &[Text]) -> Result<Options, NoMemory>
-    requires { has_reading words.now ≡ true }
+    requires { is_some (asked words.now) ≡ true }
     ensures { IfOk result (λ options. options ≡ options_of words.now) }
 {
     let matches = match parsed(alloc, words) {

@@ -1,32 +1,52 @@
-// Which words have a reading.
-ghost use Rattle.std.specs.Prelude.{◌≡◌, ◌==◌, ◌&&◌, true, count_by};
+// Which words have a reading: those that ask for a command.
+ghost use Rattle.std.specs.Prelude.{◌≡◌, ◌==◌, ◌&&◌, true, count_by, find};
 ghost use Rattle.std.specs.List.{list_any, list_all};
 ghost use Rattle.std.specs.Option.{option_copied, option_map_or};
 ghost use Rattle.command_line.specs.OptionName.{gives};
 ghost use Rattle.command_line.specs.Form.{has_form};
-ghost use Rattle.command_line.specs.Words.{given, has_reading, is_known, is_plan, is_well_given, options};
+ghost use Rattle.command_line.specs.CommandName.{taken_by};
+ghost use Rattle.command_line.specs.Words.{asked, asks_for, given, is_command, is_known, is_well_given, options};
 
+use crate::command_name::{CommandName, command_word, commands, taken_by};
 use crate::form::has_form;
 use crate::option_name::{OptionName, gives, value_in};
 use plan_types::Text;
 
-/// Whether words have a reading: one command, and options in any order around it.
-pub fn has_reading(words: &[Text]) -> bool
-    ensures { result ≡ has_reading words.now }
+/// The command that words ask for, where they ask for one.
+pub fn asked(words: &[Text]) -> Option<CommandName>
+    ensures { result ≡ asked words.now }
 {
-    are_known(words) && is_one_command(words)
+    asked_among(words, &commands())
 }
 
-fn are_known(words: &[Text]) -> bool
-    ensures { result ≡ list_all is_known words.now }
+fn asked_among(words: &[Text], commands: &[CommandName]) -> Option<CommandName>
+    ensures { result ≡ find (asks_for words.now) commands.now }
 {
-    words.iter().all(is_known)
+    for command in commands {
+        if asks_for(words, *command) {
+            return Some(*command);
+        }
+    }
+    None
 }
 
-fn is_one_command(words: &[Text]) -> bool
-    ensures { result ≡ (count_by is_plan words.now == 1 && list_all (is_well_given words.now) options) }
+// The words are that of the command, and around it options that it takes, in any order.
+fn asks_for(words: &[Text], command: CommandName) -> bool
+    ensures { result ≡ asks_for words.now command }
 {
-    command_count(words) == 1 && are_well_given(words)
+    are_known(words, command) && is_one_command(words, command)
+}
+
+fn are_known(words: &[Text], command: CommandName) -> bool
+    ensures { result ≡ list_all (is_known command) words.now }
+{
+    words.iter().all(|word| is_known(word, command))
+}
+
+fn is_one_command(words: &[Text], command: CommandName) -> bool
+    ensures { result ≡ (count_by (is_command command) words.now == 1 && list_all (is_well_given words.now) options) }
+{
+    command_count(words, command) == 1 && are_well_given(words)
 }
 
 /// Every option of the command line.
@@ -43,29 +63,32 @@ pub fn options() -> [OptionName; 6]
     ]
 }
 
-// The command, or an option with its value.
-fn is_known(word: &Text) -> bool
-    ensures { result ≡ is_known word.now }
+// The word of the command, or an option that it takes, with its value.
+fn is_known(word: &Text, command: CommandName) -> bool
+    ensures { result ≡ is_known command word.now }
 {
-    is_plan(word) || is_option(word.as_bytes())
+    is_command(word, command) || is_option(word.as_bytes(), taken_by(command))
 }
 
-fn is_plan(word: &Text) -> bool
-    ensures { result ≡ is_plan word.now }
+fn is_command(word: &Text, command: CommandName) -> bool
+    ensures { result ≡ is_command command word.now }
 {
-    word.as_str() == "plan"
+    word.as_str() == command_word(command)
 }
 
-fn is_option(word: &[u8]) -> bool
-    ensures { result ≡ list_any (λ option. gives option word.now) options }
+fn is_option(word: &[u8], options: &[OptionName]) -> bool
+    ensures { result ≡ list_any (λ option. gives option word.now) options.now }
 {
-    options().iter().any(|option| gives(*option, word))
+    options.iter().any(|option| gives(*option, word))
 }
 
-fn command_count(words: &[Text]) -> usize
-    ensures { result ≡ count_by is_plan words.now }
+fn command_count(words: &[Text], command: CommandName) -> usize
+    ensures { result ≡ count_by (is_command command) words.now }
 {
-    words.iter().filter(|word| is_plan(word)).count()
+    words
+        .iter()
+        .filter(|word| is_command(word, command))
+        .count()
 }
 
 fn are_well_given(words: &[Text]) -> bool

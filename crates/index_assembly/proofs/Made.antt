@@ -1,6 +1,6 @@
 -- The index of what was gathered.
-use Rattle.std.proofs.Common.{◌≡◌, Bool, List, ◌++◌, map, sym, ◌∙◌, ap, Result, Ok, Err}
-use Rattle.std.specs.Prelude.{IfOk, flat_map}
+use Rattle.std.proofs.Common.{◌≡◌, Bool, List, ◌++◌, map, ◌∙◌, ap}
+use Rattle.std.specs.Prelude.{flat_map}
 use Rattle.plan_types.specs.declared.dependency.Named.{Named}
 use Rattle.plan_types.specs.declared.index.Entry.{Entry}
 use Rattle.plan_types.specs.declared.index.Index.{Index}
@@ -14,10 +14,6 @@ use Rattle.index_assembly.specs.Packages.{AreGathered, package_by}
 use Rattle.index_assembly.specs.Units.{AreEntriesOf}
 use Rattle.index_assembly.specs.declared.packages.Gathered.{Gathered}
 use Rattle.index_assembly.proofs.Gathering.{map_same}
-
-pub if-ok : {A E : Type 0} (P Q : A → Type 0) → ((a : A) → P a → Q a) → (r : Result A E) → IfOk r P → IfOk r Q
-if-ok P Q f (Ok a) h = f a h
-if-ok P Q f (Err e) h = h
 
 module _ (extra : List Named) (readings : Readings) (is_asked : Bytes → Bool) (own units : Bytes → List Entry) (locals entries : List Entry) (warnings : List Warning) (gathered : Gathered)
     (locals_are : locals ≡ local_entries readings.locals) (kept : AreEntriesOf readings.units entries)

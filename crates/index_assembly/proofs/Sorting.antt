@@ -1,16 +1,13 @@
 -- A stable sort by an order gives the list in that order.
 use Rattle.std.proofs.Common.{◌≡◌, Bool, List, [], ◌∷◌, if◌then◌else◌, refl, sym, ap, ◌∙◌}
 use Rattle.std.specs.Cmp.{IsStrictWeakOrder}
-use Rattle.std.specs.Cmp.Lexicographic.{slice_cmp}
-use Rattle.std.specs.Ordering.{nat_cmp, is_lt}
 use Rattle.std.specs.List.Sorted.{IsSortedBy, IsStableBy}
 use Rattle.std.proofs.lemmas.Cmp.{on_total, then_total, nat_cmp_total, nat_list_cmp_total}
 use Rattle.std.proofs.lemmas.List.Sorted.{ranks_by}
 use Rattle.plan_types.specs.declared.index.Entry.{Entry}
 use Rattle.plan_types.specs.declared.index.Package.{Package}
 use Rattle.plan_types.specs.declared.index.Skipped.{Skipped}
-use Rattle.flatten.specs.Sound.{unit_order}
-use Rattle.qualified_goals.specs.Names.{class_of, package_cmp}
+use Rattle.qualified_goals.specs.Names.{class_of}
 use Rattle.package_declarations.proofs.StableSort as stable
 use Rattle.index_assembly.specs.Order.{put, in_order}
 use Rattle.index_assembly.specs.Entries.{is_unit_below, is_version_below}

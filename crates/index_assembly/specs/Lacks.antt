@@ -3,7 +3,6 @@ use Rattle.std.specs.Prelude.{◌≡◌, ◌↔◌, ℕ, Bool, true, false, List
 use Rattle.std.specs.List.{list_any}
 use Rattle.broken_units.specs.Leads.{Leads}
 use Rattle.common_laws.specs.Graphs.{IsMarked}
-use Rattle.outside_folder.specs.Files.{Bytes}
 use Rattle.index_files.specs.Units.{place_of}
 use Rattle.index_files.specs.declared.unit.Unit.{Unit}
 

@@ -3,7 +3,6 @@ use Rattle.std.specs.Prelude.{◌≡◌, Bool, false, List, ◌++◌, map, flat_
 use Rattle.plan_types.specs.declared.index.Entry.{Entry}
 use Rattle.plan_types.specs.declared.index.Package.{Package}
 use Rattle.outside_folder.specs.Files.{Bytes}
-use Rattle.index_files.specs.Names.{is_listed}
 use Rattle.index_files.specs.declared.closure.FoundName.{FoundName}
 use Rattle.index_assembly.specs.Entries.{is_unit_below, release_entries}
 use Rattle.index_assembly.specs.Groups.{held}

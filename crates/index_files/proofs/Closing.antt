@@ -4,7 +4,7 @@ use Rattle.std.specs.Prelude.{flat_map}
 use Rattle.std.specs.List.{AllByRecursion, IsDistinct, list_all, list_any}
 use Rattle.std.proofs.lemmas.Bool.{or_left, or_right, and_from, and_parts}
 use Rattle.std.proofs.lemmas.Bool.Decides.{nat_tests}
-use Rattle.std.proofs.lemmas.List.{append_assoc, append-nil}
+use Rattle.std.proofs.lemmas.List.{append_assoc, append-nil, map-append}
 use Rattle.std.proofs.lemmas.List.Sums.{sum_by-append}
 use Rattle.std.proofs.lemmas.Grind.{flat_map-append}
 use Rattle.std.proofs.lemmas.List.Folds.{list_any-append}
@@ -17,7 +17,7 @@ use Rattle.index_files.specs.Totals.{is_too_many}
 use Rattle.index_files.specs.declared.closure.FoundName.{FoundName}
 use Rattle.index_files.specs.declared.release.Release.{Release}
 use Rattle.index_files.specs.declared.totals.Totals.{Totals}
-use Rattle.index_files.proofs.Lists.{all_more, map_append}
+use Rattle.common_laws.specs.Each.{each-append, each-front}
 use Rattle.index_files.proofs.Pairs.{pair_front, pair_grows, pair_more, pair_names, pair_none}
 use Rattle.index_files.proofs.Put.{all-last, all-put, all-still, each-all-still, listed-last, listed-left, put-all-distinct, put-all-each, put-all-grows}
 use Rattle.plan_types.specs.Bytes.{same_text}
@@ -106,7 +106,7 @@ module _ (ground : Ground) where
             (all-put names (mentioned ground here));
         given = put-all-each (IsGiven (pair_up names read ++ here ∷ [])) names (mentioned ground here) (all-still-given (pair_up names read) here names k.given)
             (each-listed (IsGiven (pair_up names read ++ here ∷ [])) (mentioned ground here) (mentioned ground here) (λ x h. mention-given (pair_up names read) here x h) (all-behind [] (mentioned ground here)));
-        judged = all_more (λ (f : FoundName). AreJudged ground.env f.name f.releases) (pair_up names read) here k.judged j;
+        judged = each-append (λ (f : FoundName). AreJudged ground.env f.name f.releases) (pair_up names read) (here ∷ []) k.judged (j, tt);
       }))
 
       pub within-next : length (read ++ r ∷ []) ≤ length new
@@ -131,8 +131,8 @@ module _ (ground : Ground) where
             let cf = p.counts.files in let cb = p.counts.bytes in let vf = v.counts.files in let vb = v.counts.bytes in
             record {
               visits = p.visits ++ visit ∷ [];
-              found_is = paired ∙ ap (λ fs. fs ++ here ∷ []) p.found_is ∙ sym (map_append found_of p.visits (visit ∷ []));
-              read = all_more (IsVisit ground files) p.visits visit p.read v.visit;
+              found_is = paired ∙ ap (λ fs. fs ++ here ∷ []) p.found_is ∙ sym (map-append found_of p.visits (visit ∷ []));
+              read = each-append (IsVisit ground files) p.visits (visit ∷ []) p.read (v.visit, tt);
               reached = subst (AllByRecursion (IsReached ground files)) (sym put) (put-all-each (IsReached ground files) names (mentioned ground here) p.reached more);
               counts = record { files = omega (arith, c, cf, vf); bytes = omega (arith, s, cb, vb) };
             }
@@ -202,10 +202,6 @@ module _ (ground : Ground) where
     parts-of [] h k = tt
     parts-of (v ∷ visits) h k = (record { reached = h.0; versions = part-of v (is_local ground v.name) k.0 }, parts-of visits h.1 k.1)
 
-    each-front : (P : Bytes → Type 0) (xs ys : List Bytes) → AllByRecursion P (xs ++ ys) → AllByRecursion P xs
-    each-front P [] ys h = tt
-    each-front P (x ∷ xs) ys h = (h.0, each-front P xs ys h.1)
-
     module _ (names : List Bytes) (read : List (List Release)) (before mid : Totals) (within : length read < length names) where
       pub beyond : AreKept ground names (pair_up names read) → ArePartly ground files before mid names (pair_up names read) → IsOneTooMany ground files (get_or names (length read) []) mid
           → IsBeyond ground before.files before.bytes files
@@ -215,11 +211,11 @@ module _ (ground : Ground) where
           let l = length-append read ([] ∷ []) in
           let front = pair_front names (read ++ [] ∷ []) (omega (arith, l, within)) in
           let found-names : map (λ (f : FoundName). f.name) (pair_up names (read ++ [] ∷ [])) ≡ names_of (p.visits ++ visit ∷ []) =
-          ap (map (λ (f : FoundName). f.name)) (pair_more names read [] within ∙ ap (λ fs. fs ++ record { name = name; releases = [] } ∷ []) p.found_is ∙ sym (map_append found_of p.visits (visit ∷ [])))
+          ap (map (λ (f : FoundName). f.name)) (pair_more names read [] within ∙ ap (λ fs. fs ++ record { name = name; releases = [] } ∷ []) p.found_is ∙ sym (map-append found_of p.visits (visit ∷ [])))
           ∙ names-found (p.visits ++ visit ∷ []) in
           let is = front.1 ∙ ap (λ ns. ns ++ front.0) found-names in
           let reached-all = each-front (IsReached ground files) (names_of (p.visits ++ visit ∷ [])) front.0 (subst (AllByRecursion (IsReached ground files)) is p.reached) in
-          let reached-old = each-front (IsReached ground files) (names_of p.visits) (name ∷ []) (subst (AllByRecursion (IsReached ground files)) (map_append (λ (v : Visit). v.name) p.visits (visit ∷ [])) reached-all) in
+          let reached-old = each-front (IsReached ground files) (names_of p.visits) (name ∷ []) (subst (AllByRecursion (IsReached ground files)) (map-append (λ (v : Visit). v.name) p.visits (visit ∷ [])) reached-all) in
           let here : HasVersions ground files visit (is_local ground name) = subst (HasVersions ground files visit) (sym v.apart) v.read.versions in
           let all = flat_map-append (visited_files ground files) p.visits (visit ∷ []) ∙ ap (λ fs. flat_map (visited_files ground files) p.visits ++ fs) (append-nil (visited_files ground files visit)) in
           let c = ap count_all all ∙ sum_by-append count_of (flat_map (visited_files ground files) p.visits) (visited_files ground files visit) in
@@ -230,7 +226,7 @@ module _ (ground : Ground) where
           record {
             parts = p.visits ++ visit ∷ [];
             once = distinct-front (names_of (p.visits ++ visit ∷ [])) front.0 (subst (IsDistinct same_text) is k.once);
-            inside = all_more (IsPart ground files) p.visits visit (parts-of p.visits reached-old p.read)
-                (record { reached = at-place (IsReached ground files) names (length read) within p.reached; versions = here });
+            inside = each-append (IsPart ground files) p.visits (visit ∷ []) (parts-of p.visits reached-old p.read)
+                (record { reached = at-place (IsReached ground files) names (length read) within p.reached; versions = here }, tt);
             many = (λ i. is_too_many (sym e i) (sym f i)) ∙ v.read.many;
           }

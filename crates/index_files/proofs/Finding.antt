@@ -1,6 +1,6 @@
 -- One more name of the closure, as it was found.
 use Rattle.std.proofs.Common.{◌≡◌, ◌<◌, ◌≤◌, List, [], ◌∷◌, ◌++◌, length, map, get_or, sym, ◌∙◌, ap, subst, arith, length-append}
-use Rattle.std.proofs.lemmas.List.{length-map}
+use Rattle.std.proofs.lemmas.List.{length-map, map-append}
 use Rattle.outside_folder.specs.Files.{Bytes, Files}
 use Rattle.index_files.specs.Closure.{Ground, IsBeyond, IsWhole, mentioned}
 use Rattle.index_files.specs.Steps.{AreJudged, AreKept, ArePartly, Finds, IsOneTooMany, IsVisited, pair_up}
@@ -8,7 +8,6 @@ use Rattle.index_files.specs.declared.closure.FoundName.{FoundName}
 use Rattle.index_files.specs.declared.release.Release.{Release}
 use Rattle.index_files.specs.declared.totals.Totals.{Totals}
 use Rattle.index_files.proofs.Closing.{beyond, kept-next, paired, partly-next, whole, within-next}
-use Rattle.index_files.proofs.Lists.{map_append}
 use Rattle.index_files.proofs.Pairs.{pair_names}
 use Rattle.index_files.specs.Names.{put_all}
 
@@ -39,7 +38,7 @@ module _ (ground : Ground) (names new : List Bytes) (found : List FoundName) (wi
     joined = (λ i. pairs i ++ one-is i ∷ []) ∙ sym (paired ground names new (releases_in found) one.releases before put-is)
 
     pub pairs-on : found ++ one ∷ [] ≡ pair_up new (releases_in (found ++ one ∷ []))
-    pairs-on = joined ∙ ap (pair_up new) (sym (map_append (λ (f : FoundName). f.releases) found (one ∷ [])))
+    pairs-on = joined ∙ ap (pair_up new) (sym (map-append (λ (f : FoundName). f.releases) found (one ∷ [])))
 
     pub within-on : length (found ++ one ∷ []) ≤ length new
     within-on =

@@ -7,20 +7,24 @@ use Rattle.description.specs.declared.fault_order.At.{At}
 use Rattle.outside_folder.specs.Files.{Bytes}
 use Rattle.plan_types.specs.declared.condition.Env.{Env}
 use Rattle.plan_types.specs.declared.index.UnitRecord.{UnitRecord}
+use Rattle.plan_types.specs.declared.refusal.Cause.{Cause}
+use Rattle.plan_types.specs.declared.refusal.Cause.TheVariants.{DuplicateLocal, DuplicateUnit}
 use Rattle.plan_types.specs.declared.refusal.Refusal.{Refusal}
 use Rattle.cabal_file.specs.declared.source.Source.{Source}
 use Rattle.index_files.specs.InTurn.{GoesOn, InTurn}
-use Rattle.index_files.specs.Locals.{AreLocals, FileComes, local_name, local_names, unless_there, with_file}
+use Rattle.index_files.specs.Locals.{AreLocals, FileComes, local_name, local_names, local_path, with_file}
+use Rattle.index_files.specs.OnceEach.{unless_there}
 use Rattle.index_files.specs.Readings.{AreFromFiles, IsFromFile}
-use Rattle.index_files.specs.Units as units
-use Rattle.index_files.specs.Units.{AreUnits, IsFormed, RecordComes, is_formed, place_of, unit_id, unit_ids, unit_name, with_found, with_record, with_unit}
+use Rattle.index_files.specs.Units.{AreUnits, IsFormed, RecordComes, is_formed, place_of, unit_id, unit_ids, unit_path, with_record}
 use Rattle.index_files.specs.declared.file.File.{File}
 use Rattle.index_files.specs.declared.local.Local.{Local}
 use Rattle.index_files.specs.declared.unit.Unit.{Unit}
-use Rattle.index_files.proofs.Lists.{all_more, map_append}
-use Rattle.index_files.proofs.Put.{distinct-last}
+use Rattle.common_laws.specs.Each.{each-append}
 use Rattle.plan_types.specs.Bytes.{same_text}
+use Rattle.std.specs.Cmp.Lexicographic.{nat_list_eq_equiv}
 use Rattle.std.proofs.lemmas.Bool.{and_parts}
+use Rattle.std.proofs.lemmas.List.{map-append}
+use Rattle.std.proofs.lemmas.Map.Keys.{IsDistinct-push}
 
 ok-or : {A : Type 0} → A → Result A Refusal → A
 ok-or a (Ok x) = x
@@ -34,22 +38,23 @@ not-err : {A : Type 0} (a : A) (r : Refusal) (s : Result A Refusal) → s ≡ Ok
 not-err a r s p q = let h = sym p ∙ q in cc h
 
 distinct-keys : {X : Type 0} (key : X → Bytes) (xs : List X) (x : X) → IsDistinct same_text (map key xs) → position (same_text (key x)) (map key xs) ≡ None → IsDistinct same_text (map key (xs ++ x ∷ []))
-distinct-keys key xs x h none = subst (IsDistinct same_text) (sym (map_append key xs (x ∷ []))) (distinct-last (map key xs) (key x) h (position-none (same_text (key x)) (map key xs) none))
+distinct-keys key xs x h none = subst (IsDistinct same_text) (sym (map-append key xs (x ∷ []))) (IsDistinct-push nat_list_eq_equiv (map key xs) (key x) h (position-none (same_text (key x)) (map key xs) none))
+
+-- what was taken in the end has the thing last that had no place
+put-last : {X G : Type 0} (path_of : X → Bytes) (cause : Cause) (place : Option ℕ) (taken : List X) (x : X) (Rest : List X → Type 0) (all : List X)
+    → (place ≡ None → Rest (taken ++ x ∷ []) → G) → GoesOn {T = List X} (unless_there path_of cause place taken x) Rest (Ok all) → G
+put-last path_of cause None taken x Rest all go h = go refl h
+put-last path_of cause (Some place) taken x Rest all go h = absurd (not-err all _ _ refl h)
 
 -- ---- local packages
 
 module _ (env : Env) where
-  with-one : (taken : List Local) (local : Local) → AreFromFiles env taken → IsFromFile env local → (place : Option ℕ) → position (same_text (local_name local)) (local_names taken) ≡ place
-      → (Rest : List Local → Type 0) (ls : List Local) → ((next : List Local) → AreFromFiles env next → Rest next → AreFromFiles env ls) → GoesOn {T = List Local} (unless_there place taken local) Rest (Ok ls) → AreFromFiles env ls
-  with-one taken local a f None e Rest ls go h = go (taken ++ local ∷ [])
-      (record { once = distinct-keys local_name taken local a.once e; read = all_more (IsFromFile env) taken local a.read f }) h
-  with-one taken local a f (Some place) e Rest ls go h = absurd (not-err ls _ _ refl h)
-
   with-read : (taken : List Local) (file : File) (o : Result Source At) → AreFromFiles env taken → FileComes env file o
       → (Rest : List Local → Type 0) (ls : List Local) → ((next : List Local) → AreFromFiles env next → Rest next → AreFromFiles env ls) → GoesOn {T = List Local} (with_file taken file o) Rest (Ok ls) → AreFromFiles env ls
   with-read taken file (Ok source) a c Rest ls go h =
       let local : Local = record { path = file.path; source = source } in
-      with-one taken local a (file, c) (position (same_text (local_name local)) (local_names taken)) refl Rest ls go h
+      put-last local_path DuplicateLocal (position (same_text (local_name local)) (local_names taken)) taken local Rest ls
+      (λ none. go (taken ++ local ∷ []) (record { once = distinct-keys local_name taken local a.once none; read = each-append (IsFromFile env) taken (local ∷ []) a.read ((file, c), tt) })) h
   with-read taken file (Err at) a c Rest ls go h = absurd (not-err ls _ _ refl h)
 
   from-files : (files : List File) (taken ls : List Local) → AreFromFiles env taken → InTurn (FileComes env) with_file taken files (Ok ls) → AreFromFiles env ls
@@ -69,17 +74,12 @@ module _ (env : Env) where
 abbrev AreOnce : List Unit → Type 0
 AreOnce us = IsDistinct same_text (unit_ids us)
 
-one-unit : (taken : List Unit) (u : Unit) → AreOnce taken → (place : Option ℕ) → place_of taken (unit_id u) ≡ place
-    → (Rest : List Unit → Type 0) (us : List Unit) → ((next : List Unit) → AreOnce next → Rest next → AreOnce us) → GoesOn {T = List Unit} (units.unless_there place taken u) Rest (Ok us) → AreOnce us
-one-unit taken u a None e Rest us go h = go (taken ++ u ∷ []) (distinct-keys unit_id taken u a e) h
-one-unit taken u a (Some place) e Rest us go h = absurd (not-err us _ _ refl h)
-
 one-record : (taken : List Unit) (file : File) (o : Result (Option UnitRecord) At) → AreOnce taken
     → (Rest : List Unit → Type 0) (us : List Unit) → ((next : List Unit) → AreOnce next → Rest next → AreOnce us) → GoesOn {T = List Unit} (with_record taken file o) Rest (Ok us) → AreOnce us
 one-record taken file (Ok None) a Rest us go h = go taken a h
 one-record taken file (Ok (Some r)) a Rest us go h =
     let u : Unit = record { path = file.path; record_of = r } in
-    one-unit taken u a (place_of taken (unit_id u)) refl Rest us go h
+    put-last unit_path DuplicateUnit (place_of taken (unit_id u)) taken u Rest us (λ none. go (taken ++ u ∷ []) (distinct-keys unit_id taken u a none)) h
 one-record taken file (Err at) a Rest us go h = absurd (not-err us _ _ refl h)
 
 from-records : (files : List File) (taken us : List Unit) → AreOnce taken → InTurn RecordComes with_record taken files (Ok us) → AreOnce us

@@ -10,7 +10,7 @@ use Rattle.index_files.specs.Releases.{AddsRelease, AddsVersion, AreReleases, Ar
 use Rattle.index_files.specs.declared.file.File.{File}
 use Rattle.index_files.specs.declared.release.Release.{Release}
 use Rattle.index_files.specs.declared.versions.VersionDir.{VersionDir}
-use Rattle.index_files.proofs.Lists.{map_append}
+use Rattle.std.proofs.lemmas.List.{map-append}
 use Rattle.plan_types.specs.Bytes.{same_text}
 
 -- a key that has no place is put last
@@ -19,7 +19,7 @@ pub put-new : {X : Type 0} (key : X → Bytes) (xs : List X) (x : X) (keys new :
 put-new key xs x keys new n ys are none is put all =
     put ∙ ap (insert_key same_text keys) is ∙ ap (λ ks. insert_key same_text ks (key x)) are
     ∙ ap (λ b. if b then map key xs else map key xs ++ key x ∷ []) (position-none (same_text (key x)) (map key xs) none)
-    ∙ sym (map_append key xs (x ∷ [])) ∙ ap (map key) (sym all)
+    ∙ sym (map-append key xs (x ∷ [])) ∙ ap (map key) (sym all)
 
 pub versions-more : (names : List Name) (name : Name) (dirs new : List VersionDir) → AreVersions names dirs → AddsVersion name.text dirs new → AreVersions (names ++ name ∷ []) new
 versions-more [] name dirs new h a =

@@ -9,7 +9,9 @@ use Rattle.std.proofs.lemmas.List.Folds.{list_any-append}
 use Rattle.index_files.specs.Names.{is_listed, put, put_all}
 use Rattle.outside_folder.specs.Files.{Bytes}
 use Rattle.plan_types.specs.Bytes.{same_text}
-use Rattle.std.proofs.lemmas.Bool.{or_left, or_right, or_parts, and_from, and_parts}
+use Rattle.std.proofs.lemmas.Bool.{or_left, or_right, and_from, and_parts}
+use Rattle.std.proofs.lemmas.Map.Keys.{IsDistinct-push}
+use Rattle.common_laws.specs.Each.{each-append}
 
 -- ---- one more turn of a loop
 
@@ -57,27 +59,13 @@ module _ (names : List Bytes) (n : Bytes) where
   pub put-each : (P : Bytes → Type 0) → AllByRecursion P names → P n → AllByRecursion P (put names n)
   put-each P h p = elim (is_listed names n) as (λ b. AllByRecursion P (if b then names else names ++ n ∷ [])) [
     | true ↦ h
-    | false ↦ at-end names h
+    | false ↦ each-append P names (n ∷ []) h (p, tt)
   ]
-    where
-      at-end : (ns : List Bytes) → AllByRecursion P ns → AllByRecursion P (ns ++ n ∷ [])
-      at-end [] h = (p, tt)
-      at-end (m ∷ ns) h = (h.0, at-end ns h.1)
-
-apart-from : (m : Bytes) (ns : List Bytes) (n : Bytes) → AllByRecursion (λ y. same_text m y ≡ false) ns → same_text m n ≡ false → AllByRecursion (λ y. same_text m y ≡ false) (ns ++ n ∷ [])
-apart-from m [] n h e = (e, tt)
-apart-from m (x ∷ ns) n h e = (h.0, apart-from m ns n h.1 e)
-
-pub distinct-last : (names : List Bytes) (n : Bytes) → IsDistinct same_text names → is_listed names n ≡ false → IsDistinct same_text (names ++ n ∷ [])
-unfolding IsDistinct
-distinct-last [] n h e = (tt, tt)
-distinct-last (m ∷ names) n h e =
-    (apart-from m names n h.0 (nat_list_eq_equiv.symm m n ∙ (or_parts (same_text n m) (is_listed names n) e).0), distinct-last names n h.1 ((or_parts (same_text n m) (is_listed names n) e).1))
 
 pub put-distinct : (names : List Bytes) (n : Bytes) → IsDistinct same_text names → IsDistinct same_text (put names n)
 put-distinct names n h = elim (is_listed names n) as (λ b. is_listed names n ≡ b → IsDistinct same_text (if b then names else names ++ n ∷ [])) [
   | true ↦ λ e. h
-  | false ↦ λ e. distinct-last names n h e
+  | false ↦ λ e. IsDistinct-push nat_list_eq_equiv names n h e
 ] refl
 
 -- what several names lead to

@@ -1,5 +1,5 @@
 -- Things that are taken one after the other, as far as they were taken.
-use Rattle.std.proofs.Common.{◌≡◌, ℕ, List, [], ◌∷◌, ◌++◌, Option, Result, Ok, Err, refl, sym, ◌∙◌, ap, subst}
+use Rattle.std.proofs.Common.{◌≡◌, ℕ, List, [], ◌∷◌, ◌++◌, Option, Result, Ok, Err, refl, sym, ◌∙◌, subst}
 use Rattle.std.proofs.lemmas.List.{append_assoc, append-nil}
 use Rattle.outside_folder.specs.Calls.{Leaves, halt_of}
 use Rattle.outside_folder.specs.Files.{Files}
@@ -79,16 +79,6 @@ refused-as Is Was (halt.Refused r) from a = from r a
 pub quiet : {F failed then : Type 0} (tells : F → Option Files) (faults : F → ℕ) (old new : F) → (then → ⊥) → Leaves tells faults old new failed → Leaves tells faults old new then
 quiet tells faults old new never h = record { same_files = h.same_files; later = h.later; rose = λ t. absurd (never t) }
 
-halt-in : {A : Type 0} → Result A Halt → Halt
-halt-in (Ok a) = halt.NoMemory
-halt-in (Err h) = h
-
-never-halted : {A : Type 0} (Is : Result A Refusal → Type 0) (h : Halt) → Settles Is (Err h) → h ≡ halt.Failed → ⊥
-never-halted Is halt.NoMemory s e = cc e
-never-halted Is halt.Failed s e = s
-never-halted Is (halt.Refused r) s e = cc e
-
 -- what another answers with the same halt doesn't fail either
 pub never-passed : {A B : Type 0} (Is : Result A Refusal → Type 0) (h : Halt) (r : Result B Halt) → Settles Is (Err h) → r ≡ Err h → r ≡ Err halt.Failed → ⊥
-unfolding halt-in
-never-passed Is h r s e k = never-halted Is h s (sym (ap halt-in e) ∙ ap halt-in k)
+never-passed Is h r s e k = let failed : h ≡ halt.Failed = cc (e, k) in subst (λ (h : Halt). Settles Is (Err h)) failed s

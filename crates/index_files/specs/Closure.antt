@@ -69,28 +69,29 @@ pub record Visit : Type 0 where
 abbrev pub found_of : Visit → FoundName
 found_of visit = record { name = visit.name; releases = visit.releases }
 
--- what is found at the paths of the versions of a name
-abbrev pub visited_files : Ground → Files → Visit → List File
-visited_files ground files visit = files_below ground.places files visit.name visit.dirs
-
--- the versions and the releases of a name are those in the index
-pub record ReadsAll (ground : Ground) (files : Files) (visit : Visit) : Type 0 where
-  pub versions : AreVersions (names_below ground.places files visit.name) visit.dirs
-  pub releases : AreReleases ground.env visit.name visit.dirs (visited_files ground files visit) visit.releases
-
 -- a name has no versions and no releases
 pub record ReadsNothing (visit : Visit) : Type 0 where
   pub no_versions : visit.dirs ≡ []
   pub no_releases : visit.releases ≡ []
 
--- under the name of a local package nothing is read
-abbrev pub ReadsAs : Ground → Files → Visit → Bool → Type 0
-ReadsAs ground files visit true = ReadsNothing visit
-ReadsAs ground files visit false = ReadsAll ground files visit
+module _ (ground : Ground) (files : Files) where
+  -- what is found at the paths of the versions of a name
+  abbrev pub visited_files : Visit → List File
+  visited_files visit = files_below ground.places files visit.name visit.dirs
 
--- a visit has all that is to be read under its name
-abbrev pub IsVisit : Ground → Files → Visit → Type 0
-IsVisit ground files visit = ReadsAs ground files visit (is_local ground visit.name)
+  -- the versions and the releases of a name are those in the index
+  pub record ReadsAll (visit : Visit) : Type 0 where
+    pub versions : AreVersions (names_below ground.places files visit.name) visit.dirs
+    pub releases : AreReleases ground.env visit.name visit.dirs (visited_files visit) visit.releases
+
+  -- under the name of a local package nothing is read
+  abbrev pub ReadsAs : Visit → Bool → Type 0
+  ReadsAs visit true = ReadsNothing visit
+  ReadsAs visit false = ReadsAll visit
+
+  -- a visit has all that is to be read under its name
+  abbrev pub IsVisit : Visit → Type 0
+  IsVisit visit = ReadsAs visit (is_local ground visit.name)
 
 -- ---- the closure
 
@@ -100,12 +101,6 @@ pub data IsReached (ground : Ground) (files : Files) : Bytes → Type 0 where
   by_name : (visit : Visit) (name : Bytes) → IsReached ground files visit.name → IsVisit ground files visit
       → is_listed (mentioned ground (found_of visit)) name ≡ true → IsReached ground files name
 
--- what the files of these names and versions count as, after so many files and bytes
-abbrev pub are_too_many : Ground → Files → ℕ → ℕ → List Visit → Bool
-are_too_many ground files count size visits =
-    let all = flat_map (visited_files ground files) visits in
-    is_too_many (count + count_all all) (size + size_all all)
-
 -- the names of these visits
 abbrev pub names_of : List Visit → List Bytes
 names_of visits = map (λ visit. visit.name) visits
@@ -114,23 +109,30 @@ names_of visits = map (λ visit. visit.name) visits
 abbrev pub AreClosed : Ground → List Bytes → List Visit → Type 0
 AreClosed ground names visits = list_all (λ visit. list_all (is_listed names) (mentioned ground (found_of visit))) visits ≡ true
 
--- The least names that hold those with which it begins and, with each, those that it mentions.
-pub record IsClosure (ground : Ground) (files : Files) (visits : List Visit) : Type 0 where
-  pub once : IsDistinct same_text (names_of visits)
-  pub begun : list_all (is_listed (names_of visits)) (roots ground) ≡ true
-  pub closed : AreClosed ground (names_of visits) visits
-  pub reached : AllByRecursion (λ visit. IsReached ground files visit.name) visits
-  pub read : AllByRecursion (IsVisit ground files) visits
+module _ (ground : Ground) (files : Files) where
+  -- what the files of these names and versions count as, after so many files and bytes
+  abbrev pub are_too_many : ℕ → ℕ → List Visit → Bool
+  are_too_many count size visits =
+      let all = flat_map (visited_files ground files) visits in
+      is_too_many (count + count_all all) (size + size_all all)
 
--- the versions of a name; that of a local package has none
-abbrev pub HasVersions : Ground → Files → Visit → Bool → Type 0
-HasVersions ground files visit true = visit.dirs ≡ []
-HasVersions ground files visit false = AreVersions (names_below ground.places files visit.name) visit.dirs
+  -- The least names that hold those with which it begins and, with each, those that it mentions.
+  pub record IsClosure (visits : List Visit) : Type 0 where
+    pub once : IsDistinct same_text (names_of visits)
+    pub begun : list_all (is_listed (names_of visits)) (roots ground) ≡ true
+    pub closed : AreClosed ground (names_of visits) visits
+    pub reached : AllByRecursion (λ visit. IsReached ground files visit.name) visits
+    pub read : AllByRecursion (IsVisit ground files) visits
 
--- a name of the closure and its versions
-pub record IsPart (ground : Ground) (files : Files) (visit : Visit) : Type 0 where
-  pub reached : IsReached ground files visit.name
-  pub versions : HasVersions ground files visit (is_local ground visit.name)
+  -- the versions of a name; that of a local package has none
+  abbrev pub HasVersions : Visit → Bool → Type 0
+  HasVersions visit true = visit.dirs ≡ []
+  HasVersions visit false = AreVersions (names_below ground.places files visit.name) visit.dirs
+
+  -- a name of the closure and its versions
+  pub record IsPart (visit : Visit) : Type 0 where
+    pub reached : IsReached ground files visit.name
+    pub versions : HasVersions visit (is_local ground visit.name)
 
 -- Some names of the closure have more files than are read, after so many files and bytes.
 pub record IsBeyond (ground : Ground) (count size : ℕ) (files : Files) : Type 0 where

@@ -1,6 +1,7 @@
 pub mod Closure
 pub mod File
 pub mod InTurn
+pub mod OnceEach
 pub mod Ground
 pub mod Locals
 pub mod Names

@@ -1,15 +1,17 @@
 -- The local packages of a folder.
-use Rattle.std.specs.Prelude.{◌≡◌, ℕ, List, [], ◌∷◌, ◌++◌, true, map, position, slice_get, Option, Some, None}
+use Rattle.std.specs.Prelude.{◌≡◌, List, [], true, map, position}
 use Rattle.std.specs.declared.result.Result.{Result}
 use Rattle.std.specs.declared.result.Result.TheVariants.{Ok, Err}
 use Rattle.plan_types.specs.declared.condition.Env.{Env}
 use Rattle.plan_types.specs.declared.refusal.Cause.TheVariants.{DuplicateLocal}
+use Rattle.plan_types.specs.Refusal.{refusal_at}
 use Rattle.plan_types.specs.declared.refusal.Refusal.{Refusal}
 use Rattle.description.specs.declared.fault_order.At.{At}
 use Rattle.outside_folder.specs.Files.{Bytes, Files}
 use Rattle.cabal_file.specs.declared.source.Source.{Source}
 use Rattle.index_files.specs.File.{file_found}
 use Rattle.index_files.specs.InTurn.{InTurn}
+use Rattle.index_files.specs.OnceEach.{unless_there}
 use Rattle.index_files.specs.Sources.{Comes}
 use Rattle.index_files.specs.declared.file.File.{File}
 use Rattle.index_files.specs.declared.local.Local.{Local}
@@ -23,18 +25,13 @@ local_name local = local.source.description.name
 abbrev pub local_names : List Local → List Bytes
 local_names locals = map local_name locals
 
--- the path of the local package at a place
-abbrev pub path_at : List Local → ℕ → Bytes
-path_at locals place = elim (slice_get locals place) [ None ↦ [] | Some local ↦ local.path ]
-
--- a second package of a name is refused, with the path of the first
-abbrev pub unless_there : Option ℕ → List Local → Local → Result (List Local) Refusal
-unless_there None locals local = Ok (locals ++ local ∷ [])
-unless_there (Some place) locals local = Err (record { path = local.path; line = 0; cause = DuplicateLocal; detail = path_at locals place })
+-- the path of its file
+abbrev pub local_path : Local → Bytes
+local_path local = local.path
 
 -- a local package behind others, or a refusal where one of them has its name
 abbrev pub with_local : List Local → Local → Result (List Local) Refusal
-with_local locals local = unless_there (position (same_text (local_name local)) (local_names locals)) locals local
+with_local locals local = unless_there local_path DuplicateLocal (position (same_text (local_name local)) (local_names locals)) locals local
 
 -- what comes of the local package in a file
 abbrev pub TakesLocal : List Local → Bytes → Source → Result (List Local) Refusal → Type 0
@@ -43,7 +40,7 @@ TakesLocal locals path source outcome = with_local locals (record { path = path;
 -- a file that can't be read is refused
 abbrev pub with_file : List Local → File → Result Source At → Result (List Local) Refusal
 with_file locals file (Ok source) = with_local locals (record { path = file.path; source = source })
-with_file locals file (Err at) = Err (record { path = file.path; line = at.line; cause = at.cause; detail = [] })
+with_file locals file (Err at) = Err (refusal_at file.path at.line at.cause)
 
 -- what the file of a local package comes to
 abbrev pub FileComes : Env → File → Result Source At → Type 0

@@ -29,33 +29,35 @@ pub record ReadsTooMany (places : Places) (files : Files) (name : Bytes) (before
   pub versions : AreVersions (names_below places files name) dirs
   pub many : IsBeyondAll before (files_below places files name dirs)
 
--- the releases of a name, whose files were counted
-pub record ReadsReleases (env : Env) (places : Places) (files : Files) (name : Bytes) (before after : Totals) (releases : List Release) : Type 0 where
-  pub dirs : List VersionDir
-  pub versions : AreVersions (names_below places files name) dirs
-  pub releases_are : AreReleases env name dirs (files_below places files name dirs) releases
-  pub counts : Counts before after (files_below places files name dirs)
+module _ (env : Env) (places : Places) (files : Files) (name : Bytes) (before after : Totals) where
+  -- the releases of a name, whose files were counted
+  pub record ReadsReleases (releases : List Release) : Type 0 where
+    pub dirs : List VersionDir
+    pub versions : AreVersions (names_below places files name) dirs
+    pub releases_are : AreReleases env name dirs (files_below places files name dirs) releases
+    pub counts : Counts before after (files_below places files name dirs)
 
--- the releases of a name, or that its files are too many
-abbrev pub Reads : Env → Places → Files → Bytes → Totals → Totals → Option (List Release) → Type 0
-Reads env places files name before after None = ReadsTooMany places files name before
-Reads env places files name before after (Some releases) = ReadsReleases env places files name before after releases
+  -- the releases of a name, or that its files are too many
+  abbrev pub Reads : Option (List Release) → Type 0
+  Reads None = ReadsTooMany places files name before
+  Reads (Some releases) = ReadsReleases releases
 
--- its files were counted and read
-pub record IsVisited (ground : Ground) (files : Files) (name : Bytes) (before after : Totals) (releases : List Release) : Type 0 where
-  pub dirs : List VersionDir
-  pub visit : IsVisit ground files (record { name = name; dirs = dirs; releases = releases })
-  pub counts : Counts before after (visited_files ground files (record { name = name; dirs = dirs; releases = releases }))
-
--- its files are too many after those before them
+-- the files of a name that isn't local are too many after those before them
 pub record IsOneTooMany (ground : Ground) (files : Files) (name : Bytes) (before : Totals) : Type 0 where
   pub apart : is_local ground name ≡ false
   pub read : ReadsTooMany ground.places files name before
 
--- what is read under a name, or that its files are too many
-abbrev pub Visits : Ground → Files → Bytes → Totals → Totals → Option (List Release) → Type 0
-Visits ground files name before after None = IsOneTooMany ground files name before
-Visits ground files name before after (Some releases) = IsVisited ground files name before after releases
+module _ (ground : Ground) (files : Files) (name : Bytes) (before after : Totals) where
+  -- its files were counted and read
+  pub record IsVisited (releases : List Release) : Type 0 where
+    pub dirs : List VersionDir
+    pub visit : IsVisit ground files (record { name = name; dirs = dirs; releases = releases })
+    pub counts : Counts before after (visited_files ground files (record { name = name; dirs = dirs; releases = releases }))
+
+  -- what is read under a name, or that its files are too many
+  abbrev pub Visits : Option (List Release) → Type 0
+  Visits None = IsOneTooMany ground files name before
+  Visits (Some releases) = IsVisited releases
 
 -- what was read under the name at a place
 abbrev pub VisitsAt : Ground → Files → List Bytes → ℕ → Totals → Totals → Option FoundName → Type 0

@@ -1,10 +1,11 @@
 -- The installed units of a folder, by their records.
-use Rattle.std.specs.Prelude.{◌≡◌, ℕ, ◌&&◌, Bool, true, false, not, if◌then◌else◌, List, [], ◌∷◌, ◌++◌, codes, length, map, filter, flat_map, position, slice_get, unwrap_or, nat_eq, ◌==◌, Option, Some, None}
+use Rattle.std.specs.Prelude.{◌≡◌, ℕ, ◌&&◌, Bool, true, false, not, if◌then◌else◌, List, [], ◌∷◌, codes, length, map, filter, flat_map, position, slice_get, unwrap_or, nat_eq, ◌==◌, Option, Some, None}
 use Rattle.std.specs.List.{ends_with}
 use Rattle.std.specs.declared.result.Result.{Result}
 use Rattle.std.specs.declared.result.Result.TheVariants.{Ok, Err}
 use Rattle.plan_types.specs.declared.index.UnitRecord.{UnitRecord}
 use Rattle.plan_types.specs.declared.refusal.Cause.TheVariants.{BadRecord, DuplicateUnit, TooLarge, TooMany}
+use Rattle.plan_types.specs.Refusal.{refusal_at}
 use Rattle.plan_types.specs.declared.refusal.Refusal.{Refusal}
 use Rattle.plan_types.specs.Name.{is_package_name}
 use Rattle.version_range.specs.Version.{is_version}
@@ -15,6 +16,7 @@ use Rattle.outside_folder.specs.declared.folder.Name.{Name}
 use Rattle.unit_record.specs.Record.{IsRecord}
 use Rattle.index_files.specs.File.{file_found, fitting}
 use Rattle.index_files.specs.InTurn.{InTurn}
+use Rattle.index_files.specs.OnceEach.{unless_there}
 use Rattle.index_files.specs.Places.{record_path}
 use Rattle.index_files.specs.Sources.{bytes_in}
 use Rattle.index_files.specs.declared.file.File.{File}
@@ -56,18 +58,13 @@ unit_ids units = map unit_id units
 abbrev pub place_of : List Unit → Bytes → Option ℕ
 place_of units id = position (same_text id) (unit_ids units)
 
--- the path of the record of the unit at a place
-abbrev pub path_at : List Unit → ℕ → Bytes
-path_at units place = elim (slice_get units place) [ None ↦ [] | Some u ↦ u.path ]
-
--- a second unit of an id is refused, with the path of the first
-abbrev pub unless_there : Option ℕ → List Unit → Unit → Result (List Unit) Refusal
-unless_there None units u = Ok (units ++ u ∷ [])
-unless_there (Some place) units u = Err (record { path = u.path; line = 0; cause = DuplicateUnit; detail = path_at units place })
+-- the path of the record of a unit
+abbrev pub unit_path : Unit → Bytes
+unit_path u = u.path
 
 -- a unit behind others, or a refusal where one of them has its id
 abbrev pub with_unit : List Unit → Unit → Result (List Unit) Refusal
-with_unit units u = unless_there (place_of units (unit_id u)) units u
+with_unit units u = unless_there unit_path DuplicateUnit (place_of units (unit_id u)) units u
 
 -- the record of a sublibrary is left out
 abbrev pub with_found : List Unit → Bytes → Option UnitRecord → Result (List Unit) Refusal
@@ -85,7 +82,7 @@ TakesFound units path found outcome = with_found units path found ≡ outcome
 -- a record that can't be read is refused
 abbrev pub with_record : List Unit → File → Result (Option UnitRecord) At → Result (List Unit) Refusal
 with_record units file (Ok found) = with_found units file.path found
-with_record units file (Err at) = Err (record { path = file.path; line = at.line; cause = at.cause; detail = [] })
+with_record units file (Err at) = Err (refusal_at file.path at.line at.cause)
 
 -- the units of these files, or the first refusal
 abbrev pub AreUnits : List File → Result (List Unit) Refusal → Type 0
@@ -101,18 +98,19 @@ is_record name = not name.folder && ends_with nat_eq name.text (codes ".conf")
 abbrev pub record_paths : Places → List Name → List Bytes
 record_paths places names = map (λ name. record_path places name.text) (filter is_record names)
 
--- the paths of all records in the folder
-abbrev pub paths_of_records : Places → Files → List Bytes
-paths_of_records places files = record_paths places (unwrap_or (listing files places.installed) [])
+module _ (places : Places) (files : Files) where
+  -- the paths of all records in the folder
+  abbrev pub paths_of_records : List Bytes
+  paths_of_records = record_paths places (unwrap_or (listing files places.installed) [])
 
--- the files of the records
-abbrev pub record_files : Places → Files → List File
-record_files places files = map (file_found true files) (paths_of_records places files)
+  -- the files of the records
+  abbrev pub record_files : List File
+  record_files = map (file_found true files) paths_of_records
 
 -- where there are more than are read, this is refused behind those that are
 abbrev pub unless_beyond : Places → Bool → Result (List Unit) Refusal → Result (List Unit) Refusal
 unless_beyond places true outcome = outcome
-unless_beyond places false (Ok units) = Err (record { path = places.installed; line = 0; cause = TooMany; detail = [] })
+unless_beyond places false (Ok units) = Err (refusal_at places.installed 0 TooMany)
 unless_beyond places false (Err refusal) = Err refusal
 
 -- the units whose records these files are, as far as so many are read, or the first refusal

@@ -4,7 +4,7 @@ ghost use Rattle.outside_folder.specs.Calls.{Leaves};
 ghost use Rattle.index_files.specs.File.{IsReadable};
 ghost use Rattle.index_files.specs.Readings.{AreFromFiles};
 ghost use Rattle.index_files.specs.InTurn.{OnPart, Steps};
-ghost use Rattle.index_files.specs.Locals.{FileComes, ReadsLocals, TakesLocal, local_name, local_names, path_at, unless_there, with_file, with_local};
+ghost use Rattle.index_files.specs.Locals.{FileComes, ReadsLocals, TakesLocal, local_name, local_names, with_file, with_local};
 ghost use Rattle.plan_types.specs.Bytes.{same_text};
 ghost use Rattle.plan_types.specs.Refusal.{Answers, Settles};
 

@@ -45,7 +45,7 @@ module _ (project : OneProject) (one : OneIndex) (alike : OneFinding) where
   module _ (options : Options) (files : Files) where
     one_task_of : (found : Result FolderProject Refusal) (a b : Result Task Refusal) → IsTaskOf options files found a → IsTaskOf options files found b → a ≡ b
     one_task_of (Ok found) a b h k =
-        h.2 ∙ ap (task_or_refusal options found.project) (one options.env options.places found.project.extra found.locals files h.0 k.0 h.1 k.1) ∙ sym k.2
+        h.2 ∙ ap (task_or_refusal options found.project found.freeze) (one options.env options.places found.project.extra found.locals files h.0 k.0 h.1 k.1) ∙ sym k.2
     one_task_of (Err refusal) a b h k = h ∙ sym k
 
     one_task : (a b : Result Task Refusal) → IsTask options files a → IsTask options files b → a ≡ b

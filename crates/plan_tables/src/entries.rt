@@ -1,7 +1,7 @@
 // The files of a folder, the entries of a project (`!` stands where there is no `cabal.project`, and a `?` behind one that
 // may match nothing), and the local files or the first refusal.
 use crate::shared::{project, shown};
-use outside_folder::{MemFault, MemFile, MemFolder};
+use outside_folder::{MemFile, MemFolder};
 use plan_types::{Halt, List, NoMemory, ProjectEntry, Text};
 use project_paths::find_packages;
 use std::alloc::Global;
@@ -65,7 +65,8 @@ fn entries(alloc: Global, texts: &str) -> Result<List<ProjectEntry>, NoMemory> {
     Ok(entries)
 }
 
-fn folder(alloc: Global, paths: &str) -> Result<MemFolder, MemFault> {
+/// A folder of empty files at these paths, of which this call fails.
+pub fn folder(alloc: Global, paths: &str, failing: u64) -> Result<MemFolder, Fail> {
     let mut files = List::new(alloc);
     for path in paths.split(' ') {
         files.push(MemFile {
@@ -73,10 +74,12 @@ fn folder(alloc: Global, paths: &str) -> Result<MemFolder, MemFault> {
             bytes: List::new(alloc),
         })?;
     }
-    MemFolder::new(alloc, files, List::new(alloc))
+    let fail_at = List::from_vec([failing].to_vec(alloc)?);
+    Ok(MemFolder::new(alloc, files, fail_at)?)
 }
 
-fn found(alloc: Global, folder: &mut MemFolder, texts: &str) -> Result<List<Text>, Halt> {
+/// What the entries that are written so find in a folder.
+pub fn found(alloc: Global, folder: &mut MemFolder, texts: &str) -> Result<List<Text>, Halt> {
     let entries = entries(alloc, texts)?;
     let mut project = project(alloc);
     project.entries = entries;
@@ -85,6 +88,6 @@ fn found(alloc: Global, folder: &mut MemFolder, texts: &str) -> Result<List<Text
 
 pub fn answer(alloc: Global, case: &str) -> Result<String, Fail> {
     let (paths, texts) = case.split_once(" => ").ok_or("no entries")?;
-    let mut folder = folder(alloc, paths)?;
+    let mut folder = folder(alloc, paths, 0)?;
     shown(alloc, &found(alloc, &mut folder, texts))
 }

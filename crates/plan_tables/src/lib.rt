@@ -1,5 +1,5 @@
-//! Tests alone: tables of what the calls between a folder's texts and the search answer, of linked variables, of identifiers, and of
-//! the texts that are printed.
+//! Tests alone: tables of what the calls between a folder's texts and the search answer, of how often a folder is asked, of linked
+//! variables, of identifiers, and of the texts that are printed.
 #![tactic(auto)]
 
 #[cfg(test)]
@@ -12,6 +12,8 @@ mod entries;
 mod identifiers;
 #[cfg(test)]
 mod links;
+#[cfg(test)]
+mod listings;
 #[cfg(test)]
 mod orders;
 #[cfg(test)]

@@ -1,6 +1,8 @@
 // Each table has a case a line: what is asked, and behind the last ` => ` the answer. One loop goes over all of them, and no
 // contract of a call that is asked is known where it stands.
-use crate::{answers, bars, entries, identifiers, links, orders, projects, variables, words};
+use crate::{
+    answers, bars, entries, identifiers, links, listings, orders, projects, variables, words,
+};
 use std::alloc::Global;
 use std::test::Fail;
 
@@ -8,6 +10,7 @@ use std::test::Fail;
 enum Table {
     Projects,
     Entries,
+    Listings,
     Words,
     Variables,
     Bars,
@@ -21,6 +24,7 @@ fn cases(table: Table) -> &'static str {
     match table {
         Table::Projects => projects::CASES,
         Table::Entries => entries::CASES,
+        Table::Listings => listings::CASES,
         Table::Words => words::CASES,
         Table::Variables => variables::CASES,
         Table::Bars => bars::CASES,
@@ -35,6 +39,7 @@ fn answer(alloc: Global, table: Table, case: &str) -> Result<String, Fail> {
     match table {
         Table::Projects => projects::answer(alloc, case),
         Table::Entries => entries::answer(alloc, case),
+        Table::Listings => listings::answer(alloc, case),
         Table::Words => words::answer(alloc, case),
         Table::Variables => variables::answer(alloc, case),
         Table::Bars => bars::answer(alloc, case),
@@ -63,6 +68,7 @@ fn every_table(rt: HostRuntime) -> Result<(), Fail> {
     for table in [
         Table::Projects,
         Table::Entries,
+        Table::Listings,
         Table::Words,
         Table::Variables,
         Table::Bars,

@@ -1,5 +1,5 @@
 -- What is to be planned is ready, and what a step answers is the answer of the whole.
-use Rattle.std.proofs.Common.{◌≡◌, ℕ, List, [], ◌∷◌, Result, Ok, Err, refl, sym, ap, subst, ◌∙◌}
+use Rattle.std.proofs.Common.{◌≡◌, ℕ, List, [], ◌∷◌, Option, Result, Ok, Err, refl, sym, ap, subst, ◌∙◌}
 use Rattle.std.specs.Prelude.{◌&&◌}
 use Rattle.std.specs.List.{AllByRecursion}
 use Rattle.plan_types.specs.declared.condition.Env.{Env}
@@ -14,6 +14,7 @@ use Rattle.plan_types.specs.declared.refusal.Halt.{Halt}
 use Rattle.plan_types.specs.declared.refusal.Halt.TheVariants as halt
 use Rattle.plan_types.specs.declared.refusal.Refusal.{Refusal}
 use Rattle.flatten.specs.Sound.{IsBody, IsEntry, IsPackage, IsSound, has_unit, has_units}
+use Rattle.outside_folder.specs.Files.{Bytes}
 use Rattle.package_index.specs.Extra.{AreMarked, AreThere}
 use Rattle.command_line.specs.declared.reading.Options.{Options}
 use Rattle.plan_task.specs.Task.{IsReady, warned}
@@ -54,16 +55,16 @@ module _ (env : Env) (project : Project) (index : Index) where
   sound-warned : IsSound env index → IsSound env shown
   sound-warned h = record { in_goal_order = h.in_goal_order; packages = sound-packages index.packages h.packages }
 
-abbrev pub task_with : Options → Project → Limit → Index → Task
-task_with options project limit index = record { settings = record { env = options.env; project = project; limit = limit }; index = index }
+abbrev pub task_with : Options → Project → Option Bytes → Limit → Index → Task
+task_with options project freeze limit index = record { settings = record { env = options.env; project = project; limit = limit }; index = index; freeze = freeze }
 
--- whatever the limit
-pub ready-with : (options : Options) (project : Project) (index : Index) → IsSound options.env index → AreThere project.extra index → AreMarked project.extra index
-    → (limit : Limit) (made : Index) → made ≡ warned project index → IsReady (task_with options project limit made)
-ready-with options project index sound there marked limit made is =
-    let ready : IsReady (task_with options project limit (warned project index)) =
+-- whatever the limit and the freeze file
+pub ready-with : (options : Options) (project : Project) (freeze : Option Bytes) (index : Index) → IsSound options.env index → AreThere project.extra index → AreMarked project.extra index
+    → (limit : Limit) (made : Index) → made ≡ warned project index → IsReady (task_with options project freeze limit made)
+ready-with options project freeze index sound there marked limit made is =
+    let ready : IsReady (task_with options project freeze limit (warned project index)) =
     record { sound = sound-warned options.env project index sound; there = there; marked = marked } in
-    subst (λ (i : Index). IsReady (task_with options project limit i)) (sym is) ready
+    subst (λ (i : Index). IsReady (task_with options project freeze limit i)) (sym is) ready
 
 -- what is answered of one relation is answered of a wider one
 
@@ -72,11 +73,3 @@ answered P Q wider (Ok a) h = wider (Ok a) h
 answered P Q wider (Err halt.NoMemory) h = tt
 answered P Q wider (Err halt.Failed) h = tt
 answered P Q wider (Err (halt.Refused refusal)) h = wider (Err refusal) h
-
--- a step's refusal is that of the whole
-
-pub passed-on : {A B : Type 0} (P : Result A Refusal → Type 0) (Q : Result B Refusal → Type 0) → ((refusal : Refusal) → P (Err refusal) → Q (Err refusal))
-    → (h : Halt) → Answers P (Err h) → Answers Q (Err h)
-passed-on P Q wider halt.NoMemory h = tt
-passed-on P Q wider halt.Failed h = tt
-passed-on P Q wider (halt.Refused refusal) h = wider refusal h

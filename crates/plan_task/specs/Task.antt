@@ -1,11 +1,11 @@
 -- What is to be planned: the packages of a folder, and what for.
-use Rattle.std.specs.Prelude.{◌≡◌, ◌++◌, Result, Ok, Err, unwrap_or}
+use Rattle.std.specs.Prelude.{◌≡◌, ◌++◌, Option, Result, Ok, Err, unwrap_or}
 use Rattle.plan_types.specs.declared.index.Index.{Index}
 use Rattle.plan_types.specs.declared.project.Project.{Project}
 use Rattle.plan_types.specs.declared.project.Settings.{Settings}
 use Rattle.plan_types.specs.declared.refusal.Refusal.{Refusal}
 use Rattle.flatten.specs.Sound.{IsSound}
-use Rattle.outside_folder.specs.Files.{Files}
+use Rattle.outside_folder.specs.Files.{Bytes, Files}
 use Rattle.project_config.specs.Project.{IsFolderProject}
 use Rattle.project_config.specs.declared.project.FolderProject.{FolderProject}
 use Rattle.index_assembly.specs.Folder.{IsFolderIndex}
@@ -21,19 +21,19 @@ settings_of options project = record { env = options.env; project = project; lim
 abbrev pub warned : Project → Index → Index
 warned project index = record { packages = index.packages; skipped = index.skipped; warnings = project.warnings ++ index.warnings }
 
--- the task of a project with its index
-abbrev pub task_of : Options → Project → Index → Task
-task_of options project index = record { settings = settings_of options project; index = warned project index }
+-- the task of a project and its freeze file with its index
+abbrev pub task_of : Options → Project → Option Bytes → Index → Task
+task_of options project freeze index = record { settings = settings_of options project; index = warned project index; freeze = freeze }
 
 -- the same, where there may be a refusal in place of the index
-abbrev pub task_or_refusal : Options → Project → Result Index Refusal → Result Task Refusal
-task_or_refusal options project (Ok index) = Ok (task_of options project index)
-task_or_refusal options project (Err refusal) = Err refusal
+abbrev pub task_or_refusal : Options → Project → Option Bytes → Result Index Refusal → Result Task Refusal
+task_or_refusal options project freeze (Ok index) = Ok (task_of options project freeze index)
+task_or_refusal options project freeze (Err refusal) = Err refusal
 
 -- the packages of a project
 abbrev pub IsTaskOf : Options → Files → Result FolderProject Refusal → Result Task Refusal → Type 0
 IsTaskOf options files (Ok found) task =
-    (index : Result Index Refusal) × IsFolderIndex options.env options.places found.project.extra found.locals files index × (task ≡ task_or_refusal options found.project index)
+    (index : Result Index Refusal) × IsFolderIndex options.env options.places found.project.extra found.locals files index × (task ≡ task_or_refusal options found.project found.freeze index)
 IsTaskOf options files (Err refusal) task = task ≡ Err refusal
 
 -- what is to be planned of a folder with these options, or the first refusal

@@ -5,6 +5,7 @@ ghost use Rattle.flatten.specs.Sound.{IsSound};
 ghost use Rattle.outside_folder.specs.Calls.{Leaves};
 ghost use Rattle.package_index.specs.Extra.{AreMarked, AreThere};
 ghost use Rattle.plan_types.specs.Name.{is_package_name};
+ghost use Rattle.project_config.specs.Project.{freeze_bytes};
 ghost use Rattle.plan_task.specs.Task.{IsReady, IsTask, IsTaskOf, task_of, warned};
 ghost use Rattle.plan_types.specs.Refusal.{Answers};
 
@@ -20,11 +21,14 @@ use std::alloc::Global;
 pub struct Task {
     pub settings: Settings,
     pub index: Index,
+    /// The bytes of `cabal.project.freeze`, where there is one.
+    pub freeze: Option<List<u8>>,
 }
 
 /// What is to be planned of a folder with these options, or the first refusal.
 pub fn read_task<F: Folder>(alloc: Global, options: Options, folder: &mut F) -> Result<Task, Halt>
     ensures told { IfSome (F.tells folder.old) (λ files. Answers (IsTask options files) result) }
+    ensures freeze { IfSome (F.tells folder.old) (λ files. IfOk result (λ task. task.freeze ≡ freeze_bytes files)) }
     ensures ready { IfOk result IsReady }
     ensures folder { Leaves F.tells F.faults folder.old folder.new (IsErrOf result Halt.Failed) }
 {
@@ -41,6 +45,7 @@ fn task_in<F: Folder>(
 ) -> Result<Task, Halt>
     requires { list_all (λ named. is_package_name named.name) found.project.extra ≡ true }
     ensures told { IfSome (F.tells folder.old) (λ files. Answers (IsTaskOf options files (Ok found)) result) }
+    ensures freeze { IfOk result (λ task. task.freeze ≡ found.freeze) }
     ensures ready { IfOk result IsReady }
     ensures folder { Leaves F.tells F.faults folder.old folder.new (IsErrOf result Halt.Failed) }
 {
@@ -52,7 +57,7 @@ fn task_in<F: Folder>(
         &options.env,
         folder,
     )?;
-    let task = task_of(alloc, options, found.project, index)?;
+    let task = task_of(alloc, options, found.project, found.freeze, index)?;
     Ok(task)
 }
 
@@ -60,12 +65,13 @@ fn task_of(
     alloc: Global,
     options: Options,
     project: Project,
+    freeze: Option<List<u8>>,
     index: Index,
 ) -> Result<Task, NoMemory>
     requires sound { IsSound options.env index }
     requires there { AreThere project.extra index }
     requires marked { AreMarked project.extra index }
-    ensures task { IfOk result (λ task. task ≡ task_of options project index) }
+    ensures task { IfOk result (λ task. task ≡ task_of options project freeze index) }
     ensures ready { IfOk result IsReady }
 {
     let index = warned(alloc, &project, index)?;
@@ -77,6 +83,7 @@ fn task_of(
             limit,
         },
         index,
+        freeze,
     })
 }
 

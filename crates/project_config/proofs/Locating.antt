@@ -1,7 +1,7 @@
 -- What the project files and the entries come to together.
 use Rattle.std.proofs.Common.{◌≡◌, Bool, List, [], ◌∷◌, ◌++◌, refl, sym, subst, ap, ◌∙◌}
 use Rattle.std.proofs.lemmas.List.{append-nil}
-use Rattle.std.specs.Prelude.{Result, Ok, Err}
+use Rattle.std.specs.Prelude.{Option, Result, Ok, Err}
 use Rattle.plan_types.specs.declared.condition.Env.{Env}
 use Rattle.plan_types.specs.declared.project.Project.{Project}
 use Rattle.plan_types.specs.declared.refusal.Halt.{Halt}
@@ -14,7 +14,8 @@ use Rattle.project_file.specs.Read.{IsProject}
 use Rattle.project_file.specs.declared.read.ProjectText.{ProjectText}
 use Rattle.project_file.proofs.Files.{refused-behind}
 use Rattle.project_paths.specs.Local.{local_files, sought}
-use Rattle.project_config.specs.Project.{AreSaid, FilesSay, IsFolderProject, first_too_large, large_or, located, project_files, texts_among, too_large, unless_large, with_locals, with_text}
+pub use Rattle.project_paths.proofs.Answered.{passed-on}
+use Rattle.project_config.specs.Project.{AreSaid, FilesSay, IsFolderProject, first_too_large, is_implicit, large_or, located, project_files, texts_among, too_large, unless_large, with_locals, with_text}
 use Rattle.project_config.specs.declared.files.FilesProject.{FilesProject}
 use Rattle.project_config.specs.declared.project.FolderProject.{FolderProject}
 use Rattle.project_config.proofs.Reading.{GoesOn, more_read}
@@ -22,8 +23,8 @@ use Rattle.plan_types.specs.Refusal.{Answers, Settles}
 
 -- ---- the project files
 
-module _ (env : Env) (files : Files) (read : List ProjectText) (missed : Bool) where
-  pub all_said : (project : Project) → GoesOn files project_files read missed [] → IsProject env read (Ok project) → FilesSay env files (Ok project)
+module _ (env : Env) (files : Files) (read : List ProjectText) (missed : Bool) (freeze : Option Bytes) where
+  pub all_said : (project : Project) → GoesOn files project_files read missed freeze [] → IsProject env read (Ok project) → FilesSay env files (Ok project)
   all_said project goes says = (
     Ok project,
     subst (λ ts. IsProject env ts (Ok project)) (sym (goes.texts ∙ append-nil read)) says,
@@ -31,7 +32,7 @@ module _ (env : Env) (files : Files) (read : List ProjectText) (missed : Bool) w
   )
 
   -- a file that is too large
-  pub large_said : (project : Project) (path : Bytes) (rest : List Bytes) → TooLarge ≡ content_at files path → GoesOn files project_files read missed (path ∷ rest) → IsProject env read (Ok project) →
+  pub large_said : (project : Project) (path : Bytes) (rest : List Bytes) → TooLarge ≡ content_at files path → GoesOn files project_files read missed freeze (path ∷ rest) → IsProject env read (Ok project) →
       FilesSay env files (Err (too_large path))
   large_said project path rest is goes says = (
     Ok project,
@@ -40,31 +41,17 @@ module _ (env : Env) (files : Files) (read : List ProjectText) (missed : Bool) w
   )
 
   -- a file with a fault, whatever is behind it
-  pub refused_said : (path bytes : Bytes) (rest : List Bytes) (h : Halt) → Holds bytes ≡ content_at files path → GoesOn files project_files read missed (path ∷ rest) →
+  pub refused_said : (path bytes : Bytes) (rest : List Bytes) (h : Halt) → Holds bytes ≡ content_at files path → GoesOn files project_files read missed freeze (path ∷ rest) →
       Settles {A = Project} (IsProject env (read ++ record { path = path; bytes = bytes } ∷ [])) (Err h) → Answers {A = FilesProject} (AreSaid env files) (Err h)
   refused_said path bytes rest halt.NoMemory is goes says = tt
   refused_said path bytes rest halt.Failed is goes says = tt
   refused_said path bytes rest (halt.Refused r) is goes says =
       let text : ProjectText = record { path = path; bytes = bytes } in
-      let more = more_read files project_files read missed path bytes rest is goes in (
+      let more = more_read files project_files read missed freeze path rest goes bytes is in (
         Err r,
         subst (λ ts. IsProject env ts (Err r)) (sym more.texts) (refused-behind env (read ++ text ∷ []) (texts_among files rest) r says),
         refl,
       )
-
--- what another answers with the halt of what asked no folder doesn't fail
-halt-in : {A : Type 0} → Result A Halt → Halt
-halt-in (Ok a) = halt.NoMemory
-halt-in (Err h) = h
-
-never-halted : {A : Type 0} (Is : Result A Refusal → Type 0) (h : Halt) → Settles Is (Err h) → h ≡ halt.Failed → ⊥
-never-halted Is halt.NoMemory s e = cc e
-never-halted Is halt.Failed s e = s
-never-halted Is (halt.Refused r) s e = cc e
-
-pub never-passed : {A B : Type 0} (Is : Result A Refusal → Type 0) (h : Halt) (r : Result B Halt) → Settles Is (Err h) → r ≡ Err h → r ≡ Err halt.Failed → ⊥
-unfolding halt-in
-never-passed Is h r s e k = never-halted Is h s (sym (ap halt-in e) ∙ ap halt-in k)
 
 -- ---- and the entries
 
@@ -74,20 +61,19 @@ module _ (env : Env) (files : Files) where
 
   -- the project files are refused
   pub unread : (h : Halt) → Answers {A = FilesProject} (AreSaid env files) (Err h) → Is (Err h)
-  unread halt.NoMemory says = tt
-  unread halt.Failed says = tt
-  unread (halt.Refused refusal) says = (Err refusal, says, refl)
+  unread = passed-on (AreSaid env files) (IsFolderProject env files) (λ refusal says. (Err refusal, says, refl))
 
   module _ (found : FilesProject) (says : AreSaid env files (Ok found)) where
-    from-files : (outcome : Result (List Bytes) Refusal) → outcome ≡ local_files files (sought found.implicit found.project.entries) → with_locals found.project outcome ≡ located files (Ok found.project)
-    from-files outcome are = ap (with_locals found.project) are ∙ ap (λ i. with_locals found.project (local_files files (sought i found.project.entries))) says.1
+    from-files : (outcome : Result (List Bytes) Refusal) → outcome ≡ local_files files (sought found.implicit found.project.entries) → with_locals found.project found.freeze outcome ≡ located files (Ok found.project)
+    from-files outcome are =
+        ap (with_locals found.project found.freeze) are ∙ ap (λ i. with_locals found.project found.freeze (local_files files (sought i found.project.entries))) says.1
+        ∙ ap (λ freeze. with_locals found.project freeze (local_files files (sought (is_implicit files) found.project.entries))) says.2
 
     -- the entries of their project are refused
     pub unlocated : (h : Halt) → Answers {A = List Bytes} (λ outcome. outcome ≡ local_files files (sought found.implicit found.project.entries)) (Err h) → Is (Err h)
-    unlocated halt.NoMemory are = tt
-    unlocated halt.Failed are = tt
-    unlocated (halt.Refused refusal) are = (Ok found.project, says.0, from-files (Err refusal) are)
+    unlocated = passed-on (λ outcome. outcome ≡ local_files files (sought found.implicit found.project.entries)) (IsFolderProject env files)
+        (λ refusal are. (Ok found.project, says.0, from-files (Err refusal) are))
 
     -- they lead to local files
-    pub located_in : (locals : List Bytes) → Ok locals ≡ local_files files (sought found.implicit found.project.entries) → IsFolderProject env files (Ok (record { project = found.project; locals = locals }))
+    pub located_in : (locals : List Bytes) → Ok locals ≡ local_files files (sought found.implicit found.project.entries) → IsFolderProject env files (Ok (record { project = found.project; freeze = found.freeze; locals = locals }))
     located_in locals are = (Ok found.project, says.0, from-files (Ok locals) are)

@@ -5,7 +5,8 @@ use Rattle.outside_folder.specs.Files.{Bytes, Files}
 use Rattle.outside_folder.specs.Folder.{file_limit}
 use Rattle.outside_folder.specs.declared.calls.Content.TheVariants.{TooLarge, Bytes as Holds}
 use Rattle.project_file.specs.declared.read.ProjectText.{ProjectText}
-use Rattle.project_config.specs.Project.{first_too_large, is_implicit, large_or, project_files, texts_among, with_text}
+use Rattle.project_config.specs.Freeze.{kept}
+use Rattle.project_config.specs.Project.{first_too_large, freeze_bytes, is_implicit, large_or, project_files, texts_among, with_text}
 
 abbrev main : ProjectText
 main = record { path = codes "cabal.project"; bytes = codes "tests: True" }
@@ -32,6 +33,17 @@ an_empty_one = refl
 
 implicit : is_implicit ((codes "cabal.project.local", []) ∷ []) ≡ true
 implicit = refl
+
+-- ---- the freeze file
+
+no_freeze_file : freeze_bytes two_files ≡ None
+no_freeze_file = refl
+
+an_empty_freeze_file : freeze_bytes ((codes "cabal.project.freeze", []) ∷ []) ≡ Some []
+an_empty_freeze_file = refl
+
+not_the_local_file : kept (Some main.bytes) local ≡ Some main.bytes
+not_the_local_file = refl
 
 -- ---- a file too large between two others
 

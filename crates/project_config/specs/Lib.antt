@@ -1,2 +1,3 @@
 pub mod Project
+pub mod Freeze
 pub mod Examples

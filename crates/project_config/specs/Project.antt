@@ -5,7 +5,7 @@ use Rattle.plan_types.specs.declared.project.Project.{Project}
 use Rattle.plan_types.specs.declared.refusal.Cause.TheVariants.{TooLarge as is_too_large}
 use Rattle.plan_types.specs.declared.refusal.Refusal.{Refusal}
 use Rattle.outside_folder.specs.Calls.{content_at}
-use Rattle.outside_folder.specs.Files.{Bytes, Files}
+use Rattle.outside_folder.specs.Files.{Bytes, Files, file_at}
 use Rattle.outside_folder.specs.declared.calls.Content.{Content}
 use Rattle.outside_folder.specs.declared.calls.Content.TheVariants.{Missing, TooLarge, Bytes as Holds}
 use Rattle.project_file.specs.Read.{IsProject}
@@ -57,6 +57,10 @@ is_main path = same_text path (codes "cabal.project")
 abbrev pub is_implicit : Files → Bool
 is_implicit files = is_missing (content_at files (codes "cabal.project"))
 
+-- the bytes of the freeze file, where there is one
+abbrev pub freeze_bytes : Files → Option Bytes
+freeze_bytes files = file_at files (codes "cabal.project.freeze")
+
 -- ---- what it comes to
 
 -- the refusal of a file that is too large
@@ -77,20 +81,20 @@ Say env texts large said = (read : Result Project Refusal) × IsProject env text
 abbrev pub FilesSay : Env → Files → Result Project Refusal → Type 0
 FilesSay env files said = Say env (texts_among files project_files) (first_too_large files project_files) said
 
--- the same, and whether there is no `cabal.project`
+-- the same, with the bytes of the freeze file, and whether there is no `cabal.project`
 abbrev pub AreSaid : Env → Files → Result FilesProject Refusal → Type 0
-AreSaid env files (Ok found) = FilesSay env files (Ok found.project) × (found.implicit ≡ is_implicit files)
+AreSaid env files (Ok found) = FilesSay env files (Ok found.project) × (found.implicit ≡ is_implicit files) × (found.freeze ≡ freeze_bytes files)
 AreSaid env files (Err refusal) = FilesSay env files (Err refusal)
 
--- the project with its local packages
-abbrev pub with_locals : Project → Result (List Bytes) Refusal → Result FolderProject Refusal
-with_locals project (Ok locals) = Ok (record { project = project; locals = locals })
-with_locals project (Err refusal) = Err refusal
+-- the project and its freeze file with its local packages
+abbrev pub with_locals : Project → Option Bytes → Result (List Bytes) Refusal → Result FolderProject Refusal
+with_locals project freeze (Ok locals) = Ok (record { project = project; freeze = freeze; locals = locals })
+with_locals project freeze (Err refusal) = Err refusal
 
 -- where the project files are refused, its entries don't count
 abbrev pub located : Files → Result Project Refusal → Result FolderProject Refusal
 located files (Err refusal) = Err refusal
-located files (Ok project) = with_locals project (local_files files (sought (is_implicit files) project.entries))
+located files (Ok project) = with_locals project (freeze_bytes files) (local_files files (sought (is_implicit files) project.entries))
 
 -- the project of a folder with its local files, or the first refusal
 abbrev pub IsFolderProject : Env → Files → Result FolderProject Refusal → Type 0

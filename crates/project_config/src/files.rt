@@ -1,9 +1,10 @@
-// The project files, one after the other: each is judged before the next is read.
+// The project files, one after the other: each is judged before the next is read. The bytes of the freeze file are kept.
 ghost use Rattle.std.specs.Prelude.{◌≡◌, true, IfOk, IfSome, IsErrOf};
 ghost use Rattle.std.specs.List.{list_all};
 ghost use Rattle.plan_types.specs.Name.{is_package_name};
 ghost use Rattle.plan_types.specs.Refusal.{Answers};
 ghost use Rattle.outside_folder.specs.Calls.{Leaves};
+ghost use Rattle.project_config.specs.Freeze.{is_freeze, kept};
 ghost use Rattle.project_config.specs.Project.{AreSaid, is_main, project_files, too_large};
 
 use outside_folder::{Content, Folder, read_content};
@@ -17,6 +18,8 @@ pub(crate) struct FilesProject {
     pub project: Project,
     /// There is no `cabal.project`.
     pub implicit: bool,
+    /// The bytes of the freeze file, where there is one.
+    pub freeze: Option<List<u8>>,
 }
 
 /// Reads the project files, up to the first that is refused.
@@ -33,6 +36,7 @@ pub(crate) fn read_files<F: Folder>(
     let paths = project_files(alloc)?;
     let mut project = empty_project(alloc);
     let mut implicit = false;
+    let mut freeze = None;
     for path in paths.into_vec() {
         let content = read_content(alloc, path.as_str(), folder)?;
         match content {
@@ -41,10 +45,32 @@ pub(crate) fn read_files<F: Folder>(
             Content::Bytes(bytes) => {
                 let text = ProjectText { path, bytes };
                 project = with_project_file(alloc, project, &text, env)?;
+                freeze = kept(freeze, text);
             }
         }
     }
-    Ok(FilesProject { project, implicit })
+    Ok(FilesProject {
+        project,
+        implicit,
+        freeze,
+    })
+}
+
+// The bytes of the freeze file, once it was read.
+fn kept(before: Option<List<u8>>, text: ProjectText) -> Option<List<u8>>
+    ensures { result ≡ kept before text }
+{
+    if is_freeze(&text.path) {
+        Some(text.bytes)
+    } else {
+        before
+    }
+}
+
+fn is_freeze(path: &Text) -> bool
+    ensures { result ≡ is_freeze path.now }
+{
+    path.as_str() == "cabal.project.freeze"
 }
 
 fn too_large(alloc: Global, path: Text) -> Halt

@@ -3,7 +3,7 @@ ghost use Rattle.std.specs.Prelude.{◌≡◌, true, IfOk, IfSome, IsErrOf};
 ghost use Rattle.std.specs.List.{list_all};
 ghost use Rattle.plan_types.specs.Name.{is_package_name};
 ghost use Rattle.outside_folder.specs.Calls.{Leaves};
-ghost use Rattle.project_config.specs.Project.{IsFolderProject};
+ghost use Rattle.project_config.specs.Project.{IsFolderProject, freeze_bytes};
 ghost use Rattle.plan_types.specs.Refusal.{Answers};
 
 use crate::files::read_files;
@@ -16,12 +16,14 @@ use std::alloc::Global;
 #[derive(Debug, Drop)]
 pub struct FolderProject {
     pub project: Project,
+    /// The bytes of `cabal.project.freeze`, where there is one.
+    pub freeze: Option<List<u8>>,
     /// The paths of the local files, in byte order, each once.
     pub locals: List<Text>,
 }
 
 /// The project of a folder: what `cabal.project`, `cabal.project.freeze` and `cabal.project.local` say together, in this
-/// order, and the paths of its local packages; or the first refusal: of a project file (one that is too large, or its first
+/// order, the bytes of the freeze file, and the paths of its local packages; or the first refusal: of a project file (one that is too large, or its first
 /// fault, file by file in reading order), and then of its entries. Behind what is refused nothing is read.
 pub fn read_folder_project<F: Folder>(
     alloc: Global,
@@ -29,6 +31,7 @@ pub fn read_folder_project<F: Folder>(
     folder: &mut F,
 ) -> Result<FolderProject, Halt>
     ensures told { IfSome (F.tells folder.old) (λ files. Answers (IsFolderProject env.now files) result) }
+    ensures freeze { IfSome (F.tells folder.old) (λ files. IfOk result (λ found. found.freeze ≡ freeze_bytes files)) }
     ensures extra { IfOk result (λ found. list_all (λ named. is_package_name named.name)
         found.project.extra ≡ true) }
     ensures folder { Leaves F.tells F.faults folder.old folder.new (IsErrOf result Halt.Failed) }
@@ -37,6 +40,7 @@ pub fn read_folder_project<F: Folder>(
     let locals = find_packages(alloc, &found.project, found.implicit, folder)?;
     Ok(FolderProject {
         project: found.project,
+        freeze: found.freeze,
         locals,
     })
 }

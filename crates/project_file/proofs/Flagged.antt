@@ -1,5 +1,6 @@
 -- Whether a flag stands in the parts of a condition.
-use Rattle.std.proofs.Common.{◌≡◌, Bool, true, false, ◌||◌, List, ℕ, sym, ap, ◌∙◌, refl}
+use Rattle.std.proofs.Common.{◌≡◌, Bool, true, false, ◌||◌, List, ℕ, sym, ap, ◌∙◌}
+use Rattle.std.proofs.Math.Bool.{or-false, or-true}
 use Rattle.plan_types.specs.declared.condition.Cond.{Cond}
 use Rattle.plan_types.specs.declared.condition.Cond.TheOpen as layer
 use Rattle.plan_types.specs.declared.condition.Cond.TheFolds.{fold-roll-Cond}
@@ -37,24 +38,16 @@ flagged-Or left right = ap has_flag (sym (rolls-Or left right)) ∙ fold-roll-Co
 pub passes-Not : (s inner : Cond) → s ≡ Not inner → has_flag inner ≡ has_flag s
 passes-Not s inner e = sym (flagged-Not inner) ∙ ap has_flag (sym e)
 
-or-false : (a : Bool) → a ≡ (a || false)
-or-false true = refl
-or-false false = refl
-
-or-true : (a : Bool) → true ≡ (a || true)
-or-true true = refl
-or-true false = refl
-
 -- where no flag stands on the right side, the left side decides; where one does, it stands in the whole
 module _ (s l r : Cond) where
   pub passes-And : s ≡ And l r → has_flag r ≡ false → has_flag l ≡ has_flag s
-  passes-And e right = or-false (has_flag l) ∙ ap (λ b. has_flag l || b) (sym right) ∙ sym (flagged-And l r) ∙ ap has_flag (sym e)
+  passes-And e right = sym (or-false (has_flag l)) ∙ ap (λ b. has_flag l || b) (sym right) ∙ sym (flagged-And l r) ∙ ap has_flag (sym e)
 
   pub stops-And : s ≡ And l r → has_flag r ≡ true → true ≡ has_flag s
-  stops-And e right = or-true (has_flag l) ∙ ap (λ b. has_flag l || b) (sym right) ∙ sym (flagged-And l r) ∙ ap has_flag (sym e)
+  stops-And e right = sym (or-true (has_flag l)) ∙ ap (λ b. has_flag l || b) (sym right) ∙ sym (flagged-And l r) ∙ ap has_flag (sym e)
 
   pub passes-Or : s ≡ Or l r → has_flag r ≡ false → has_flag l ≡ has_flag s
-  passes-Or e right = or-false (has_flag l) ∙ ap (λ b. has_flag l || b) (sym right) ∙ sym (flagged-Or l r) ∙ ap has_flag (sym e)
+  passes-Or e right = sym (or-false (has_flag l)) ∙ ap (λ b. has_flag l || b) (sym right) ∙ sym (flagged-Or l r) ∙ ap has_flag (sym e)
 
   pub stops-Or : s ≡ Or l r → has_flag r ≡ true → true ≡ has_flag s
-  stops-Or e right = or-true (has_flag l) ∙ ap (λ b. has_flag l || b) (sym right) ∙ sym (flagged-Or l r) ∙ ap has_flag (sym e)
+  stops-Or e right = sym (or-true (has_flag l)) ∙ ap (λ b. has_flag l || b) (sym right) ∙ sym (flagged-Or l r) ∙ ap has_flag (sym e)

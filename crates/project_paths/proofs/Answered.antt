@@ -20,6 +20,13 @@ none-then : (a : Result (List Bytes) Refusal) → a ≡ and_then (Ok []) a
 none-then (Err r) = refl
 none-then (Ok xs) = refl
 
+-- the refusal of a step is that of the whole
+pub passed-on : {A B : Type 0} (P : Result A Refusal → Type 0) (Q : Result B Refusal → Type 0) → ((refusal : Refusal) → P (Err refusal) → Q (Err refusal))
+    → (h : Halt) → Answers P (Err h) → Answers Q (Err h)
+passed-on P Q wider halt.NoMemory h = tt
+passed-on P Q wider halt.Failed h = tt
+passed-on P Q wider (halt.Refused refusal) h = wider refusal h
+
 module _ (files : Files) where
   pub all-append : (a b : List ProjectEntry) → all_files files (a ++ b) ≡ and_then (all_files files a) (all_files files b)
   all-append [] b = none-then (all_files files b)
@@ -34,9 +41,7 @@ module _ (files : Files) where
 
     -- the first entries are refused
     pub first-refused : (h : Halt) → Answers {A = List Bytes} (λ outcome. outcome ≡ all_files files a) (Err h) → Answers {A = List Bytes} Local (Err h)
-    first-refused halt.NoMemory is = tt
-    first-refused halt.Failed is = tt
-    first-refused (halt.Refused r) is = whole (Err r) (ap (λ x. finished_of (and_then x (all_files files b))) (sym is))
+    first-refused = passed-on (λ outcome. outcome ≡ all_files files a) Local (λ r is. whole (Err r) (ap (λ x. finished_of (and_then x (all_files files b))) (sym is)))
 
     -- all are found
     pub all-found : (found others : List Bytes) → Ok found ≡ all_files files a → Ok others ≡ all_files files b →

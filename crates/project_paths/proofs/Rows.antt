@@ -6,7 +6,7 @@ use Rattle.std.proofs.lemmas.List.{map-append, reverse-append, length-reverse, t
 use Rattle.std.proofs.lemmas.Grind.{fold-append}
 use Rattle.project_paths.specs.Rows.{empty_row, fit_at, last_of, last_row, paired, row_before, running}
 use Rattle.project_paths.specs.Wildcards.{fits, fits_byte, tails}
-use Rattle.std.proofs.Math.Bool.{and-false}
+use Rattle.std.proofs.Math.Bool.{and-false, or_assoc, or_comm}
 
 -- the tails of a text, from the empty one on
 ups : List ℕ → List (List ℕ)
@@ -59,40 +59,30 @@ empty-row-is (b ∷ bs) =
 
 -- ---- a star
 
-or-comm : (a b : Bool) → (a || b) ≡ (b || a)
-or-comm true true = refl
-or-comm true false = refl
-or-comm false true = refl
-or-comm false false = refl
-
-or-assoc : (a b c : Bool) → ((a || b) || c) ≡ (a || (b || c))
-or-assoc true b c = refl
-or-assoc false b c = refl
-
 abbrev any : List Bool → Bool
 any row = list_any (λ b. b) row
 
 any-push : (xs : List Bool) (x : Bool) → any (xs ++ x ∷ []) ≡ (any xs || x)
-any-push [] x = or-comm x false
-any-push (y ∷ ys) x = ap (λ b. y || b) (any-push ys x) ∙ sym (or-assoc y (any ys) x)
+any-push [] x = or_comm x false
+any-push (y ∷ ys) x = ap (λ b. y || b) (any-push ys x) ∙ sym (or_assoc y (any ys) x)
 
 run-push : (a : Bool) (xs : List Bool) (x : Bool) → running a (xs ++ x ∷ []) ≡ running a xs ++ ((a || any xs) || x) ∷ []
-run-push a [] x = ap (λ b. (b || x) ∷ []) (or-comm false a)
-run-push a (y ∷ ys) x = ap (λ l. (a || y) ∷ l) (run-push (a || y) ys x ∙ ap (λ b. running (a || y) ys ++ (b || x) ∷ []) (or-assoc a y (any ys)))
+run-push a [] x = ap (λ b. (b || x) ∷ []) (or_comm false a)
+run-push a (y ∷ ys) x = ap (λ l. (a || y) ∷ l) (run-push (a || y) ys x ∙ ap (λ b. running (a || y) ys ++ (b || x) ∷ []) (or_assoc a y (any ys)))
 
 any-tails : (f : List ℕ → Bool) (name : List ℕ) → any (row f name) ≡ list_any f (tails name)
 unfolding ups
 any-tails f [] = refl
 any-tails f (b ∷ bs) =
-    ap any (map-append f (ups bs) ((b ∷ bs) ∷ [])) ∙ any-push (row f bs) (f (b ∷ bs)) ∙ or-comm (any (row f bs)) (f (b ∷ bs)) ∙ ap (λ t. f (b ∷ bs) || t) (any-tails f bs)
+    ap any (map-append f (ups bs) ((b ∷ bs) ∷ [])) ∙ any-push (row f bs) (f (b ∷ bs)) ∙ or_comm (any (row f bs)) (f (b ∷ bs)) ∙ ap (λ t. f (b ∷ bs) || t) (any-tails f bs)
 
 star-row : (f : List ℕ → Bool) (name : List ℕ) → running false (row f name) ≡ row (λ rest. list_any f (tails rest)) name
 unfolding ups
-star-row f [] = ap (λ b. b ∷ []) (or-comm false (f []))
+star-row f [] = ap (λ b. b ∷ []) (or_comm false (f []))
 star-row f (b ∷ bs) =
     ap (running false) (map-append f (ups bs) ((b ∷ bs) ∷ [])) ∙ run-push false (row f bs) (f (b ∷ bs))
     ∙ ap (λ l. l ++ (any (row f bs) || f (b ∷ bs)) ∷ []) (star-row f bs)
-    ∙ ap (λ t. row (λ rest. list_any f (tails rest)) bs ++ t ∷ []) (or-comm (any (row f bs)) (f (b ∷ bs)) ∙ ap (λ t. f (b ∷ bs) || t) (any-tails f bs))
+    ∙ ap (λ t. row (λ rest. list_any f (tails rest)) bs ++ t ∷ []) (or_comm (any (row f bs)) (f (b ∷ bs)) ∙ ap (λ t. f (b ∷ bs) || t) (any-tails f bs))
     ∙ sym (map-append (λ rest. list_any f (tails rest)) (ups bs) ((b ∷ bs) ∷ []))
 
 -- ---- another byte

@@ -1,6 +1,6 @@
 -- A slash at the end of a text.
-use Rattle.std.proofs.Common.{◌≡◌, ◌≢◌, ℕ, Bool, true, false, List, [], ◌∷◌, ◌++◌, refl, ap, subst, if◌then◌else◌}
-use Rattle.std.specs.Prelude.{◌==◌, Option, Some, None, MatchOption}
+use Rattle.std.proofs.Common.{◌≡◌, ◌≢◌, ℕ, Bool, true, false, List, [], ◌∷◌, ◌++◌, refl, ap, if◌then◌else◌}
+use Rattle.std.specs.Prelude.{◌==◌}
 use Rattle.std.proofs.lemmas.Bool.{eqb-true}
 use Rattle.project_paths.specs.Patterns.{ends_in_slash, stem}
 
@@ -28,10 +28,3 @@ bare (b ∷ []) never = last-bare b (b == 47) refl never
 bare (b ∷ c ∷ bs) never =
     let rest = bare (c ∷ bs) (λ front e. never (b ∷ front) (ap (λ l. b ∷ l) e)) in
     (ap (λ l. b ∷ l) rest.0, rest.1)
-
--- what the match says of a result
-pub at-some : {A : Type 0} (N : Type 0) (P : A → Type 0) (r : Option A) (x : A) → r ≡ Some x → MatchOption r N P → P x
-at-some N P r x e h = let Q : Option _ → Type 0 = λ r. MatchOption r N P in subst Q e h
-
-pub at-none : {A : Type 0} (N : Type 0) (P : A → Type 0) (r : Option A) → r ≡ None → MatchOption r N P → N
-at-none N P r e h = let Q : Option _ → Type 0 = λ r. MatchOption r N P in subst Q e h

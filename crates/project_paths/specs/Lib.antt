@@ -1,6 +1,7 @@
 pub mod Patterns
 pub mod Wildcards
 pub mod Rows
+pub mod Listings
 pub mod Places
 pub mod Found
 pub mod Entries

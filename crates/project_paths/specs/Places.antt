@@ -1,7 +1,8 @@
 -- What the names of a pattern lead to in a folder.
-use Rattle.std.specs.Prelude.{Bool, true, if◌then◌else◌, List, [], ◌∷◌, ◌++◌, map, filter, flat_map, fold, unwrap_or}
-use Rattle.outside_folder.specs.Files.{Bytes, Files, listing, slash}
+use Rattle.std.specs.Prelude.{Bool, true, if◌then◌else◌, List, [], ◌∷◌, ◌++◌, map, filter, flat_map, fold}
+use Rattle.outside_folder.specs.Files.{Bytes, Files, slash}
 use Rattle.outside_folder.specs.declared.folder.Name.{Name}
+use Rattle.project_paths.specs.Listings.{names_in}
 use Rattle.project_paths.specs.Wildcards.{matches}
 use Rattle.project_paths.specs.declared.places.FolderPlace.{FolderPlace}
 
@@ -16,7 +17,7 @@ place_in dir name = record { path = path_in dir name.text; folder = name.folder 
 
 -- the names in a directory; a file has none
 abbrev pub names_at : Files → FolderPlace → List Name
-names_at files place = if place.folder then unwrap_or (listing files place.path) [] else []
+names_at files place = if place.folder then names_in files place.path else []
 
 -- whether a name fits a pattern
 abbrev pub is_matched : Bytes → Name → Bool

@@ -1,11 +1,13 @@
 // One entry: what is found by it, and whether that is right.
-ghost use Rattle.std.specs.Prelude.{◌≡◌, flat_map, IfOk, IfSome, IsErrOf};
+ghost use Rattle.std.specs.Prelude.{◌≡◌, flat_map, IfOk, IfSome, OnOk, IsErrOf};
 ghost use Rattle.std.specs.Option.{option_copied};
 ghost use Rattle.outside_folder.specs.Calls.{Leaves};
+ghost use Rattle.project_paths.specs.Listings.{Agree};
 ghost use Rattle.project_paths.specs.Entries.{entry_files, first_crowded, is_crowded, judged, lesser, refusal_of, shown, unless_none};
 ghost use Rattle.plan_types.specs.Refusal.{Answers, Settles};
 
 use crate::found::{FoundFiles, found_by};
+use crate::listings::Listings;
 use crate::pattern::pattern_of;
 use outside_folder::Folder;
 use plan_types::{Cause, Halt, List, NoMemory, ProjectEntry, Refusal, Text};
@@ -15,16 +17,19 @@ use std::alloc::Global;
 pub(crate) fn entry_files<F: Folder>(
     alloc: Global,
     entry: &ProjectEntry,
+    listings: &mut Listings,
     folder: &mut F,
 ) -> Result<List<Text>, Halt>
+    requires { Agree (F.tells folder.old) listings.old }
     ensures told { IfSome (F.tells folder.old)
         (λ files. Answers (λ outcome. outcome ≡ entry_files files entry.now) result) }
+    ensures agree { OnOk result (Agree (F.tells folder.new) listings.new) }
     ensures folder { Leaves F.tells F.faults folder.old folder.new (IsErrOf result Halt.Failed) }
 {
     match pattern_of(alloc, entry.text.as_str())? {
         None => Err(refused(entry, Cause::Unsupported, Text::new(alloc))?),
         Some(pattern) => {
-            let found = found_by(alloc, &pattern, folder)?;
+            let found = found_by(alloc, &pattern, listings, folder)?;
             let files = judged(alloc, entry, found)?;
             Ok(files)
         }

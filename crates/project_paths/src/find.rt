@@ -1,13 +1,15 @@
 // The local files of all entries.
-ghost use Rattle.std.specs.Prelude.{◌≡◌, IfOk, IfSome, IsErrOf};
+ghost use Rattle.std.specs.Prelude.{◌≡◌, IfOk, IfSome, OnOk, IsErrOf};
 ghost use Rattle.std.specs.Cmp.Lexicographic.{slice_cmp};
 ghost use Rattle.std.specs.List.Sorted.{IsStrictlySortedBy};
 ghost use Rattle.std.specs.Ordering.{nat_cmp};
 ghost use Rattle.outside_folder.specs.Calls.{Leaves};
+ghost use Rattle.project_paths.specs.Listings.{Agree};
 ghost use Rattle.project_paths.specs.Local.{all_files, finished, implied, in_order, local_files, no_packages, sought};
 ghost use Rattle.plan_types.specs.Refusal.{Answers, Settles};
 
 use crate::entry::entry_files;
+use crate::listings::Listings;
 use outside_folder::Folder;
 use plan_types::{Cause, Halt, List, NoMemory, Project, ProjectEntry, Refusal, Text};
 use std::alloc::Global;
@@ -15,7 +17,8 @@ use std::collections::BTreeSet;
 
 /// The paths of the local files that the entries of a project give, in byte order, each once; or the first refusal.
 ///
-/// Where there is no `cabal.project`, the `.cabal` files in the root come in front, of which there may be none.
+/// Where there is no `cabal.project`, the `.cabal` files in the root come in front, of which there may be none. No directory is
+/// listed twice.
 pub fn find_packages<F: Folder>(
     alloc: Global,
     project: &Project,
@@ -29,8 +32,9 @@ pub fn find_packages<F: Folder>(
     ensures folder { Leaves F.tells F.faults folder.old folder.new (IsErrOf result Halt.Failed) }
 {
     let implied = implied(alloc, implicit)?;
-    let mut found = find_entries(alloc, implied.as_slice(), folder)?;
-    let mut others = find_entries(alloc, project.entries.as_slice(), folder)?;
+    let mut listings = Listings::new(alloc);
+    let mut found = find_entries(alloc, implied.as_slice(), &mut listings, folder)?;
+    let mut others = find_entries(alloc, project.entries.as_slice(), &mut listings, folder)?;
     found.append(&mut others)?;
     let paths = finished(alloc, found)?;
     Ok(paths)
@@ -56,15 +60,18 @@ fn implied(alloc: Global, implicit: bool) -> Result<List<ProjectEntry>, NoMemory
 fn find_entries<F: Folder>(
     alloc: Global,
     entries: &[ProjectEntry],
+    listings: &mut Listings,
     folder: &mut F,
 ) -> Result<List<Text>, Halt>
+    requires { Agree (F.tells folder.old) listings.old }
     ensures told { IfSome (F.tells folder.old)
         (λ files. Answers (λ outcome. outcome ≡ all_files files entries.now) result) }
+    ensures agree { OnOk result (Agree (F.tells folder.new) listings.new) }
     ensures folder { Leaves F.tells F.faults folder.old folder.new (IsErrOf result Halt.Failed) }
 {
     let mut found = List::new(alloc);
     for entry in entries {
-        let mut files = entry_files(alloc, entry, folder)?;
+        let mut files = entry_files(alloc, entry, listings, folder)?;
         found.append(&mut files)?;
     }
     Ok(found)

@@ -1,10 +1,12 @@
 // The local files at the places of a pattern.
 ghost use Rattle.std.specs.Prelude.{◌≡◌, ◌++◌, ◌&&◌, map, filter, not, IfOk, IfSome, OnOk, IsErrOf};
 ghost use Rattle.outside_folder.specs.Calls.{Leaves};
+ghost use Rattle.project_paths.specs.Listings.{Agree};
 ghost use Rattle.project_paths.specs.Found.{cabal_in, files_of, found_at, found_by, is_cabal, is_cabal_file, is_local};
 
+use crate::listings::Listings;
 use crate::pattern::Pattern;
-use crate::places::{FolderPlace, names_at, path_in, places};
+use crate::places::{FolderPlace, path_in, places};
 use outside_folder::{Folder, Name, Trouble};
 use plan_types::{List, NoMemory, Text};
 use std::alloc::Global;
@@ -20,16 +22,19 @@ pub(crate) struct FoundFiles {
 pub(crate) fn found_by<F: Folder>(
     alloc: Global,
     pattern: &Pattern,
+    listings: &mut Listings,
     folder: &mut F,
 ) -> Result<List<FoundFiles>, Trouble>
+    requires { Agree (F.tells folder.old) listings.old }
     ensures told { IfSome (F.tells folder.old)
         (λ files. IfOk result (λ all. all ≡ found_by files pattern.now)) }
+    ensures agree { OnOk result (Agree (F.tells folder.new) listings.new) }
     ensures folder { Leaves F.tells F.faults folder.old folder.new (IsErrOf result Trouble.Failed) }
 {
-    let places = places(alloc, pattern.names.as_slice(), folder)?;
+    let places = places(alloc, pattern.names.as_slice(), listings, folder)?;
     let mut all = List::new(alloc);
     for place in places.as_slice() {
-        let found = found_at(alloc, pattern.folders, place, folder)?;
+        let found = found_at(alloc, pattern.folders, place, listings, folder)?;
         all.push(found)?;
     }
     Ok(all)
@@ -39,14 +44,17 @@ fn found_at<F: Folder>(
     alloc: Global,
     folders: bool,
     place: &FolderPlace,
+    listings: &mut Listings,
     folder: &mut F,
 ) -> Result<FoundFiles, Trouble>
+    requires { Agree (F.tells folder.old) listings.old }
     ensures told { IfSome (F.tells folder.old)
         (λ files. IfOk result (λ found. found ≡ found_at files folders place.now)) }
+    ensures agree { OnOk result (Agree (F.tells folder.new) listings.new) }
     ensures folder { Leaves F.tells F.faults folder.old folder.new (IsErrOf result Trouble.Failed) }
 {
-    let names = names_at(alloc, place, folder)?;
-    let files = files_of(alloc, folders, place, names.as_slice())?;
+    listings.list_at(alloc, place, folder)?;
+    let files = files_of(alloc, folders, place, listings.names_at(place))?;
     let path = place.path.copy()?;
     Ok(FoundFiles { path, files })
 }

@@ -1,10 +1,12 @@
 // What the names of a pattern lead to in a folder.
 ghost use Rattle.std.specs.Prelude.{◌≡◌, ◌++◌, [], ◌∷◌, flat_map, map, filter, IfOk, IfSome, OnOk, IsErrOf};
 ghost use Rattle.outside_folder.specs.Calls.{Leaves};
-ghost use Rattle.project_paths.specs.Places.{below, is_matched, names_at, path_in, place_in, places, root};
+ghost use Rattle.project_paths.specs.Listings.{Agree};
+ghost use Rattle.project_paths.specs.Places.{below, is_matched, path_in, place_in, places, root};
 
+use crate::listings::Listings;
 use crate::wildcard::matches;
-use outside_folder::{Folder, Name, Trouble, list_names};
+use outside_folder::{Folder, Name, Trouble};
 use plan_types::{List, NoMemory, Text};
 use std::alloc::Global;
 
@@ -19,15 +21,18 @@ pub(crate) struct FolderPlace {
 pub(crate) fn places<F: Folder>(
     alloc: Global,
     names: &[Text],
+    listings: &mut Listings,
     folder: &mut F,
 ) -> Result<List<FolderPlace>, Trouble>
+    requires { Agree (F.tells folder.old) listings.old }
     ensures told { IfSome (F.tells folder.old)
         (λ files. IfOk result (λ found. found ≡ places files names.now)) }
+    ensures agree { OnOk result (Agree (F.tells folder.new) listings.new) }
     ensures folder { Leaves F.tells F.faults folder.old folder.new (IsErrOf result Trouble.Failed) }
 {
     let mut found = root(alloc)?;
     for name in names {
-        found = all_below(alloc, name, found.as_slice(), folder)?;
+        found = all_below(alloc, name, found.as_slice(), listings, folder)?;
     }
     Ok(found)
 }
@@ -47,35 +52,22 @@ fn all_below<F: Folder>(
     alloc: Global,
     pattern: &Text,
     places: &[FolderPlace],
+    listings: &mut Listings,
     folder: &mut F,
 ) -> Result<List<FolderPlace>, Trouble>
+    requires { Agree (F.tells folder.old) listings.old }
     ensures told { IfSome (F.tells folder.old)
         (λ files. IfOk result (λ found. found ≡ flat_map (below files pattern.now) places.now)) }
+    ensures agree { OnOk result (Agree (F.tells folder.new) listings.new) }
     ensures folder { Leaves F.tells F.faults folder.old folder.new (IsErrOf result Trouble.Failed) }
 {
     let mut found = List::new(alloc);
     for place in places {
-        let names = names_at(alloc, place, folder)?;
-        push_matched(alloc, pattern, place, names.as_slice(), &mut found)?;
+        listings.list_at(alloc, place, folder)?;
+        let names = listings.names_at(place);
+        push_matched(alloc, pattern, place, names, &mut found)?;
     }
     Ok(found)
-}
-
-/// The names in a directory; a file has none.
-pub(crate) fn names_at<F: Folder>(
-    alloc: Global,
-    place: &FolderPlace,
-    folder: &mut F,
-) -> Result<List<Name>, Trouble>
-    ensures told { IfSome (F.tells folder.old)
-        (λ files. IfOk result (λ names. names ≡ names_at files place.now)) }
-    ensures folder { Leaves F.tells F.faults folder.old folder.new (IsErrOf result Trouble.Failed) }
-{
-    if !place.folder {
-        return Ok(List::new(alloc));
-    }
-    let names = list_names(alloc, place.path.as_str(), folder)?;
-    Ok(names.unwrap_or(List::new(alloc)))
 }
 
 fn push_matched(

@@ -1,8 +1,9 @@
 use Rattle.std.proofs.Common.{◌≡◌, Ok, Err, ap, refl, subst, sym, ◌∙◌}
-use Rattle.std.proofs.lemmas.Result.{err_from_is_err_and}
+use Rattle.std.proofs.lemmas.Result.{IfOk-weaker, err_from_is_err_and}
 use Rattle.project_config.specs.Project.{IsFolderProject}
 use Rattle.plan_task.specs.Task.{IsTask, IsTaskOf}
-use Rattle.plan_task.proofs.Tasks.{answered, passed-on}
+use Rattle.project_config.proofs.Locating.{passed-on}
+use Rattle.plan_task.proofs.Tasks.{answered}
 use Rattle.common_laws.specs.Small.{if_some, some_at}
 use Rattle.plan_types.specs.Refusal.{Answers}
 use Rattle.plan_task.proofs.task.read_task.Goals as goal
@@ -20,3 +21,7 @@ returns-clause-told g c = if_some _ _ (λ files t.
     answered (IsTaskOf c.args.options files (Ok c.in_ok-found.found)) (IsTask c.args.options files)
     (λ outcome is. (Ok c.in_ok-found.found, some_at _ _ files t c.in_ok-found.ensures.told, is))
     c.task_in.result (some_at _ _ files (c.in_ok-found.ensures.folder.same_files ∙ t) c.task_in.ensures.told))
+
+pub returns-clause-freeze : goal.returns-clause-freeze
+returns-clause-freeze g c = if_some _ _ (λ files t.
+    IfOk-weaker c.task_in.result _ _ (λ task is. is ∙ some_at _ _ files t c.in_ok-found.ensures.freeze) c.task_in.ensures.freeze)

@@ -11,6 +11,6 @@ use Rattle.project_config.proofs.files.read_files.Given as goal
 abbrev pub invariant-loop-path : goal.invariant-loop-path
 invariant-loop-path g l = record {
   taken : (read : List ProjectText) × IsProject l.env read (Ok l.project)
-      × ((files : Files) → g.F.Folder.tells l.fn.folder ≡ Some files → GoesOn files project_files read l.implicit l.path-iterator.rest.items);
+      × ((files : Files) → g.F.Folder.tells l.fn.folder ≡ Some files → GoesOn files project_files read l.implicit l.freeze l.path-iterator.rest.items);
   folder : Leaves g.F.Folder.tells g.F.Folder.faults l.fn.folder l.folder ⊥;
 }

@@ -1,6 +1,6 @@
-use Rattle.std.proofs.Common.{◌≡◌, Err, ap, subst, sym, ◌∙◌}
+use Rattle.std.proofs.Common.{◌≡◌, Ok, Err, ap, subst, sym, ◌∙◌}
 use Rattle.std.proofs.lemmas.Result.{err_from_is_err_and}
-use Rattle.project_config.specs.Project.{IsFolderProject}
+use Rattle.project_config.specs.Project.{AreSaid, IsFolderProject}
 use Rattle.project_config.proofs.Locating.{located_in, unlocated, unread}
 use Rattle.common_laws.specs.Small.{if_some, some_at}
 use Rattle.plan_types.specs.Refusal.{Answers}
@@ -25,3 +25,8 @@ pub returns-clause-told : goal.returns-clause-told
 returns-clause-told g c = if_some _ _ (λ files t.
     located_in c.args.env.now files c.in_ok-found.found (some_at _ _ files t c.in_ok-found.ensures.told) c.in_ok-locals.locals
     (some_at _ _ files (c.in_ok-found.ensures.folder.same_files ∙ t) c.in_ok-locals.ensures.told))
+
+pub returns-clause-freeze : goal.returns-clause-freeze
+returns-clause-freeze g c = if_some _ _ (λ files t.
+    let said : AreSaid c.args.env.now files (Ok c.in_ok-found.found) = some_at _ _ files t c.in_ok-found.ensures.told in
+    said.2)
