@@ -3,7 +3,9 @@ use Rattle.std.proofs.Common.{◌≡◌, ◌∙◌, ◌+◌, ◌&&◌, ◌||◌,
 use Rattle.std.specs.Prelude.{◌==◌, find, is_some, nat_eq, slice_get}
 use Rattle.std.specs.List.{after_first, before_first, list_all, list_any, position_or_len}
 use Rattle.std.specs.Str.{bytes_eq}
-use Rattle.std.proofs.lemmas.Bool.{and_parts, eq-eqb, eqb-true, false≢true}
+use Rattle.std.specs.Cmp.{nat_eq_equiv}
+use Rattle.std.proofs.lemmas.Bool.{and_parts, false≢true, not-true, or_parts}
+use Rattle.std.proofs.lemmas.Map.Keys.{any_passes_from_place}
 use Rattle.std.proofs.lemmas.Slice.Eq.{bytes_eq-Decides}
 use Rattle.clap.specs.Lexer.{has_byte, long_of, long_of_rest}
 use Rattle.clap.specs.Simple.{Shape, built, filled, new_rule, with_index}
@@ -39,15 +41,6 @@ all-at test [] i x at all = absurd (cc at)
 all-at test (y ∷ ys) zero x at all = let same : y ≡ x = cc at in ap test (sym same) ∙ (and_parts (test y) (list_all test ys) all).0
 all-at test (y ∷ ys) (suc i) x at all = all-at test ys i x at (and_parts (test y) (list_all test ys) all).1
 
-any-at : {A : Type 0} (test : A → Bool) (xs : List A) (i : ℕ) (x : A) → slice_get xs i ≡ Some x → test x ≡ true → list_any test xs ≡ true
-any-at test [] i x at is = absurd (cc at)
-any-at test (y ∷ ys) zero x at is = let same : y ≡ x = cc at in ap (λ b. b || list_any test ys) (ap test same ∙ is)
-any-at test (y ∷ ys) (suc i) x at is = go (test y) (any-at test ys i x at is)
-  where
-    go : (b : Bool) → list_any test ys ≡ true → (b || list_any test ys) ≡ true
-    go true e = refl
-    go false e = e
-
 -- what holds of all options holds of each
 pub each_option : (test : OptionName → Bool) → list_all test options ≡ true → (option : OptionName) → test option ≡ true
 each_option test all option = all-at test options (place_of option) option (stands option) all
@@ -66,10 +59,6 @@ record IsGood (option : OptionName) : Type 0 where
   not_command : bytes_eq (name_of option) (codes "command") ≡ false
   command_not : bytes_eq (codes "command") (name_of option) ≡ false
 
-is_false : (b : Bool) → not b ≡ true → b ≡ false
-is_false true e = absurd (false≢true e)
-is_false false e = refl
-
 good : (option : OptionName) → IsGood option
 good option =
     let name = name_of option in
@@ -77,10 +66,10 @@ good option =
     let second = and_parts (not (has_byte 61 name)) (not (bytes_eq name (codes "command")) && not (bytes_eq (codes "command") name)) first.1 in
     let third = and_parts (not (bytes_eq name (codes "command"))) (not (bytes_eq (codes "command") name)) second.1 in
     record {
-      some = is_false (is_empty name) first.0;
-      no_equals = is_false (has_byte 61 name) second.0;
-      not_command = is_false (bytes_eq name (codes "command")) third.0;
-      command_not = is_false (bytes_eq (codes "command") name) third.1;
+      some = not-true (is_empty name) first.0;
+      no_equals = not-true (has_byte 61 name) second.0;
+      not_command = not-true (bytes_eq name (codes "command")) third.0;
+      command_not = not-true (bytes_eq (codes "command") name) third.1;
     }
 
 pub not_command : (option : OptionName) → bytes_eq (name_of option) (codes "command") ≡ false
@@ -175,22 +164,14 @@ rules_are = refl
 pub rule_is : (option : OptionName) → arg_by_long rules (name_of option) ≡ Some (built_option (name_of option))
 rule_is option =
     ap (λ rs. arg_by_long rs (name_of option)) rules_are
-    ∙ find_named options (name_of option) (any-at (λ o. bytes_eq (name_of o) (name_of option)) options (place_of option) option (stands option) (same_name option))
+    ∙ find_named options (name_of option) (any_passes_from_place (λ o. bytes_eq (name_of o) (name_of option)) options (place_of option) option (stands option) (same_name option))
 
 -- ---- which option a word gives a value
-
-same_test_of : (m n : ℕ) → nat_eq m n ≡ nat_eq n m
-same_test_of m n = both (nat_eq m n) (nat_eq n m) (λ e. eq-eqb n m (sym (eqb-true m n e))) (λ e. eq-eqb m n (sym (eqb-true n m e)))
-  where
-    both : (a b : Bool) → (a ≡ true → b ≡ true) → (b ≡ true → a ≡ true) → a ≡ b
-    both true b h k = sym (h refl)
-    both false true h k = k refl
-    both false false h k = refl
 
 -- texts that end with their first `=` begin alike where they are one
 ended : (a b v : Text) → has_byte 61 a ≡ false → has_byte 61 b ≡ false → bytes_eq (a ++ codes "=") (take (length (a ++ codes "=")) ((b ++ codes "=") ++ v)) ≡ bytes_eq b a
 ended [] [] v none others = refl
-ended [] (y ∷ b) v none others = ap (λ c. c && true) (same_test_of 61 y) ∙ go (y == 61) others
+ended [] (y ∷ b) v none others = ap (λ c. c && true) (nat_eq_equiv.symm 61 y) ∙ go (y == 61) others
   where
     go : (c : Bool) → (c || has_byte 61 b) ≡ false → (c && true) ≡ false
     go true e = absurd (false≢true (sym e))
@@ -201,11 +182,7 @@ ended (x ∷ a) [] v none others = go (x == 61) none
     go true e = absurd (false≢true (sym e))
     go false e = refl
 ended (x ∷ a) (y ∷ b) v none others =
-    ap₂ (λ c d. c && d) (same_test_of x y) (ended a b v (tail (x == 61) (has_byte 61 a) none) (tail (y == 61) (has_byte 61 b) others))
-  where
-    tail : (c d : Bool) → (c || d) ≡ false → d ≡ false
-    tail true d e = absurd (false≢true (sym e))
-    tail false d e = e
+    ap₂ (λ c d. c && d) (nat_eq_equiv.symm x y) (ended a b v (or_parts (x == 61) (has_byte 61 a) none).1 (or_parts (y == 61) (has_byte 61 b) others).1)
 
 -- a word gives an option a value where the names are one
 pub same_test : (option other : OptionName) (v : Text) → gives option (prefix_of other ++ v) ≡ bytes_eq (name_of other) (name_of option)

@@ -8,6 +8,7 @@ use Rattle.plan_types.specs.declared.index.Entry.{Entry}
 use Rattle.plan_types.specs.declared.index.Package.{Package}
 use Rattle.plan_types.specs.declared.index.Skipped.{Skipped}
 use Rattle.qualified_goals.specs.Names.{class_of}
+use Rattle.qualified_goals.proofs.Numbers.{package_cmp_total}
 use Rattle.package_declarations.proofs.StableSort as stable
 use Rattle.index_assembly.specs.Order.{put, in_order}
 use Rattle.index_assembly.specs.Entries.{is_unit_below, is_version_below}
@@ -32,7 +33,7 @@ pub unit-order : IsStrictWeakOrder is_unit_below
 unit-order = ranks_by (then_total (on_total (λ (e : Entry). e.instance.version.parts) nat_list_cmp_total) (on_total (λ (e : Entry). e.instance.unit) nat_list_cmp_total)) (λ (e : Entry). e)
 
 pub package-order : IsStrictWeakOrder is_package_below
-package-order = ranks_by (then_total (on_total class_of nat_cmp_total) (on_total (λ (p : Package). p.name) nat_list_cmp_total)) (λ (p : Package). p)
+package-order = ranks_by package_cmp_total (λ (p : Package). p)
 
 pub path-order : IsStrictWeakOrder is_path_below
 path-order = ranks_by nat_list_cmp_total (λ (s : Skipped). s.path)

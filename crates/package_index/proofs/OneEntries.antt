@@ -16,6 +16,7 @@ use Rattle.plan_types.specs.declared.index.Entry.{Entry}
 use Rattle.plan_types.specs.declared.index.Package.{Package}
 use Rattle.plan_types.specs.declared.index.Skipped.{Skipped}
 use Rattle.qualified_goals.specs.Names.{package_cmp}
+use Rattle.qualified_goals.proofs.Numbers.{package_cmp_total}
 use Rattle.outside_folder.specs.Files.{Bytes, Files}
 use Rattle.index_files.specs.Closure.{Ground, IsVisit, Visit, found_of, names_of}
 use Rattle.plan_types.specs.declared.index.Places.{Places}
@@ -26,7 +27,7 @@ use Rattle.index_assembly.specs.Entries.{entries_named, is_unit_below, release_e
 use Rattle.index_assembly.specs.Index.{is_extra, is_package_below, is_path_below, package_from, package_of, skipped_by, skipped_in}
 use Rattle.index_assembly.specs.Order.{in_order}
 use Rattle.package_index.proofs.Blocks.{AreApart, IsApart, one-in-order}
-use Rattle.package_index.proofs.Orders.{package-told, package_cmp_total}
+use Rattle.package_index.proofs.Orders.{package-told}
 use Rattle.package_index.proofs.Paths.{IsPathOf, one-name}
 use Rattle.package_index.proofs.Taken.{Leaves}
 use Rattle.package_index.proofs.Visits.{visit-paths}

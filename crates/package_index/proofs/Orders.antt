@@ -17,9 +17,6 @@ use Rattle.common_laws.specs.Small.{second-equal}
 abbrev pub name_of : Package → List ℕ
 name_of p = p.name
 
-pub package_cmp_total : IsTotalOrder package_cmp
-package_cmp_total = then_total (on_total class_of nat_cmp_total) (on_total name_of nat_list_cmp_total)
-
 pub package-told : (p q : Package) → package_cmp p q ≡ Equal → p.name ≡ q.name
 package-told p q e = exact_bytes p.name q.name (second-equal (nat_cmp (class_of p) (class_of q)) (slice_cmp nat_cmp p.name q.name) e)
 

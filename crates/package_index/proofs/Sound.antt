@@ -9,6 +9,7 @@ use Rattle.plan_types.specs.declared.index.Entry.{Entry}
 use Rattle.plan_types.specs.declared.index.Index.{Index}
 use Rattle.plan_types.specs.declared.index.Package.{Package}
 use Rattle.qualified_goals.specs.Names.{AreInGoalOrder, package_cmp}
+use Rattle.qualified_goals.proofs.Numbers.{package_cmp_total}
 use Rattle.flatten.specs.Sound.{IsPackage, IsSound, has_package}
 use Rattle.outside_folder.specs.Files.{Bytes}
 use Rattle.index_files.specs.Closure.{Ground, asked_locally, mentioned, roots}
@@ -31,7 +32,7 @@ use Rattle.common_laws.specs.Each.{all-listed, each-any, each-back, each-both, e
 use Rattle.package_index.proofs.LocalEntries.{are-local-releases, each-local, one-local-entry}
 use Rattle.package_index.proofs.Locals.{locals-well}
 use Rattle.package_index.proofs.Names.{given-formed}
-use Rattle.package_index.proofs.Orders.{name_of, package-told, package_cmp_total}
+use Rattle.package_index.proofs.Orders.{name_of, package-told}
 use Rattle.package_index.proofs.Package.{IsRelease, local-package, other-package, package-from}
 use Rattle.package_index.proofs.ReleaseEntries.{are-releases, each-release, versions-rise}
 use Rattle.package_index.proofs.Releases.{AreGood, IsReleaseOf, judged-good}

@@ -4,6 +4,7 @@ use Rattle.std.specs.Prelude.{◌⊎◌, flat_map}
 use Rattle.std.specs.List.{AllByRecursion, IsDistinct}
 use Rattle.std.specs.Cmp.Lexicographic.{bytes_decides}
 use Rattle.std.proofs.lemmas.Bool.{true≢false}
+use Rattle.std.proofs.lemmas.List.{nil_from_length}
 use Rattle.outside_folder.specs.Files.{Bytes}
 use Rattle.plan_types.specs.Bytes.{same_text}
 
@@ -103,10 +104,6 @@ module _ {X : Type 0} (key : X → Bytes) where
       let t = taken xs (s.0 ++ s.1) d.1 others in
       (t.0, (s.0, s.1, s.2, t.1))
 
-  none-left : (rest : List X) → length rest ≡ 0 → rest ≡ []
-  none-left [] e = refl
-  none-left (x ∷ rest) e = absurd (omega (arith, e))
-
   -- lists with the same members, each once, are one in another order
   pub taken-all : (xs ys : List X) → IsDistinct same_text (map key xs) → IsDistinct same_text (map key ys)
       → ((z : X) → IsIn xs z → IsIn ys z) → ((z : X) → IsIn ys z → IsIn xs z) → Leaves xs ys []
@@ -115,4 +112,4 @@ module _ {X : Type 0} (key : X → Bytes) where
       let u = taken ys xs e back in
       let a = left-length xs ys t.0 t.1 in
       let b = left-length ys xs u.0 u.1 in
-      subst (Leaves xs ys) (none-left t.0 (omega (arith, a, b))) t.1
+      subst (Leaves xs ys) (nil_from_length t.0 (omega (arith, a, b))) t.1
