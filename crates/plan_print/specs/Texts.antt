@@ -8,6 +8,8 @@ use Rattle.qualified_goals.specs.Names.{NameTable}
 use Rattle.qualified_goals.specs.Printed.{var_text}
 use Rattle.choice_problem.specs.declared.problem.Choice.{Choice}
 use Rattle.choice_problem.specs.declared.outcome.Counts.{Counts}
+use Rattle.plan_nodes.specs.declared.node.PlanNode.{PlanNode}
+use Rattle.plan_nodes.specs.Line.{node_line}
 use Rattle.plan_print.specs.Cause.{cause_name}
 use Rattle.plan_print.specs.Place.{where_of}
 use Rattle.plan_print.specs.Note.{notes_text}
@@ -17,10 +19,10 @@ use Rattle.plan_print.specs.Choice.{choice_line}
 abbrev pub counts_line : Counts → List ℕ
 counts_line counts = codes "visited " ++ decimal counts.visited ++ codes " exhausted " ++ decimal counts.exhausted ++ 10 ∷ []
 
--- the choices of a trail, in its order
-abbrev pub plan_text : Index → NameTable → List Choice → Counts → List ℕ
-plan_text index names trail counts =
-    codes "plan" ++ 10 ∷ notes_text index ++ flat_map (choice_line index names) trail ++ counts_line counts
+-- the choices of a trail and the nodes of its plan, each in their order
+abbrev pub plan_text : Index → NameTable → List Choice → List PlanNode → Counts → List ℕ
+plan_text index names trail nodes counts =
+    codes "plan" ++ 10 ∷ notes_text index ++ flat_map (choice_line index names) trail ++ flat_map node_line nodes ++ counts_line counts
 
 -- a variable of a set stands behind a blank
 abbrev pub named_var : NameTable → Var → List ℕ

@@ -1,5 +1,6 @@
 // The texts of answers.
 ghost use Rattle.std.specs.Prelude.{◌≡◌, ◌++◌, IfOk, OnOk, flat_map};
+ghost use Rattle.plan_nodes.specs.Line.{node_line};
 ghost use Rattle.plan_print.specs.Choice.{choice_line};
 ghost use Rattle.plan_print.specs.Texts.{named_var, conflict_line, counts_line, plan_text, conflict_text, gave_up_text, detail_text, refusal_text};
 
@@ -8,23 +9,26 @@ use crate::choice::push_choice;
 use crate::note::push_notes;
 use crate::place::push_where;
 use choice_problem::{Choice, ConflictSet, Counts, Var};
+use plan_nodes::{PlanNode, node_line};
 use plan_types::{Index, List, NoMemory, Refusal, Text};
 use qualified_goals::Names;
 use std::alloc::Global;
 
-/// A plan: what a user should know of the index, the choices in their order, and the counts of the search.
+/// A plan: what a user should know of the index, the choices and the nodes in their order, and the counts of the search.
 pub fn text_of_plan(
     alloc: Global,
     trail: &List<Choice>,
     index: &Index,
     names: &Names,
+    nodes: &List<PlanNode>,
     counts: Counts,
 ) -> Result<Text, NoMemory>
-    ensures { IfOk result (λ text. text ≡ plan_text index.now names.now trail.now counts) }
+    ensures { IfOk result (λ text. text ≡ plan_text index.now names.now trail.now nodes.now counts) }
 {
     let mut text = Text::from_str(alloc, "plan\n")?;
     push_notes(alloc, &mut text, index)?;
     push_trail(alloc, &mut text, trail.as_slice(), index, names)?;
+    push_nodes(alloc, &mut text, nodes.as_slice())?;
     push_counts(alloc, &mut text, counts)?;
     Ok(text)
 }
@@ -81,6 +85,16 @@ fn push_trail(
 {
     for choice in trail {
         push_choice(alloc, text, *choice, index, names)?;
+    }
+    Ok(())
+}
+
+fn push_nodes(alloc: Global, text: &mut Text, nodes: &[PlanNode]) -> Result<(), NoMemory>
+    ensures { OnOk result (text.new ≡ text.old ++ flat_map node_line nodes.now) }
+{
+    for node in nodes {
+        let line = node_line(alloc, node)?;
+        text.push_str(line.as_str())?;
     }
     Ok(())
 }
