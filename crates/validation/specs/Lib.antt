@@ -3,4 +3,5 @@ pub mod Verdict
 pub mod Mentions
 pub mod Open
 pub mod Stack
+pub mod Addition
 pub mod Pending

@@ -164,9 +164,9 @@ place_turned trail v listed place = cond (is_turned trail v (demand_at listed pl
 abbrev pub turned : List Choice → Var → List Demand → List Demand
 turned trail v listed = filter (is_turned trail v) listed
 
--- the demands that a variable's choice owns are listed, and those active that turn Yes
-abbrev pub grown : View → Var → List Demand → View
-grown s v demands = with_active (with_listed s demands) (turned s.trail v (s.listed ++ demands))
+-- more demands are listed, and those at some places active: of those listed before, and of the new ones
+abbrev pub grown : View → List Demand → List ℕ → List ℕ → View
+grown s demands woken fresh = with_active (with_listed s demands) (demands_at s.listed woken ++ demands_at demands fresh)
 
 -- a choice made, with the demands that it owns, and those active that turn Yes
 abbrev pub made : View → Choice → List Demand → View
