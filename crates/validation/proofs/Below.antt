@@ -6,9 +6,9 @@ use Rattle.choice_problem.specs.declared.problem.Choice.{Choice}
 use Rattle.choice_problem.specs.declared.problem.Demand.{Demand}
 use Rattle.qualified_goals.specs.Variable.{same_var}
 use Rattle.qualified_goals.specs.SameVariable.{same_var-is}
-use Rattle.validation.specs.Mentions.{places_on}
-use Rattle.validation.specs.Stack.{no_demand, demand_at, demands_at, mention_of, are_naming, names, watchers_by, watchers_from, AllBelow}
-use Rattle.validation.proofs.Walks.{places-append}
+use Rattle.goal_links.specs.Mentions.{places_on, mention_of}
+use Rattle.validation.specs.Stack.{no_demand, demand_at, demands_at, are_naming, names, watchers_by, watchers_from, AllBelow}
+use Rattle.goal_links.proofs.Walks.{places-append}
 
 pub below-at : (n : ℕ) (xs : List ℕ) (k : ℕ) → AllBelow n xs → k < length xs → get_or xs k 0 < n
 below-at n [] k h within = absurd (omega (arith, within))

@@ -1,6 +1,5 @@
 pub mod View
 pub mod Verdict
-pub mod Mentions
 pub mod Open
 pub mod Stack
 pub mod Addition

@@ -13,7 +13,8 @@ use Rattle.choice_problem.specs.Trail.{value_in}
 use Rattle.choice_problem.specs.ConflictSet.{is_rising, has}
 use Rattle.goal_links.specs.Beside.{beside}
 use Rattle.goal_links.specs.Links.{Entries}
-use Rattle.validation.specs.declared.mentions.Mention.{Mention}
+use Rattle.goal_links.specs.Mentions.{mention_of, vars_at}
+use Rattle.goal_links.specs.declared.mentions.Mention.{Mention}
 use Rattle.validation.specs.declared.stack.Mark.{Mark}
 use Rattle.validation.specs.View.{View}
 use Rattle.validation.specs.Open.{Keeps}
@@ -30,18 +31,6 @@ demand_at listed place = slice_index_or listed place no_demand
 -- the demands at some places
 abbrev pub demands_at : List Demand → List ℕ → List Demand
 demands_at listed places = map (demand_at listed) places
-
--- the places of the demands that are mentioned
-abbrev pub places_of : List Mention → List ℕ
-places_of ms = map (λ m. m.place) ms
-
--- the variables that are mentioned
-abbrev pub vars_at : List Mention → List Var
-vars_at ms = map (λ m. m.var) ms
-
--- a variable, mentioned by the demand at a place
-abbrev pub mention_of : Var → ℕ → Mention
-mention_of v n = record { var = v; place = n }
 
 -- whether one of some choices is of the variable
 abbrev pub are_naming : Var → List Choice → Bool

@@ -4,7 +4,6 @@
 
 mod addition;
 mod checks;
-mod mentions;
 mod open;
 mod pending;
 mod picked;

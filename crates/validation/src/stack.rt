@@ -8,19 +8,20 @@ ghost use Rattle.choice_problem.specs.Conflict.{edges_of, refuses, set_of_first}
 ghost use Rattle.choice_problem.specs.ConflictSet.{first_behind, has, set_of};
 ghost use Rattle.validation.specs.Open.{StayKept, is_chosen_in};
 ghost use Rattle.demand_cycles.specs.Cycles.{HasEdge};
-ghost use Rattle.validation.specs.declared.mentions.Mention.{Mention};
+ghost use Rattle.goal_links.specs.declared.mentions.Mention.{Mention};
 ghost use Rattle.validation.specs.Addition.{IsAddition};
 ghost use Rattle.validation.specs.View.{View};
-ghost use Rattle.validation.specs.Stack.{AreOpen, IsSettled, vars_at, demand_at, watchers_by, undone, held, names, with_listed, with_active, HasListed, HasActivated, HasGrown, AllBelow, grown, turned, made, demands_at};
+ghost use Rattle.goal_links.specs.Mentions.{vars_at};
+ghost use Rattle.validation.specs.Stack.{AreOpen, IsSettled, demand_at, watchers_by, undone, held, names, with_listed, with_active, HasListed, HasActivated, HasGrown, AllBelow, grown, turned, made, demands_at};
 
 use crate::addition::Addition;
 use crate::checks::{
     are_naming, demand_in, first_refusing, owners_at, reason_at, set_at, targets_at, yes_among,
 };
-use crate::mentions::{Mention, Mentions};
 use crate::open::OpenVars;
 use crate::values::Values;
 use choice_problem::{Choice, ConflictSet, Demand, Trail, Var};
+use goal_links::{Mention, Mentions};
 use plan_types::{List, NoMemory};
 use std::alloc::Global;
 use std::marker::Model;
@@ -50,7 +51,8 @@ pub(crate) struct Stack {
 impl Model for Stack {
     ghost use Rattle.std.specs.Prelude.{map};
     ghost use Rattle.validation.specs.View.{View};
-    ghost use Rattle.validation.specs.Stack.{AreParts, demands_at, places_of};
+    ghost use Rattle.goal_links.specs.Mentions.{places_of};
+    ghost use Rattle.validation.specs.Stack.{AreParts, demands_at};
 
     ghost Value = { View };
 
