@@ -21,7 +21,7 @@ use Rattle.validation.specs.Open.{AreInOrder, Keeps, StayKept, MayComeBack, any_
 
 -- what keeps its place
 
-get-front : {X : Type 0} (xs ys : List X) (n : ℕ) (x : X) → slice_get xs n ≡ Some x → slice_get (xs ++ ys) n ≡ Some x
+pub get-front : {X : Type 0} (xs ys : List X) (n : ℕ) (x : X) → slice_get xs n ≡ Some x → slice_get (xs ++ ys) n ≡ Some x
 get-front [] ys n x h = absurd (cc h)
 get-front (y ∷ xs) ys zero x h = h
 get-front (y ∷ xs) ys (suc n) x h = get-front xs ys n x h

@@ -1,10 +1,12 @@
 -- What a choice would make of a stack: the demands that would turn Yes, and the edges of all that would be active.
-use Rattle.std.proofs.Common.{◌≡◌, ◌↔◌, ℕ, zero, suc, ◌+◌, ◌<◌, arith, length, get_or, take, drop, Bool, true, false, cond, List, [], ◌∷◌, ◌++◌, Some, None, find, refl, sym, ap, ◌∙◌, subst, inl, inr, ◌⊎◌, length-append, append_assoc}
+use Rattle.std.proofs.Common.{◌≡◌, ◌↔◌, ℕ, suc, ◌+◌, ◌<◌, arith, length, get_or, take, drop, Bool, true, false, cond, List, [], ◌∷◌, ◌++◌, Some, None, find, refl, sym, ap, ◌∙◌, subst, inl, inr, ◌⊎◌, length-append, append_assoc}
 use Rattle.std.specs.List.{Contains, list_any, slice_get}
+use Rattle.std.specs.Option.{option_map}
 use Rattle.std.proofs.lemmas.Bool.{false≢true}
 use Rattle.std.proofs.lemmas.Grind.{flat_map-append}
 use Rattle.std.proofs.lemmas.List.{map-append, take_more}
 use Rattle.std.proofs.lemmas.List.Elements.{filter-append, All-contains}
+use Rattle.std.proofs.lemmas.Option.{slice_get-get_or, slice_get-map}
 use Rattle.std.proofs.Math.ListN.{get_or-append}
 use Rattle.std.proofs.Math.Seq.{take-append_seam, drop-append_seam}
 use Rattle.qualified_goals.specs.declared.variable.Var.{Var}
@@ -22,6 +24,7 @@ use Rattle.validation.specs.declared.addition.Addition.{Addition}
 use Rattle.validation.specs.Pending.{ArePending, AreOwned, count_before, first_broken}
 use Rattle.validation.proofs.Below.{below-append}
 use Rattle.validation.proofs.Graphs.{edge-names, edge-owned}
+use Rattle.validation.proofs.Opened.{get-front}
 use Rattle.validation.proofs.Stacks.{front-of, last-number}
 
 -- demands that turn Yes, one after another
@@ -44,16 +47,9 @@ below-next trail v listed found n within h =
     (elim (is_turned trail v (demand_at listed n)) as (λ b. AllBelow (length listed) (cond b (n ∷ []) [])) [ true ↦ (within, tt) | false ↦ tt ])
 
 pub demands-get : (listed : List Demand) (places : List ℕ) (k d : ℕ) → k < length places → slice_get (demands_at listed places) k ≡ Some (demand_at listed (get_or places k d))
-demands-get listed [] k d h = absurd (omega (arith, h))
-demands-get listed (p ∷ places) zero d h = refl
-demands-get listed (p ∷ places) (suc k) d h = demands-get listed places k d (omega (arith, h))
+demands-get listed places k d h = slice_get-map (demand_at listed) places k ∙ ap (option_map (demand_at listed)) (slice_get-get_or places k d h)
 
--- what stands at a place of two lists
-
-pub get-left : {X : Type 0} (xs ys : List X) (n : ℕ) (x : X) → slice_get xs n ≡ Some x → slice_get (xs ++ ys) n ≡ Some x
-get-left [] ys n x h = absurd (cc h)
-get-left (y ∷ xs) ys zero x h = h
-get-left (y ∷ xs) ys (suc n) x h = get-left xs ys n x h
+-- what stands at a place of the second of two lists
 
 pub get-right : {X : Type 0} (xs ys : List X) (n : ℕ) → slice_get (xs ++ ys) (length xs + n) ≡ slice_get ys n
 get-right [] ys n = let none : 0 + n ≡ n = omega arith in ap (slice_get ys) none
@@ -156,12 +152,12 @@ module _ (s : View) (a : Addition) (woken fresh : List Demand) (count : ℕ) (h 
 
   -- the demand at a place
   pub pending-first : (n : ℕ) (d : Demand) → slice_get s.active n ≡ Some d → slice_get (made s a.choice a.demands).active n ≡ Some d
-  pending-first n d e = ap (λ (l : List Demand). slice_get l n) pending-active ∙ get-left s.active (woken ++ fresh) n d e
+  pending-first n d e = ap (λ (l : List Demand). slice_get l n) pending-active ∙ get-front s.active (woken ++ fresh) n d e
 
   pub pending-second : (n k : ℕ) (d : Demand) → n ≡ length s.active + k → slice_get woken k ≡ Some d → slice_get (made s a.choice a.demands).active n ≡ Some d
   pending-second n k d is e =
       ap (λ (l : List Demand). slice_get l n) pending-active ∙ ap (slice_get (s.active ++ (woken ++ fresh))) is
-      ∙ get-right s.active (woken ++ fresh) k ∙ get-left woken fresh k d e
+      ∙ get-right s.active (woken ++ fresh) k ∙ get-front woken fresh k d e
 
   pub pending-third : (n k : ℕ) (d : Demand) → n ≡ length s.active + (length woken + k) → slice_get fresh k ≡ Some d → slice_get (made s a.choice a.demands).active n ≡ Some d
   pending-third n k d is e =
