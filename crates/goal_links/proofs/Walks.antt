@@ -19,7 +19,7 @@ use Rattle.goal_links.specs.Chains.{no_cell, cell_at, chain_at, without_last}
 use Rattle.goal_links.specs.Links.{Entries, no_var, var_at, chain_with, registered, with_cell, with_cells, lengthened, shortened}
 use Rattle.choice_problem.proofs.Paths.{parted}
 use Rattle.choice_problem.proofs.Sets.{contains-has}
-use Rattle.goal_links.proofs.Paths.{AreOnce}
+use Rattle.goal_links.proofs.Paths.{AreOnce, last-end}
 use Rattle.goal_links.proofs.Nodes.{not-in, behind-parted, apart-front}
 use Rattle.goal_links.proofs.Chained.{without-last}
 use Rattle.goal_links.proofs.Entries.{same-number}
@@ -249,10 +249,6 @@ module _ (s : Entries) (cell : Cell) (h : AreMentions s) (fits : cell.entry < le
 
 -- a cell less
 
-last-from-snoc : (before : Option ℕ) (xs : List ℕ) (x : ℕ) → last_from before (xs ++ x ∷ []) ≡ Some x
-last-from-snoc before [] x = refl
-last-from-snoc before (y ∷ xs) x = last-from-snoc (Some y) xs x
-
 module _ (s : Entries) (front : List Cell) (cell : Cell) (h : AreMentions s) (parts : s.cells ≡ front ++ cell ∷ []) where
   last-entry : (cell_at s.cells (length front)).entry ≡ cell.entry
   last-entry = ap (λ (l : List Cell). (cell_at l (length front)).entry) parts ∙ ap (λ (x : Cell). x.entry) (get_or-append_seam front cell [] no_cell)
@@ -274,7 +270,7 @@ module _ (s : Entries) (front : List Cell) (cell : Cell) (h : AreMentions s) (pa
       ∙ ap (λ n. numbers_from 0 cell.entry front ++ n ∷ []) (omega arith)
 
   pub last-is : last_of (chain_with s (length front)) ≡ Some (length front)
-  last-is = ap last_of last-chain ∙ last-from-snoc None (numbers_from 0 cell.entry front) (length front)
+  last-is = ap last_of last-chain ∙ last-end None (numbers_from 0 cell.entry front) (length front)
 
   abbrev less : Entries
   less = shortened s (length front)

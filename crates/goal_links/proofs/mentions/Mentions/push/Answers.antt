@@ -1,7 +1,7 @@
 use Rattle.std.proofs.Common.{◌≡◌, ◌∙◌, ◌++◌, ◌∷◌, [], List, sym, ap, subst}
 use Rattle.std.proofs.lemmas.Option.{slice_get_within}
 use Rattle.qualified_goals.specs.declared.variable.Var.{Var}
-use Rattle.choice_problem.proofs.Results.{on-err}
+use Rattle.common_laws.specs.Small.{on-err}
 use Rattle.goal_links.specs.declared.chains.Cell.{Cell}
 use Rattle.goal_links.specs.Links.{Entries, var_at}
 use Rattle.goal_links.specs.declared.mentions.Mention.{Mention}
