@@ -11,8 +11,3 @@ ok-of (Err e) h k n = absurd (n k)
 pub ok-where : {T E : Type 0} {P : Type 0} → (r : Result T E) → OnOk r P → is_err r ≡ false → P
 ok-where (Ok x) h k = h
 ok-where (Err e) h k = absurd (false≢true (sym k))
-
--- what holds anyhow holds after a failure
-pub on-err : {T E : Type 0} (r : Result T E) (P : Type 0) → P → OnErr r P
-on-err (Ok t) P h = tt
-on-err (Err e) P h = h

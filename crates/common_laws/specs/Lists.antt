@@ -243,7 +243,6 @@ drop_at xs i x h is = drop-cons xs i x h ∙ (λ j. sym is j ∷ drop (sym (add-
 pub take_at : {A : Type 0} (xs : List A) (i : ℕ) (x : A) → i < length xs → x ≡ get_or xs i x → take (i + 1) xs ≡ take i xs ++ x ∷ []
 take_at xs i x h is = take_more xs i x h ∙ ap (λ v. take i xs ++ v ∷ []) (sym is)
 
-
 pub map-nil : {X Y : Type 0} (f : X → Y) (xs : List X) → map f xs ≡ [] → xs ≡ []
 map-nil f [] h = refl
 map-nil f (x ∷ xs) h = absurd (cc h)

@@ -6,3 +6,5 @@ pub mod Chained
 pub mod Keys
 pub mod Mapped
 pub mod Entries
+pub mod LastItems
+pub mod Walks

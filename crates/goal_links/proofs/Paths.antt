@@ -6,6 +6,10 @@ use Rattle.choice_problem.proofs.Paths.{parted}
 use Rattle.goal_links.specs.Beside.{last_from, first_or}
 use Rattle.goal_links.specs.Ring.{IsPath, same_place, with_place}
 
+pub last-end : (start : Option ℕ) (xs : List ℕ) (n : ℕ) → last_from start (xs ++ n ∷ []) ≡ Some n
+last-end start [] n = refl
+last-end start (x ∷ xs) n = last-end (Some x) xs n
+
 pub last-contains : (n : ℕ) (ns : List ℕ) → (k : ℕ) × (last_from (Some n) ns ≡ Some k) × Contains (n ∷ ns) k
 last-contains n [] = (n, refl, contains-head n [])
 last-contains n (m ∷ ns) = let more = last-contains m ns in (more.0, more.1, contains-tail n (m ∷ ns) more.0 more.2)

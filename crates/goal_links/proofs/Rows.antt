@@ -12,7 +12,7 @@ use Rattle.goal_links.specs.declared.ring.Node.{Node}
 use Rattle.goal_links.specs.Beside.{last_from, last_of, first_of, beside, behind_first}
 use Rattle.goal_links.specs.Ring.{IsPath, IsRing, no_node, ring_of, next_at, prev_at, with_place, IsWithin}
 use Rattle.goal_links.specs.Row.{Line, with_node, has_node, without_node, behind, StandsIn, MayReturn, IsGap, kept_from}
-use Rattle.goal_links.proofs.Paths.{AreOnce, path-parts, path-last, path-first, path-stays, path-more, path-unlinked, path-linked, last-contains, place-other, not-last, not-first}
+use Rattle.goal_links.proofs.Paths.{AreOnce, last-end, path-parts, path-last, path-first, path-stays, path-more, path-unlinked, path-linked, last-contains, place-other, not-last, not-first}
 use Rattle.goal_links.proofs.Rings.{has-contains, ring-once, ring-within, ring-is}
 use Rattle.goal_links.proofs.Nodes.{contains-has, hasn't, not-in, behind-parted, beside-parted, without-parted, has-other, has-itself, apart-front, apart-back, behind-front, in-front, in-back, not-either}
 
@@ -292,10 +292,6 @@ place-parted ns None h = ([], ns, refl, refl)
 place-parted ns (Some n) h =
     let part = parted ns n (has-contains ns n h) in
     (part.0 ++ n ∷ [], part.1, part.2 ∙ sym (append_assoc part.0 (n ∷ []) part.1), last-end None part.0 n)
-  where
-    last-end : (start : Option ℕ) (xs : List ℕ) (n : ℕ) → last_from start (xs ++ n ∷ []) ≡ Some n
-    last-end start [] n = refl
-    last-end start (x ∷ xs) n = last-end (Some x) xs n
 
 -- a linked node keeps nothing
 pub kept-none : (ends : Node) (nodes : List Node) → IsRing ends nodes (ring_of ends nodes) → (n : ℕ) → has_node (ring_of ends nodes) n ≡ true

@@ -3,3 +3,4 @@ pub mod Ring
 pub mod Row
 pub mod Chains
 pub mod Links
+pub mod Mentions

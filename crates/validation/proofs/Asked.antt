@@ -6,10 +6,11 @@ use Rattle.qualified_goals.specs.Variable.{same_var}
 use Rattle.qualified_goals.specs.SameVariable.{same_var-is, same_var-refl}
 use Rattle.choice_problem.specs.ConflictSet.{has}
 use Rattle.choice_problem.proofs.Sets.{has-append}
-use Rattle.validation.specs.declared.mentions.Mention.{Mention}
+use Rattle.goal_links.specs.declared.mentions.Mention.{Mention}
 use Rattle.choice_problem.specs.declared.problem.Choice.{Choice}
 use Rattle.choice_problem.specs.Trail.{value_in}
-use Rattle.validation.specs.Stack.{vars_at, AreOpen}
+use Rattle.goal_links.specs.Mentions.{vars_at}
+use Rattle.validation.specs.Stack.{AreOpen}
 use Rattle.std.proofs.Math.Bool.{or-true, and-false}
 
 pub vars-push : (front : List Mention) (m : Mention) (v : Var) → has (vars_at (front ++ m ∷ [])) v ≡ has (vars_at front) v || (same_var m.var v || false)

@@ -1,27 +1,28 @@
 -- Places of demands that are listed, and those of the demands that name a variable.
-use Rattle.std.proofs.Common.{◌≡◌, ℕ, zero, suc, ◌+◌, ◌<◌, arith, length, get_or, Bool, true, false, cond, ◌&&◌, ◌||◌, List, [], ◌∷◌, ◌++◌, map, filter, refl, sym, ap, ◌∙◌, subst, append_assoc, length-append}
+use Rattle.std.proofs.Common.{◌≡◌, ℕ, zero, suc, ◌+◌, ◌<◌, ◌≤◌, arith, length, get_or, Bool, true, false, cond, ◌&&◌, ◌||◌, List, [], ◌∷◌, ◌++◌, map, filter, refl, sym, ap, ◌∙◌, subst, append_assoc, length-append}
 use Rattle.std.proofs.Math.Seq.{get_or-append_seam}
 use Rattle.qualified_goals.specs.declared.variable.Var.{Var}
 use Rattle.choice_problem.specs.declared.problem.Choice.{Choice}
 use Rattle.choice_problem.specs.declared.problem.Demand.{Demand}
 use Rattle.qualified_goals.specs.Variable.{same_var}
 use Rattle.qualified_goals.specs.SameVariable.{same_var-is}
-use Rattle.validation.specs.Mentions.{places_on}
-use Rattle.validation.specs.Stack.{no_demand, demand_at, demands_at, mention_of, are_naming, names, watchers_by, watchers_from, AllBelow}
-use Rattle.validation.proofs.Walks.{places-append}
-
-pub below-any : (n : ℕ) (xs : List ℕ) (k d : ℕ) → AllBelow n xs → k < length xs → get_or xs k d < n
-below-any n [] k d h within = absurd (omega (arith, within))
-below-any n (x ∷ xs) zero d h within = h.0
-below-any n (x ∷ xs) (suc k) d h within = below-any n xs k d h.1 (omega (arith, within))
+use Rattle.goal_links.specs.Mentions.{places_on, mention_of}
+use Rattle.validation.specs.Stack.{no_demand, demand_at, demands_at, are_naming, names, watchers_by, watchers_from, AllBelow}
+use Rattle.goal_links.proofs.Walks.{places-append}
 
 pub below-at : (n : ℕ) (xs : List ℕ) (k : ℕ) → AllBelow n xs → k < length xs → get_or xs k 0 < n
-below-at n xs k h within = below-any n xs k 0 h within
+below-at n [] k h within = absurd (omega (arith, within))
+below-at n (x ∷ xs) zero h within = h.0
+below-at n (x ∷ xs) (suc k) h within = below-at n xs k h.1 (omega (arith, within))
 
 pub below-filter : (n : ℕ) (test : ℕ → Bool) (xs : List ℕ) → AllBelow n xs → AllBelow n (filter test xs)
 below-filter n test [] h = tt
 below-filter n test (x ∷ xs) h =
     elim (test x) as (λ b. AllBelow n (cond b (x ∷ filter test xs) (filter test xs))) [ true ↦ (h.0, below-filter n test xs h.1) | false ↦ below-filter n test xs h.1 ]
+
+pub below-more : (n m : ℕ) (xs : List ℕ) → n ≤ m → AllBelow n xs → AllBelow m xs
+below-more n m [] le h = tt
+below-more n m (x ∷ xs) le h = (let less : x < m = omega (arith, le, h.0) in less, below-more n m xs le h.1)
 
 pub below-append : (n : ℕ) (xs ys : List ℕ) → AllBelow n xs → AllBelow n ys → AllBelow n (xs ++ ys)
 below-append n [] ys h k = k

@@ -16,10 +16,10 @@ use Rattle.choice_problem.specs.Conflict.{Edge, edges_from, edges_by, edges_of}
 use Rattle.choice_problem.specs.ConflictSet.{has}
 use Rattle.common_laws.specs.Lists.{contains-head, contains-none, contains-cases, contains-filter, contains-flat_map, flat_map-contains, filter-contains, any-from}
 use Rattle.choice_problem.proofs.Sets.{same-back, has-append}
-use Rattle.validation.specs.declared.mentions.Mention.{Mention}
-use Rattle.validation.specs.Mentions.{places_on}
+use Rattle.goal_links.specs.declared.mentions.Mention.{Mention}
+use Rattle.goal_links.specs.Mentions.{places_on, places_of, vars_at, mention_of}
 use Rattle.demand_cycles.specs.Cycles.{HasEdge, first_of_condition, owner_of}
-use Rattle.validation.specs.Stack.{demand_at, demands_at, places_of, vars_at, mention_of, are_naming, names, watchers_by, watchers_from, owners_of, turned, is_first, is_owned_by, source_on, sources_on, target_by, targets_by, AreTargets, IsSettled}
+use Rattle.validation.specs.Stack.{demand_at, demands_at, are_naming, names, watchers_by, watchers_from, owners_of, turned, is_first, is_owned_by, source_on, sources_on, target_by, targets_by, AreTargets, IsSettled}
 use Rattle.validation.specs.Pending.{AreOwned}
 use Rattle.validation.specs.View.{View}
 use Rattle.validation.proofs.Stacks.{targets-tail}

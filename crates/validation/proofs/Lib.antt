@@ -1,6 +1,4 @@
-pub mod LastItems
 pub mod Opened
-pub mod Walks
 pub mod Stacks
 pub mod Asked
 pub mod Below

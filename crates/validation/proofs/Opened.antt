@@ -4,24 +4,24 @@ use Rattle.std.specs.List.{Contains, slice_get, find}
 use Rattle.std.specs.Option.{option_map}
 use Rattle.std.proofs.Math.ListN.{set}
 use Rattle.std.proofs.lemmas.Bool.{false≢true}
-use Rattle.std.proofs.lemmas.Option.{slice_get_within, get_or_from_slice_get, slice_get-get_or}
+use Rattle.std.proofs.lemmas.Option.{slice_get_within}
 use Rattle.common_laws.specs.Lists.{contains-head, contains-tail}
 use Rattle.qualified_goals.specs.declared.variable.Var.{Var}
 use Rattle.qualified_goals.specs.Variable.{is_before, same_var}
 use Rattle.qualified_goals.specs.SameVariable.{same_var-is, same_var-refl}
 use Rattle.qualified_goals.proofs.Order.{before-itself, before-back}
 use Rattle.choice_problem.specs.ConflictSet.{is_rising, has, without, first_behind}
-use Rattle.choice_problem.proofs.Sets.{same-back, before-not-same, contains-has, has-contains, has-append, has-with_var, rising-with_var, rising-tail, rising-below, rising-same}
+use Rattle.choice_problem.proofs.Sets.{same-back, before-not-same, has-contains, has-append, has-with_var, rising-with_var, rising-tail, rising-below, rising-same}
 use Rattle.choice_problem.proofs.InOrder.{rising-without, has-without}
 use Rattle.goal_links.specs.Beside.{beside, behind_first, first_of, AreBeside}
-use Rattle.goal_links.specs.Links.{Entries, no_var, var_at, vars_behind, registered, linked, unlinked, MayReturn}
-use Rattle.goal_links.proofs.Mapped.{get-contains}
+use Rattle.goal_links.specs.Links.{Entries, var_at, vars_behind, registered, linked, unlinked, MayReturn}
 use Rattle.goal_links.proofs.Entries.{may-return}
+use Rattle.goal_links.proofs.Walks.{at-entry, entry-known, get-at}
 use Rattle.validation.specs.Open.{AreInOrder, Keeps, StayKept, MayComeBack, any_var, is_other, is_behind}
 
 -- what keeps its place
 
-get-front : {X : Type 0} (xs ys : List X) (n : ℕ) (x : X) → slice_get xs n ≡ Some x → slice_get (xs ++ ys) n ≡ Some x
+pub get-front : {X : Type 0} (xs ys : List X) (n : ℕ) (x : X) → slice_get xs n ≡ Some x → slice_get (xs ++ ys) n ≡ Some x
 get-front [] ys n x h = absurd (cc h)
 get-front (y ∷ xs) ys zero x h = h
 get-front (y ∷ xs) ys (suc n) x h = get-front xs ys n x h
@@ -37,15 +37,6 @@ get-set : {X : Type 0} (xs : List X) (i : ℕ) (y x : X) → slice_get xs i ≡ 
 get-set [] i y x h = absurd (cc h)
 get-set (z ∷ xs) zero y x h = refl
 get-set (z ∷ xs) (suc i) y x h = get-set xs i y x h
-
-pub at-entry : (vars : List Var) (n : ℕ) (v : Var) → slice_get vars n ≡ Some v → var_at vars n ≡ v
-at-entry vars n v h = get_or_from_slice_get vars n v no_var h
-
-pub get-at : (vars : List Var) (n : ℕ) → n < length vars → slice_get vars n ≡ Some (var_at vars n)
-get-at vars n h = slice_get-get_or vars n no_var h
-
-pub entry-known : (vars : List Var) (n : ℕ) (v : Var) → slice_get vars n ≡ Some v → has vars v ≡ true
-entry-known vars n v h = contains-has vars v (get-contains vars n v h)
 
 -- registered
 

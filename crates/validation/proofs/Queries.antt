@@ -12,9 +12,9 @@ use Rattle.choice_problem.specs.Active.{is_waited_for, asks_for, waiting}
 use Rattle.choice_problem.specs.Conflict.{refuses}
 use Rattle.choice_problem.specs.ConflictSet.{has, is_rising}
 use Rattle.choice_problem.proofs.Sets.{set-same, set_of-rising}
-use Rattle.validation.specs.declared.mentions.Mention.{Mention}
-use Rattle.validation.specs.Mentions.{places_on}
-use Rattle.validation.specs.Stack.{demand_at, demands_at, places_of, vars_at, AllBelow, AreTargets, AreOpen}
+use Rattle.goal_links.specs.declared.mentions.Mention.{Mention}
+use Rattle.goal_links.specs.Mentions.{places_on, places_of, vars_at}
+use Rattle.validation.specs.Stack.{demand_at, demands_at, AllBelow, AreTargets, AreOpen}
 use Rattle.validation.proofs.Stacks.{targets-tail}
 
 pub targets-below : (listed : List Demand) (ms : List Mention) → AreTargets listed ms → AllBelow (length listed) (places_of ms)

@@ -14,14 +14,15 @@ use Rattle.choice_problem.specs.ConflictSet.{is_rising, has, without}
 use Rattle.choice_problem.proofs.InOrder.{has-without}
 use Rattle.goal_links.specs.Beside.{beside}
 use Rattle.goal_links.specs.Links.{Entries}
-use Rattle.validation.specs.declared.mentions.Mention.{Mention}
+use Rattle.goal_links.specs.declared.mentions.Mention.{Mention}
 use Rattle.validation.specs.declared.stack.Mark.{Mark}
 use Rattle.choice_problem.proofs.TrailEnds.{snoc-none, snoc-same, value-push, value-pop}
 use Rattle.validation.specs.View.{View}
 use Rattle.validation.specs.Open.{Keeps, StayKept, MayComeBack, any_var, is_other, is_chosen_in}
-use Rattle.validation.specs.Stack.{front_of, last_number, undone, with_listed, with_active, no_demand, demand_at, demands_at, places_of, vars_at, watchers_by, watchers_from, AreTargets, AreOpen, IsHeld, IsMark, AreMarks, AreParts}
+use Rattle.goal_links.specs.Mentions.{places_of, vars_at}
+use Rattle.validation.specs.Stack.{front_of, last_number, undone, with_listed, with_active, no_demand, demand_at, demands_at, watchers_by, watchers_from, AreTargets, AreOpen, IsHeld, IsMark, AreMarks, AreParts}
 use Rattle.validation.specs.Stack.AreMarks.{none, on}
-use Rattle.validation.proofs.LastItems.{snoc-split}
+use Rattle.goal_links.proofs.LastItems.{snoc-split}
 
 -- targets
 

@@ -5,8 +5,8 @@ use Rattle.choice_problem.specs.declared.problem.Choice.{Choice}
 use Rattle.choice_problem.specs.declared.problem.Demand.{Demand}
 use Rattle.choice_problem.specs.Assignment.{is_yes}
 use Rattle.choice_problem.specs.Trail.{value_in}
-use Rattle.validation.specs.declared.mentions.Mention.{Mention}
-use Rattle.validation.specs.Mentions.{places_on}
+use Rattle.goal_links.specs.declared.mentions.Mention.{Mention}
+use Rattle.goal_links.specs.Mentions.{places_on}
 use Rattle.validation.specs.Stack.{demand_at, demands_at, watchers_from, AllBelow, turned}
 use Rattle.validation.proofs.Below.{waits-below, waits-demands}
 

@@ -1,10 +1,13 @@
 -- What a choice would make of a stack: the demands that would turn Yes, and the edges of all that would be active.
-use Rattle.std.proofs.Common.{◌≡◌, ◌↔◌, ℕ, zero, suc, ◌+◌, ◌<◌, arith, length, get_or, take, drop, Bool, true, false, cond, List, [], ◌∷◌, ◌++◌, Some, None, find, refl, sym, ap, ◌∙◌, subst, inl, inr, ◌⊎◌, length-append}
+use Rattle.std.proofs.Common.{◌≡◌, ◌↔◌, ℕ, suc, ◌+◌, ◌<◌, arith, length, get_or, take, drop, Bool, true, false, cond, List, [], ◌∷◌, ◌++◌, Some, None, find, refl, sym, ap, ◌∙◌, subst, inl, inr, ◌⊎◌, length-append, append_assoc}
 use Rattle.std.specs.List.{Contains, list_any, slice_get}
+use Rattle.std.specs.Option.{option_map}
 use Rattle.std.proofs.lemmas.Bool.{false≢true}
 use Rattle.std.proofs.lemmas.Grind.{flat_map-append}
 use Rattle.std.proofs.lemmas.List.{map-append, take_more}
 use Rattle.std.proofs.lemmas.List.Elements.{filter-append, All-contains}
+use Rattle.std.proofs.lemmas.Option.{slice_get-get_or, slice_get-map}
+use Rattle.std.proofs.Math.ListN.{get_or-append}
 use Rattle.std.proofs.Math.Seq.{take-append_seam, drop-append_seam}
 use Rattle.qualified_goals.specs.declared.variable.Var.{Var}
 use Rattle.qualified_goals.specs.Variable.{same_var}
@@ -16,10 +19,12 @@ use Rattle.choice_problem.specs.Conflict.{Edge, edges_by, edges_of, is_broken, s
 use Rattle.common_laws.specs.Lists.{contains-head, contains-tail, contains-append, contains-left, contains-right, contains-filter}
 use Rattle.demand_cycles.specs.Cycles.{HasEdge}
 use Rattle.validation.specs.View.{View}
-use Rattle.validation.specs.Stack.{AllBelow, no_demand, demand_at, demands_at, front_of, is_first, is_owned_by, is_turned, made, names, place_turned, targets_by, turned}
+use Rattle.validation.specs.Stack.{AllBelow, no_demand, demand_at, demands_at, front_of, grown, is_first, is_owned_by, is_turned, made, names, place_turned, targets_by, turned, with_active, with_listed}
+use Rattle.validation.specs.declared.addition.Addition.{Addition}
 use Rattle.validation.specs.Pending.{ArePending, AreOwned, count_before, first_broken}
 use Rattle.validation.proofs.Below.{below-append}
 use Rattle.validation.proofs.Graphs.{edge-names, edge-owned}
+use Rattle.validation.proofs.Opened.{get-front}
 use Rattle.validation.proofs.Stacks.{front-of, last-number}
 
 -- demands that turn Yes, one after another
@@ -42,16 +47,9 @@ below-next trail v listed found n within h =
     (elim (is_turned trail v (demand_at listed n)) as (λ b. AllBelow (length listed) (cond b (n ∷ []) [])) [ true ↦ (within, tt) | false ↦ tt ])
 
 pub demands-get : (listed : List Demand) (places : List ℕ) (k d : ℕ) → k < length places → slice_get (demands_at listed places) k ≡ Some (demand_at listed (get_or places k d))
-demands-get listed [] k d h = absurd (omega (arith, h))
-demands-get listed (p ∷ places) zero d h = refl
-demands-get listed (p ∷ places) (suc k) d h = demands-get listed places k d (omega (arith, h))
+demands-get listed places k d h = slice_get-map (demand_at listed) places k ∙ ap (option_map (demand_at listed)) (slice_get-get_or places k d h)
 
--- what stands at a place of two lists
-
-pub get-left : {X : Type 0} (xs ys : List X) (n : ℕ) (x : X) → slice_get xs n ≡ Some x → slice_get (xs ++ ys) n ≡ Some x
-get-left [] ys n x h = absurd (cc h)
-get-left (y ∷ xs) ys zero x h = h
-get-left (y ∷ xs) ys (suc n) x h = get-left xs ys n x h
+-- what stands at a place of the second of two lists
 
 pub get-right : {X : Type 0} (xs ys : List X) (n : ℕ) → slice_get (xs ++ ys) (length xs + n) ≡ slice_get ys n
 get-right [] ys n = let none : 0 + n ≡ n = omega arith in ap (slice_get ys) none
@@ -139,53 +137,75 @@ module _ (s : View) (c : Choice) (demands : List Demand) where
       ∙ ap (λ (n : ℕ). lasting_set s.trail (take n (made s c demands).active)) before-is
       ∙ ap (lasting_set s.trail) (take-append_seam s.active (turned (s.trail ++ c ∷ []) c.var (s.listed ++ demands))) ∙ h
 
-  module _ (woken fresh : List Demand) (count : ℕ) (h : ArePending s c demands woken fresh count) where
-    pub pending-active : (made s c demands).active ≡ s.active ++ (woken ++ fresh)
-    pending-active =
-        let trail = s.trail ++ c ∷ [] in
-        ap (λ l. s.active ++ l) (filter-append (is_turned trail c.var) s.listed demands ∙ ap (λ l. l ++ turned trail c.var demands) (sym h.woken_is) ∙ ap (λ l. woken ++ l) (sym h.fresh_is))
+module _ (s : View) (a : Addition) (woken fresh : List Demand) (count : ℕ) (h : ArePending s a woken fresh count) where
+  pub pending-active : (made s a.choice a.demands).active ≡ s.active ++ (woken ++ fresh)
+  pending-active =
+      let trail = s.trail ++ a.choice ∷ [] in
+      ap (λ l. s.active ++ l) (filter-append (is_turned trail a.choice.var) s.listed a.demands ∙ ap (λ l. l ++ turned trail a.choice.var a.demands) (sym h.woken_is) ∙ ap (λ l. woken ++ l) (sym h.fresh_is))
 
-    pub pending-count : count ≡ length (made s c demands).active
-    pending-count =
-        h.counted ∙ ap (λ n. length s.active + n) (sym (length-append woken fresh)) ∙ sym (length-append s.active (woken ++ fresh)) ∙ ap length (sym pending-active)
+  pub pending-count : count ≡ length (made s a.choice a.demands).active
+  pending-count =
+      h.counted ∙ ap (λ n. length s.active + n) (sym (length-append woken fresh)) ∙ sym (length-append s.active (woken ++ fresh)) ∙ ap length (sym pending-active)
 
-    pub pending-length : length (made s c demands).active ≡ length s.active + (length woken + length fresh)
-    pending-length = sym pending-count ∙ h.counted
+  pub pending-length : length (made s a.choice a.demands).active ≡ length s.active + (length woken + length fresh)
+  pending-length = sym pending-count ∙ h.counted
 
-    -- the demand at a place
-    pub pending-first : (n : ℕ) (d : Demand) → slice_get s.active n ≡ Some d → slice_get (made s c demands).active n ≡ Some d
-    pending-first n d e = ap (λ (l : List Demand). slice_get l n) pending-active ∙ get-left s.active (woken ++ fresh) n d e
+  -- the demand at a place
+  pub pending-first : (n : ℕ) (d : Demand) → slice_get s.active n ≡ Some d → slice_get (made s a.choice a.demands).active n ≡ Some d
+  pending-first n d e = ap (λ (l : List Demand). slice_get l n) pending-active ∙ get-front s.active (woken ++ fresh) n d e
 
-    pub pending-second : (n k : ℕ) (d : Demand) → n ≡ length s.active + k → slice_get woken k ≡ Some d → slice_get (made s c demands).active n ≡ Some d
-    pending-second n k d is e =
-        ap (λ (l : List Demand). slice_get l n) pending-active ∙ ap (slice_get (s.active ++ (woken ++ fresh))) is
-        ∙ get-right s.active (woken ++ fresh) k ∙ get-left woken fresh k d e
+  pub pending-second : (n k : ℕ) (d : Demand) → n ≡ length s.active + k → slice_get woken k ≡ Some d → slice_get (made s a.choice a.demands).active n ≡ Some d
+  pending-second n k d is e =
+      ap (λ (l : List Demand). slice_get l n) pending-active ∙ ap (slice_get (s.active ++ (woken ++ fresh))) is
+      ∙ get-right s.active (woken ++ fresh) k ∙ get-front woken fresh k d e
 
-    pub pending-third : (n k : ℕ) (d : Demand) → n ≡ length s.active + (length woken + k) → slice_get fresh k ≡ Some d → slice_get (made s c demands).active n ≡ Some d
-    pending-third n k d is e =
-        ap (λ (l : List Demand). slice_get l n) pending-active ∙ ap (slice_get (s.active ++ (woken ++ fresh))) is
-        ∙ get-right s.active (woken ++ fresh) (length woken + k) ∙ get-right woken fresh k ∙ e
+  pub pending-third : (n k : ℕ) (d : Demand) → n ≡ length s.active + (length woken + k) → slice_get fresh k ≡ Some d → slice_get (made s a.choice a.demands).active n ≡ Some d
+  pending-third n k d is e =
+      ap (λ (l : List Demand). slice_get l n) pending-active ∙ ap (slice_get (s.active ++ (woken ++ fresh))) is
+      ∙ get-right s.active (woken ++ fresh) (length woken + k) ∙ get-right woken fresh k ∙ e
 
-    pub pending-broken : set_of_first (find (is_broken (s.trail ++ c ∷ [])) (woken ++ fresh)) ≡ set_of_first (first_broken (made s c demands))
-    pending-broken =
-        ap (λ (l : List Demand). set_of_first (find (is_broken (s.trail ++ c ∷ [])) l))
-        (sym (ap (λ n. drop n (made s c demands).active) before-is ∙ ap (drop (length s.active)) pending-active ∙ drop-append_seam s.active (woken ++ fresh)))
+  pub pending-broken : set_of_first (find (is_broken (s.trail ++ a.choice ∷ [])) (woken ++ fresh)) ≡ set_of_first (first_broken (made s a.choice a.demands))
+  pending-broken =
+      ap (λ (l : List Demand). set_of_first (find (is_broken (s.trail ++ a.choice ∷ [])) l))
+      (sym (ap (λ n. drop n (made s a.choice a.demands).active) (before-is s a.choice a.demands) ∙ ap (drop (length s.active)) pending-active ∙ drop-append_seam s.active (woken ++ fresh)))
 
-    pub fresh-owned : AreOwned c.var fresh
-    fresh-owned d k = h.owned d (contains-filter (is_turned (s.trail ++ c ∷ []) c.var) demands d (subst (λ (ds : List Demand). Contains ds d) h.fresh_is k)).0
+  pub fresh-owned : AreOwned a.choice.var fresh
+  fresh-owned d k = h.owned d (contains-filter (is_turned (s.trail ++ a.choice ∷ []) a.choice.var) a.demands d (subst (λ (ds : List Demand). Contains ds d) h.fresh_is k)).0
 
-    pub pending-chosen : (v w : Var) → same_var c.var v ≡ false → HasEdge (edges_of (made s c demands).active) v w → list_any (names v) s.listed ≡ true
-    pending-chosen v w other edge =
-        let trail = s.trail ++ c ∷ [] in
-        elim (edge-either s.active (woken ++ fresh) v w (subst (λ (ds : List Demand). HasEdge (edges_of ds) v w) pending-active edge)) [
-          | inl k ↦ edge-names s.active s.listed v w (λ d in'. ((h.settled d).0 in').0) k
-          | inr k ↦ elim (edge-either woken fresh v w k) [
-            | inl l ↦ edge-names woken s.listed v w (λ d in'. (contains-filter (is_turned trail c.var) s.listed d (subst (λ (ds : List Demand). Contains ds d) h.woken_is in')).0) l
-            | inr r ↦
-                let own = edge-owned fresh c.var v w fresh-owned r in
-                absurd (false≢true (sym other ∙ own))
-          ]
+  pub pending-chosen : (v w : Var) → same_var a.choice.var v ≡ false → HasEdge (edges_of (made s a.choice a.demands).active) v w → list_any (names v) s.listed ≡ true
+  pending-chosen v w other edge =
+      let trail = s.trail ++ a.choice ∷ [] in
+      elim (edge-either s.active (woken ++ fresh) v w (subst (λ (ds : List Demand). HasEdge (edges_of ds) v w) pending-active edge)) [
+        | inl k ↦ edge-names s.active s.listed v w (λ d in'. ((h.settled d).0 in').0) k
+        | inr k ↦ elim (edge-either woken fresh v w k) [
+          | inl l ↦ edge-names woken s.listed v w (λ d in'. (contains-filter (is_turned trail a.choice.var) s.listed d (subst (λ (ds : List Demand). Contains ds d) h.woken_is in')).0) l
+          | inr r ↦
+              let own = edge-owned fresh a.choice.var v w fresh-owned r in
+              absurd (false≢true (sym other ∙ own))
         ]
+      ]
+
+-- demands that are listed and made active one after another are so at once
+
+demands-more : (listed more : List Demand) (places : List ℕ) → AllBelow (length listed) places → demands_at (listed ++ more) places ≡ demands_at listed places
+demands-more listed more [] h = refl
+demands-more listed more (k ∷ places) h =
+    ap (λ d. d ∷ demands_at (listed ++ more) places) (get_or-append listed more no_demand k h.0)
+    ∙ ap (λ ds. demand_at listed k ∷ ds) (demands-more listed more places h.1)
+
+pub grown-is : (old l a b : View) (demands : List Demand) (first : ℕ) (woken fresh : List ℕ) → l ≡ with_listed old demands → a ≡ with_active l (demands_at l.listed woken)
+    → b ≡ with_active a (demands_at (drop first a.listed) fresh) → first ≡ length old.listed → AllBelow (length old.listed) woken → b ≡ grown old demands woken fresh
+grown-is old l a b demands first woken fresh e f g count below =
+    let before = demands_at old.listed woken in
+    let news = demands_at demands fresh in
+    let then : a ≡ with_active (with_listed old demands) before =
+    f ∙ ap (λ (x : View). with_active x (demands_at x.listed woken)) e ∙ ap (with_active (with_listed old demands)) (demands-more old.listed demands woken below) in
+    let rest : drop first a.listed ≡ demands =
+    ap (λ (x : View). drop first x.listed) then ∙ ap (λ n. drop n (old.listed ++ demands)) count ∙ drop-append_seam old.listed demands in
+    let with_all : List Demand → View = λ ds.
+    record { trail = old.trail; listed = old.listed ++ demands; active = ds; listed_before = old.listed_before; active_before = old.active_before } in
+    g ∙ ap (λ (ds : List Demand). with_active a (demands_at ds fresh)) rest ∙ ap (λ (x : View). with_active x news) then
+    ∙ ap with_all (append_assoc old.active before news)
 
 -- a choice owns its demands
 pub demands-owned : (p : Problem) (c : Choice) (demands : List Demand) → Lawful p → IsChoice p c → demands ≡ p.demands c → AreOwned c.var demands

@@ -1,6 +1,6 @@
 pub mod View
 pub mod Verdict
-pub mod Mentions
 pub mod Open
 pub mod Stack
+pub mod Addition
 pub mod Pending

@@ -2,10 +2,10 @@
 use Rattle.std.specs.Prelude.{◌≡◌, ℕ, ◌+◌, true, List, [], ◌∷◌, ◌++◌, length, drop, find, Option, None}
 use Rattle.std.specs.List.{Contains}
 use Rattle.qualified_goals.specs.declared.variable.Var.{Var}
-use Rattle.choice_problem.specs.declared.problem.Choice.{Choice}
 use Rattle.choice_problem.specs.declared.problem.Demand.{Demand}
 use Rattle.choice_problem.specs.Conflict.{is_broken}
 use Rattle.choice_problem.specs.Trail.{value_in}
+use Rattle.validation.specs.declared.addition.Addition.{Addition}
 use Rattle.validation.specs.View.{View}
 use Rattle.validation.specs.Stack.{IsSettled, is_owned_by, last_number, turned}
 
@@ -21,11 +21,11 @@ count_before s = last_number s.active_before
 abbrev pub first_broken : View → Option Demand
 first_broken s = find (is_broken s.trail) (drop (count_before s) s.active)
 
--- a choice may be made, and these demands turn Yes with it: some of those listed, and some of its own; and so many are active then
-pub record ArePending (s : View) (c : Choice) (demands woken fresh : List Demand) (count : ℕ) : Type 0 where
-  pub free : value_in s.trail c.var ≡ None
+-- a choice may be made, these demands turn Yes with it, some of those listed and some of its own, and so many are active then
+pub record ArePending (s : View) (a : Addition) (woken fresh : List Demand) (count : ℕ) : Type 0 where
+  pub free : value_in s.trail a.choice.var ≡ None
   pub settled : IsSettled s
-  pub owned : AreOwned c.var demands
-  pub woken_is : woken ≡ turned (s.trail ++ c ∷ []) c.var s.listed
-  pub fresh_is : fresh ≡ turned (s.trail ++ c ∷ []) c.var demands
+  pub owned : AreOwned a.choice.var a.demands
+  pub woken_is : woken ≡ turned (s.trail ++ a.choice ∷ []) a.choice.var s.listed
+  pub fresh_is : fresh ≡ turned (s.trail ++ a.choice ∷ []) a.choice.var a.demands
   pub counted : count ≡ length s.active + (length woken + length fresh)

@@ -13,7 +13,8 @@ use Rattle.choice_problem.specs.Trail.{value_in}
 use Rattle.choice_problem.specs.ConflictSet.{is_rising, has}
 use Rattle.goal_links.specs.Beside.{beside}
 use Rattle.goal_links.specs.Links.{Entries}
-use Rattle.validation.specs.declared.mentions.Mention.{Mention}
+use Rattle.goal_links.specs.Mentions.{mention_of, vars_at}
+use Rattle.goal_links.specs.declared.mentions.Mention.{Mention}
 use Rattle.validation.specs.declared.stack.Mark.{Mark}
 use Rattle.validation.specs.View.{View}
 use Rattle.validation.specs.Open.{Keeps}
@@ -30,18 +31,6 @@ demand_at listed place = slice_index_or listed place no_demand
 -- the demands at some places
 abbrev pub demands_at : List Demand → List ℕ → List Demand
 demands_at listed places = map (demand_at listed) places
-
--- the places of the demands that are mentioned
-abbrev pub places_of : List Mention → List ℕ
-places_of ms = map (λ m. m.place) ms
-
--- the variables that are mentioned
-abbrev pub vars_at : List Mention → List Var
-vars_at ms = map (λ m. m.var) ms
-
--- a variable, mentioned by the demand at a place
-abbrev pub mention_of : Var → ℕ → Mention
-mention_of v n = record { var = v; place = n }
 
 -- whether one of some choices is of the variable
 abbrev pub are_naming : Var → List Choice → Bool
@@ -164,9 +153,9 @@ place_turned trail v listed place = cond (is_turned trail v (demand_at listed pl
 abbrev pub turned : List Choice → Var → List Demand → List Demand
 turned trail v listed = filter (is_turned trail v) listed
 
--- the demands that a variable's choice owns are listed, and those active that turn Yes
-abbrev pub grown : View → Var → List Demand → View
-grown s v demands = with_active (with_listed s demands) (turned s.trail v (s.listed ++ demands))
+-- more demands are listed, and those at some places active: of those listed before, and of the new ones
+abbrev pub grown : View → List Demand → List ℕ → List ℕ → View
+grown s demands woken fresh = with_active (with_listed s demands) (demands_at s.listed woken ++ demands_at demands fresh)
 
 -- a choice made, with the demands that it owns, and those active that turn Yes
 abbrev pub made : View → Choice → List Demand → View

@@ -38,7 +38,7 @@ pub(crate) fn first_refusing(listed: &[Demand], places: &[usize], c: Choice) -> 
     ensures within { IfSome result (λ place. place < length listed.now) }
 {
     for place in places {
-        if refuses_at(listed, *place, c) {
+        if refuses(c, demand_in(listed, *place)) {
             return Some(*place);
         }
     }
@@ -52,25 +52,11 @@ pub(crate) fn first_broken(listed: &[Demand], places: &[usize], trail: &Values<'
     ensures within { IfSome result (λ place. place < length listed.now) }
 {
     for place in places {
-        if is_broken_at(trail, listed, *place) {
+        if is_broken(trail, demand_in(listed, *place)) {
             return Some(*place);
         }
     }
     None
-}
-
-fn refuses_at(listed: &[Demand], place: usize, c: Choice) -> bool
-    requires { place < length listed.now }
-    ensures { result ≡ refuses c (demand_at listed.now place) }
-{
-    refuses(c, &listed[place])
-}
-
-fn is_broken_at(trail: &Values<'_>, listed: &[Demand], place: usize) -> bool
-    requires { place < length listed.now }
-    ensures { result ≡ is_broken trail.now (demand_at listed.now place) }
-{
-    is_broken(trail, &listed[place])
 }
 
 /// The set of the variables that the demand at a place names, where there is one.
@@ -137,18 +123,11 @@ pub(crate) fn yes_among(
 {
     let mut found = Vec::new(alloc);
     for place in places {
-        if is_yes_at(trail, listed, *place) {
+        if is_yes(trail, demand_in(listed, *place)) {
             found.push(*place)?;
         }
     }
     Ok(found)
-}
-
-fn is_yes_at(trail: &Values<'_>, listed: &[Demand], place: usize) -> bool
-    requires { place < length listed.now }
-    ensures { result ≡ is_yes (value_in trail.now) (demand_at listed.now place) }
-{
-    is_yes(trail, &listed[place])
 }
 
 fn is_yes(trail: &Values<'_>, d: &Demand) -> bool

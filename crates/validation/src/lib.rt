@@ -2,8 +2,8 @@
 //! answered with the set of its conflict, and the last accepted choice can be taken back.
 #![tactic(auto)]
 
+mod addition;
 mod checks;
-mod mentions;
 mod open;
 mod pending;
 mod picked;

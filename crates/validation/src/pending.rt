@@ -2,25 +2,24 @@
 ghost use Rattle.std.specs.Prelude.{◌≡◌, ◌+◌, ◌++◌, None, IfOk};
 ghost use Rattle.choice_problem.specs.Conflict.{set_of_first};
 ghost use Rattle.choice_problem.specs.Trail.{value_in};
+ghost use Rattle.validation.specs.Addition.{IsAddition};
 ghost use Rattle.validation.specs.Pending.{AreOwned, count_before, first_broken};
 ghost use Rattle.validation.specs.Stack.{IsSettled, made, targets_by};
 
-use crate::checks::turned_among;
+use crate::addition::Addition;
 use crate::picked::Picked;
 use crate::stack::Stack;
-use choice_problem::{Choice, ConflictSet, Demand, Var, is_same};
+use choice_problem::{ConflictSet, Demand, Var, is_same};
 use demand_cycles::Graph;
 use plan_types::{List, NoMemory};
 use std::alloc::Global;
 use std::marker::Model;
 
-/// A stack, and a choice of an open variable with the demands that it owns: what they would make of the stack,
-/// which stays as it is.
+/// A stack, and what a choice of an open variable would add: what that would make of the stack, which stays as it is.
 #[derive(Drop)]
 pub(crate) struct Pending<'a> {
     stack: &'a Stack,
-    choice: Choice,
-    demands: &'a [Demand],
+    addition: &'a Addition,
     // The listed demands that would turn Yes, and those of the choice that would be so at once.
     woken: Picked<'a>,
     fresh: Picked<'a>,
@@ -35,33 +34,25 @@ impl<'a> Model for Pending<'a> {
 
     ghost Value = { View };
 
-    ghost view = { λ p. made p.stack.now p.choice p.demands.now };
+    ghost view = { λ p. made p.stack.now p.addition.now.choice p.addition.now.demands };
 
-    ghost invariant = { λ p. ArePending p.stack.now p.choice p.demands.now p.woken p.fresh p.count };
+    ghost invariant = { λ p. ArePending p.stack.now p.addition.now p.woken p.fresh p.count };
 }
 
 impl<'a> Pending<'a> {
-    pub(crate) fn of(
-        alloc: Global,
-        stack: &'a Stack,
-        choice: Choice,
-        demands: &'a [Demand],
-    ) -> Result<Pending<'a>, NoMemory>
-        requires free { value_in stack.now.trail choice.var ≡ None }
+    pub(crate) fn of(stack: &'a Stack, addition: &'a Addition) -> Result<Pending<'a>, NoMemory>
+        requires free { value_in stack.now.trail addition.now.choice.var ≡ None }
         requires settled { IsSettled stack.now }
-        requires owned { AreOwned choice.var demands.now }
-        ensures { IfOk result (λ pending. pending ≡ made stack.now choice demands.now) }
+        requires owned { AreOwned addition.now.choice.var addition.now.demands }
+        requires turned { IsAddition stack.now addition.now }
+        ensures { IfOk result (λ pending. pending ≡ made stack.now addition.now.choice addition.now.demands) }
     {
-        let trail = stack.values_with(choice);
-        let places = stack.turned(alloc, &trail, choice.var)?;
-        let woken = Picked::of(stack.listed(), places);
-        let at_once = turned_among(alloc, demands, &trail, choice.var)?;
-        let fresh = Picked::of(demands, at_once);
+        let woken = Picked::of(stack.listed(), addition.woken.as_slice());
+        let fresh = Picked::of(addition.demands.as_slice(), addition.fresh.as_slice());
         let count = total(stack.count(), woken.len(), fresh.len())?;
         Ok(Pending {
             stack,
-            choice,
-            demands,
+            addition,
             woken,
             fresh,
             count,
@@ -79,7 +70,7 @@ impl<'a> Pending<'a> {
     pub(crate) fn broken(&self, alloc: Global) -> Result<Option<ConflictSet>, NoMemory>
         ensures { IfOk result (λ set. set ≡ set_of_first (first_broken self.now)) }
     {
-        let trail = self.stack.values_with(self.choice);
+        let trail = self.stack.values_with(self.addition.choice);
         if let Some(set) = self.woken.broken(alloc, &trail)? {
             return Ok(Some(set));
         }
@@ -119,13 +110,13 @@ impl<'a> Graph for Pending<'a> {
     fn targets(&self, alloc: Global, from: Var) -> Result<List<Var>, NoMemory> {
         let found = self.stack.targets(alloc, from)?;
         let woken = self.woken.targets(alloc, from)?;
-        let fresh = targets_within(alloc, &self.fresh, self.choice.var, from)?;
+        let fresh = targets_within(alloc, &self.fresh, self.addition.choice.var, from)?;
         let all = joined(found, woken, fresh)?;
         Ok(all)
     }
 
     fn is_chosen(&self, v: Var) -> bool {
-        if is_same(self.choice.var, v) {
+        if is_same(self.addition.choice.var, v) {
             return true;
         }
         self.stack.names(v)

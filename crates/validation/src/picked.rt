@@ -1,5 +1,5 @@
 // Some of the demands of a list.
-ghost use Rattle.std.specs.Prelude.{◌≡◌, ◌<◌, Some, IfOk, length, find, slice_get};
+ghost use Rattle.std.specs.Prelude.{◌≡◌, ◌<◌, Some, IfOk, length, find, slice_get, slice_index_or};
 ghost use Rattle.choice_problem.specs.Conflict.{is_broken, set_of_first};
 ghost use Rattle.validation.specs.Stack.{AllBelow, demands_at, sources_on, targets_by};
 
@@ -14,7 +14,7 @@ use std::marker::Model;
 #[derive(Drop)]
 pub(crate) struct Picked<'a> {
     listed: &'a [Demand],
-    places: Vec<usize>,
+    places: &'a [usize],
 }
 
 impl<'a> Model for Picked<'a> {
@@ -24,15 +24,15 @@ impl<'a> Model for Picked<'a> {
 
     ghost Value = { List Demand };
 
-    ghost view = { λ p. demands_at p.listed.now p.places.items };
+    ghost view = { λ p. demands_at p.listed.now p.places.now };
 
-    ghost invariant = { λ p. AllBelow (length p.listed.now) p.places.items };
+    ghost invariant = { λ p. AllBelow (length p.listed.now) p.places.now };
 }
 
 impl<'a> Picked<'a> {
-    pub(crate) fn of(listed: &'a [Demand], places: Vec<usize>) -> Picked<'a>
-        requires { AllBelow (length listed.now) places.items }
-        ensures { result ≡ demands_at listed.now places.items }
+    pub(crate) fn of(listed: &'a [Demand], places: &'a [usize]) -> Picked<'a>
+        requires { AllBelow (length listed.now) places.now }
+        ensures { result ≡ demands_at listed.now places.now }
     {
         Picked { listed, places }
     }
@@ -47,7 +47,7 @@ impl<'a> Picked<'a> {
         requires { index < length self.now }
         ensures { slice_get self.now index ≡ Some result.now }
     {
-        let place = self.places[index];
+        let place = place_at(self.places, index);
         demand_in(self.listed, place)
     }
 
@@ -59,7 +59,7 @@ impl<'a> Picked<'a> {
     ) -> Result<Option<ConflictSet>, NoMemory>
         ensures { IfOk result (λ set. set ≡ set_of_first (find (is_broken trail.now) self.now)) }
     {
-        let first = first_broken(self.listed, self.places.as_slice(), trail);
+        let first = first_broken(self.listed, self.places, trail);
         let set = set_at(alloc, self.listed, first)?;
         Ok(set)
     }
@@ -68,7 +68,7 @@ impl<'a> Picked<'a> {
     pub(crate) fn sources(&self, alloc: Global, to: Var) -> Result<List<Var>, NoMemory>
         ensures { IfOk result (λ found. found ≡ sources_on to self.now) }
     {
-        let owners = owners_on(alloc, self.listed, self.places.as_slice(), to)?;
+        let owners = owners_on(alloc, self.listed, self.places, to)?;
         Ok(List::from_vec(owners))
     }
 
@@ -76,7 +76,14 @@ impl<'a> Picked<'a> {
     pub(crate) fn targets(&self, alloc: Global, from: Var) -> Result<List<Var>, NoMemory>
         ensures { IfOk result (λ found. found ≡ targets_by from self.now) }
     {
-        let targets = targets_at(alloc, self.listed, self.places.as_slice(), from)?;
+        let targets = targets_at(alloc, self.listed, self.places, from)?;
         Ok(List::from_vec(targets))
     }
+}
+
+fn place_at(places: &[usize], index: usize) -> usize
+    requires { index < length places.now }
+    ensures { result ≡ slice_index_or places.now index 0 }
+{
+    places[index]
 }

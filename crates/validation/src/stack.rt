@@ -1,5 +1,5 @@
 // What a state keeps of its choices, and how it is taken back.
-ghost use Rattle.std.specs.Prelude.{◌≡◌, ◌≢◌, ◌<◌, ◌↔◌, ◌++◌, [], ◌∷◌, true, None, Some, IfOk, OnOk, OnErr, IsTrue, IfSome, List, is_none, ◌&&◌, length, take, map, find, slice_get};
+ghost use Rattle.std.specs.Prelude.{◌≡◌, ◌≢◌, ◌<◌, ◌↔◌, ◌++◌, [], ◌∷◌, true, None, Some, IfOk, OnOk, OnErr, IsTrue, IfSome, List, is_none, ◌&&◌, length, take, drop, map, find, slice_get};
 ghost use Rattle.std.specs.List.{Contains, list_any};
 ghost use Rattle.qualified_goals.specs.declared.variable.Var.{Var};
 ghost use Rattle.choice_problem.specs.Trail.{value_in};
@@ -8,17 +8,20 @@ ghost use Rattle.choice_problem.specs.Conflict.{edges_of, refuses, set_of_first}
 ghost use Rattle.choice_problem.specs.ConflictSet.{first_behind, has, set_of};
 ghost use Rattle.validation.specs.Open.{StayKept, is_chosen_in};
 ghost use Rattle.demand_cycles.specs.Cycles.{HasEdge};
-ghost use Rattle.validation.specs.declared.mentions.Mention.{Mention};
+ghost use Rattle.goal_links.specs.declared.mentions.Mention.{Mention};
+ghost use Rattle.validation.specs.Addition.{IsAddition};
 ghost use Rattle.validation.specs.View.{View};
-ghost use Rattle.validation.specs.Stack.{AreOpen, IsSettled, vars_at, demand_at, watchers_by, undone, held, names, with_listed, with_active, HasListed, HasActivated, HasGrown, AllBelow, grown, turned, made, demands_at};
+ghost use Rattle.goal_links.specs.Mentions.{vars_at};
+ghost use Rattle.validation.specs.Stack.{AreOpen, IsSettled, demand_at, watchers_by, undone, held, names, with_listed, with_active, HasListed, HasActivated, HasGrown, AllBelow, grown, turned, made, demands_at};
 
+use crate::addition::Addition;
 use crate::checks::{
     are_naming, demand_in, first_refusing, owners_at, reason_at, set_at, targets_at, yes_among,
 };
-use crate::mentions::{Mention, Mentions};
 use crate::open::OpenVars;
 use crate::values::Values;
 use choice_problem::{Choice, ConflictSet, Demand, Trail, Var};
+use goal_links::{Mention, Mentions};
 use plan_types::{List, NoMemory};
 use std::alloc::Global;
 use std::marker::Model;
@@ -48,7 +51,8 @@ pub(crate) struct Stack {
 impl Model for Stack {
     ghost use Rattle.std.specs.Prelude.{map};
     ghost use Rattle.validation.specs.View.{View};
-    ghost use Rattle.validation.specs.Stack.{AreParts, demands_at, places_of};
+    ghost use Rattle.goal_links.specs.Mentions.{places_of};
+    ghost use Rattle.validation.specs.Stack.{AreParts, demands_at};
 
     ghost Value = { View };
 
@@ -96,6 +100,12 @@ impl Stack {
         ensures { result ≡ self.now.trail ++ c ∷ [] }
     {
         Values::with(&self.trail, c)
+    }
+
+    fn listed_count(&self) -> usize
+        ensures { result ≡ length self.now.listed }
+    {
+        self.listed.len()
     }
 
     pub(crate) fn listed(&self) -> &[Demand]
@@ -223,33 +233,59 @@ impl Stack {
     }
 
     /// Makes a choice of an open variable, lists its demands, and makes active what turns Yes.
-    pub(crate) fn make(
-        &mut self,
-        alloc: Global,
-        c: Choice,
-        demands: List<Demand>,
-    ) -> Result<(), NoMemory>
-        requires new { value_in self.old.trail c.var ≡ None }
-        requires asked { IsTrue (has (map (λ d. d.target) self.old.active) c.var) }
-        ensures ok { OnOk result (self.new ≡ made self.old c demands) }
+    pub(crate) fn make(&mut self, addition: Addition) -> Result<(), NoMemory>
+        requires new { value_in self.old.trail addition.choice.var ≡ None }
+        requires asked { IsTrue (has (map (λ d. d.target) self.old.active) addition.choice.var) }
+        requires turned { IsAddition self.old addition }
+        ensures ok { OnOk result (self.new ≡ made self.old addition.choice addition.demands) }
         ensures err { OnErr result (self.new ≡ self.old) }
     {
-        self.hold(c)?;
-        if self.grow(alloc, c.var, demands).is_err() {
+        let Addition {
+            choice,
+            demands,
+            woken,
+            fresh,
+        } = addition;
+        self.hold(choice)?;
+        if self
+            .grow(demands, woken.as_slice(), fresh.as_slice())
+            .is_err()
+        {
             self.undo();
             return Err(NoMemory);
         }
         Ok(())
     }
 
-    fn grow(&mut self, alloc: Global, v: Var, demands: List<Demand>) -> Result<(), NoMemory>
-        ensures ok { OnOk result (self.new ≡ grown self.old v demands) }
+    // Lists demands, and makes those at some places active: of those listed before, and of the new ones.
+    fn grow(
+        &mut self,
+        demands: List<Demand>,
+        woken: &[usize],
+        fresh: &[usize],
+    ) -> Result<(), NoMemory>
+        requires woken { AllBelow (length self.old.listed) woken.now }
+        requires fresh { AllBelow (length demands) fresh.now }
+        ensures ok { OnOk result (self.new ≡ grown self.old demands woken.now fresh.now) }
         ensures err { OnErr result (HasGrown self.old self.new) }
     {
+        let first = self.listed_count();
         self.list_all(demands)?;
-        let trail = self.values();
-        let places = self.turned(alloc, &trail, v)?;
-        self.activate_all(places.as_slice())?;
+        self.activate_all(woken)?;
+        self.activate_behind(first, fresh)?;
+        Ok(())
+    }
+
+    // Makes the listed demands at some places active, which are counted from one on.
+    fn activate_behind(&mut self, first: usize, places: &[usize]) -> Result<(), NoMemory>
+        requires { AllBelow (length (drop first self.old.listed)) places.now }
+        ensures ok { OnOk result (self.new ≡ with_active self.old (demands_at (drop first self.old.listed) places.now)) }
+        ensures err { OnErr result (HasActivated self.old self.new) }
+    {
+        for place in places {
+            prove!(first < self.listed_count());
+            self.activate(first + *place)?;
+        }
         Ok(())
     }
 }

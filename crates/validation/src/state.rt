@@ -6,15 +6,17 @@ ghost use Rattle.choice_problem.specs.Active.{is_open, least_open, open_after, r
 ghost use Rattle.choice_problem.specs.Conflict.{lasting_set, conflict};
 ghost use Rattle.choice_problem.specs.ConflictSet.{set_of};
 ghost use Rattle.choice_problem.specs.Trail.{value_in};
+ghost use Rattle.validation.specs.Addition.{IsAddition};
 ghost use Rattle.validation.specs.Pending.{AreOwned};
 ghost use Rattle.validation.specs.View.{View, Represents, view_of};
 ghost use Rattle.validation.specs.Stack.{front_of, made, IsSettled};
 ghost use Rattle.validation.specs.Verdict.{verdict_of, Leaves, set_before, set_after};
 
 use crate::Verdict;
+use crate::addition::Addition;
 use crate::pending::Pending;
 use crate::stack::Stack;
-use choice_problem::{Choice, Choices, ConflictSet, Demand, Steps, Trail, Var};
+use choice_problem::{Choice, Choices, ConflictSet, Steps, Trail, Var};
 use demand_cycles::cycle_set_of;
 use plan_types::{List, NoMemory};
 use std::alloc::Global;
@@ -122,10 +124,11 @@ impl State {
             return Ok(Verdict::Conflict(set));
         }
         let demands = choices.demands(alloc, c)?;
-        if let Some(set) = fault_after(alloc, &self.stack, c, demands.as_slice())? {
+        let addition = Addition::of(alloc, &self.stack, c, demands)?;
+        if let Some(set) = fault_after(alloc, &self.stack, &addition)? {
             return Ok(Verdict::Conflict(set));
         }
-        self.stack.make(alloc, c, demands)?;
+        self.stack.make(addition)?;
         Ok(Verdict::Accepted)
     }
 
@@ -161,16 +164,16 @@ fn fault_before<C: Choices>(
 fn fault_after(
     alloc: Global,
     stack: &Stack,
-    c: Choice,
-    demands: &[Demand],
+    addition: &Addition,
 ) -> Result<Option<ConflictSet>, NoMemory>
-    requires free { value_in stack.now.trail c.var ≡ None }
+    requires free { value_in stack.now.trail addition.now.choice.var ≡ None }
     requires settled { IsSettled stack.now }
-    requires owned { AreOwned c.var demands.now }
+    requires owned { AreOwned addition.now.choice.var addition.now.demands }
+    requires turned { IsAddition stack.now addition.now }
     requires lasting { lasting_set stack.now.trail stack.now.active ≡ None }
-    ensures { IfOk result (λ set. set ≡ set_after (made stack.now c demands.now)) }
+    ensures { IfOk result (λ set. set ≡ set_after (made stack.now addition.now.choice addition.now.demands)) }
 {
-    let pending = Pending::of(alloc, stack, c, demands)?;
+    let pending = Pending::of(stack, addition)?;
     if let Some(set) = pending.broken(alloc)? {
         return Ok(Some(set));
     }

@@ -1,10 +1,9 @@
 // Each run is written as a text: its words, its files, and what it answers.
-mod made;
 mod runs;
 
-use made::made;
 use outside_folder::{MemFile, MemFolder, MemSink};
 use plan_command::{code_of, run};
+use plan_generate::generate;
 use plan_types::{List, Text};
 use runs::{
     EIGHTH_CALL, NINTH_CALL, NO_READING, PROJECT_RUNS, RUNS, SECOND_CALL, SIXTH_CALL, SMALL,
@@ -253,7 +252,7 @@ fn summary(alloc: Global, printed: &str) -> Result<String, Fail> {
 fn many_packages(rt: HostRuntime) -> Result<(), Fail> {
     let alloc = rt.alloc();
     let words = words(alloc, "$ cabal-plan plan")?;
-    let folder = folder(alloc, made(alloc, 700)?, 0)?;
+    let folder = generate(alloc, 700)?;
     let out = MemSink::new(alloc, 100_000, 100_000, List::new(alloc))?;
     let found = answer(alloc, &words, folder, out)?;
     let summary = summary(alloc, found.as_str())?;

@@ -2,7 +2,8 @@
 use Rattle.std.proofs.Common.{◌+◌, ◌≤◌, subst, arith}
 use Rattle.choice_problem.specs.Answer.{answer_of}
 use Rattle.backjump.specs.Walk.{GoesOn}
-use Rattle.backjump.proofs.Bounds.{on-err, end-visited, smaller}
+use Rattle.common_laws.specs.Small.{on-err}
+use Rattle.backjump.proofs.Bounds.{end-visited, smaller}
 use Rattle.backjump.proofs.answer.search.Goals as goal
 
 pub returns-in_err-next-clause-most : goal.returns-in_err-next-clause-most

@@ -1,7 +1,9 @@
 use Rattle.std.proofs.Common.{◌≡◌, Ok, Err, ap, refl, subst, sym, ◌∙◌}
 use Rattle.std.proofs.lemmas.Result.{IfOk-weaker, err_from_is_err_and}
-use Rattle.project_config.specs.Project.{IsFolderProject}
+use Rattle.std.specs.Prelude.{IfOk}
+use Rattle.project_config.specs.Project.{IsFolderProject, freeze_bytes}
 use Rattle.plan_task.specs.Task.{IsTask, IsTaskOf}
+use Rattle.plan_task.specs.declared.task.Task.{Task}
 use Rattle.project_config.proofs.Locating.{passed-on}
 use Rattle.plan_task.proofs.Tasks.{answered}
 use Rattle.common_laws.specs.Small.{if_some, some_at}
@@ -23,5 +25,8 @@ returns-clause-told g c = if_some _ _ (λ files t.
     c.task_in.result (some_at _ _ files (c.in_ok-found.ensures.folder.same_files ∙ t) c.task_in.ensures.told))
 
 pub returns-clause-freeze : goal.returns-clause-freeze
-returns-clause-freeze g c = if_some _ _ (λ files t.
-    IfOk-weaker c.task_in.result _ _ (λ task is. is ∙ some_at _ _ files t c.in_ok-found.ensures.freeze) c.task_in.ensures.freeze)
+returns-clause-freeze g c =
+    if_some (λ files. IfOk c.task_in.result (λ (task : Task). task.freeze ≡ freeze_bytes files)) (g.F.Folder.tells c.args.folder.now) (λ files t.
+    let kept : c.in_ok-found.found.freeze ≡ freeze_bytes files = some_at _ _ files t c.in_ok-found.ensures.freeze in
+    IfOk-weaker c.task_in.result (λ (task : Task). task.freeze ≡ c.in_ok-found.found.freeze) (λ (task : Task). task.freeze ≡ freeze_bytes files) (λ task is. is ∙ kept)
+    c.task_in.ensures.freeze)

@@ -5,7 +5,7 @@ use Rattle.qualified_goals.specs.Variable.{same_var}
 use Rattle.choice_problem.specs.ConflictSet.{has}
 use Rattle.validation.specs.Open.{is_other}
 use Rattle.validation.proofs.Asked.{more-valued, more-again, more-open, not-open}
-use Rattle.validation.proofs.Opened.{at-entry}
+use Rattle.goal_links.proofs.Walks.{at-entry}
 use Rattle.validation.proofs.Stacks.{chosen-other}
 use Rattle.validation.proofs.stack.ask.Goals as goal
 

@@ -1,6 +1,6 @@
 use Rattle.std.proofs.Common.{◌<◌, ◌≤◌, ◌∷◌, [], ◌∙◌, sym, ap, take, length, arith, length-append}
 use Rattle.std.proofs.lemmas.List.{take-append-le}
-use Rattle.validation.proofs.LastItems.{last-split}
+use Rattle.goal_links.proofs.LastItems.{last-split}
 use Rattle.validation.proofs.stack.forget.Goals as goal
 
 pub loop-active-smaller : goal.loop-active-smaller

@@ -2,11 +2,11 @@ use Rattle.std.proofs.Common.{List, ◌∙◌, ◌&&◌, refl, sym, ap, subst}
 use Rattle.std.proofs.lemmas.Option.{slice_get_within}
 use Rattle.qualified_goals.specs.declared.variable.Var.{Var}
 use Rattle.choice_problem.specs.ConflictSet.{has}
-use Rattle.validation.specs.declared.mentions.Mention.{Mention}
+use Rattle.goal_links.specs.declared.mentions.Mention.{Mention}
 use Rattle.validation.specs.Stack.{AreOpen}
 use Rattle.validation.specs.Open.{is_other}
 use Rattle.validation.proofs.Asked.{last-open, less-valued, less-again, less-open}
-use Rattle.validation.proofs.Opened.{at-entry}
+use Rattle.goal_links.proofs.Walks.{at-entry}
 use Rattle.validation.proofs.stack.forget_last.Goals as goal
 
 pub returns-then-has-clause-opened : goal.returns-then-has-clause-opened

@@ -17,4 +17,4 @@ pub lasting_fault-requires : goal.lasting_fault-requires
 lasting_fault-requires c =
     subst (λ (n : ℕ). lasting_set (front_of c.in_ok-pending.pending.trail) (take n c.in_ok-pending.pending.active) ≡ None) (sym c.before-before.ensures)
     (subst (λ (x : View). lasting_set (front_of x.trail) (take (count_before x) x.active) ≡ None) (sym c.in_ok-pending.ensures)
-    (weighed-lasting c.args.stack.now c.args.c c.args.demands.now c.requires.lasting))
+    (weighed-lasting c.args.stack.now c.args.addition.now.choice c.args.addition.now.demands c.requires.lasting))

@@ -5,7 +5,8 @@ use Rattle.qualified_goals.specs.Variable.{same_var}
 use Rattle.choice_problem.specs.ConflictSet.{is_rising}
 use Rattle.goal_links.specs.Beside.{first_of, behind_first}
 use Rattle.goal_links.specs.Links.{Entries, var_at}
-use Rattle.validation.proofs.Opened.{at-entry, next-behind}
+use Rattle.goal_links.proofs.Walks.{at-entry}
+use Rattle.validation.proofs.Opened.{next-behind}
 use Rattle.validation.proofs.open.OpenVars.next.Goals as goal
 
 pub returns-clause-next : goal.returns-clause-next

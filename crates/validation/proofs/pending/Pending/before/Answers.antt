@@ -6,4 +6,4 @@ use Rattle.validation.proofs.pending.Pending.before.Goals as goal
 pub returns : goal.returns
 returns c =
     let i = c.self.inside in
-    c.count.ensures ∙ sym (before-is i.stack.now i.choice i.demands.now) ∙ ap count_before c.self.view_is
+    c.count.ensures ∙ sym (before-is i.stack.now i.addition.now.choice i.addition.now.demands) ∙ ap count_before c.self.view_is

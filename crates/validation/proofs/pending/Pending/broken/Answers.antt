@@ -16,7 +16,7 @@ returns-in-Some c =
     let trail = c.values_with-trail.result in
     sym (first-left (is_broken trail) i.woken i.fresh c.in-Some.set (sym c.in_ok-set.ensures ∙ c.in-Some.is))
     ∙ ap (λ (t : List Choice). set_of_first (find (is_broken t) (i.woken ++ i.fresh))) c.values_with-trail.ensures
-    ∙ pending-broken i.stack.now i.choice i.demands.now i.woken i.fresh i.count c.self.invariant
+    ∙ pending-broken i.stack.now i.addition.now i.woken i.fresh i.count c.self.invariant
     ∙ ap (λ (x : View). set_of_first (first_broken x)) c.self.view_is
 
 pub returns : goal.returns
@@ -27,5 +27,5 @@ returns c =
     c.in_ok-set-2.ensures
     ∙ sym (first-right (is_broken trail) i.woken i.fresh (sym c.in_ok-set.ensures ∙ none))
     ∙ ap (λ (t : List Choice). set_of_first (find (is_broken t) (i.woken ++ i.fresh))) c.values_with-trail.ensures
-    ∙ pending-broken i.stack.now i.choice i.demands.now i.woken i.fresh i.count c.self.invariant
+    ∙ pending-broken i.stack.now i.addition.now i.woken i.fresh i.count c.self.invariant
     ∙ ap (λ (x : View). set_of_first (first_broken x)) c.self.view_is

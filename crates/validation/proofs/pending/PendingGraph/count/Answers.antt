@@ -6,4 +6,4 @@ use Rattle.validation.proofs.pending.PendingGraph.count.Goals as goal
 pub returns : goal.returns
 returns c =
     let i = c.self.inside in
-    pending-count i.stack.now i.choice i.demands.now i.woken i.fresh i.count c.self.invariant ∙ ap (λ (x : View). length x.active) c.self.view_is
+    pending-count i.stack.now i.addition.now i.woken i.fresh i.count c.self.invariant ∙ ap (λ (x : View). length x.active) c.self.view_is

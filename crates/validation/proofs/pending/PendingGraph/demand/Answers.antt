@@ -11,7 +11,7 @@ pub returns-then-place-before : goal.returns-then-place-before
 returns-then-place-before c =
     let i = c.self.inside in
     ap (λ (x : View). slice_get x.active c.args.place) (sym c.self.view_is)
-    ∙ pending-first i.stack.now i.choice i.demands.now i.woken i.fresh i.count c.self.invariant c.args.place c.demand.result.now c.demand.ensures
+    ∙ pending-first i.stack.now i.addition.now i.woken i.fresh i.count c.self.invariant c.args.place c.demand.result.now c.demand.ensures
 
 pub at-requires : goal.at-requires
 at-requires c = omega (arith, c.if-index-count.true, c.len-count.ensures)
@@ -20,7 +20,7 @@ pub returns-then-index-count : goal.returns-then-index-count
 returns-then-index-count c =
     let i = c.self.inside in
     ap (λ (x : View). slice_get x.active c.args.place) (sym c.self.view_is)
-    ∙ pending-second i.stack.now i.choice i.demands.now i.woken i.fresh i.count c.self.invariant c.args.place (c.args.place - c.count-before.result) c.at.result.now
+    ∙ pending-second i.stack.now i.addition.now i.woken i.fresh i.count c.self.invariant c.args.place (c.args.place - c.count-before.result) c.at.result.now
     (omega (arith, c.if-place-before.false, c.count-before.ensures)) c.at.ensures
 
 pub at-requires-2 : goal.at-requires-2
@@ -30,7 +30,7 @@ at-requires-2 c =
       arith,
       c.requires,
       ap (λ (x : View). length x.active) c.self.view_is,
-      pending-length i.stack.now i.choice i.demands.now i.woken i.fresh i.count c.self.invariant,
+      pending-length i.stack.now i.addition.now i.woken i.fresh i.count c.self.invariant,
       c.if-place-before.false,
       c.if-index-count.false,
       c.count-before.ensures,
@@ -41,5 +41,5 @@ pub returns : goal.returns
 returns c =
     let i = c.self.inside in
     ap (λ (x : View). slice_get x.active c.args.place) (sym c.self.view_is)
-    ∙ pending-third i.stack.now i.choice i.demands.now i.woken i.fresh i.count c.self.invariant c.args.place (c.args.place - c.count-before.result - c.len-count.result) c.at-2.result.now
+    ∙ pending-third i.stack.now i.addition.now i.woken i.fresh i.count c.self.invariant c.args.place (c.args.place - c.count-before.result - c.len-count.result) c.at-2.result.now
     (omega (arith, c.if-place-before.false, c.if-index-count.false, c.count-before.ensures, c.len-count.ensures)) c.at-2.ensures

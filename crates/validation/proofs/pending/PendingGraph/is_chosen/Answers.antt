@@ -9,5 +9,5 @@ pub returns : goal.returns
 returns c w h =
     let i = c.self.inside in
     c.names.ensures
-    ∙ pending-chosen i.stack.now i.choice i.demands.now i.woken i.fresh i.count c.self.invariant c.args.v w (sym c.is_same.ensures ∙ c.if-is_same.false)
+    ∙ pending-chosen i.stack.now i.addition.now i.woken i.fresh i.count c.self.invariant c.args.v w (sym c.is_same.ensures ∙ c.if-is_same.false)
     (subst (λ (x : View). HasEdge (edges_of x.active) c.args.v w) (sym c.self.view_is) h)

@@ -12,7 +12,7 @@ use Rattle.validation.proofs.pending.PendingGraph.sources.Goals as goal
 pub returns : goal.returns
 returns c v =
     let i = c.self.inside in
-    let active = pending-active i.stack.now i.choice i.demands.now i.woken i.fresh i.count c.self.invariant in
+    let active = pending-active i.stack.now i.addition.now i.woken i.fresh i.count c.self.invariant in
     let woken : (u : Var) → (Contains c.in_ok-woken.woken u) ↔ ((λ (ds : List Demand) (v : Var). HasEdge (edges_of ds) v c.args.to) i.woken u) =
     subst (λ (l : List Var). (u : Var) → (Contains l u) ↔ ((λ (ds : List Demand) (v : Var). HasEdge (edges_of ds) v c.args.to) i.woken u)) (sym c.in_ok-woken.ensures) (sources-are i.woken c.args.to) in
     let fresh : (u : Var) → (Contains c.in_ok-fresh.fresh u) ↔ ((λ (ds : List Demand) (v : Var). HasEdge (edges_of ds) v c.args.to) i.fresh u) =

@@ -15,12 +15,12 @@ targets-requires c = c.self.invariant.settled
 pub targets_within-requires : goal.targets_within-requires
 targets_within-requires c =
     let i = c.self.inside in
-    fresh-owned i.stack.now i.choice i.demands.now i.woken i.fresh i.count c.self.invariant
+    fresh-owned i.stack.now i.addition.now i.woken i.fresh i.count c.self.invariant
 
 pub returns : goal.returns
 returns c v =
     let i = c.self.inside in
-    let active = pending-active i.stack.now i.choice i.demands.now i.woken i.fresh i.count c.self.invariant in
+    let active = pending-active i.stack.now i.addition.now i.woken i.fresh i.count c.self.invariant in
     let woken : (u : Var) → (Contains c.in_ok-woken.woken u) ↔ ((λ (ds : List Demand) (v : Var). HasEdge (edges_of ds) c.args.from v) i.woken u) =
     subst (λ (l : List Var). (u : Var) → (Contains l u) ↔ ((λ (ds : List Demand) (v : Var). HasEdge (edges_of ds) c.args.from v) i.woken u)) (sym c.in_ok-woken.ensures) (targets-are i.woken c.args.from) in
     let fresh : (u : Var) → (Contains c.in_ok-fresh.fresh u) ↔ ((λ (ds : List Demand) (v : Var). HasEdge (edges_of ds) c.args.from v) i.fresh u) =

@@ -1,4 +1,4 @@
-use Rattle.std.proofs.Common.{List, ap, length, arith}
+use Rattle.std.proofs.Common.{◌∙◌, List, sym, ap, length}
 use Rattle.std.proofs.lemmas.List.{length-map}
 use Rattle.choice_problem.specs.declared.problem.Demand.{Demand}
 use Rattle.validation.specs.Stack.{demand_at}
@@ -7,4 +7,4 @@ use Rattle.validation.proofs.picked.Picked.len.Goals as goal
 pub returns : goal.returns
 returns c =
     let i = c.self.inside in
-    omega (arith, c.len.ensures, i.places.ok, length-map i.places.items (demand_at i.listed.now), ap (λ (ds : List Demand). length ds) c.self.view_is)
+    sym (length-map i.places.now (demand_at i.listed.now)) ∙ ap (λ (ds : List Demand). length ds) c.self.view_is

@@ -1,6 +1,6 @@
 use Rattle.std.proofs.Common.{◌≡◌, ◌<◌, ◌∙◌, sym, ap, subst, length, get_or, List}
 use Rattle.choice_problem.specs.declared.problem.Demand.{Demand}
-use Rattle.validation.specs.declared.mentions.Mention.{Mention}
+use Rattle.goal_links.specs.declared.mentions.Mention.{Mention}
 use Rattle.validation.specs.View.{View}
 use Rattle.validation.specs.Stack.{no_demand, demand_at}
 use Rattle.validation.proofs.Stacks.{parts-ask}

@@ -1,7 +1,7 @@
 use Rattle.std.proofs.Common.{◌<◌, ◌∙◌, List, Some, sym, ap, subst, length, arith}
 use Rattle.std.specs.List.{slice_get}
 use Rattle.choice_problem.specs.declared.problem.Demand.{Demand}
-use Rattle.validation.specs.declared.mentions.Mention.{Mention}
+use Rattle.goal_links.specs.declared.mentions.Mention.{Mention}
 use Rattle.validation.specs.View.{View}
 use Rattle.validation.specs.Stack.{demand_at}
 use Rattle.validation.proofs.Stacks.{marks-targets, length-active}

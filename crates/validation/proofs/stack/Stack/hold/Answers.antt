@@ -8,10 +8,10 @@ use Rattle.goal_links.specs.Beside.{beside}
 use Rattle.goal_links.specs.Links.{var_at}
 use Rattle.validation.specs.Open.{Keeps, is_other}
 use Rattle.validation.specs.View.{View}
-use Rattle.validation.specs.Stack.{vars_at}
+use Rattle.goal_links.specs.Mentions.{vars_at}
 use Rattle.validation.specs.declared.stack.Mark.{Mark}
 use Rattle.validation.proofs.Stacks.{targets-vars, marks-targets, parts-open, parts-hold}
-use Rattle.validation.proofs.Opened.{at-entry}
+use Rattle.goal_links.proofs.Walks.{at-entry}
 use Rattle.validation.proofs.stack.Stack.hold.Goals as goal
 
 pub entry-entry-requires : goal.entry-entry-requires

@@ -1,9 +1,10 @@
 use Rattle.std.proofs.Common.{◌∙◌, List, ap}
 use Rattle.std.specs.List.{list_any}
 use Rattle.choice_problem.specs.ConflictSet.{has}
-use Rattle.validation.specs.declared.mentions.Mention.{Mention}
+use Rattle.goal_links.specs.declared.mentions.Mention.{Mention}
 use Rattle.validation.specs.View.{View}
-use Rattle.validation.specs.Stack.{names, vars_at}
+use Rattle.goal_links.specs.Mentions.{vars_at}
+use Rattle.validation.specs.Stack.{names}
 use Rattle.validation.proofs.Graphs.{waits-has}
 use Rattle.validation.proofs.stack.Stack.names.Goals as goal
 

@@ -3,7 +3,7 @@ use Rattle.std.specs.List.{Contains}
 use Rattle.qualified_goals.specs.declared.variable.Var.{Var}
 use Rattle.choice_problem.specs.declared.problem.Demand.{Demand}
 use Rattle.choice_problem.specs.Conflict.{edges_of}
-use Rattle.validation.specs.Mentions.{places_on}
+use Rattle.goal_links.specs.Mentions.{places_on}
 use Rattle.demand_cycles.specs.Cycles.{HasEdge}
 use Rattle.validation.specs.View.{View}
 use Rattle.validation.specs.Stack.{demands_at, owners_of}

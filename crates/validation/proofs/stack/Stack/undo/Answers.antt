@@ -5,12 +5,13 @@ use Rattle.choice_problem.specs.declared.problem.Choice.{Choice}
 use Rattle.choice_problem.specs.ConflictSet.{has}
 use Rattle.goal_links.specs.Beside.{beside}
 use Rattle.goal_links.specs.Links.{var_at}
-use Rattle.validation.specs.declared.mentions.Mention.{Mention}
+use Rattle.goal_links.specs.declared.mentions.Mention.{Mention}
 use Rattle.validation.specs.Open.{StayKept, is_other, is_chosen_in}
-use Rattle.validation.specs.Stack.{AreOpen, IsHeld, undone, vars_at}
+use Rattle.goal_links.specs.Mentions.{vars_at}
+use Rattle.validation.specs.Stack.{AreOpen, IsHeld, undone}
 use Rattle.validation.specs.View.{View}
-use Rattle.validation.proofs.LastItems.{pop-is, pop-some}
-use Rattle.validation.proofs.Opened.{at-entry}
+use Rattle.goal_links.proofs.LastItems.{pop-is, pop-some}
+use Rattle.goal_links.proofs.Walks.{at-entry}
 use Rattle.validation.proofs.Stacks.{chosen-last, marks-undo, comes-back, parts-undo, undone-seen}
 use Rattle.validation.proofs.stack.Stack.undo.Goals as goal
 

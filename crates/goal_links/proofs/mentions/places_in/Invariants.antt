@@ -1,9 +1,9 @@
 use Rattle.std.proofs.Common.{◌≡◌, ◌<◌, ◌++◌, true, IfSome, length, map}
 use Rattle.goal_links.specs.Row.{has_node}
 use Rattle.goal_links.specs.Chains.{cell_at, chain_at}
-use Rattle.validation.specs.Mentions.{place_at}
-use Rattle.validation.proofs.Walks.{walk_from}
-use Rattle.validation.proofs.mentions.places_in.Given as goal
+use Rattle.goal_links.specs.Mentions.{place_at}
+use Rattle.goal_links.proofs.Walks.{walk_from}
+use Rattle.goal_links.proofs.mentions.places_in.Given as goal
 
 abbrev pub invariant-loop-at : goal.invariant-loop-at
 invariant-loop-at l = record {

@@ -4,9 +4,9 @@ use Rattle.goal_links.specs.Beside.{first_of}
 use Rattle.goal_links.specs.Row.{has_node, behind}
 use Rattle.goal_links.specs.Chains.{cell_at, chain_at}
 use Rattle.goal_links.proofs.Rings.{has-contains}
-use Rattle.validation.specs.Mentions.{place_at}
-use Rattle.validation.proofs.Walks.{chain-once, walk_from, walk-first, walk-next}
-use Rattle.validation.proofs.mentions.places_in.Goals as goal
+use Rattle.goal_links.specs.Mentions.{place_at}
+use Rattle.goal_links.proofs.Walks.{chain-once, walk_from, walk-first, walk-next}
+use Rattle.goal_links.proofs.mentions.places_in.Goals as goal
 
 pub loop-at-init : goal.loop-at-init
 loop-at-init c =

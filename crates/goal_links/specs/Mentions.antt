@@ -5,7 +5,7 @@ use Rattle.qualified_goals.specs.Variable.{same_var}
 use Rattle.goal_links.specs.declared.chains.Cell.{Cell}
 use Rattle.goal_links.specs.Chains.{cell_at, chain_at}
 use Rattle.goal_links.specs.Links.{Entries, var_at}
-use Rattle.validation.specs.declared.mentions.Mention.{Mention}
+use Rattle.goal_links.specs.declared.mentions.Mention.{Mention}
 
 -- what a cell mentions
 abbrev pub mention_in : List Var → Cell → Mention
@@ -33,3 +33,15 @@ pub record AreMentions (s : Entries) : Type 0 where
   pub counted : length s.chains ≡ length s.vars
   pub within : (k : ℕ) → k < length s.cells → (cell_at s.cells k).entry < length s.vars
   pub chains : (entry : ℕ) → entry < length s.vars → chain_at s.chains entry ≡ numbers_from 0 entry s.cells
+
+-- the places of the demands that are mentioned
+abbrev pub places_of : List Mention → List ℕ
+places_of ms = map (λ m. m.place) ms
+
+-- the variables that are mentioned
+abbrev pub vars_at : List Mention → List Var
+vars_at ms = map (λ m. m.var) ms
+
+-- a variable, mentioned by the demand at a place
+abbrev pub mention_of : Var → ℕ → Mention
+mention_of v n = record { var = v; place = n }

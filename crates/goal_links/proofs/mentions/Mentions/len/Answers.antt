@@ -1,8 +1,8 @@
 use Rattle.std.proofs.Common.{◌∙◌, List, length, sym, ap}
 use Rattle.std.proofs.lemmas.List.{length-map}
-use Rattle.validation.specs.declared.mentions.Mention.{Mention}
-use Rattle.validation.specs.Mentions.{mention_in}
-use Rattle.validation.proofs.mentions.Mentions.len.Goals as goal
+use Rattle.goal_links.specs.declared.mentions.Mention.{Mention}
+use Rattle.goal_links.specs.Mentions.{mention_in}
+use Rattle.goal_links.proofs.mentions.Mentions.len.Goals as goal
 
 pub returns : goal.returns
 returns c =

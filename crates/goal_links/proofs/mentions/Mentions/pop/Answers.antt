@@ -2,10 +2,10 @@ use Rattle.std.proofs.Common.{◌≡◌, ◌+◌, ◌-◌, ◌∙◌, ◌++◌, 
 use Rattle.std.proofs.Math.Seq.{get_or-append_seam}
 use Rattle.goal_links.specs.Links.{Entries}
 use Rattle.std.proofs.lemmas.List.{length-map}
-use Rattle.validation.specs.declared.mentions.Mention.{Mention}
-use Rattle.validation.specs.Mentions.{mention_in, mentions}
-use Rattle.validation.proofs.Walks.{last-cell, pop-last, pop-outside, pop-makes}
-use Rattle.validation.proofs.mentions.Mentions.pop.Goals as goal
+use Rattle.goal_links.specs.declared.mentions.Mention.{Mention}
+use Rattle.goal_links.specs.Mentions.{mention_in, mentions}
+use Rattle.goal_links.proofs.Walks.{last-cell, pop-last, pop-outside, pop-makes}
+use Rattle.goal_links.proofs.mentions.Mentions.pop.Goals as goal
 
 -- how many cells there are
 counted : (s : Entries) (ms : List Mention) (count : ℕ) → mentions s ≡ ms → count ≡ length ms → (count ≡ 0 → ⊥) → length s.cells ≡ (count - 1) + 1

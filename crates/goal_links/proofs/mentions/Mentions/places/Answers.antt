@@ -1,8 +1,8 @@
 use Rattle.std.proofs.Common.{◌∙◌, sym, ap}
 use Rattle.std.proofs.lemmas.Option.{slice_get_within}
-use Rattle.validation.specs.Mentions.{places_on}
-use Rattle.validation.proofs.Walks.{chain-places, unknown-places}
-use Rattle.validation.proofs.mentions.Mentions.places.Goals as goal
+use Rattle.goal_links.specs.Mentions.{places_on}
+use Rattle.goal_links.proofs.Walks.{chain-places, unknown-places}
+use Rattle.goal_links.proofs.mentions.Mentions.places.Goals as goal
 
 pub places_in-requires-clause-entry : goal.places_in-requires-clause-entry
 places_in-requires-clause-entry c = slice_get_within c.self.inside.links.vars c.in-Some.entry c.args.v c.in-Some.ensures.entry

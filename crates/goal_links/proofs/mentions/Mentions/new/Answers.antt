@@ -1,7 +1,7 @@
 use Rattle.std.proofs.Common.{refl, sym, ap, subst, arith}
 use Rattle.goal_links.specs.Links.{Entries}
-use Rattle.validation.specs.Mentions.{mentions, AreMentions}
-use Rattle.validation.proofs.mentions.Mentions.new.Goals as goal
+use Rattle.goal_links.specs.Mentions.{mentions, AreMentions}
+use Rattle.goal_links.proofs.mentions.Mentions.new.Goals as goal
 
 pub invariant_of-result : goal.invariant_of-result
 invariant_of-result c =

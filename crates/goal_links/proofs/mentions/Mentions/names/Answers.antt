@@ -1,10 +1,10 @@
 use Rattle.std.proofs.Common.{◌∙◌, List, sym, ap, is_some}
 use Rattle.std.proofs.lemmas.Option.{slice_get_within}
 use Rattle.choice_problem.specs.ConflictSet.{has}
-use Rattle.validation.specs.declared.mentions.Mention.{Mention}
-use Rattle.validation.specs.Stack.{vars_at}
-use Rattle.validation.proofs.Walks.{chain-has, unknown-has}
-use Rattle.validation.proofs.mentions.Mentions.names.Goals as goal
+use Rattle.goal_links.specs.declared.mentions.Mention.{Mention}
+use Rattle.goal_links.specs.Mentions.{vars_at}
+use Rattle.goal_links.proofs.Walks.{chain-has, unknown-has}
+use Rattle.goal_links.proofs.mentions.Mentions.names.Goals as goal
 
 pub chain_first-requires : goal.chain_first-requires
 chain_first-requires c = slice_get_within c.self.inside.links.vars c.in-Some.entry c.args.v c.in-Some.ensures.entry

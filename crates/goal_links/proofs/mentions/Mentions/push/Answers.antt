@@ -1,14 +1,13 @@
 use Rattle.std.proofs.Common.{◌≡◌, ◌∙◌, ◌++◌, ◌∷◌, [], List, sym, ap, subst}
 use Rattle.std.proofs.lemmas.Option.{slice_get_within}
 use Rattle.qualified_goals.specs.declared.variable.Var.{Var}
-use Rattle.choice_problem.proofs.Results.{on-err}
+use Rattle.common_laws.specs.Small.{on-err}
 use Rattle.goal_links.specs.declared.chains.Cell.{Cell}
 use Rattle.goal_links.specs.Links.{Entries, var_at}
-use Rattle.validation.specs.declared.mentions.Mention.{Mention}
-use Rattle.validation.specs.Mentions.{mentions, AreMentions}
-use Rattle.validation.proofs.Opened.{at-entry}
-use Rattle.validation.proofs.Walks.{registered-mentions, push-fits, push-outside, push-makes}
-use Rattle.validation.proofs.mentions.Mentions.push.Goals as goal
+use Rattle.goal_links.specs.declared.mentions.Mention.{Mention}
+use Rattle.goal_links.specs.Mentions.{mentions, AreMentions}
+use Rattle.goal_links.proofs.Walks.{registered-mentions, push-fits, push-outside, push-makes, at-entry}
+use Rattle.goal_links.proofs.mentions.Mentions.push.Goals as goal
 
 pub register_cell-requires : goal.register_cell-requires
 register_cell-requires c = slice_get_within c.register.new.self.vars c.in_ok-entry.entry c.args.mention.var c.in_ok-entry.ensures.entry

@@ -1,5 +1,5 @@
 use Rattle.std.proofs.Common.{◌≡◌, take, length}
-use Rattle.validation.proofs.mentions.Mentions.cut.Given as goal
+use Rattle.goal_links.proofs.mentions.Mentions.cut.Given as goal
 
 abbrev pub invariant-loop-self : goal.invariant-loop-self
 invariant-loop-self l = take l.len l.self ≡ take l.len l.initial.self

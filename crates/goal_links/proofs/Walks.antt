@@ -1,4 +1,4 @@
--- Mentions as cells: the numbers of the cells of an entry, a cell more or less, and the walk along a chain.
+-- Mentions as cells: the variables of entries, the numbers of the cells of an entry, a cell more or less, and the walk along a chain.
 use Rattle.std.proofs.Common.{◌≡◌, ℕ, suc, ◌+◌, ◌-◌, ◌<◌, ◌≤◌, arith, length, get_or, eqb, eqb-true, eq-eqb, true, false, cond, ◌||◌, List, [], ◌∷◌, ◌++◌, Option, Some, None, is_some, map, filter, refl, sym, ap, ◌∙◌, subst, inl, inr, ◌⊎◌, append_assoc, append-nil, length-append}
 use Rattle.std.specs.List.{Contains, slice_get}
 use Rattle.std.proofs.Math.ListN.{set}
@@ -6,7 +6,7 @@ use Rattle.std.proofs.Math.Seq.{get_or-append_seam}
 use Rattle.std.proofs.lemmas.List.{map-append, length-set, get_or-set_same, get_or-set_other, get_or_append_left}
 use Rattle.std.proofs.lemmas.List.Elements.{filter-append}
 use Rattle.std.proofs.lemmas.Bool.{false≢true, cases_lt}
-use Rattle.std.proofs.lemmas.Option.{slice_get_within, get_or_from_slice_get}
+use Rattle.std.proofs.lemmas.Option.{slice_get_within, get_or_from_slice_get, slice_get-get_or}
 use Rattle.common_laws.specs.Lists.{contains-none, contains-cases}
 use Rattle.qualified_goals.specs.declared.variable.Var.{Var}
 use Rattle.qualified_goals.specs.Variable.{same_var}
@@ -18,16 +18,28 @@ use Rattle.goal_links.specs.Row.{has_node, behind}
 use Rattle.goal_links.specs.Chains.{no_cell, cell_at, chain_at, without_last}
 use Rattle.goal_links.specs.Links.{Entries, no_var, var_at, chain_with, registered, with_cell, with_cells, lengthened, shortened}
 use Rattle.choice_problem.proofs.Paths.{parted}
-use Rattle.goal_links.proofs.Paths.{AreOnce}
+use Rattle.choice_problem.proofs.Sets.{contains-has}
+use Rattle.goal_links.proofs.Paths.{AreOnce, last-end}
 use Rattle.goal_links.proofs.Nodes.{not-in, behind-parted, apart-front}
 use Rattle.goal_links.proofs.Chained.{without-last}
 use Rattle.goal_links.proofs.Entries.{same-number}
-use Rattle.goal_links.proofs.Mapped.{map-alike}
-use Rattle.validation.specs.declared.mentions.Mention.{Mention}
-use Rattle.validation.specs.Mentions.{mention_in, mentions, numbers_from, place_at, places_on, AreMentions}
-use Rattle.validation.specs.Stack.{vars_at}
-use Rattle.validation.proofs.LastItems.{last-split}
-use Rattle.validation.proofs.Opened.{entry-known, get-at}
+use Rattle.goal_links.proofs.Mapped.{get-contains, map-alike}
+use Rattle.goal_links.specs.declared.mentions.Mention.{Mention}
+use Rattle.goal_links.specs.Mentions.{mention_in, mentions, numbers_from, place_at, places_on, AreMentions, vars_at}
+use Rattle.goal_links.proofs.LastItems.{last-split}
+
+-- the variable of an entry
+
+pub at-entry : (vars : List Var) (n : ℕ) (v : Var) → slice_get vars n ≡ Some v → var_at vars n ≡ v
+at-entry vars n v h = get_or_from_slice_get vars n v no_var h
+
+pub get-at : (vars : List Var) (n : ℕ) → n < length vars → slice_get vars n ≡ Some (var_at vars n)
+get-at vars n h = slice_get-get_or vars n no_var h
+
+pub entry-known : (vars : List Var) (n : ℕ) (v : Var) → slice_get vars n ≡ Some v → has vars v ≡ true
+entry-known vars n v h = contains-has vars v (get-contains vars n v h)
+
+-- the places of mentions
 
 pub places-append : (v : Var) (xs ys : List Mention) → places_on v (xs ++ ys) ≡ places_on v xs ++ places_on v ys
 places-append v xs ys =
@@ -237,10 +249,6 @@ module _ (s : Entries) (cell : Cell) (h : AreMentions s) (fits : cell.entry < le
 
 -- a cell less
 
-last-from-snoc : (before : Option ℕ) (xs : List ℕ) (x : ℕ) → last_from before (xs ++ x ∷ []) ≡ Some x
-last-from-snoc before [] x = refl
-last-from-snoc before (y ∷ xs) x = last-from-snoc (Some y) xs x
-
 module _ (s : Entries) (front : List Cell) (cell : Cell) (h : AreMentions s) (parts : s.cells ≡ front ++ cell ∷ []) where
   last-entry : (cell_at s.cells (length front)).entry ≡ cell.entry
   last-entry = ap (λ (l : List Cell). (cell_at l (length front)).entry) parts ∙ ap (λ (x : Cell). x.entry) (get_or-append_seam front cell [] no_cell)
@@ -262,7 +270,7 @@ module _ (s : Entries) (front : List Cell) (cell : Cell) (h : AreMentions s) (pa
       ∙ ap (λ n. numbers_from 0 cell.entry front ++ n ∷ []) (omega arith)
 
   pub last-is : last_of (chain_with s (length front)) ≡ Some (length front)
-  last-is = ap last_of last-chain ∙ last-from-snoc None (numbers_from 0 cell.entry front) (length front)
+  last-is = ap last_of last-chain ∙ last-end None (numbers_from 0 cell.entry front) (length front)
 
   abbrev less : Entries
   less = shortened s (length front)

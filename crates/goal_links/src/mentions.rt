@@ -2,33 +2,32 @@
 ghost use Rattle.std.specs.Prelude.{◌≡◌, ◌<◌, ◌++◌, [], ◌∷◌, IfOk, OnOk, OnErr, MatchOption, length, take, map, slice_index_or};
 ghost use Rattle.choice_problem.specs.ConflictSet.{has};
 ghost use Rattle.goal_links.specs.Chains.{chain_at};
-ghost use Rattle.validation.specs.Mentions.{place_at, places_on, AreMentions};
-ghost use Rattle.validation.specs.Stack.{vars_at};
+ghost use Rattle.goal_links.specs.Mentions.{place_at, places_on, AreMentions, vars_at};
 
+use crate::links::Links;
 use choice_problem::Var;
-use goal_links::Links;
 use plan_types::NoMemory;
 use std::alloc::Global;
 use std::marker::Model;
 
 /// A variable that a demand names, and the demand's place.
 #[derive(Clone, Copy, Debug, Drop)]
-pub(crate) struct Mention {
-    pub(crate) var: Var,
-    pub(crate) place: usize,
+pub struct Mention {
+    pub var: Var,
+    pub place: usize,
 }
 
 /// Mentions in an order, of which those of one variable are a chain.
 #[derive(Drop)]
-pub(crate) struct Mentions {
+pub struct Mentions {
     // A cell for each mention, of its variable's entry. Its demand is the place.
     links: Links,
 }
 
 impl Model for Mentions {
     ghost use Rattle.std.specs.Prelude.{List};
-    ghost use Rattle.validation.specs.declared.mentions.Mention.{Mention};
-    ghost use Rattle.validation.specs.Mentions.{mentions, AreMentions};
+    ghost use Rattle.goal_links.specs.declared.mentions.Mention.{Mention};
+    ghost use Rattle.goal_links.specs.Mentions.{mentions, AreMentions};
 
     ghost Value = { List Mention };
 
@@ -38,7 +37,8 @@ impl Model for Mentions {
 }
 
 impl Mentions {
-    pub(crate) fn new(alloc: Global) -> Mentions
+    /// No mentions.
+    pub fn new(alloc: Global) -> Mentions
         ensures { result ≡ [] }
     {
         Mentions {
@@ -46,14 +46,15 @@ impl Mentions {
         }
     }
 
-    pub(crate) fn len(&self) -> usize
+    /// How many there are.
+    pub fn len(&self) -> usize
         ensures { result ≡ length self.now }
     {
         self.links.cell_count() as usize
     }
 
     /// Whether a variable is mentioned.
-    pub(crate) fn names(&self, v: Var) -> bool
+    pub fn names(&self, v: Var) -> bool
         ensures { result ≡ has (vars_at self.now) v }
     {
         match self.links.entry_of(v) {
@@ -62,7 +63,8 @@ impl Mentions {
         }
     }
 
-    pub(crate) fn push(&mut self, mention: Mention) -> Result<(), NoMemory>
+    /// Puts a mention behind the others.
+    pub fn push(&mut self, mention: Mention) -> Result<(), NoMemory>
         ensures ok { OnOk result (self.new ≡ self.old ++ mention ∷ []) }
         ensures err { OnErr result (self.new ≡ self.old) }
     {
@@ -73,7 +75,7 @@ impl Mentions {
     }
 
     /// The places of the demands that mention a variable.
-    pub(crate) fn places(&self, alloc: Global, v: Var) -> Result<Vec<usize>, NoMemory>
+    pub fn places(&self, alloc: Global, v: Var) -> Result<Vec<usize>, NoMemory>
         ensures { IfOk result (λ found. found.items ≡ places_on v self.now) }
     {
         let Some(entry) = self.links.entry_of(v) else {
@@ -84,7 +86,7 @@ impl Mentions {
     }
 
     /// Takes the last mention off. It takes no memory.
-    pub(crate) fn pop(&mut self) -> Option<Mention>
+    pub fn pop(&mut self) -> Option<Mention>
         ensures { MatchOption result ((self.old ≡ []) × (self.new ≡ [])) (λ last. self.old ≡ self.new ++ last ∷ []) }
     {
         let count = self.len();
@@ -99,7 +101,8 @@ impl Mentions {
 }
 
 impl Mentions {
-    pub(crate) fn at(&self, index: usize) -> Mention
+    /// The mention at a place of their order.
+    pub fn at(&self, index: usize) -> Mention
         requires { index < length self.now }
         ensures { result ≡ slice_index_or self.now index result }
     {
@@ -111,7 +114,7 @@ impl Mentions {
     }
 
     /// Keeps the first mentions.
-    pub(crate) fn cut(&mut self, len: usize)
+    pub fn cut(&mut self, len: usize)
         ensures { self.new ≡ take len self.old }
     {
         while self.len() > len {
