@@ -12,14 +12,14 @@ use Rattle.plan_search.specs.Meaning.{MeansOutcome}
 use Rattle.plan_command.specs.declared.output.Output.{Output}
 use Rattle.plan_command.specs.declared.status.Status.{Status}
 use Rattle.plan_command.specs.declared.status.Status.TheVariants as status
-use Rattle.plan_command.specs.Output.{HasForm, of_outcome, of_refusal, output_of_outcome, refused}
+use Rattle.plan_command.specs.Output.{HasForm, IsOutputOfOutcome, of_outcome, of_refusal, refused}
 use Rattle.plan_command.specs.Meaning.{Means, MeansTask}
 use Rattle.plan_command.specs.Run.{IsOutputOfPlan, IsOutputOfTask, Prints}
 
 -- an output has the form of one
 
 pub formed-task : (task : Task) (output : Output) → IsOutputOfTask task output → HasForm output
-formed-task task output is = subst HasForm (sym is.output_is) (of_outcome task.index is.finding.names is.finding.outcome)
+formed-task task output is = of_outcome task.settings.env task.index is.finding.names is.finding.outcome output is.output_is
 
 pub formed-refusal : (refusal : Refusal) (output : Output) → output ≡ refused refusal → HasForm output
 formed-refusal refusal output is = subst HasForm (sym is) (of_refusal refusal)
@@ -35,16 +35,18 @@ module _ (options : Options) (files : Files) where
   refused-output refusal output made is = (Err refusal, made, is)
 
   module _ (task : Task) (made : IsTask options files (Ok task)) where
-    means-outcome : (names : NameTable) (found : Outcome) → MeansOutcome task.index task.settings names found → Means options files (output_of_outcome task.index names found)
-    means-outcome names (outcome.Found trail counts) h =
-        record { task = task; made = made; names = names; trail = trail; first = h; counts = counts; text_is = refl }
-    means-outcome names (outcome.NoPlan set counts) h =
-        record { task = task; made = made; names = names; set = set; to_blame = h; counts = counts; text_is = refl }
-    means-outcome names (outcome.GaveUp counts) h =
-        record { task = task; made = made; names = names; met = h; counts = counts; text_is = refl }
+    means-outcome : (names : NameTable) (found : Outcome) (output : Output) → MeansOutcome task.index task.settings names found
+        → IsOutputOfOutcome task.settings.env task.index names found output → Means options files output
+    means-outcome names (outcome.Found trail counts) output h (nodes, plan, is) =
+        subst (Means options files) (sym is)
+          (record { task = task; made = made; names = names; trail = trail; first = h; nodes = nodes; planned = plan; counts = counts; text_is = refl })
+    means-outcome names (outcome.NoPlan set counts) output h is =
+        subst (Means options files) (sym is) (record { task = task; made = made; names = names; set = set; to_blame = h; counts = counts; text_is = refl })
+    means-outcome names (outcome.GaveUp counts) output h is =
+        subst (Means options files) (sym is) (record { task = task; made = made; names = names; met = h; counts = counts; text_is = refl })
 
     pub planned-means : (output : Output) → MeansTask task output → Means options files output
-    planned-means output h = subst (Means options files) (sym h.output_is) (means-outcome h.finding.names h.finding.outcome h.means)
+    planned-means output h = means-outcome h.finding.names h.finding.outcome output h.means h.output_is
 
   pub refused-means : (refusal : Refusal) (output : Output) → IsTask options files (Err refusal) → output ≡ refused refusal → Means options files output
   refused-means refusal output made is = subst (Means options files) (sym is) (record { refusal = refusal; made = made; text_is = refl })

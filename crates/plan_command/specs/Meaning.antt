@@ -15,17 +15,21 @@ use Rattle.plan_search.specs.declared.search.Finding.{Finding}
 use Rattle.plan_command.specs.declared.output.Output.{Output}
 use Rattle.plan_command.specs.declared.status.Status.{Status}
 use Rattle.plan_command.specs.declared.status.Status.TheVariants as status
-use Rattle.plan_command.specs.Output.{output_of_outcome}
+use Rattle.plan_nodes.specs.declared.node.PlanNode.{PlanNode}
+use Rattle.plan_command.specs.Output.{ArePlanned, IsOutputOfOutcome}
 
--- The lines of the first of all whole valid assignments of the problem that the files make, and some counts.
+-- The lines of the first of all whole valid assignments of the problem that the files make and those of the nodes of its plan, and
+-- some counts.
 pub record PlansFirst (options : Options) (files : Files) (text : Bytes) : Type 0 where
   pub task : Task
   pub made : IsTask options files (Ok task)
   pub names : NameTable
   pub trail : List Choice
   pub first : IsFirstTrail task.index task.settings names trail
+  pub nodes : List PlanNode
+  pub planned : ArePlanned task.settings.env task.index names trail nodes
   pub counts : Counts
-  pub text_is : text ≡ plan_text task.index names trail counts
+  pub text_is : text ≡ plan_text task.index names trail nodes counts
 
 -- The problem that the files make has no whole valid assignment, and the variables that are printed admit none by
 -- themselves.
@@ -72,4 +76,4 @@ Means options files output = MeansWith output.status options files output.text
 pub record MeansTask (task : Task) (output : Output) : Type 0 where
   pub finding : Finding
   pub means : MeansFinding task.index task.settings finding
-  pub output_is : output ≡ output_of_outcome task.index finding.names finding.outcome
+  pub output_is : IsOutputOfOutcome task.settings.env task.index finding.names finding.outcome output

@@ -1,11 +1,18 @@
 -- What a run prints of what it found.
-use Rattle.std.specs.Prelude.{[], ◌∷◌, ◌++◌, codes}
+use Rattle.std.specs.Prelude.{◌≡◌, List, [], ◌∷◌, ◌++◌, codes}
+use Rattle.plan_types.specs.declared.condition.Env.{Env}
 use Rattle.plan_types.specs.declared.index.Index.{Index}
 use Rattle.plan_types.specs.declared.refusal.Refusal.{Refusal}
 use Rattle.qualified_goals.specs.Names.{NameTable}
 use Rattle.choice_problem.specs.declared.outcome.Outcome.{Outcome}
 use Rattle.choice_problem.specs.declared.outcome.Outcome.TheVariants as outcome
+use Rattle.choice_problem.specs.declared.outcome.Counts.{Counts}
+use Rattle.choice_problem.specs.declared.problem.Choice.{Choice}
+use Rattle.choice_problem.specs.Trail.{value_in}
 use Rattle.outside_folder.specs.Files.{Bytes}
+use Rattle.plan_components.specs.Chosen.{selection_from}
+use Rattle.plan_nodes.specs.declared.node.PlanNode.{PlanNode}
+use Rattle.elaborate.specs.Plan.{IsPlan}
 use Rattle.plan_print.specs.Texts.{plan_text, conflict_text, gave_up_text, refusal_text}
 use Rattle.plan_command.specs.declared.output.Output.{Output}
 use Rattle.plan_command.specs.declared.status.Status.{Status}
@@ -15,11 +22,22 @@ use Rattle.plan_command.specs.declared.status.Status.TheVariants as status
 abbrev pub refused : Refusal → Output
 refused refusal = record { status = status.Refused; text = refusal_text refusal }
 
+-- the nodes of the plan that a trail makes
+abbrev pub ArePlanned : Env → Index → NameTable → List Choice → List PlanNode → Type 0
+ArePlanned env index names trail nodes = IsPlan (selection_from index names env (value_in trail)) nodes
+
+-- the output of a plan
+abbrev pub planned : Index → NameTable → List Choice → List PlanNode → Counts → Output
+planned index names trail nodes counts = record { status = status.Planned; text = plan_text index names trail nodes counts }
+
 -- the output of what a search found
-abbrev pub output_of_outcome : Index → NameTable → Outcome → Output
-output_of_outcome index names (outcome.Found trail counts) = record { status = status.Planned; text = plan_text index names trail counts }
-output_of_outcome index names (outcome.NoPlan set counts) = record { status = status.NoPlan; text = conflict_text index names set counts }
-output_of_outcome index names (outcome.GaveUp counts) = record { status = status.GaveUp; text = gave_up_text index counts }
+abbrev pub IsOutputOfOutcome : Env → Index → NameTable → Outcome → Output → Type 0
+IsOutputOfOutcome env index names (outcome.Found trail counts) output =
+    (nodes : List PlanNode) × ArePlanned env index names trail nodes × (output ≡ planned index names trail nodes counts)
+IsOutputOfOutcome env index names (outcome.NoPlan set counts) output =
+    output ≡ record { status = status.NoPlan; text = conflict_text index names set counts }
+IsOutputOfOutcome env index names (outcome.GaveUp counts) output =
+    output ≡ record { status = status.GaveUp; text = gave_up_text index counts }
 
 -- the line for words without a reading
 abbrev pub usage_text : Bytes
@@ -32,7 +50,8 @@ usage = record { status = status.Usage; text = usage_text }
 -- an output's form: the line of a refusal, the lines of what a search found, or the usage line
 pub data HasForm : Output → Type 0 where
   of_refusal : (refusal : Refusal) → HasForm (refused refusal)
-  of_outcome : (index : Index) (names : NameTable) (outcome : Outcome) → HasForm (output_of_outcome index names outcome)
+  of_outcome : (env : Env) (index : Index) (names : NameTable) (outcome : Outcome) (output : Output)
+      → IsOutputOfOutcome env index names outcome output → HasForm output
   of_usage : HasForm usage
 
 -- a status of an output that is made, not that of a run that failed

@@ -14,7 +14,7 @@ use Rattle.plan_search.specs.declared.search.Finding.{Finding}
 use Rattle.plan_command.specs.declared.status.Status.{Status}
 use Rattle.plan_command.specs.declared.status.Status.TheVariants as status
 use Rattle.plan_command.specs.declared.output.Output.{Output}
-use Rattle.plan_command.specs.Output.{output_of_outcome, refused, usage}
+use Rattle.plan_command.specs.Output.{IsOutputOfOutcome, refused, usage}
 
 -- ---- the output of words over a folder
 
@@ -22,7 +22,7 @@ use Rattle.plan_command.specs.Output.{output_of_outcome, refused, usage}
 pub record IsOutputOfTask (task : Task) (output : Output) : Type 0 where
   pub finding : Finding
   pub found : IsFindingOf task.index task.settings finding
-  pub output_is : output ≡ output_of_outcome task.index finding.names finding.outcome
+  pub output_is : IsOutputOfOutcome task.settings.env task.index finding.names finding.outcome output
 
 -- the output of a task, or of the refusal that came instead
 abbrev pub IsOutputOfRead : Result Task Refusal → Output → Type 0

@@ -1,11 +1,13 @@
 // What is printed of what was found. The text is made whole before anything is written.
 ghost use Rattle.std.specs.Prelude.{◌≡◌, ◌≢◌, IfOk};
-ghost use Rattle.plan_command.specs.Output.{IsMade, output_of_outcome, refused};
+ghost use Rattle.flatten.specs.Sound.{IsSound};
+ghost use Rattle.plan_command.specs.Output.{IsMade, IsOutputOfOutcome, refused};
 
 use crate::Status;
 use choice_problem::Outcome;
+use elaborate::elaborate;
 use plan_print::{text_of_conflict, text_of_giving_up, text_of_plan, text_of_refusal};
-use plan_types::{Index, NoMemory, Refusal, Text};
+use plan_types::{Env, Index, NoMemory, Refusal, Text};
 use qualified_goals::Names;
 use std::alloc::Global;
 
@@ -29,19 +31,24 @@ pub(crate) fn refused(alloc: Global, refusal: &Refusal) -> Result<Output, NoMemo
 
 pub(crate) fn output_of_outcome(
     alloc: Global,
+    env: &Env,
     index: &Index,
     names: &Names,
     outcome: &Outcome,
 ) -> Result<Output, NoMemory>
-    ensures output { IfOk result (λ output. output ≡ output_of_outcome index.now names.now outcome.now) }
+    requires { IsSound env.now index.now }
+    ensures output { IfOk result (IsOutputOfOutcome env.now index.now names.now outcome.now) }
     ensures made { IfOk result (λ output. IsMade output.status) }
     ensures read { IfOk result (λ output. output.status ≢ Status.Usage) }
 {
     match outcome {
-        Outcome::Found { trail, counts } => Ok(Output {
-            status: Status::Planned,
-            text: text_of_plan(alloc, trail, index, names, *counts)?,
-        }),
+        Outcome::Found { trail, counts } => {
+            let nodes = elaborate(alloc, trail.as_slice(), index, names, env)?;
+            Ok(Output {
+                status: Status::Planned,
+                text: text_of_plan(alloc, trail, index, names, &nodes, *counts)?,
+            })
+        }
         Outcome::NoPlan { set, counts } => Ok(Output {
             status: Status::NoPlan,
             text: text_of_conflict(alloc, set, index, names, *counts)?,

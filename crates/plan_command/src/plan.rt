@@ -46,5 +46,11 @@ fn planned(alloc: Global, task: &Task) -> Result<Output, NoMemory>
     ensures read { IfOk result (λ output. output.status ≢ Status.Usage) }
 {
     let finding = find_plan(alloc, &task.index, &task.settings)?;
-    output_of_outcome(alloc, &task.index, &finding.names, &finding.outcome)
+    output_of_outcome(
+        alloc,
+        &task.settings.env,
+        &task.index,
+        &finding.names,
+        &finding.outcome,
+    )
 }
