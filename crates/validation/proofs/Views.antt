@@ -23,6 +23,7 @@ use Rattle.choice_problem.proofs.Sets.{same-back, contains-has}
 use Rattle.validation.specs.View.{listed_counts, counts_before}
 use Rattle.validation.specs.Stack.{are_naming, names, turned}
 use Rattle.choice_problem.proofs.TrailEnds.{value-push}
+use Rattle.choice_problem.proofs.Conflicts.{all-front}
 
 -- demands that a choice makes active name its variable
 
@@ -87,9 +88,6 @@ module _ (p : Problem) where
   demand-known : (d : Demand) → Lawful p → IsDemand p d → IsTrue (p.known d.target)
   demand-known d lawful (inl root) = (All-contains (IsRoot p) p.roots d lawful.roots root).target
   demand-known d lawful (inr (owner, is, owns)) = (All-contains (IsOwned p owner) (p.demands owner) d (lawful.demands owner is) owns).target
-
-  pub all-front : {X : Type 0} (P : X → Type 0) (xs ys : List X) → All P (xs ++ ys) → All P xs
-  all-front P xs ys h = λ k d within. subst P (get_or-append xs ys d k within) (h k d (omega (arith, within, length-append xs ys)))
 
   -- an open variable is known, has no value, and is the target of an active demand
   pub record IsOpen (trail : List Choice) (v : Var) : Type 0 where
