@@ -23,7 +23,6 @@ use Rattle.choice_problem.proofs.Sets.{same-back, contains-has}
 use Rattle.validation.specs.View.{listed_counts, counts_before}
 use Rattle.validation.specs.Stack.{are_naming, names, turned}
 use Rattle.choice_problem.proofs.TrailEnds.{value-push}
-use Rattle.choice_problem.proofs.Conflicts.{all-front}
 
 -- demands that a choice makes active name its variable
 
