@@ -41,4 +41,5 @@ pub data HasLine (selection : Selection) : Node → PlanNode → Type 0 where
 -- beside each node its line, where it has one
 pub record AreLines (selection : Selection) (nodes : List Node) (lines : List (Option PlanNode)) : Type 0 where
   pub count : length lines ≡ length nodes
-  pub each : (i : ℕ) (line : PlanNode) → i < length nodes → (slice_index_or lines i None ≡ Some line) ↔ HasLine selection (node_at nodes i) line
+  pub each : (i : ℕ) (line : PlanNode) → i < length nodes
+      → (slice_index_or lines i None ≡ Some line) ↔ HasLine selection (node_at nodes i) line
