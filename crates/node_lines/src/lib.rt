@@ -4,7 +4,9 @@
 #![tactic(auto)]
 
 mod gather;
+mod laws;
 mod lines;
 mod numbers;
 
+pub use laws::one_line;
 pub use lines::lines_of;
