@@ -17,7 +17,8 @@ use Rattle.plan_components.specs.Plan.{AreReached}
 use Rattle.plan_components.specs.SameNode.{place_of}
 use Rattle.plan_components.specs.Steps.{node_at}
 use Rattle.plan_lines.specs.Line.{line_of}
-use Rattle.build_order.specs.Order.{IsBuildOrder, IsReady, Needs}
+use Rattle.build_order.specs.Order.{IsBuildOrder, IsReady}
+use Rattle.common_laws.specs.Graphs.{Needs}
 use Rattle.node_lines.specs.Along.{line_from, lines_along, with_place}
 use Rattle.node_lines.specs.Gather.{empty, gathered, line_at}
 use Rattle.node_lines.specs.Lines.{AreLines, HasLine, needed_by, told}

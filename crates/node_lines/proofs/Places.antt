@@ -13,7 +13,7 @@ use Rattle.plan_components.specs.Needs.{needs_of}
 use Rattle.plan_components.specs.Plan.{AreReached, IsInPlan, needed}
 use Rattle.plan_components.specs.SameNode.{node-is, node-self, place_of, same_node}
 use Rattle.plan_components.specs.Steps.{no_node, node_at}
-use Rattle.build_order.specs.Order.{IsGraph, Needs}
+use Rattle.common_laws.specs.Graphs.{IsGraph, Needs}
 use Rattle.node_lines.specs.Numbers.{graph_of, row_of}
 
 -- a node that is there stands at its place

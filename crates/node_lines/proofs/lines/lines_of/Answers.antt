@@ -1,7 +1,8 @@
 use Rattle.std.proofs.Common.{◌<◌, length, sym, subst, ap, ◌∙◌}
 use Rattle.std.specs.List.{All}
 use Rattle.std.proofs.lemmas.Result.{IfOk-weaker}
-use Rattle.build_order.specs.Order.{IsBuildOrder, IsGraph}
+use Rattle.build_order.specs.Order.{IsBuildOrder}
+use Rattle.common_laws.specs.Graphs.{IsGraph}
 use Rattle.plan_components.specs.Chosen.{selection_of}
 use Rattle.node_lines.specs.Along.{lines_along}
 use Rattle.node_lines.specs.Lines.{AreLines}
