@@ -170,7 +170,8 @@ fn choice_at(owner: Choice, setting: Setting) -> Choice
     }
 }
 
-fn qual_for(kind: DepKind, owner: Var, package: u64) -> Qual
+/// The qualifier under which a dependency of this kind is chosen, by the variable of the package that has it.
+pub fn qual_for(kind: DepKind, owner: Var, package: u64) -> Qual
     ensures { result ≡ qual_for kind owner «package» }
 {
     match kind {

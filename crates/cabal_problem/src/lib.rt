@@ -11,4 +11,6 @@ mod values;
 mod variables;
 
 pub use cabal_problem::CabalProblem;
+pub use demands::qual_for;
 pub use laws::{listed_as_whole, one_problem, problem_is_lawful, valid_as_whole};
+pub use values::package_var;

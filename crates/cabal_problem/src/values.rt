@@ -33,7 +33,7 @@ pub(crate) fn on_first(alloc: Global, on: bool) -> Result<List<u64>, NoMemory>
 }
 
 /// The variable of a package itself.
-pub(crate) fn package_var(qual: Qual, package: u64) -> Var
+pub fn package_var(qual: Qual, package: u64) -> Var
     ensures { result ≡ package_var qual «package» }
 {
     Var {

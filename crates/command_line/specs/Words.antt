@@ -32,7 +32,8 @@ is_well_given words option = nat_le (count_by (gives option) words) 1 && option_
 
 -- the words ask for a command: its word, and around it options that it takes, in any order
 abbrev pub asks_for : List (List ℕ) → CommandName → Bool
-asks_for words command = list_all (is_known command) words && (count_by (is_command command) words == 1 && list_all (is_well_given words) options)
+asks_for words command =
+    list_all (is_known command) words && (count_by (is_command command) words == 1 && list_all (is_well_given words) options)
 
 -- the command that words ask for, where they ask for one
 abbrev pub asked : List (List ℕ) → Option CommandName

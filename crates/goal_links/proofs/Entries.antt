@@ -25,6 +25,11 @@ use Rattle.goal_links.proofs.Nodes.{contains-has as node-has, hasn't, has-itself
 use Rattle.goal_links.proofs.Rows.{place-parted}
 use Rattle.goal_links.proofs.Mapped.{any-mapped, filter-mapped, behind-mapped, first-mapped, last-mapped, beside-mapped, map-parted, map-alike, get-contains, get-set, get-push, get-last}
 
+pub slice_get-set : {X : Type 0} (xs : List X) (i : ℕ) (x y : X) → slice_get xs i ≡ Some y → slice_get (set xs i x) i ≡ Some x
+slice_get-set [] i x y h = absurd (cc h)
+slice_get-set (z ∷ xs) zero x y h = refl
+slice_get-set (z ∷ xs) (suc i) x y h = slice_get-set xs i x y h
+
 -- a variable put between those that are before it and those behind it
 
 below-all : (v : Var) (x : Var) (xs : List Var) → is_rising (x ∷ xs) ≡ true → IfSome (last_from (Some x) xs) (λ w. is_before w v ≡ true) → is_before x v ≡ true
@@ -540,11 +545,6 @@ may-return s n was =
     beside-here before (x ∷ xs) v ys h =
         ap (λ b. cond b (pair before (first_of (xs ++ v ∷ ys))) (beside_from (same_var v) (Some x) (xs ++ v ∷ ys))) (h x (contains-head x xs))
         ∙ beside-here (Some x) xs v ys (λ u c. h u (contains-tail x xs u c))
-
-    slice_get-set : {X : Type 0} (xs : List X) (i : ℕ) (x y : X) → slice_get xs i ≡ Some y → slice_get (set xs i x) i ≡ Some x
-    slice_get-set [] i x y h = absurd (cc h)
-    slice_get-set (z ∷ xs) zero x y h = refl
-    slice_get-set (z ∷ xs) (suc i) x y h = slice_get-set xs i x y h
 
 -- a registration links nothing
 pub registered-linked : (s : Entries) (v : Var) → has (registered s v).linked v ≡ has s.linked v

@@ -11,4 +11,5 @@ path_at path_of kept place = elim (slice_get kept place) [ None ↦ [] | Some x 
 -- a thing whose key has no place yet is put last; a second one of a key is refused, with the path of the first
 abbrev pub unless_there : {X : Type 0} → (X → Bytes) → Cause → Option ℕ → List X → X → Result (List X) Refusal
 unless_there path_of cause None kept x = Ok (kept ++ x ∷ [])
-unless_there path_of cause (Some place) kept x = Err (record { path = path_of x; line = 0; cause = cause; detail = path_at path_of kept place })
+unless_there path_of cause (Some place) kept x =
+    Err (record { path = path_of x; line = 0; cause = cause; detail = path_at path_of kept place })

@@ -8,7 +8,7 @@ use Rattle.std.specs.declared.cmp.Ordering.{Ordering}
 use Rattle.std.specs.declared.cmp.Ordering.TheVariants.{Less, Equal, Greater}
 use Rattle.std.specs.Ordering.{ordering_reverse}
 use Rattle.std.specs.Cmp.Lexicographic.{nat_list_cmp_total, slice_cmp}
-use Rattle.std.proofs.lemmas.Bool.{and_from, and_parts, or_parts}
+use Rattle.std.proofs.lemmas.Bool.{and_from, and_parts, not-true, or_parts}
 use Rattle.common_laws.specs.Small.{same-is}
 use Rattle.plan_types.specs.declared.condition.Env.{Env}
 use Rattle.plan_types.specs.declared.condition.FlagSet.{FlagSet}
@@ -67,10 +67,6 @@ packages-apart env index (q ∷ packages) (suc p) i h = packages-apart env index
 
 -- ---- flags with values
 
-not-false : (b : Bool) → not b ≡ true → b ≡ false
-not-false true h = cc h
-not-false false h = refl
-
 module _ (f : FlagDecl → FlagSet) (keeps : (decl : FlagDecl) → (f decl).name ≡ decl.name) where
   none-set : (decls : List FlagDecl) (name : List ℕ) → list_any (λ other. same_text other name) (map (λ (d : FlagDecl). d.name) decls) ≡ false → flag_in (map f decls) name ≡ None
   none-set [] name h = refl
@@ -82,5 +78,5 @@ module _ (f : FlagDecl → FlagSet) (keeps : (decl : FlagDecl) → (f decl).name
   once-set [] h = refl
   once-set (d ∷ decls) h =
       let parts = and_parts _ (are_apart (map (λ (e : FlagDecl). e.name) decls)) h in
-      let none = none-set decls (f d).name (ap (λ n. list_any (λ other. same_text other n) (map (λ (e : FlagDecl). e.name) decls)) (keeps d) ∙ not-false _ parts.0) in
+      let none = none-set decls (f d).name (ap (λ n. list_any (λ other. same_text other n) (map (λ (e : FlagDecl). e.name) decls)) (keeps d) ∙ not-true _ parts.0) in
       and_from _ _ (ap is_none none) (once-set decls parts.1)

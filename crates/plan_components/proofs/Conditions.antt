@@ -1,5 +1,6 @@
 -- A dependency counts where its component is buildable and its branches are taken.
 use Rattle.std.proofs.Common.{◌≡◌, Bool, true, false, not, ◌&&◌, ◌||◌, List, [], flat_map, refl, ap, ◌∙◌}
+use Rattle.std.proofs.lemmas.Bool.{and_right}
 use Rattle.plan_types.specs.declared.condition.Env.{Env}
 use Rattle.plan_types.specs.declared.condition.FlagSet.{FlagSet}
 use Rattle.plan_types.specs.declared.description.Component.{Component}
@@ -26,10 +27,6 @@ whole-holds env flags component guarded =
     ap (is_wanted true) (value-And env (flag_in flags) component.buildable guarded.when)
     ∙ both-yes (value env (flag_in flags) component.buildable) (value env (flag_in flags) guarded.when)
 
-and-no : (a b : Bool) → b ≡ false → (a && b) ≡ false
-and-no true b h = h
-and-no false b h = refl
-
 module _ (selection : Selection) (flags : List FlagSet) (own : Bool) (component : Component) where
   -- where the component is buildable, the branches decide
   pub by_branches : (guarded : GuardedDep) → holds selection.env flags component.buildable ≡ true
@@ -40,7 +37,7 @@ module _ (selection : Selection) (flags : List FlagSet) (own : Bool) (component 
   -- and where it isn't, nothing counts
   none-counts : (guarded : GuardedDep) → holds selection.env flags component.buildable ≡ false → counts selection flags own component guarded ≡ false
   none-counts guarded h =
-      and-no (own || not guarded.dep.internal) _ (whole-holds selection.env flags component guarded ∙ ap (λ b. b && holds selection.env flags guarded.when) h)
+      and_right (own || not guarded.dep.internal) _ (whole-holds selection.env flags component guarded ∙ ap (λ b. b && holds selection.env flags guarded.when) h)
 
   pub no_needs : (node : Node) → holds selection.env flags component.buildable ≡ false → component_needs selection node flags own component ≡ []
   no_needs node h =

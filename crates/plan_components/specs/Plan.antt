@@ -13,6 +13,6 @@ pub data IsInPlan (selection : Selection) : Node → Type 0 where
 
 -- all nodes of the plan, each once, and beside each what it needs
 pub record AreReached (selection : Selection) (reached : Reached) : Type 0 where
-  pub once : AllPairs (λ a b. a ≢ b) reached.nodes
-  pub each : (node : Node) → Contains reached.nodes node ↔ IsInPlan selection node
-  pub needs : reached.needs ≡ map (needs_of selection) reached.nodes
+  pub once : AllPairs (λ a b. a ≢ b) reached.set.keys
+  pub each : (node : Node) → Contains reached.set.keys node ↔ IsInPlan selection node
+  pub needs : reached.needs ≡ map (needs_of selection) reached.set.keys

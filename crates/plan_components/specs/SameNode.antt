@@ -1,6 +1,7 @@
 -- Whether two nodes are one.
-use Rattle.std.proofs.Common.{◌≡◌, ℕ, Bool, true, false, ◌&&◌, nat_eq, refl, ap, ◌∙◌}
+use Rattle.std.proofs.Common.{◌≡◌, ℕ, Bool, true, false, ◌&&◌, List, nat_eq, refl, ap, ◌∙◌}
 use Rattle.std.proofs.lemmas.Bool.{false≢true, eqb-true, eq-eqb, and_from, and_parts}
+use Rattle.std.specs.List.{position_or_len}
 use Rattle.qualified_goals.specs.declared.variable.Qual.{Qual}
 use Rattle.qualified_goals.specs.declared.variable.Qual.TheVariants.{Top, Setup, Exe}
 use Rattle.plan_components.specs.declared.node.Node.{Node}
@@ -29,6 +30,10 @@ same_piece (One i) (One j) = nat_eq i j
 -- whether two nodes are one
 abbrev pub same_node : Node → Node → Bool
 same_node m n = same_qual m.qual n.qual && (nat_eq m.«package» n.«package» && same_piece m.piece n.piece)
+
+-- the place of a node among some, or how many there are
+abbrev pub place_of : List Node → Node → ℕ
+place_of nodes node = position_or_len (same_node node) nodes
 
 qual-is : (q r : Qual) → same_qual q r ≡ true → q ≡ r
 qual-is Top Top h = refl

@@ -8,7 +8,7 @@ ghost use Rattle.conditionals.specs.Value.{each_once};
 ghost use Rattle.flatten.specs.Sound.{IsSound};
 ghost use Rattle.plan_types.specs.Packages.{package_at};
 ghost use Rattle.qualified_goals.specs.declared.variable.Var.{Var};
-ghost use Rattle.solver_index.specs.Places.{flag_number, number};
+ghost use Rattle.solver_index.specs.Places.{number};
 ghost use Rattle.plan_components.specs.Apart.{are_apart, flags_apart};
 ghost use Rattle.plan_components.specs.Chosen.{body_at, chosen_flag, chosen_flags, selection_from, selection_of, holds, is_turned_on, is_value_on};
 ghost use Rattle.plan_components.specs.Steps.{value_with};
@@ -20,7 +20,7 @@ use plan_types::{
     Body, Cond, Description, Env, FlagDecl, FlagSet, Index, List, NoMemory, Package, Text,
 };
 use qualified_goals::{Names, Part, Qual, Var};
-use solver_index::{is_local, number};
+use solver_index::{flag_number, is_local, number};
 use std::alloc::Global;
 
 /// The values of a trail, by variable.
@@ -178,14 +178,5 @@ fn is_yes(value: Tri) -> bool
         Tri::Yes => true,
         Tri::No => false,
         Tri::Unknown => false,
-    }
-}
-
-fn flag_number(names: &Names, name: &Text) -> u64
-    ensures { result ≡ flag_number names.now name.now }
-{
-    match names.flag(name) {
-        Some(found) => found,
-        None => 0,
     }
 }

@@ -3,8 +3,6 @@ ghost use Rattle.std.specs.Prelude.{◌≡◌, ◌++◌, ◌&&◌, ◌||◌, IfO
 ghost use Rattle.std.specs.List.{list_any};
 ghost use Rattle.std.specs.Option.{option_copied};
 ghost use Rattle.flatten.specs.OwnComponents.{is_exe, is_lib};
-ghost use Rattle.cabal_problem.specs.ListedDemands.{qual_for};
-ghost use Rattle.cabal_problem.specs.Values.{package_var};
 ghost use Rattle.plan_components.specs.Apart.{are_apart};
 ghost use Rattle.plan_components.specs.Chosen.{body_at, chosen_flags, selection_of, holds};
 ghost use Rattle.plan_components.specs.Needs.{asked_pieces, asks, component_needs, counts, dep_needs, need_of, needs_by, needs_of, needs_under, one_needs, piece_needs, qual_of_dep, source_needs, unit_need, wanted_needs};
@@ -15,6 +13,7 @@ use crate::components::{is_executable, is_lib};
 use crate::node::{Need, Node, Piece};
 use crate::owner::Owner;
 use crate::pieces::{as_pieces, node_of, only_whole};
+use cabal_problem::{package_var, qual_for};
 use plan_types::{Body, Component, Dep, DepKind, Description, GuardedDep, List, NoMemory, Text};
 use qualified_goals::Qual;
 use std::alloc::Global;
@@ -249,17 +248,7 @@ fn qual_of_dep(node: Node, dep: &Dep, package: u64) -> Qual
     if dep.internal {
         return node.qual;
     }
-    qual_for(dep.kind, node, package)
-}
-
-fn qual_for(kind: DepKind, node: Node, package: u64) -> Qual
-    ensures { result ≡ qual_for kind (package_var node.qual node.«package») «package» }
-{
-    match kind {
-        DepKind::Library => node.qual,
-        DepKind::Tool => Qual::Exe(node.package, package),
-        DepKind::Setup => Qual::Setup(node.package),
-    }
+    qual_for(dep.kind, package_var(node.qual, node.package), package)
 }
 
 fn asked_pieces(alloc: Global, dep: &Dep, body: Option<&Body>) -> Result<List<Piece>, NoMemory>

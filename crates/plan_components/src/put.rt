@@ -1,11 +1,10 @@
 // Nodes in the order in which they are put, each once.
-ghost use Rattle.std.specs.Prelude.{◌≡◌, ◌≢◌, [], ◌∷◌, AllPairs, IfOk, OnOk, map};
+ghost use Rattle.std.specs.Prelude.{[], ◌∷◌, OnOk, map};
 ghost use Rattle.plan_components.specs.Steps.{Puts};
 
 use crate::node::{Need, Node};
 use indexmap::IndexSet;
-use plan_types::{List, NoMemory};
-use std::alloc::Global;
+use plan_types::NoMemory;
 
 fn put(nodes: &mut IndexSet<Node>, node: &Node) -> Result<(), NoMemory>
     ensures { OnOk result (Puts (node.now ∷ []) nodes.old.keys nodes.new.keys) }
@@ -32,12 +31,4 @@ pub(crate) fn put_needed(nodes: &mut IndexSet<Node>, needs: &[Need]) -> Result<(
         put(nodes, &need.node)?;
     }
     Ok(())
-}
-
-/// The nodes as a list.
-pub(crate) fn listed(alloc: Global, nodes: &IndexSet<Node>) -> Result<List<Node>, NoMemory>
-    ensures nodes { IfOk result (λ list. list ≡ nodes.now.keys) }
-    ensures once { IfOk result (AllPairs (λ a b. a ≢ b)) }
-{
-    Ok(List::from_vec(Vec::from_slice(alloc, nodes.as_slice())?))
 }

@@ -3,13 +3,14 @@ ghost use Rattle.std.specs.Prelude.{◌≡◌, ◌<◌, [], IfOk, OnOk, length};
 ghost use Rattle.plan_components.specs.Chosen.{selection_of};
 ghost use Rattle.plan_components.specs.Needs.{needed_nodes, needs_of};
 ghost use Rattle.plan_components.specs.Plan.{AreReached};
+ghost use Rattle.plan_components.specs.SameNode.{place_of};
 ghost use Rattle.plan_components.specs.Steps.{Puts, node_at};
 ghost use Rattle.plan_components.specs.Wanted.{first_nodes};
 
 use crate::chosen::Chosen;
 use crate::needs::needs_of;
 use crate::node::{Need, Node};
-use crate::put::{listed, put_all, put_needed};
+use crate::put::{put_all, put_needed};
 use crate::wanted::first_nodes;
 use indexmap::IndexSet;
 use plan_types::{List, NoMemory};
@@ -18,22 +19,40 @@ use std::alloc::Global;
 /// The nodes of a plan, and beside each what it needs.
 #[derive(Debug, Drop)]
 pub struct Reached {
-    pub nodes: List<Node>,
+    set: IndexSet<Node>,
     pub needs: List<List<Need>>,
+}
+
+impl Reached {
+    /// The nodes, those with which the plan begins in front.
+    pub fn nodes(&self) -> &[Node]
+        ensures { result.now ≡ self.now.set.keys }
+    {
+        self.set.as_slice()
+    }
+
+    /// The place of a node; the number of nodes for what is none of them.
+    pub fn place_of(&self, node: Node) -> usize
+        ensures { result ≡ place_of self.now.set.keys node }
+    {
+        match self.set.get_index_of(&node) {
+            Some(place) => place,
+            None => self.set.len(),
+        }
+    }
 }
 
 /// The nodes of a plan: those with which it begins, and all that are needed.
 pub fn reach(alloc: Global, chosen: &Chosen<'_>) -> Result<Reached, NoMemory>
     ensures { IfOk result (AreReached (selection_of chosen.now)) }
 {
-    let mut nodes = first_set(alloc, chosen)?;
+    let mut set = first_set(alloc, chosen)?;
     let mut needs = List::new(alloc);
-    while needs.len() < nodes.len() {
-        let needed = visit(alloc, chosen, &mut nodes, needs.len())?;
+    while needs.len() < set.len() {
+        let needed = visit(alloc, chosen, &mut set, needs.len())?;
         needs.push(needed)?;
     }
-    let nodes = listed(alloc, &nodes)?;
-    Ok(Reached { nodes, needs })
+    Ok(Reached { set, needs })
 }
 
 fn first_set(alloc: Global, chosen: &Chosen<'_>) -> Result<IndexSet<Node>, NoMemory>

@@ -3,6 +3,7 @@ use Rattle.std.specs.Prelude.{◌≡◌, Bool, true, false, ℕ, List, [], ◌�
 use Rattle.std.specs.Fmt.{digits}
 use Rattle.plan_nodes.specs.declared.node.NodeKind.TheVariants.{Local, Store}
 use Rattle.plan_nodes.specs.declared.node.PlanNode.{PlanNode}
+use Rattle.plan_nodes.specs.Once.{each_line_once}
 use Rattle.plan_nodes.specs.Line.{node_line}
 
 abbrev tool : List (List ℕ) → Bool → PlanNode
@@ -40,3 +41,8 @@ bare = record {
 without_needs : node_line bare ≡ codes "node store q-1 lib q-1-0a unbuildable\n"
 unfolding digits
 without_needs = refl
+
+-- a line that was printed isn't printed again, also where another one stands between
+once : each_line_once (bare ∷ tool [] false ∷ bare ∷ []) ≡ bare ∷ tool [] false ∷ []
+unfolding digits
+once = refl

@@ -1,5 +1,5 @@
 //! Tests alone: tables of what the calls between a folder's texts and the search answer, of how often a folder is asked, of linked
-//! variables, of identifiers, and of the texts that are printed.
+//! variables, and of the texts that are printed.
 #![tactic(auto)]
 
 #[cfg(test)]
@@ -8,8 +8,6 @@ mod answers;
 mod bars;
 #[cfg(test)]
 mod entries;
-#[cfg(test)]
-mod identifiers;
 #[cfg(test)]
 mod links;
 #[cfg(test)]

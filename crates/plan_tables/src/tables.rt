@@ -1,8 +1,6 @@
 // Each table has a case a line: what is asked, and behind the last ` => ` the answer. One loop goes over all of them, and no
 // contract of a call that is asked is known where it stands.
-use crate::{
-    answers, bars, entries, identifiers, links, listings, orders, projects, variables, words,
-};
+use crate::{answers, bars, entries, links, listings, orders, projects, variables, words};
 use std::alloc::Global;
 use std::test::Fail;
 
@@ -16,7 +14,6 @@ enum Table {
     Bars,
     Orders,
     Links,
-    Identifiers,
     Answers,
 }
 
@@ -30,7 +27,6 @@ fn cases(table: Table) -> &'static str {
         Table::Bars => bars::CASES,
         Table::Orders => orders::CASES,
         Table::Links => links::CASES,
-        Table::Identifiers => identifiers::CASES,
         Table::Answers => answers::CASES,
     }
 }
@@ -45,7 +41,6 @@ fn answer(alloc: Global, table: Table, case: &str) -> Result<String, Fail> {
         Table::Bars => bars::answer(alloc, case),
         Table::Orders => orders::answer(alloc, case),
         Table::Links => links::answer(alloc, case),
-        Table::Identifiers => identifiers::answer(alloc, case),
         Table::Answers => answers::answer(alloc, case),
     }
 }
@@ -74,7 +69,6 @@ fn every_table(rt: HostRuntime) -> Result<(), Fail> {
         Table::Bars,
         Table::Orders,
         Table::Links,
-        Table::Identifiers,
         Table::Answers,
     ] {
         assert_eq!(rt; others(rt.alloc(), table)?.as_str(), "");

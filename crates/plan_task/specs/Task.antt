@@ -33,12 +33,14 @@ task_or_refusal options project freeze (Err refusal) = Err refusal
 -- the packages of a project
 abbrev pub IsTaskOf : Options → Files → Result FolderProject Refusal → Result Task Refusal → Type 0
 IsTaskOf options files (Ok found) task =
-    (index : Result Index Refusal) × IsFolderIndex options.env options.places found.project.extra found.locals files index × (task ≡ task_or_refusal options found.project found.freeze index)
+    (index : Result Index Refusal) × IsFolderIndex options.env options.places found.project.extra found.locals files index
+    × (task ≡ task_or_refusal options found.project found.freeze index)
 IsTaskOf options files (Err refusal) task = task ≡ Err refusal
 
 -- what is to be planned of a folder with these options, or the first refusal
 abbrev pub IsTask : Options → Files → Result Task Refusal → Type 0
-IsTask options files task = (found : Result FolderProject Refusal) × IsFolderProject options.env files found × IsTaskOf options files found task
+IsTask options files task =
+    (found : Result FolderProject Refusal) × IsFolderProject options.env files found × IsTaskOf options files found task
 
 -- the index is sound, and each package that is asked for besides is there and marked
 pub record IsReady (task : Task) : Type 0 where

@@ -83,7 +83,8 @@ FilesSay env files said = Say env (texts_among files project_files) (first_too_l
 
 -- the same, with the bytes of the freeze file, and whether there is no `cabal.project`
 abbrev pub AreSaid : Env → Files → Result FilesProject Refusal → Type 0
-AreSaid env files (Ok found) = FilesSay env files (Ok found.project) × (found.implicit ≡ is_implicit files) × (found.freeze ≡ freeze_bytes files)
+AreSaid env files (Ok found) =
+    FilesSay env files (Ok found.project) × (found.implicit ≡ is_implicit files) × (found.freeze ≡ freeze_bytes files)
 AreSaid env files (Err refusal) = FilesSay env files (Err refusal)
 
 -- the project and its freeze file with its local packages

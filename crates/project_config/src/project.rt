@@ -23,8 +23,8 @@ pub struct FolderProject {
 }
 
 /// The project of a folder: what `cabal.project`, `cabal.project.freeze` and `cabal.project.local` say together, in this
-/// order, the bytes of the freeze file, and the paths of its local packages; or the first refusal: of a project file (one that is too large, or its first
-/// fault, file by file in reading order), and then of its entries. Behind what is refused nothing is read.
+/// order, the bytes of the freeze file, and the paths of its local packages; or the first refusal: of a project file (one that is
+/// too large, or its first fault, file by file in reading order), and then of its entries. Behind what is refused nothing is read.
 pub fn read_folder_project<F: Folder>(
     alloc: Global,
     env: &Env,

@@ -23,5 +23,5 @@ pub use dependencies::{ConditionalDep, Dependencies, Need, Setting, Target};
 pub use laws::relaxed_ranges;
 pub use offers::allowed_in;
 pub use place_runs::PlaceRuns;
-pub use places::{is_local, number, rising};
+pub use places::{flag_number, is_local, number, rising};
 pub use tables::Tables;

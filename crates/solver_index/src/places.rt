@@ -27,7 +27,8 @@ pub fn number(packages: &[Package], names: &Names, name: &Text) -> u64
     }
 }
 
-pub(crate) fn flag_number(names: &Names, name: &Text) -> u64
+/// The number of a flag's name; 0 where it has none.
+pub fn flag_number(names: &Names, name: &Text) -> u64
     ensures { result ≡ flag_number names.now name.now }
 {
     match names.flag(name) {

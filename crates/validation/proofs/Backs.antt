@@ -22,7 +22,8 @@ use Rattle.choice_problem.proofs.TrailEnds.{new-split, new-front}
 use Rattle.validation.specs.View.{View, Represents, listed_counts, counts_before, view_of}
 use Rattle.validation.specs.Stack.{undone, front_of, last_number}
 use Rattle.validation.proofs.Stacks.{front-of, last-number, seen-same}
-use Rattle.validation.proofs.Views.{after-push, counts-push, listed-push, all-front}
+use Rattle.choice_problem.proofs.Conflicts.{all-front}
+use Rattle.validation.proofs.Views.{after-push, counts-push, listed-push}
 
 -- fewer demands have no more cycles
 
@@ -85,7 +86,7 @@ stands-undone p x y h some e =
     (counts_before p [] front) trail listed acts were counts in
     record {
       choices = subst (λ (t : List Choice). All (IsChoice p) t) (sym trail)
-          (all-front p (IsChoice p) front (c ∷ []) (subst (λ (t : List Choice). All (IsChoice p) t) split.2 h.choices));
+          (all-front (IsChoice p) front (c ∷ []) (subst (λ (t : List Choice). All (IsChoice p) t) split.2 h.choices));
       new = subst (λ (t : List Choice). AreNew t) (sym trail) (new-front h.new front c split.2);
       same = same ∙ ap (view_of p) (sym trail);
       lasting =

@@ -15,7 +15,7 @@ use Rattle.choice_problem.proofs.Sets.{same-back, before-not-same, has-contains,
 use Rattle.choice_problem.proofs.InOrder.{rising-without, has-without}
 use Rattle.goal_links.specs.Beside.{beside, behind_first, first_of, AreBeside}
 use Rattle.goal_links.specs.Links.{Entries, var_at, vars_behind, registered, linked, unlinked, MayReturn}
-use Rattle.goal_links.proofs.Entries.{may-return}
+use Rattle.goal_links.proofs.Entries.{may-return, slice_get-set}
 use Rattle.goal_links.proofs.Walks.{at-entry, entry-known, get-at}
 use Rattle.validation.specs.Open.{AreInOrder, Keeps, StayKept, MayComeBack, any_var, is_other, is_behind}
 
@@ -32,11 +32,6 @@ get-other (z ∷ xs) zero zero y x other h = absurd (other refl)
 get-other (z ∷ xs) zero (suc n) y x other h = h
 get-other (z ∷ xs) (suc i) zero y x other h = h
 get-other (z ∷ xs) (suc i) (suc n) y x other h = get-other xs i n y x (λ e. other (ap suc e)) h
-
-get-set : {X : Type 0} (xs : List X) (i : ℕ) (y x : X) → slice_get xs i ≡ Some x → slice_get (set xs i y) i ≡ Some y
-get-set [] i y x h = absurd (cc h)
-get-set (z ∷ xs) zero y x h = refl
-get-set (z ∷ xs) (suc i) y x h = get-set xs i y x h
 
 -- registered
 
@@ -96,7 +91,7 @@ module _ (s : Entries) (n : ℕ) (within : n < length s.vars) where
   pub taken-keeps : slice_get s.kept n ≡ Some None → Keeps (unlinked s n) n (var_at s.vars n) (beside (same_var (var_at s.vars n)) s.linked)
   taken-keeps h = record {
     owned = get-at s.vars n within;
-    held = get-set s.kept n (Some (beside (same_var (var_at s.vars n)) s.linked)) None h;
+    held = slice_get-set s.kept n (Some (beside (same_var (var_at s.vars n)) s.linked)) None h;
   }
 
   pub taken-kept : slice_get s.kept n ≡ Some None → StayKept any_var s (unlinked s n)

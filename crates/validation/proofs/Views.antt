@@ -88,9 +88,6 @@ module _ (p : Problem) where
   demand-known d lawful (inl root) = (All-contains (IsRoot p) p.roots d lawful.roots root).target
   demand-known d lawful (inr (owner, is, owns)) = (All-contains (IsOwned p owner) (p.demands owner) d (lawful.demands owner is) owns).target
 
-  pub all-front : {X : Type 0} (P : X → Type 0) (xs ys : List X) → All P (xs ++ ys) → All P xs
-  all-front P xs ys h = λ k d within. subst P (get_or-append xs ys d k within) (h k d (omega (arith, within, length-append xs ys)))
-
   -- an open variable is known, has no value, and is the target of an active demand
   pub record IsOpen (trail : List Choice) (v : Var) : Type 0 where
     pub known : IsTrue (p.known v)

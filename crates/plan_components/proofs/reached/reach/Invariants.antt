@@ -4,9 +4,9 @@ use Rattle.plan_components.specs.Chosen.{selection_of}
 use Rattle.plan_components.proofs.reached.reach.Given as goal
 
 -- what was looked at, and what is yet to be
-abbrev pub invariant-loop-nodes : goal.invariant-loop-nodes
-invariant-loop-nodes l = Keeps (selection_of l.chosen) l.nodes.keys l.needs
+abbrev pub invariant-loop-alloc : goal.invariant-loop-alloc
+invariant-loop-alloc l = Keeps (selection_of l.chosen) l.set.keys l.needs
 
 -- no more nodes than there are numbers
-abbrev pub decreases-loop-nodes : goal.decreases-loop-nodes
-decreases-loop-nodes l = 2 ^ 64 - length l.needs
+abbrev pub decreases-loop-alloc : goal.decreases-loop-alloc
+decreases-loop-alloc l = 2 ^ 64 - length l.needs

@@ -1,6 +1,4 @@
-use Rattle.std.proofs.Common.{length, ◌≡◌, ◌<◌, OnOk, IfSome, IsTrue, ℕ, ◌+◌, ◌-◌, ◌*◌, ◌≤◌}
-use Rattle.choice_problem.specs.ConflictSet.{has}
-use Rattle.goal_links.specs.Links.{var_at}
+use Rattle.std.proofs.Common.{length}
 use Rattle.plan_tables.proofs.links.+there_and_back.Given as goal
 
 -- proposed from what the function passes where it calls itself

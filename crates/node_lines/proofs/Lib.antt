@@ -1,0 +1,4 @@
+pub mod Gathering
+pub mod Places
+pub mod Making
+pub mod Once

@@ -1,0 +1,9 @@
+-- what was gathered, and what is needed behind
+use Rattle.std.proofs.Common.{◌≡◌, drop}
+use Rattle.node_lines.specs.Gather.{gather_from, gathered, line_at, needed_of}
+use Rattle.node_lines.proofs.gather.gather.Given as goal
+
+abbrev pub invariant-loop-place : goal.invariant-loop-place
+invariant-loop-place l =
+    let lines = line_at l.reached.set.keys l.lines in
+    gather_from lines (needed_of l.sets) (drop l.place l.needs) ≡ gathered lines l.needs

@@ -1,0 +1,6 @@
+-- the identifiers so far, and those behind
+use Rattle.std.proofs.Common.{◌≡◌, ◌++◌}
+use Rattle.node_lines.proofs.gather.listed.Given as goal
+
+abbrev pub invariant-loop-id : goal.invariant-loop-id
+invariant-loop-id l = l.list ++ l.id-iterator ≡ l.fn.ids.keys

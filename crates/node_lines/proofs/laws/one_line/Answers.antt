@@ -1,0 +1,5 @@
+use Rattle.node_lines.proofs.Once.{one}
+use Rattle.node_lines.proofs.laws.one_line.Goals as goal
+
+pub returns : goal.returns
+returns c selection node a b h k = one selection node a b h k

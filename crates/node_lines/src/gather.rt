@@ -1,0 +1,97 @@
+// The identifiers of what a node needs, from the lines so far.
+ghost use Rattle.std.specs.Prelude.{◌≡◌, ◌++◌, [], IfOk, IfSome, OnOk, slice_index_or};
+ghost use Rattle.std.specs.Option.{option_copied};
+ghost use Rattle.node_lines.specs.Gather.{added, empty, gather_from, gathered, line_at, needed_of};
+
+use plan_components::{Need, Reached};
+use plan_lines::Needed;
+use plan_nodes::PlanNode;
+use plan_types::{DepKind, List, NoMemory, Text};
+use std::alloc::Global;
+use std::collections::BTreeSet;
+
+/// Identifiers in the order of their bytes, by kind of dependency.
+#[derive(Drop)]
+pub(crate) struct Sets {
+    pub libs: BTreeSet<Text>,
+    pub tools: BTreeSet<Text>,
+    pub setups: BTreeSet<Text>,
+}
+
+impl Sets {
+    fn new(alloc: Global) -> Sets
+        ensures { needed_of result ≡ empty }
+    {
+        Sets {
+            libs: BTreeSet::new(alloc),
+            tools: BTreeSet::new(alloc),
+            setups: BTreeSet::new(alloc),
+        }
+    }
+
+    fn add(&mut self, kind: DepKind, id: &Text) -> Result<(), NoMemory>
+        ensures { OnOk result (needed_of self.new ≡ added (needed_of self.old) kind id.now) }
+    {
+        let id = id.copy()?;
+        match kind {
+            DepKind::Library => self.libs.insert(id)?,
+            DepKind::Tool => self.tools.insert(id)?,
+            DepKind::Setup => self.setups.insert(id)?,
+        };
+        Ok(())
+    }
+
+    fn into_needed(self, alloc: Global) -> Result<Needed, NoMemory>
+        ensures { IfOk result (λ needed. needed ≡ needed_of self) }
+    {
+        let libs = listed(alloc, self.libs)?;
+        let tools = listed(alloc, self.tools)?;
+        let setups = listed(alloc, self.setups)?;
+        Ok(Needed {
+            libs,
+            tools,
+            setups,
+        })
+    }
+}
+
+fn listed(alloc: Global, ids: BTreeSet<Text>) -> Result<List<Text>, NoMemory>
+    ensures { IfOk result (λ list. list ≡ ids.keys) }
+{
+    let mut list = List::new(alloc);
+    for id in ids {
+        list.push(id)?;
+    }
+    Ok(list)
+}
+
+/// The identifiers of what is needed; nothing where some of it has no line.
+pub(crate) fn gather(
+    alloc: Global,
+    reached: &Reached,
+    lines: &[Option<PlanNode>],
+    needs: &[Need],
+) -> Result<Option<Needed>, NoMemory>
+    ensures { IfOk result (λ needed. needed ≡ gathered (line_at reached.now.set.keys lines.now) needs.now) }
+{
+    let mut sets = Sets::new(alloc);
+    for place in 0..needs.len() {
+        let need = needs[place];
+        match line_at(reached, lines, need) {
+            None => return Ok(None),
+            Some(line) => sets.add(need.kind, &line.id)?,
+        }
+    }
+    let needed = sets.into_needed(alloc)?;
+    Ok(Some(needed))
+}
+
+fn line_at<'a>(reached: &Reached, lines: &'a [Option<PlanNode>], need: Need) -> Option<&'a PlanNode>
+    ensures { option_copied result ≡ line_at reached.now.set.keys lines.now need.node }
+{
+    match lines.get(reached.place_of(need.node)) {
+        Some(Some(line)) => Some(line),
+        Some(None) => None,
+        None => None,
+    }
+}

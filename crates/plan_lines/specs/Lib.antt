@@ -1,0 +1,3 @@
+pub mod ComponentName
+pub mod Line
+pub mod Examples

@@ -1,0 +1,108 @@
+-- What a plan tells of a node, by the identifiers of what it needs.
+use Rattle.std.specs.Prelude.{ℕ, Bool, false, not, ◌&&◌, if◌then◌else◌, List, [], codes, slice_get, Option, Some, None}
+use Rattle.plan_types.specs.declared.condition.Env.{Env}
+use Rattle.plan_types.specs.declared.condition.FlagSet.{FlagSet}
+use Rattle.plan_types.specs.declared.description.Component.{Component}
+use Rattle.plan_types.specs.declared.description.Description.{Description}
+use Rattle.plan_types.specs.declared.index.Body.{Body}
+use Rattle.plan_types.specs.declared.index.Body.TheVariants.{Source, Installed}
+use Rattle.plan_types.specs.declared.version.Version.{Version}
+use Rattle.plan_types.specs.Packages.{package_at}
+use Rattle.plan_nodes.specs.declared.node.NodeKind.{NodeKind}
+use Rattle.plan_nodes.specs.declared.node.NodeKind.TheVariants as kind
+use Rattle.plan_nodes.specs.declared.node.PlanNode.{PlanNode}
+use Rattle.store_id.specs.Identifier.{id_of, in_place_id}
+use Rattle.cabal_problem.specs.Variables.{is_top}
+use Rattle.plan_components.specs.declared.node.Node.{Node}
+use Rattle.plan_components.specs.declared.node.Piece.{Piece}
+use Rattle.plan_components.specs.declared.node.Piece.TheVariants.{Whole, One}
+use Rattle.plan_components.specs.Chosen.{Selection, body_at, chosen_flags, holds}
+use Rattle.plan_lines.specs.ComponentName.{piece_name}
+use Rattle.plan_lines.specs.declared.needed.Needed.{Needed}
+
+-- ---- kinds
+
+-- a local package at top level is built in its place, any other source into the store
+abbrev pub source_kind : Selection → Node → NodeKind
+source_kind selection node = if is_top node.qual && (package_at selection.packages node.«package»).local then kind.Local else kind.Store
+
+-- ---- what can't be built
+
+-- a component that may be there can't be built under these flags
+abbrev pub is_barred_one : Env → List FlagSet → Option Component → Bool
+is_barred_one env flags None = false
+is_barred_one env flags (Some component) = not (holds env flags component.buildable)
+
+-- A package that is built as a whole builds what it can.
+abbrev pub is_unbuildable : Env → List FlagSet → List Component → Piece → Bool
+is_unbuildable env flags components Whole = false
+is_unbuildable env flags components (One place) = is_barred_one env flags (slice_get components place)
+
+-- ---- identifiers
+
+-- the identifier of what has a source, by its kind
+abbrev pub id_by : NodeKind → PlanNode → Description → List FlagSet → Env → List ℕ
+id_by kind.Installed line d flags env = []
+id_by kind.Local line d flags env = in_place_id line
+id_by kind.Store line d flags env = id_of line d flags env
+
+-- a line with an identifier
+abbrev pub with_id : List ℕ → PlanNode → PlanNode
+with_id id line = record {
+  kind = line.kind;
+  name = line.name;
+  version = line.version;
+  component = line.component;
+  id = id;
+  unbuildable = line.unbuildable;
+  libs = line.libs;
+  tools = line.tools;
+  setups = line.setups;
+}
+
+-- ---- lines
+
+-- what is told of a source but for its identifier
+abbrev pub source_line : Selection → Node → List FlagSet → Description → Needed → PlanNode
+source_line selection node flags d needed = record {
+  kind = source_kind selection node;
+  name = d.name;
+  version = d.version;
+  component = piece_name d node.piece;
+  id = [];
+  unbuildable = is_unbuildable selection.env flags d.components node.piece;
+  libs = needed.libs;
+  tools = needed.tools;
+  setups = needed.setups;
+}
+
+-- the same with the identifier
+abbrev pub source_with_id : Selection → Node → List FlagSet → Description → Needed → PlanNode
+source_with_id selection node flags d needed =
+    let line = source_line selection node flags d needed in
+    with_id (id_by line.kind line d flags selection.env) line
+
+-- what is told of a unit: it is the main library of its package
+abbrev pub unit_line : List ℕ → Version → List ℕ → Needed → PlanNode
+unit_line name version id needed = record {
+  kind = kind.Installed;
+  name = name;
+  version = version;
+  component = codes "lib";
+  id = id;
+  unbuildable = false;
+  libs = needed.libs;
+  tools = needed.tools;
+  setups = needed.setups;
+}
+
+-- what is told of a node of which this is chosen
+abbrev pub line_by : Selection → Node → Needed → Option Body → Option PlanNode
+line_by selection node needed None = None
+line_by selection node needed (Some (Installed record_of needs)) = Some (unit_line record_of.name record_of.version record_of.id needed)
+line_by selection node needed (Some (Source d flats exposed)) =
+    Some (source_with_id selection node (chosen_flags selection node.qual node.«package» d) d needed)
+
+-- what is told of a node that needs these; nothing where no instance is chosen
+abbrev pub line_of : Selection → Node → Needed → Option PlanNode
+line_of selection node needed = line_by selection node needed (body_at selection node.qual node.«package»)
