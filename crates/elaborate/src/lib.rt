@@ -1,0 +1,10 @@
+//! The component plan. In go the packages of an index and a trail of choices; out come the nodes of the plan that the trail
+//! makes, in the order in which they can be built, each line once.
+#![tactic(auto)]
+
+mod graph;
+mod plan;
+mod ranks;
+mod told;
+
+pub use plan::elaborate;

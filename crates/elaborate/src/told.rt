@@ -1,0 +1,68 @@
+// The nodes of a plan that have lines.
+ghost use Rattle.std.specs.Prelude.{◌≡◌, ◌++◌, IfOk, OnOk, length};
+ghost use Rattle.std.specs.List.Sorted.{IsPermutation, IsSorted};
+ghost use Rattle.elaborate.specs.Told.{told_cmp, told_in, told_one};
+
+use plan_components::Node;
+use plan_nodes::PlanNode;
+use plan_types::{List, NoMemory};
+use std::alloc::Global;
+use std::cmp::Ordering;
+
+/// A node and its line.
+#[derive(Debug, Drop)]
+pub struct Told {
+    pub node: Node,
+    pub line: PlanNode,
+}
+
+/// The nodes that have lines.
+pub(crate) fn told_in(
+    alloc: Global,
+    nodes: &[Node],
+    lines: List<Option<PlanNode>>,
+) -> Result<Vec<Told>, NoMemory>
+    requires { length lines ≡ length nodes.now }
+    ensures { IfOk result (λ all. all.items ≡ told_in nodes.now lines) }
+{
+    let mut all = Vec::new(alloc);
+    let mut place = 0;
+    for line in lines.into_vec() {
+        push_told(&mut all, nodes[place], line)?;
+        place += 1;
+    }
+    Ok(all)
+}
+
+fn push_told(all: &mut Vec<Told>, node: Node, line: Option<PlanNode>) -> Result<(), NoMemory>
+    ensures { OnOk result (all.new.items ≡ all.old.items ++ told_one node line) }
+{
+    match line {
+        Some(line) => {
+            all.push(Told { node, line })?;
+            Ok(())
+        }
+        None => Ok(()),
+    }
+}
+
+/// Sorts nodes by name, version, component, identifier and qualifier.
+pub(crate) fn sort_told(all: &mut Vec<Told>) -> Result<(), NoMemory>
+    ensures permutation { IsPermutation all.old.items all.new.items }
+    ensures sorted { OnOk result (IsSorted told_cmp all.new.items) }
+{
+    all.sort_by(|one, other| compare(one, other))?;
+    Ok(())
+}
+
+fn compare(one: &Told, other: &Told) -> Ordering
+    ensures { result ≡ told_cmp one.now other.now }
+{
+    one.line
+        .name
+        .cmp(&other.line.name)
+        .then(one.line.version.compare(&other.line.version))
+        .then(one.line.component.cmp(&other.line.component))
+        .then(one.line.id.cmp(&other.line.id))
+        .then(one.node.qual.cmp(&other.node.qual))
+}
