@@ -238,14 +238,19 @@ fn too_many_records(rt: HostRuntime) -> Result<(), Fail> {
     Ok(())
 }
 
-// How many choices a plan has, and its last line.
-fn summary(alloc: Global, printed: &str) -> Result<String, Fail> {
-    let choices = printed
+fn count_of(printed: &str, word: &str) -> usize {
+    printed
         .lines()
-        .filter(|line| line.starts_with("choose "))
-        .count();
+        .filter(|line| line.starts_with(word))
+        .count()
+}
+
+// How many choices and nodes a plan has, and its last line.
+fn summary(alloc: Global, printed: &str) -> Result<String, Fail> {
+    let choices = count_of(printed, "choose ");
+    let nodes = count_of(printed, "node ");
     let last = printed.lines().last().unwrap_or("");
-    Ok(format!(in alloc; "{choices} choices, {last}")?)
+    Ok(format!(in alloc; "{choices} choices, {nodes} nodes, {last}")?)
 }
 
 #[test]
@@ -253,12 +258,12 @@ fn many_packages(rt: HostRuntime) -> Result<(), Fail> {
     let alloc = rt.alloc();
     let words = words(alloc, "$ cabal-plan plan")?;
     let folder = generate(alloc, 700)?;
-    let out = MemSink::new(alloc, 100_000, 100_000, List::new(alloc))?;
+    let out = MemSink::new(alloc, 1_000_000, 1_000_000, List::new(alloc))?;
     let found = answer(alloc, &words, folder, out)?;
     let summary = summary(alloc, found.as_str())?;
     assert_eq!(rt;
         summary.as_str(),
-        "801 choices, visited 40501 exhausted 100"
+        "801 choices, 701 nodes, visited 40501 exhausted 100"
     );
     Ok(())
 }

@@ -17,6 +17,8 @@ installed/y.conf: name: c;version: 3;id: c-3-dd;depends: c-1-aa c-2-cc
 plan
 choose main 1 local
 choose c 1 installed c-1-aa
+node installed c-1 lib c-1-aa
+node local main-1 lib main-1-inplace needs c-1-aa
 visited 2 exhausted 0
 
 $ cabal-plan plan
@@ -32,6 +34,8 @@ skipped index/a/2/a.cabal:4 UnclosedBrace
 skipped index/a/3/a.cabal WrongPlace
 choose main 1 local
 choose a 0.9 source
+node store a-0.9 lib a-0.9-9978da716ef97800b5fc99b8469f7e1c968fc3df7c760505547a0c30eaeb7d88
+node local main-1 lib main-1-inplace needs a-0.9-9978da716ef97800b5fc99b8469f7e1c968fc3df7c760505547a0c30eaeb7d88
 visited 2 exhausted 0
 
 $ cabal-plan plan
@@ -47,6 +51,7 @@ index/main/2/main.cabal main 2
 => 0
 plan
 choose main 1 local
+node local main-1 lib main-1-inplace
 visited 1 exhausted 0
 
 $ cabal-plan plan
@@ -58,6 +63,9 @@ plan
 choose main 1 local
 choose a 1 source
 choose b 1 source
+node store a-1 lib a-1-5a6742c000ec3af76f3c9cba4a5a17148ba04e2a09921a1c2ace3c407ad77cc1
+node store b-1 lib b-1-03dc410afa1d2b420a387485e467f3f5be53b1e46771c80915da05505e24be1a
+node local main-1 lib main-1-inplace needs a-1-5a6742c000ec3af76f3c9cba4a5a17148ba04e2a09921a1c2ace3c407ad77cc1 b-1-03dc410afa1d2b420a387485e467f3f5be53b1e46771c80915da05505e24be1a
 visited 3 exhausted 0
 
 $ cabal-plan plan
@@ -67,6 +75,9 @@ index/util/1/util.cabal util 1
 plan
 choose main 1 local
 choose util 1 source
+node local main-1 lib:util main-1-inplace-util
+node store util-1 lib util-1-1823767c31f3b22ac7c8705456ecc904ccc3100a26ae4807687f7bf4d3c790c7
+node local main-1 lib main-1-inplace needs main-1-inplace-util util-1-1823767c31f3b22ac7c8705456ecc904ccc3100a26ae4807687f7bf4d3c790c7
 visited 2 exhausted 0
 
 $ cabal-plan plan
@@ -75,6 +86,8 @@ index/util/1/util.cabal util 1
 => 0
 plan
 choose main 1 local
+node local main-1 lib:util main-1-inplace-util
+node local main-1 lib main-1-inplace needs main-1-inplace-util
 visited 1 exhausted 0
 
 $ cabal-plan plan
@@ -89,6 +102,8 @@ index/util/1/util.cabal util 1
 => 0
 plan
 choose main 1 local
+node local main-1 lib:util main-1-inplace-util
+node local main-1 lib main-1-inplace needs main-1-inplace-util
 visited 1 exhausted 0
 
 $ cabal-plan plan
@@ -117,6 +132,8 @@ index/a/2/a.cabal: cabal-version: 3.4;name: a;version: 2;library sub
 plan
 choose main 1 local
 choose a 1 source
+node store a-1 lib:sub a-1-sub-ba58915c6ef9a221431ce814fd32bc209ee8e1eea9e89494c64a11ca70f97e89
+node local main-1 lib main-1-inplace needs a-1-sub-ba58915c6ef9a221431ce814fd32bc209ee8e1eea9e89494c64a11ca70f97e89
 visited 3 exhausted 0
 
 $ cabal-plan plan
@@ -130,6 +147,7 @@ main.cabal: cabal-version: 2.4;name: main;version: 1;flag f;  default: True;libr
 plan
 choose main 1 local
 choose main:f off
+node local main-1 lib main-1-inplace
 visited 3 exhausted 1
 
 $ cabal-plan plan
@@ -146,6 +164,7 @@ index/q/1/q.cabal q 1 main
 plan
 choose main 1 local
 choose main:*test off
+node local main-1 lib main-1-inplace
 visited 4 exhausted 1
 
 $ cabal-plan plan
@@ -161,6 +180,10 @@ choose main 1 local
 choose base 4.18 installed base-4.18
 choose main:setup.base 4.17 installed base-4.17
 choose main:t:exe.t 2 source
+node installed base-4.17 lib base-4.17
+node installed base-4.18 lib base-4.18
+node store t-2 exe:t t-2-t-2e4bf88de21bcf47086c5f115d887e54a1c8e59a39e49762264a94cab80c6c88
+node local main-1 package main-1-inplace needs base-4.17 base-4.18 t-2-t-2e4bf88de21bcf47086c5f115d887e54a1c8e59a39e49762264a94cab80c6c88
 visited 5 exhausted 0
 
 $ cabal-plan plan
@@ -169,6 +192,7 @@ main.cabal: cabal-version: 2.4;name: main;version: 1;library;  build-tools: alex
 plan
 warning main.cabal:5 build-tools
 choose main 1 local
+node local main-1 lib main-1-inplace
 visited 1 exhausted 0
 
 $ cabal-plan plan
@@ -191,6 +215,8 @@ plan
 skipped index/a/1/a.cabal TooLarge
 choose main 1 local
 choose a 0 source
+node store a-0 lib a-0-990a788c038319dbf78d570ca3ec1d486541cd83bbe15767323534db27a39b23
+node local main-1 lib main-1-inplace needs a-0-990a788c038319dbf78d570ca3ec1d486541cd83bbe15767323534db27a39b23
 visited 2 exhausted 0";
 
 // Words without a reading.
@@ -218,6 +244,8 @@ pub(crate) const SMALL_ANSWER: &str = "\
 plan
 choose main 1 local
 choose a 1 installed a-1
+node installed a-1 lib a-1
+node local main-1 lib main-1-inplace needs a-1
 visited 2 exhausted 0
 ";
 
@@ -236,6 +264,7 @@ x/p.cabal p 1
 => 0
 plan
 choose p 1 local
+node local p-1 lib p-1-inplace
 visited 1 exhausted 0
 
 $ cabal-plan plan
@@ -264,6 +293,8 @@ index/x/5/x.cabal x 5
 plan
 choose main 1 local
 choose x 5 source
+node store x-5 lib x-5-8e14941e1a329276c7fec601f95212199bf45df4d3192a422da5fc1c1b618d78
+node local main-1 lib main-1-inplace needs x-5-8e14941e1a329276c7fec601f95212199bf45df4d3192a422da5fc1c1b618d78
 visited 2 exhausted 0
 
 $ cabal-plan plan
@@ -294,6 +325,8 @@ index/b/2/b.cabal b 2 gone
 plan
 choose main 1 local
 choose b 1 source
+node store b-1 lib b-1-03dc410afa1d2b420a387485e467f3f5be53b1e46771c80915da05505e24be1a
+node local main-1 lib main-1-inplace needs b-1-03dc410afa1d2b420a387485e467f3f5be53b1e46771c80915da05505e24be1a
 visited 3 exhausted 1
 
 $ cabal-plan --index=idx plan
@@ -304,6 +337,8 @@ index/a/2/a.cabal a 2
 plan
 choose main 1 local
 choose a 1 source
+node store a-1 lib a-1-5a6742c000ec3af76f3c9cba4a5a17148ba04e2a09921a1c2ace3c407ad77cc1
+node local main-1 lib main-1-inplace needs a-1-5a6742c000ec3af76f3c9cba4a5a17148ba04e2a09921a1c2ace3c407ad77cc1
 visited 2 exhausted 0
 
 $ cabal-plan plan
@@ -333,6 +368,7 @@ warning cabal.project:2 repository
 warning cabal.project:4 index-state
 warning main.cabal:5 build-tools
 choose main 1 local
+node local main-1 lib main-1-inplace
 visited 1 exhausted 0";
 
 // Runs in which the second call fails, which reads the freeze file: the main project file is refused before.
