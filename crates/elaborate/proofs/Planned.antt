@@ -8,6 +8,8 @@ use Rattle.std.proofs.lemmas.List.Elements.{Contains-get_or}
 use Rattle.std.proofs.lemmas.List.Sorted.{Contains-permutation, IsPermutation-map, IsPermutation-sym}
 use Rattle.std.proofs.lemmas.Map.Keys.{IsDistinct-IsPermutation}
 use Rattle.std.proofs.lemmas.Map.Made.{AllPairs-from_IsDistinct, IsDistinct-from_AllPairs}
+use Rattle.build_order.proofs.Within.{all_within}
+use Rattle.build_order.specs.Order.{IsBuildOrder}
 use Rattle.common_laws.specs.Graphs.{IsGraph}
 use Rattle.common_laws.specs.Lists.{all-where, contains-head, contains-map, contains-tail, map-contains}
 use Rattle.plan_nodes.specs.declared.node.PlanNode.{PlanNode}
@@ -116,3 +118,11 @@ module _ (selection : Selection) (reached : Reached) (are : AreReached selection
 
   pub is_graph : IsGraph (graph_of selection all)
   is_graph = all-where (All (λ v. v < length (graph_of selection all))) (graph_of selection all) (λ row c. all-where (λ v. v < length (graph_of selection all)) row (within row c))
+
+  -- so the graph that is made is that of the definition
+  pub made_graph : (ranks : List ℕ) (graph : List (List ℕ)) → ranks ≡ ranks_after keys all → graph ≡ map (ranked_row reached ranks) all → graph ≡ graph_of selection all
+  made_graph ranks graph ranks_are graph_are = graph_are ∙ ap (λ r. map (ranked_row reached r) all) ranks_are ∙ graph_is
+
+  -- and the places of a build order of it are places of told nodes
+  pub places_within : (places : List ℕ) → IsBuildOrder (graph_of selection all) places → All (λ place. place < length all) places
+  places_within places build = subst (λ n. All (λ place. place < n) places) graph_count (all_within (graph_of selection all) places build)
