@@ -1,2 +1,5 @@
 pub mod Order
 pub mod Telling
+pub mod Members
+pub mod Ranking
+pub mod Planned

@@ -1,6 +1,7 @@
 -- One node more that is told.
 use Rattle.std.proofs.Common.{◌≡◌, ◌<◌, ℕ, ◌+◌, List, [], ◌∷◌, ◌++◌, length, drop, get_or, Option, sym, ap, ◌∙◌, arith, append_assoc}
-use Rattle.common_laws.specs.Lists.{drop_at, get-any}
+use Rattle.std.proofs.lemmas.List.{get_or_default}
+use Rattle.common_laws.specs.Lists.{drop_at}
 use Rattle.plan_nodes.specs.declared.node.PlanNode.{PlanNode}
 use Rattle.plan_components.specs.declared.node.Node.{Node}
 use Rattle.plan_components.specs.Steps.{no_node}
@@ -16,5 +17,5 @@ told_step nodes lines rest line place before after total count is more so_far =
     let node = get_or nodes place no_node in
     ap (λ l. l ++ told_in (drop (place + 1) nodes) rest) more
     ∙ append_assoc before (told_one node line) (told_in (drop (place + 1) nodes) rest)
-    ∙ ap (λ l. before ++ l) (sym (ap (told_in (drop place nodes)) is ∙ ap (λ ns. told_in ns (line ∷ rest)) (drop_at nodes place node within (get-any nodes place no_node node within))))
+    ∙ ap (λ l. before ++ l) (sym (ap (told_in (drop place nodes)) is ∙ ap (λ ns. told_in ns (line ∷ rest)) (drop_at nodes place node within (get_or_default nodes place no_node node within))))
     ∙ so_far

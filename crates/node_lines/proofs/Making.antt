@@ -3,9 +3,9 @@ use Rattle.std.proofs.Common.{◌≡◌, ◌<◌, ◌⊎◌, inl, inr, ⊎_elim,
 use Rattle.std.specs.List.{All, Contains, list_any}
 use Rattle.std.specs.Option.{option_and_then, unwrap_or}
 use Rattle.std.proofs.lemmas.Bool.{cases_eq, eqb-true, eq-eqb, false≢true}
-use Rattle.std.proofs.lemmas.List.{get_or-replicate, get_or-set_other, get_or-set_same, length-replicate, length-set, take-append-drop}
+use Rattle.std.proofs.lemmas.List.{get_or-replicate, get_or-set_other, get_or-set_same, get_or_default, length-replicate, length-set, take-append-drop}
 use Rattle.std.proofs.lemmas.List.Elements.{Contains-push_cases}
-use Rattle.common_laws.specs.Lists.{any-at, any-from, contains-none, drop_at, get-any}
+use Rattle.common_laws.specs.Lists.{any-at, any-from, contains-none, drop_at}
 use Rattle.plan_nodes.specs.declared.node.NodeKind.TheVariants.{Store}
 use Rattle.plan_nodes.specs.declared.node.PlanNode.{PlanNode}
 use Rattle.plan_components.specs.declared.node.Need.{Need}
@@ -19,6 +19,7 @@ use Rattle.plan_components.specs.Steps.{node_at}
 use Rattle.plan_lines.specs.Line.{line_of}
 use Rattle.build_order.specs.Order.{IsBuildOrder, IsReady}
 use Rattle.common_laws.specs.Graphs.{Needs}
+use Rattle.build_order.proofs.Within.{all_within}
 use Rattle.node_lines.specs.Along.{line_from, lines_along, with_place}
 use Rattle.node_lines.specs.Gather.{empty, gathered, line_at}
 use Rattle.node_lines.specs.Lines.{AreLines, HasLine, needed_by, told}
@@ -171,8 +172,4 @@ module _ (selection : Selection) (reached : Reached) (are : AreReached selection
     }
 
     pub all_inside : All (λ u. u < length all) order
-    all_inside k d lt =
-        let u = get_or order k d in
-        let split : order ≡ take k order ++ u ∷ drop (k + 1) order =
-        sym (take-append-drop k order) ∙ ap (λ r. take k order ++ r) (drop_at order k u lt (get-any order k d u lt)) in
-        inside u (ready (take k order) (drop (k + 1) order) u split).node
+    all_inside = subst (λ n. All (λ u. u < n) order) (graph_count selection reached are) (all_within edges order build)

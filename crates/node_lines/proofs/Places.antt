@@ -2,9 +2,9 @@
 use Rattle.std.proofs.Common.{◌≡◌, ◌<◌, ℕ, suc, ◌+◌, true, false, cond, not, List, [], ◌∷◌, length, get_or, refl, sym, ap, ◌∙◌, subst, arith, ⊎_elim}
 use Rattle.std.specs.List.{All, Contains}
 use Rattle.std.proofs.lemmas.Bool.{false≢true}
-use Rattle.std.proofs.lemmas.List.{get_or-map, length-map}
+use Rattle.std.proofs.lemmas.List.{get_or-map, get_or_default, length-map}
 use Rattle.std.proofs.lemmas.List.Elements.{Contains-get_or}
-use Rattle.common_laws.specs.Lists.{all-where, contains-cases, contains-map, contains-none, get-any, map-contains}
+use Rattle.common_laws.specs.Lists.{all-where, contains-cases, contains-map, contains-none, map-contains}
 use Rattle.plan_components.specs.declared.node.Need.{Need}
 use Rattle.plan_components.specs.declared.node.Node.{Node}
 use Rattle.plan_components.specs.declared.reached.Reached.{Reached}
@@ -88,7 +88,7 @@ module _ (selection : Selection) (reached : Reached) (are : AreReached selection
   inside : (row : List ℕ) → Contains graph row → (v : ℕ) → Contains row v → v < length graph
   inside row h v c =
       let within : h.0 < length nodes = subst (λ n. h.0 < n) graph_count h.1 in
-      let same : row ≡ get_or graph h.0 [] = sym (get-any graph h.0 [] row h.1 ∙ h.2) in
+      let same : row ≡ get_or graph h.0 [] = sym (get_or_default graph h.0 [] row h.1 ∙ h.2) in
       let found = from_edge h.0 v within (subst (λ r. Contains r v) same c) in
       let at = need_stands h.0 found.0 within found.1 in
       subst (λ n. n < length graph) found.2 (subst (λ n. place_of nodes found.0.node < n) (sym graph_count) at.within)
