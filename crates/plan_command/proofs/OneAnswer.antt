@@ -19,7 +19,14 @@ use Rattle.plan_task.specs.Task.{IsTask, IsTaskOf, task_or_refusal}
 use Rattle.plan_task.specs.declared.task.Task.{Task}
 use Rattle.plan_search.specs.Finding.{IsFindingOf}
 use Rattle.plan_search.specs.declared.search.Finding.{Finding}
-use Rattle.plan_command.specs.Output.{output_of_outcome}
+use Rattle.choice_problem.specs.declared.outcome.Outcome.{Outcome}
+use Rattle.choice_problem.specs.declared.outcome.Outcome.TheVariants as outcome
+use Rattle.choice_problem.specs.Trail.{value_in}
+use Rattle.qualified_goals.specs.Names.{NameTable}
+use Rattle.plan_components.specs.Chosen.{Selection, selection_from}
+use Rattle.plan_nodes.specs.declared.node.PlanNode.{PlanNode}
+use Rattle.elaborate.specs.Plan.{IsPlan}
+use Rattle.plan_command.specs.Output.{IsOutputOfOutcome, planned}
 use Rattle.plan_command.specs.Run.{IsOutputOf, IsOutputOfCommand, IsOutputOfPlan, IsOutputOfRead, IsOutputOfTask}
 
 abbrev pub OneProject : Type 0
@@ -32,11 +39,23 @@ OneIndex = (env : Env) (places : Places) (extra : List Named) (paths : List Byte
 abbrev pub OneFinding : Type 0
 OneFinding = (index : Index) (settings : Settings) (a b : Finding) → IsFindingOf index settings a → IsFindingOf index settings b → a ≡ b
 
-module _ (project : OneProject) (one : OneIndex) (alike : OneFinding) where
+abbrev pub OnePlan : Type 0
+OnePlan = (selection : Selection) (a b : List PlanNode) → IsPlan selection a → IsPlan selection b → a ≡ b
+
+module _ (project : OneProject) (one : OneIndex) (alike : OneFinding) (plan : OnePlan) where
+  of_outcome : (env : Env) (index : Index) (names : NameTable) (found : Outcome) (a b : Output)
+      → IsOutputOfOutcome env index names found a → IsOutputOfOutcome env index names found b → a ≡ b
+  of_outcome env index names (outcome.Found trail counts) a b (nodes, is-plan, is) (others, also-plan, also) =
+      let same = plan (selection_from index names env (value_in trail)) nodes others is-plan also-plan in
+      is ∙ ap (λ ns. planned index names trail ns counts) same ∙ sym also
+  of_outcome env index names (outcome.NoPlan set counts) a b is also = is ∙ sym also
+  of_outcome env index names (outcome.GaveUp counts) a b is also = is ∙ sym also
+
   of_task : (task : Task) (a b : Output) → IsOutputOfTask task a → IsOutputOfTask task b → a ≡ b
   of_task task a b h k =
       let same = alike task.index task.settings h.finding k.finding h.found k.found in
-      h.output_is ∙ ap (λ (f : Finding). output_of_outcome task.index f.names f.outcome) same ∙ sym k.output_is
+      of_outcome task.settings.env task.index k.finding.names k.finding.outcome a b
+      (subst (λ (f : Finding). IsOutputOfOutcome task.settings.env task.index f.names f.outcome a) same h.output_is) k.output_is
 
   of_read : (read : Result Task Refusal) (a b : Output) → IsOutputOfRead read a → IsOutputOfRead read b → a ≡ b
   of_read (Ok task) a b h k = of_task task a b h k

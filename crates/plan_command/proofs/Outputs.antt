@@ -39,7 +39,7 @@ module _ (options : Options) (files : Files) where
         → IsOutputOfOutcome task.settings.env task.index names found output → Means options files output
     means-outcome names (outcome.Found trail counts) output h (nodes, plan, is) =
         subst (Means options files) (sym is)
-          (record { task = task; made = made; names = names; trail = trail; first = h; nodes = nodes; planned = plan; counts = counts; text_is = refl })
+        (record { task = task; made = made; names = names; trail = trail; first = h; nodes = nodes; planned = plan; counts = counts; text_is = refl })
     means-outcome names (outcome.NoPlan set counts) output h is =
         subst (Means options files) (sym is) (record { task = task; made = made; names = names; set = set; to_blame = h; counts = counts; text_is = refl })
     means-outcome names (outcome.GaveUp counts) output h is =

@@ -4,6 +4,7 @@ ghost use Rattle.outside_folder.specs.Files.{Bytes, Files};
 ghost use Rattle.plan_command.specs.declared.output.Output.{Output};
 ghost use Rattle.plan_command.specs.Run.{IsOutputOf};
 
+use elaborate::one_plan;
 use package_index::one_folder_index;
 use plan_search::one_finding;
 use project_config::one_folder_project;
@@ -15,4 +16,5 @@ pub fn one_answer()
     one_folder_project();
     one_folder_index();
     one_finding();
+    one_plan();
 }

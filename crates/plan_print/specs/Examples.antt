@@ -57,7 +57,7 @@ notes =
     ++ codes "warning main.cabal:28 build-tools\n"
 
 -- each origin, and a flag
-plan : plan_text index names (choice (at_top 0 ThePackage) 0 ∷ choice (at_top 1 ThePackage) 0 ∷ choice (at_top 2 ThePackage) 1 ∷ choice (at_top 2 (Flag 0)) 1 ∷ []) counts
+plan : plan_text index names (choice (at_top 0 ThePackage) 0 ∷ choice (at_top 1 ThePackage) 0 ∷ choice (at_top 2 ThePackage) 1 ∷ choice (at_top 2 (Flag 0)) 1 ∷ []) [] counts
     ≡ codes "plan\n" ++ notes
     ++ codes "choose base 4.17 installed base-4.17\nchoose main 1 local\nchoose a 1.0 source\nchoose a:fast on\n"
     ++ codes "visited 12 exhausted 3\n"

@@ -1,15 +1,16 @@
 // Which text is made, with `;` at the end of a line. A refusal has a line and a detail.
-use crate::packages::{index, names};
+use crate::packages::{self, index, names};
 use crate::variables::variable;
 use choice_problem::{Choice, ConflictSet, Counts};
+use plan_nodes::{NodeKind, PlanNode};
 use plan_print::{text_of_conflict, text_of_giving_up, text_of_plan, text_of_refusal};
-use plan_types::{Cause, Index, List, NoMemory, Refusal, Text};
+use plan_types::{Cause, Index, List, NoMemory, Refusal, Text, TextFault};
 use qualified_goals::Names;
 use std::alloc::Global;
 use std::test::Fail;
 
 pub const CASES: &str = "\
-plan => plan;skipped index/a/3/a.cabal MissingField;skipped index/b/1/b.cabal:10 BadName;warning main.cabal:28 build-tools;choose base 4.17.0 installed base-4.17.0;choose main 1 local;choose main:*test on;choose main:*bench off;choose a 1.0 source;choose main:setup.a 2 source;visited 18446744073709551615 exhausted 0;\n\
+plan => plan;skipped index/a/3/a.cabal MissingField;skipped index/b/1/b.cabal:10 BadName;warning main.cabal:28 build-tools;choose base 4.17.0 installed base-4.17.0;choose main 1 local;choose main:*test on;choose main:*bench off;choose a 1.0 source;choose main:setup.a 2 source;node local main-1 exe:tool main-1-inplace-tool unbuildable;node store a-1.0 lib a-1.0-aa needs base-4.17.0 base-4.18;visited 18446744073709551615 exhausted 0;\n\
 conflict => no plan;skipped index/a/3/a.cabal MissingField;skipped index/b/1/b.cabal:10 BadName;warning main.cabal:28 build-tools;conflict main a main:setup.base a:main:exe.a;visited 7 exhausted 4;\n\
 giving up => gave up;skipped index/a/3/a.cabal MissingField;skipped index/b/1/b.cabal:10 BadName;warning main.cabal:28 build-tools;visited 4001 exhausted 4000;\n\
 refusal 1 pkg-Tool => refused cabal.project:1 TwoCabalFiles pkg-Tool;\n\
@@ -39,13 +40,48 @@ fn set(alloc: Global, names: &Names) -> Result<ConflictSet, Fail> {
     Ok(ConflictSet::of(alloc, vars.as_slice())?)
 }
 
+fn node(
+    alloc: Global,
+    kind: NodeKind,
+    name: &str,
+    version: &str,
+    component: &str,
+) -> Result<PlanNode, TextFault> {
+    Ok(PlanNode {
+        kind,
+        name: Text::from_str(alloc, name)?,
+        version: packages::version(alloc, version)?,
+        component: Text::from_str(alloc, component)?,
+        id: Text::new(alloc),
+        unbuildable: false,
+        libs: List::new(alloc),
+        tools: List::new(alloc),
+        setups: List::new(alloc),
+    })
+}
+
+fn nodes(alloc: Global) -> Result<List<PlanNode>, Fail> {
+    let mut tool = node(alloc, NodeKind::Local, "main", "1", "exe:tool")?;
+    tool.id = Text::from_str(alloc, "main-1-inplace-tool")?;
+    tool.unbuildable = true;
+    let mut library = node(alloc, NodeKind::Store, "a", "1.0", "lib")?;
+    library.id = Text::from_str(alloc, "a-1.0-aa")?;
+    library.libs.push(Text::from_str(alloc, "base-4.18")?)?;
+    library.setups.push(Text::from_str(alloc, "base-4.17.0")?)?;
+    let mut nodes = List::new(alloc);
+    nodes.push(tool)?;
+    nodes.push(library)?;
+    Ok(nodes)
+}
+
 fn plan(alloc: Global, index: &Index, names: &Names) -> Result<Text, Fail> {
     let counts = Counts {
         visited: u64::MAX,
         exhausted: 0,
     };
     let trail = trail(alloc, names)?;
-    Ok(text_of_plan(alloc, &trail, index, names, counts)?)
+    let nodes = nodes(alloc)?;
+    Ok(text_of_plan(alloc, &trail, index, names, &nodes, counts)?)
 }
 
 fn conflict(alloc: Global, index: &Index, names: &Names) -> Result<Text, Fail> {
