@@ -27,7 +27,8 @@ use Rattle.node_lines.proofs.Places.{at_place, row_at, stands}
 use Rattle.elaborate.specs.declared.told.Told.{Told}
 use Rattle.elaborate.specs.Plan.{AreRanked, graph_of, nodes_of}
 use Rattle.elaborate.specs.Ranks.{needs_at, rank_of, ranked_row, ranks_after}
-use Rattle.elaborate.specs.Told.{told_cmp, told_in}
+use Rattle.elaborate.specs.Telling.{told_in}
+use Rattle.elaborate.specs.Told.{told_cmp}
 use Rattle.elaborate.proofs.Members.{beside, once_told, told_at}
 use Rattle.elaborate.proofs.Ranking.{rank_is}
 

@@ -6,7 +6,7 @@ use Rattle.plan_nodes.specs.declared.node.PlanNode.{PlanNode}
 use Rattle.plan_components.specs.declared.node.Node.{Node}
 use Rattle.plan_components.specs.Steps.{no_node}
 use Rattle.elaborate.specs.declared.told.Told.{Told}
-use Rattle.elaborate.specs.Told.{told_in, told_one}
+use Rattle.elaborate.specs.Telling.{told_in, told_one}
 
 pub told_step : (nodes : List Node) (lines rest : List (Option PlanNode)) (line : Option PlanNode) (place : ℕ) (before after total : List Told)
     → length lines + place ≡ length nodes → lines ≡ line ∷ rest → after ≡ before ++ told_one (get_or nodes place no_node) line

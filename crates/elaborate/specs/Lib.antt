@@ -1,3 +1,4 @@
 pub mod Told
+pub mod Telling
 pub mod Ranks
 pub mod Plan

@@ -6,8 +6,8 @@ use Rattle.std.proofs.lemmas.Bool.{cases_eq, eqb-true, eq-eqb, false≢true}
 use Rattle.std.proofs.lemmas.List.{get_or-replicate, get_or-set_other, get_or-set_same, get_or_default, length-replicate, length-set, take-append-drop}
 use Rattle.std.proofs.lemmas.List.Elements.{Contains-push_cases}
 use Rattle.common_laws.specs.Lists.{any-at, any-from, contains-none, drop_at}
-use Rattle.plan_nodes.specs.declared.node.NodeKind.TheVariants.{Store}
 use Rattle.plan_nodes.specs.declared.node.PlanNode.{PlanNode}
+use Rattle.plan_nodes.specs.Line.{no_line}
 use Rattle.plan_components.specs.declared.node.Need.{Need}
 use Rattle.plan_components.specs.declared.node.Node.{Node}
 use Rattle.plan_components.specs.declared.reached.Reached.{Reached}
@@ -25,9 +25,6 @@ use Rattle.node_lines.specs.Gather.{empty, gathered, line_at}
 use Rattle.node_lines.specs.Lines.{AreLines, HasLine, needed_by, told}
 use Rattle.node_lines.proofs.Gathering.{gathers, have_lines}
 use Rattle.node_lines.proofs.Places.{edge, from_edge, graph, graph_count, need_stands, nodes, row_at}
-
-abbrev no_line : PlanNode
-no_line = record { kind = Store; name = []; version = record { parts = [] }; component = []; id = []; unbuildable = false; libs = []; tools = []; setups = [] }
 
 some-is : (o : Option PlanNode) (line : PlanNode) → o ≡ Some line → o ≡ Some (unwrap_or o no_line)
 some-is None line h = absurd (cc h)
