@@ -10,7 +10,7 @@ use Rattle.build_order.specs.declared.building.Wait.{Wait}
 use Rattle.build_order.specs.declared.building.Building.{Building}
 use Rattle.build_order.specs.Order.{IsReady, IsLeastReady, IsBuildOrder}
 use Rattle.common_laws.specs.Lists.{contains-none}
-use Rattle.common_laws.specs.Graphs.{IsMarked, Needs, marked_within}
+use Rattle.common_laws.specs.Graphs.{IsMarked, Needs}
 use Rattle.build_order.specs.Building.{AreMet, IsFirstUnmet, IsTakenAsLeast, IsMetBefore, IsWait, NoNode, Alone, Keeps, IsSound, BecomesReady, HasToWait, needs_of}
 
 pub default_past : {X : Type 0} (n i : ℕ) (d : X) → get_or (replicate n d) i d ≡ d
