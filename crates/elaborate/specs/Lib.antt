@@ -2,3 +2,4 @@ pub mod Told
 pub mod Telling
 pub mod Ranks
 pub mod Plan
+pub mod Before
