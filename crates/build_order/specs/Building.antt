@@ -1,5 +1,5 @@
 -- What holds while an order is built.
-use Rattle.std.specs.Prelude.{◌≡◌, ◌<◌, ◌≤◌, ◌↔◌, ◌⊎◌, ℕ, Bool, true, false, List, [], ◌∷◌, ◌++◌, length, Contains, Option, MatchOption, slice_index, slice_index_or, slice_set}
+use Rattle.std.specs.Prelude.{◌≡◌, ◌<◌, ◌≤◌, ◌↔◌, ◌⊎◌, ℕ, Bool, List, [], ◌∷◌, ◌++◌, length, Contains, Option, MatchOption, slice_index, slice_index_or, slice_set}
 use Rattle.build_order.specs.declared.building.Wait.{Wait}
 use Rattle.build_order.specs.declared.building.Building.{Building}
 use Rattle.build_order.specs.Order.{IsReady, IsLeastReady}

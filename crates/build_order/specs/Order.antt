@@ -1,5 +1,5 @@
 -- The order in which the nodes of a graph can be built, where each node has the list of those that it needs.
-use Rattle.std.specs.Prelude.{◌≡◌, ◌<◌, ◌≤◌, ℕ, List, [], ◌∷◌, ◌++◌, length, Contains}
+use Rattle.std.specs.Prelude.{◌≡◌, ◌<◌, ◌≤◌, ℕ, List, ◌∷◌, ◌++◌, length, Contains}
 use Rattle.common_laws.specs.Graphs.{Needs}
 
 -- u can be built next: it isn't among those that are placed, and everything that it needs is

@@ -3,3 +3,4 @@ pub mod Telling
 pub mod Members
 pub mod Ranking
 pub mod Planned
+pub mod Needed

@@ -9,7 +9,7 @@ use Rattle.plan_components.specs.declared.node.Node.{Node}
 use Rattle.plan_components.specs.Steps.{no_node, node_at}
 use Rattle.elaborate.specs.declared.told.Told.{Told}
 use Rattle.elaborate.specs.Plan.{nodes_of}
-use Rattle.elaborate.specs.Told.{told_in, told_one}
+use Rattle.elaborate.specs.Telling.{told_in, told_one}
 
 -- a node that is told stands at a place, and its line beside it
 pub record IsBeside (nodes : List Node) (lines : List (Option PlanNode)) (t : Told) : Type 0 where

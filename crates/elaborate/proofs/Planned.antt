@@ -1,5 +1,5 @@
 -- The told nodes that are sorted are those of the plan, and their graph is what each needs.
-use Rattle.std.proofs.Common.{◌≡◌, ◌≢◌, ◌<◌, ℕ, true, List, [], ◌∷◌, map, length, get_or, Option, Some, None, refl, sym, ap, ◌∙◌, subst}
+use Rattle.std.proofs.Common.{◌≡◌, ◌≢◌, ◌<◌, ℕ, true, List, [], ◌∷◌, map, length, Option, refl, sym, ap, ◌∙◌, subst}
 use Rattle.std.specs.Prelude.{All, AllPairs, Contains, Decides}
 use Rattle.std.specs.Bool.{one_answer}
 use Rattle.std.specs.List.Sorted.{IsPermutation, IsSorted}
@@ -20,14 +20,15 @@ use Rattle.plan_components.specs.Chosen.{Selection}
 use Rattle.plan_components.specs.Needs.{needs_of}
 use Rattle.plan_components.specs.Plan.{AreReached, needed}
 use Rattle.plan_components.specs.SameNode.{node-is, node-self, place_of, same_node}
-use Rattle.plan_components.specs.Steps.{no_node, node_at}
+use Rattle.plan_components.specs.Steps.{no_node}
 use Rattle.node_lines.specs.Lines.{AreLines, HasLine, told}
 use Rattle.node_lines.specs.Numbers.{row_of}
 use Rattle.node_lines.proofs.Places.{at_place, row_at, stands}
 use Rattle.elaborate.specs.declared.told.Told.{Told}
 use Rattle.elaborate.specs.Plan.{AreRanked, graph_of, nodes_of}
 use Rattle.elaborate.specs.Ranks.{needs_at, rank_of, ranked_row, ranks_after}
-use Rattle.elaborate.specs.Told.{told_cmp, told_in}
+use Rattle.elaborate.specs.Telling.{told_in}
+use Rattle.elaborate.specs.Told.{told_cmp}
 use Rattle.elaborate.proofs.Members.{beside, once_told, told_at}
 use Rattle.elaborate.proofs.Ranking.{rank_is}
 

@@ -1,12 +1,12 @@
 -- One node more that is told.
-use Rattle.std.proofs.Common.{◌≡◌, ◌<◌, ℕ, ◌+◌, List, [], ◌∷◌, ◌++◌, length, drop, get_or, Option, sym, ap, ◌∙◌, arith, append_assoc}
+use Rattle.std.proofs.Common.{◌≡◌, ◌<◌, ℕ, ◌+◌, List, ◌∷◌, ◌++◌, length, drop, get_or, Option, sym, ap, ◌∙◌, arith, append_assoc}
 use Rattle.std.proofs.lemmas.List.{get_or_default}
 use Rattle.common_laws.specs.Lists.{drop_at}
 use Rattle.plan_nodes.specs.declared.node.PlanNode.{PlanNode}
 use Rattle.plan_components.specs.declared.node.Node.{Node}
 use Rattle.plan_components.specs.Steps.{no_node}
 use Rattle.elaborate.specs.declared.told.Told.{Told}
-use Rattle.elaborate.specs.Told.{told_in, told_one}
+use Rattle.elaborate.specs.Telling.{told_in, told_one}
 
 pub told_step : (nodes : List Node) (lines rest : List (Option PlanNode)) (line : Option PlanNode) (place : ℕ) (before after total : List Told)
     → length lines + place ≡ length nodes → lines ≡ line ∷ rest → after ≡ before ++ told_one (get_or nodes place no_node) line

@@ -1,3 +1,5 @@
 pub mod Told
+pub mod Telling
 pub mod Ranks
 pub mod Plan
+pub mod Before

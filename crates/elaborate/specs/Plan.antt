@@ -1,9 +1,9 @@
 -- The plan: the lines of its nodes in build order, each line once.
-use Rattle.std.specs.Prelude.{◌≡◌, ◌≢◌, ◌↔◌, ℕ, false, List, [], Contains, AllPairs, map, slice_index_or}
+use Rattle.std.specs.Prelude.{◌≡◌, ◌≢◌, ℕ, List, Contains, AllPairs, map, slice_index_or}
 use Rattle.std.specs.List.Sorted.{IsSorted}
 use Rattle.build_order.specs.Order.{IsBuildOrder}
-use Rattle.plan_nodes.specs.declared.node.NodeKind.TheVariants.{Store}
 use Rattle.plan_nodes.specs.declared.node.PlanNode.{PlanNode}
+use Rattle.plan_nodes.specs.Line.{no_line}
 use Rattle.plan_nodes.specs.Once.{each_line_once}
 use Rattle.plan_components.specs.declared.node.Node.{Node}
 use Rattle.plan_components.specs.Chosen.{Selection}
@@ -32,9 +32,6 @@ abbrev pub graph_of : Selection → List Told → List (List ℕ)
 graph_of selection all = map (λ t. row_of (nodes_of all) (needs_of selection t.node)) all
 
 -- what stands behind the last
-abbrev pub no_line : PlanNode
-no_line = record { kind = Store; name = []; version = record { parts = [] }; component = []; id = []; unbuildable = false; libs = []; tools = []; setups = [] }
-
 abbrev pub no_told : Told
 no_told = record { node = no_node; line = no_line }
 

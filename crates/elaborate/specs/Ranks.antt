@@ -1,5 +1,5 @@
 -- Places of nodes in their order, by the places at which they were reached.
-use Rattle.std.specs.Prelude.{ℕ, suc, zero, nat_lt, if◌then◌else◌, List, [], ◌∷◌, length, map, replicate, slice_set, slice_index_or}
+use Rattle.std.specs.Prelude.{ℕ, suc, nat_lt, if◌then◌else◌, List, [], ◌∷◌, length, map, replicate, slice_set, slice_index_or}
 use Rattle.plan_components.specs.declared.node.Need.{Need}
 use Rattle.plan_components.specs.declared.node.Node.{Node}
 use Rattle.plan_components.specs.declared.reached.Reached.{Reached}

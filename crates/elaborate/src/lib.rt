@@ -3,8 +3,10 @@
 #![tactic(auto)]
 
 mod graph;
+mod laws;
 mod plan;
 mod ranks;
 mod told;
 
+pub use laws::each_need_told_before;
 pub use plan::elaborate;

@@ -9,7 +9,11 @@ use plan_types::NoMemory;
 use std::alloc::Global;
 
 /// For each node that is reached, its place among these.
-pub(crate) fn ranks_of(alloc: Global, reached: &Reached, all: &[Told]) -> Result<Vec<usize>, NoMemory>
+pub(crate) fn ranks_of(
+    alloc: Global,
+    reached: &Reached,
+    all: &[Told],
+) -> Result<Vec<usize>, NoMemory>
     ensures { IfOk result (λ ranks. ranks.items ≡ ranks_after reached.now.set.keys all.now) }
 {
     let mut ranks = vec![in alloc; 0; reached.nodes().len()]?;

@@ -1,7 +1,8 @@
 // The nodes of a plan that have lines.
 ghost use Rattle.std.specs.Prelude.{◌≡◌, ◌++◌, IfOk, OnOk, length};
 ghost use Rattle.std.specs.List.Sorted.{IsPermutation, IsSorted};
-ghost use Rattle.elaborate.specs.Told.{told_cmp, told_in, told_one};
+ghost use Rattle.elaborate.specs.Telling.{told_in, told_one};
+ghost use Rattle.elaborate.specs.Told.{told_cmp};
 
 use plan_components::Node;
 use plan_nodes::PlanNode;

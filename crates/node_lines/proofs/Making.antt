@@ -1,13 +1,13 @@
 -- Lines that are made in build order are those that nodes have.
-use Rattle.std.proofs.Common.{◌≡◌, ◌<◌, ◌⊎◌, inl, inr, ⊎_elim, ℕ, ◌+◌, true, false, List, [], ◌∷◌, ◌++◌, length, take, drop, replicate, fold, get_or, nat_eq, Option, Some, None, refl, sym, ap, ◌∙◌, subst, append_assoc, append-nil}
+use Rattle.std.proofs.Common.{◌≡◌, ◌<◌, ◌⊎◌, inl, inr, ⊎_elim, ℕ, true, false, List, [], ◌∷◌, ◌++◌, length, replicate, fold, get_or, nat_eq, Option, Some, None, refl, sym, ap, ◌∙◌, subst, append_assoc, append-nil}
 use Rattle.std.specs.List.{All, Contains, list_any}
 use Rattle.std.specs.Option.{option_and_then, unwrap_or}
 use Rattle.std.proofs.lemmas.Bool.{cases_eq, eqb-true, eq-eqb, false≢true}
-use Rattle.std.proofs.lemmas.List.{get_or-replicate, get_or-set_other, get_or-set_same, get_or_default, length-replicate, length-set, take-append-drop}
+use Rattle.std.proofs.lemmas.List.{get_or-replicate, get_or-set_other, get_or-set_same, length-replicate, length-set}
 use Rattle.std.proofs.lemmas.List.Elements.{Contains-push_cases}
-use Rattle.common_laws.specs.Lists.{any-at, any-from, contains-none, drop_at}
-use Rattle.plan_nodes.specs.declared.node.NodeKind.TheVariants.{Store}
+use Rattle.common_laws.specs.Lists.{any-at, any-from, contains-none}
 use Rattle.plan_nodes.specs.declared.node.PlanNode.{PlanNode}
+use Rattle.plan_nodes.specs.Line.{no_line}
 use Rattle.plan_components.specs.declared.node.Need.{Need}
 use Rattle.plan_components.specs.declared.node.Node.{Node}
 use Rattle.plan_components.specs.declared.reached.Reached.{Reached}
@@ -25,9 +25,6 @@ use Rattle.node_lines.specs.Gather.{empty, gathered, line_at}
 use Rattle.node_lines.specs.Lines.{AreLines, HasLine, needed_by, told}
 use Rattle.node_lines.proofs.Gathering.{gathers, have_lines}
 use Rattle.node_lines.proofs.Places.{edge, from_edge, graph, graph_count, need_stands, nodes, row_at}
-
-abbrev no_line : PlanNode
-no_line = record { kind = Store; name = []; version = record { parts = [] }; component = []; id = []; unbuildable = false; libs = []; tools = []; setups = [] }
 
 some-is : (o : Option PlanNode) (line : PlanNode) → o ≡ Some line → o ≡ Some (unwrap_or o no_line)
 some-is None line h = absurd (cc h)

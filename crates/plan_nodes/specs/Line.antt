@@ -48,3 +48,17 @@ head_text node =
 -- the line of a node
 abbrev pub node_line : PlanNode → List ℕ
 node_line node = head_text node ++ unbuildable_text node.unbuildable ++ needs_text (all_needs node) ++ codes "\n"
+
+-- what stands behind the last node of a list
+abbrev pub no_line : PlanNode
+no_line = record {
+  kind = Store;
+  name = [];
+  version = record { parts = [] };
+  component = [];
+  id = [];
+  unbuildable = false;
+  libs = [];
+  tools = [];
+  setups = [];
+}

@@ -33,6 +33,7 @@ pub struct PlanNode {
 }
 
 impl PlanNode {
+    /// The same node, in texts and lists of its own.
     pub fn copy(&self, alloc: Global) -> Result<PlanNode, NoMemory>
         ensures { IfOk result (λ copied. copied ≡ self.now) }
     {

@@ -1,4 +1,4 @@
-use Rattle.std.proofs.Common.{◌≡◌, ◌<◌, length, map, sym, ap, ◌∙◌, subst}
+use Rattle.std.proofs.Common.{◌<◌, length, map, sym, ap, ◌∙◌, subst}
 use Rattle.std.specs.List.{All}
 use Rattle.std.specs.List.Sorted.{IsPermutation}
 use Rattle.std.proofs.lemmas.Result.{IfOk-weaker}
@@ -8,7 +8,7 @@ use Rattle.plan_nodes.specs.Once.{each_line_once}
 use Rattle.plan_components.specs.Chosen.{selection_of}
 use Rattle.elaborate.specs.Plan.{line_at}
 use Rattle.elaborate.specs.Ranks.{ranked_row, ranks_after}
-use Rattle.elaborate.specs.Told.{told_in}
+use Rattle.elaborate.specs.Telling.{told_in}
 use Rattle.elaborate.proofs.Planned.{is_graph, made_graph, places_within, ranked}
 use Rattle.elaborate.proofs.plan.planned.Goals as goal
 

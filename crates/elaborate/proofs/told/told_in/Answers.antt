@@ -1,4 +1,4 @@
-use Rattle.std.proofs.Common.{◌≡◌, ◌+◌, length, sym, ap, ◌∙◌, arith}
+use Rattle.std.proofs.Common.{length, ap, arith}
 use Rattle.elaborate.proofs.Telling.{told_step}
 use Rattle.elaborate.proofs.told.told_in.Goals as goal
 

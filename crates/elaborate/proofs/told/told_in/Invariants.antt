@@ -1,7 +1,7 @@
 -- the nodes so far, and those behind
 use Rattle.std.proofs.Common.{◌≡◌, ◌++◌, ◌+◌, drop, length}
 use Rattle.std.specs.Vec.Iter.{into_iter_items}
-use Rattle.elaborate.specs.Told.{told_in}
+use Rattle.elaborate.specs.Telling.{told_in}
 use Rattle.elaborate.proofs.told.told_in.Given as goal
 
 abbrev pub invariant-loop-line : goal.invariant-loop-line

@@ -1,0 +1,11 @@
+// What follows of a plan.
+ghost use Rattle.std.specs.Prelude.{List};
+ghost use Rattle.plan_nodes.specs.declared.node.PlanNode.{PlanNode};
+ghost use Rattle.plan_components.specs.Chosen.{Selection};
+ghost use Rattle.elaborate.specs.Before.{AreToldBefore};
+ghost use Rattle.elaborate.specs.Plan.{IsPlan};
+
+/// Each identifier that a line needs is told before it.
+pub fn each_need_told_before()
+    ensures { (selection : Selection) (lines : List PlanNode) → IsPlan selection lines → AreToldBefore lines }
+{}
