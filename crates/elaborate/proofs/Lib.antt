@@ -4,3 +4,6 @@ pub mod Members
 pub mod Ranking
 pub mod Planned
 pub mod Needed
+pub mod Sorted
+pub mod Ties
+pub mod Unique

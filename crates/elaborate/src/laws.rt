@@ -1,9 +1,14 @@
 // What follows of a plan.
-ghost use Rattle.std.specs.Prelude.{List};
+ghost use Rattle.std.specs.Prelude.{◌≡◌, List};
 ghost use Rattle.plan_nodes.specs.declared.node.PlanNode.{PlanNode};
 ghost use Rattle.plan_components.specs.Chosen.{Selection};
 ghost use Rattle.elaborate.specs.Before.{AreToldBefore};
 ghost use Rattle.elaborate.specs.Plan.{IsPlan};
+
+/// What is chosen makes one plan.
+pub fn one_plan()
+    ensures { (selection : Selection) (a b : List PlanNode) → IsPlan selection a → IsPlan selection b → a ≡ b }
+{}
 
 /// Each identifier that a line needs is told before it.
 pub fn each_need_told_before()

@@ -47,7 +47,7 @@ fn push_told(all: &mut Vec<Told>, node: Node, line: Option<PlanNode>) -> Result<
     }
 }
 
-/// Sorts nodes by name, version, component, identifier and qualifier.
+/// Sorts nodes by name, version, component, identifier, and then by the nodes themselves, the qualifier first.
 pub(crate) fn sort_told(all: &mut Vec<Told>) -> Result<(), NoMemory>
     ensures permutation { IsPermutation all.old.items all.new.items }
     ensures sorted { OnOk result (IsSorted told_cmp all.new.items) }
@@ -65,5 +65,5 @@ fn compare(one: &Told, other: &Told) -> Ordering
         .then(one.line.version.compare(&other.line.version))
         .then(one.line.component.cmp(&other.line.component))
         .then(one.line.id.cmp(&other.line.id))
-        .then(one.node.qual.cmp(&other.node.qual))
+        .then(one.node.cmp(&other.node))
 }

@@ -1,3 +1,4 @@
 pub mod OneAnswer
 pub mod Outputs
 pub mod Words
+pub mod Buildable

@@ -12,6 +12,7 @@ use Rattle.choice_problem.specs.Trail.{value_in}
 use Rattle.outside_folder.specs.Files.{Bytes}
 use Rattle.plan_components.specs.Chosen.{selection_from}
 use Rattle.plan_nodes.specs.declared.node.PlanNode.{PlanNode}
+use Rattle.elaborate.specs.Before.{AreToldBefore}
 use Rattle.elaborate.specs.Plan.{IsPlan}
 use Rattle.plan_print.specs.Texts.{plan_text, conflict_text, gave_up_text, refusal_text}
 use Rattle.plan_command.specs.declared.output.Output.{Output}
@@ -53,6 +54,20 @@ pub data HasForm : Output → Type 0 where
   of_outcome : (env : Env) (index : Index) (names : NameTable) (outcome : Outcome) (output : Output)
       → IsOutputOfOutcome env index names outcome output → HasForm output
   of_usage : HasForm usage
+
+-- the output of a plan in which each identifier that a node needs is told before it
+pub record IsInOrder (output : Output) : Type 0 where
+  pub index : Index
+  pub names : NameTable
+  pub trail : List Choice
+  pub nodes : List PlanNode
+  pub counts : Counts
+  pub output_is : output ≡ planned index names trail nodes counts
+  pub told_before : AreToldBefore nodes
+
+-- where an output is a plan, it is one in order
+abbrev pub BuildsInOrder : Output → Type 0
+BuildsInOrder output = output.status ≡ status.Planned → IsInOrder output
 
 -- a status of an output that is made, not that of a run that failed
 abbrev pub IsMade : Status → Type 0

@@ -6,7 +6,7 @@ ghost use Rattle.outside_folder.specs.Files.{Files};
 ghost use Rattle.command_line.specs.Reading.{reading};
 ghost use Rattle.command_line.specs.declared.reading.Command.TheVariants.{Plan};
 ghost use Rattle.command_line.specs.declared.reading.Options.{Options as PlanOptions};
-ghost use Rattle.plan_command.specs.Output.{HasForm, IsMade, IsUsage, usage};
+ghost use Rattle.plan_command.specs.Output.{BuildsInOrder, HasForm, IsMade, IsUsage, usage};
 ghost use Rattle.plan_command.specs.Meaning.{Means};
 ghost use Rattle.plan_command.specs.Run.{IsOutputOf, IsOutputOfCommand, Prints, Reads};
 
@@ -37,6 +37,9 @@ pub fn run<F: Folder, S: Sink>(alloc: Global, words: &[Text], folder: &mut F, ou
 
     // In any case one text of the form of its status is written, a prefix of it, or nothing.
     ensures one_text { Prints HasForm (S.bytes out.old) (S.bytes out.new) result }
+
+    // In any plan, with a limit or without, each identifier that a node needs is told before it.
+    ensures in_order { Prints BuildsInOrder (S.bytes out.old) (S.bytes out.new) result }
 
     ensures folder { Leaves F.tells F.faults folder.old folder.new (result ≡ Status.ReadFault) }
     ensures sink { S.faults out.old ≤ S.faults out.new }

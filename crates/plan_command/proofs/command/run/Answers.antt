@@ -1,4 +1,5 @@
 use Rattle.std.proofs.Common.{Some, sym, ◌∙◌}
+use Rattle.plan_command.proofs.Buildable.{in-order, usage-in-order}
 use Rattle.plan_command.proofs.Words.{formed-usage, read-for, told-for}
 use Rattle.plan_command.proofs.command.run.Goals as goal
 
@@ -14,3 +15,9 @@ returns-in-Ok-clause-told g c = λ files read.
 
 pub returns-in-Err-Usage-clause-one_text : goal.returns-in-Err-Usage-clause-one_text
 returns-in-Err-Usage-clause-one_text g c = formed-usage _ _ _ c.print_usage.ensures.prints
+
+pub returns-in-Ok-clause-in_order : goal.returns-in-Ok-clause-in_order
+returns-in-Ok-clause-in_order g c = in-order _ _ _ c.perform.ensures.one_text
+
+pub returns-in-Err-Usage-clause-in_order : goal.returns-in-Err-Usage-clause-in_order
+returns-in-Err-Usage-clause-in_order g c = usage-in-order _ _ _ c.print_usage.ensures.prints
