@@ -4,3 +4,8 @@ pub mod Members
 pub mod Ranking
 pub mod Planned
 pub mod Needed
+pub mod Sorted
+pub mod Pieces
+pub mod Names
+pub mod Ties
+pub mod Unique

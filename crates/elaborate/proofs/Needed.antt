@@ -1,5 +1,5 @@
 -- What a line needs is told before it.
-use Rattle.std.proofs.Common.{◌≡◌, ◌<◌, ◌⊎◌, inl, inr, ⊎_elim, ℕ, Bool, true, false, cond, List, [], ◌∷◌, ◌++◌, map, fold, length, get_or, Option, Some, None, refl, sym, ap, ◌∙◌, subst, append_assoc, append-nil}
+use Rattle.std.proofs.Common.{◌≡◌, ◌<◌, ⊎_elim, ℕ, Bool, true, false, cond, List, [], ◌∷◌, ◌++◌, map, fold, length, get_or, Option, Some, None, refl, sym, ap, ◌∙◌, subst, append_assoc, append-nil}
 use Rattle.std.specs.Prelude.{All, Contains, filter}
 use Rattle.std.specs.BTreeSet as ordered
 use Rattle.std.specs.Cmp.Lexicographic.{slice_cmp}
@@ -29,9 +29,9 @@ use Rattle.plan_components.specs.Chosen.{Selection, body_at}
 use Rattle.plan_components.specs.Needs.{needs_of}
 use Rattle.plan_components.specs.Plan.{needed}
 use Rattle.plan_components.specs.SameNode.{place_of}
-use Rattle.plan_components.specs.Steps.{no_node, node_at}
+use Rattle.plan_components.specs.Steps.{no_node}
 use Rattle.plan_lines.specs.declared.needed.Needed.{Needed}
-use Rattle.plan_lines.specs.Line.{line_by, line_of}
+use Rattle.plan_lines.specs.Line.{line_by}
 use Rattle.node_lines.specs.Lines.{HasLine, ids_for, is_of_library, needed_by, told}
 use Rattle.node_lines.specs.Numbers.{row_of}
 use Rattle.node_lines.proofs.Once.{one}
@@ -98,12 +98,12 @@ asks-for selection node line (told n l f each is) id c =
     let needs = needs_of selection node in
     let has = has-needs selection node (needed_by f needs) (body_at selection node.qual node.«package») line is in
     let from : IsNeed f needs id = ⊎_elim
-        (λ a. ⊎_elim
-        (λ l. of-kind is_of_library f needs id (subst (λ k. Contains k id) has.libs l))
-        (λ t. of-kind is_tool f needs id (subst (λ k. Contains k id) has.tools t))
-        (contains-append line.libs line.tools id a))
-        (λ s. of-kind is_of_setup f needs id (subst (λ k. Contains k id) has.setups s))
-        (contains-append (line.libs ++ line.tools) line.setups id (was-there (line.libs ++ line.tools ++ line.setups) id c)) in
+    (λ a. ⊎_elim
+    (λ l. of-kind is_of_library f needs id (subst (λ k. Contains k id) has.libs l))
+    (λ t. of-kind is_tool f needs id (subst (λ k. Contains k id) has.tools t))
+    (contains-append line.libs line.tools id a))
+    (λ s. of-kind is_of_setup f needs id (subst (λ k. Contains k id) has.setups s))
+    (contains-append (line.libs ++ line.tools) line.setups id (was-there (line.libs ++ line.tools ++ line.setups) id c)) in
     record { need = from.need; among = from.among; line = f from.need.node; has = each from.need from.among; same = from.same }
 
 -- ---- in build order
@@ -173,19 +173,19 @@ step seen kept x k =
             splits = λ front rest line is. later seen front line x (k.splits front rest line is);
           }
       | false ↦ λ e. record {
-          covers = λ y c. ⊎_elim (λ old. longer kept x (node_line y) (k.covers y old))
-              (λ new. subst (λ z. Contains (map node_line (kept ++ x ∷ [])) (node_line z)) new (map-contains node_line (kept ++ x ∷ []) x (Contains-push kept x)))
-              (Contains-push_cases seen x y c);
-          splits = λ front rest line is. ⊎_elim
-              (λ last. record {
-                before = seen;
-                after = [];
-                is = ap (λ l. seen ++ l ∷ []) (sym last.1);
-                covered = λ y c. subst (λ f. Contains (map node_line f) (node_line y)) (sym last.0) (k.covers y c);
-              })
-              (λ inner. later seen front line x (k.splits front inner.0 line inner.1))
-              (push_split front kept rest line x is);
-        }
+        covers = λ y c. ⊎_elim (λ old. longer kept x (node_line y) (k.covers y old))
+            (λ new. subst (λ z. Contains (map node_line (kept ++ x ∷ [])) (node_line z)) new (map-contains node_line (kept ++ x ∷ []) x (Contains-push kept x)))
+            (Contains-push_cases seen x y c);
+        splits = λ front rest line is. ⊎_elim
+            (λ last. record {
+              before = seen;
+              after = [];
+              is = ap (λ l. seen ++ l ∷ []) (sym last.1);
+              covered = λ y c. subst (λ f. Contains (map node_line f) (node_line y)) (sym last.0) (k.covers y c);
+            })
+            (λ inner. later seen front line x (k.splits front inner.0 line inner.1))
+            (push_split front kept rest line x is);
+      }
     ] refl
 
 all-kept : (seen kept more : List PlanNode) → Keeps seen kept → Keeps (seen ++ more) (fold (insert_key same_line) kept more)

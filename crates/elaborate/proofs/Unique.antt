@@ -1,0 +1,50 @@
+-- A selection of a sound index has one plan.
+use Rattle.std.proofs.Common.{◌≡◌, ◌≢◌, ◌<◌, List, [], map, sym, ap, ◌∙◌, subst, arith}
+use Rattle.std.specs.List.{AllPairs, Contains}
+use Rattle.std.proofs.lemmas.List.{get_or-map, length-map}
+use Rattle.plan_types.specs.declared.condition.Env.{Env}
+use Rattle.plan_types.specs.declared.index.Index.{Index}
+use Rattle.flatten.specs.Sound.{IsSound}
+use Rattle.qualified_goals.specs.Names.{NameTable}
+use Rattle.choice_problem.specs.Assignment.{Assignment}
+use Rattle.build_order.specs.Order.{IsBuildOrder}
+use Rattle.build_order.proofs.Unique.{same_rest}
+use Rattle.plan_nodes.specs.declared.node.PlanNode.{PlanNode}
+use Rattle.plan_nodes.specs.Once.{each_line_once}
+use Rattle.plan_components.specs.Chosen.{Selection, selection_from}
+use Rattle.elaborate.specs.declared.told.Told.{Told}
+use Rattle.elaborate.specs.Plan.{AreRanked, IsPlan, graph_of, line_at}
+use Rattle.elaborate.specs.Told.{told_cmp}
+use Rattle.elaborate.proofs.Order.{told-total}
+use Rattle.elaborate.proofs.Sorted.{all-after, one-list}
+use Rattle.elaborate.proofs.Ties.{tie}
+
+-- what differs in a part differs
+once-by : {X Y : Type 0} (f : X → Y) (xs : List X) → AllPairs (λ a b. a ≢ b) (map f xs) → AllPairs (λ a b. a ≢ b) xs
+once-by f xs once i j d less within same =
+    let before = get_or-map f xs i d (f d) in
+    let after = get_or-map f xs j d (f d) in
+    once i j (f d) less (subst (λ n. j < n) (sym (length-map xs f)) within)
+    (before (omega (arith, less, within)) ∙ ap f same ∙ sym (after within))
+
+-- told nodes of one plan stand in another
+among : (selection : Selection) (xs ys : List Told) → AreRanked selection xs → AreRanked selection ys → (t : Told) → Contains xs t → Contains ys t
+among selection xs ys from to t c = to.whole t (from.inside t c) (from.lines t c)
+
+module _ (env : Env) (index : Index) (names : NameTable) (values : Assignment) (sound : IsSound env index) where
+  abbrev selection : Selection
+  selection = selection_from index names env values
+
+  one-ranked : (xs ys : List Told) → AreRanked selection xs → AreRanked selection ys → xs ≡ ys
+  one-ranked xs ys h k =
+      one-list told_cmp told-total xs ys (all-after told_cmp told-total xs h.sorted) (all-after told_cmp told-total ys k.sorted)
+      (once-by (λ (t : Told). t.node) xs h.once) (once-by (λ (t : Told). t.node) ys k.once)
+      (among selection xs ys h k) (among selection ys xs k h)
+      (λ s t c d e. tie env index names values sound s t (h.inside s c) (h.inside t d) (h.lines s c) (h.lines t d) e)
+
+  pub one-plan : (a b : List PlanNode) → IsPlan selection a → IsPlan selection b → a ≡ b
+  one-plan a b h k =
+      let all : h.all ≡ k.all = one-ranked h.all k.all h.ranked k.ranked in
+      let places : h.places ≡ k.places =
+      same_rest (graph_of selection k.all) [] h.places k.places (subst (λ l. IsBuildOrder (graph_of selection l) h.places) all h.in_order) k.in_order in
+      h.lines_are ∙ ap (λ l. each_line_once (map (line_at l) h.places)) all ∙ ap (λ ps. each_line_once (map (line_at k.all) ps)) places ∙ sym k.lines_are
