@@ -25,13 +25,16 @@ node_with version component id qual = record {
 }
 
 -- versions by their numbers
-by_version : told_cmp (node_with (1 ∷ 2 ∷ []) (codes "lib") (codes "b") Top) (node_with (1 ∷ 10 ∷ []) (codes "lib") (codes "a") Top) ≡ Less
+by_version : told_cmp (node_with (1 ∷ 2 ∷ []) (codes "lib") (codes "b") Top)
+    (node_with (1 ∷ 10 ∷ []) (codes "lib") (codes "a") Top) ≡ Less
 by_version = refl
 
 -- the component before the identifier
-by_component : told_cmp (node_with (1 ∷ []) (codes "lib") (codes "a") Top) (node_with (1 ∷ []) (codes "exe:run") (codes "b") Top) ≡ Greater
+by_component : told_cmp (node_with (1 ∷ []) (codes "lib") (codes "a") Top)
+    (node_with (1 ∷ []) (codes "exe:run") (codes "b") Top) ≡ Greater
 by_component = refl
 
 -- the qualifier last
-by_qualifier : told_cmp (node_with (1 ∷ []) (codes "lib") (codes "a") Top) (node_with (1 ∷ []) (codes "lib") (codes "a") (Setup 3)) ≡ Less
+by_qualifier : told_cmp (node_with (1 ∷ []) (codes "lib") (codes "a") Top)
+    (node_with (1 ∷ []) (codes "lib") (codes "a") (Setup 3)) ≡ Less
 by_qualifier = refl
