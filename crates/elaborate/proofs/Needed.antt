@@ -1,5 +1,5 @@
 -- What a line needs is told before it.
-use Rattle.std.proofs.Common.{◌≡◌, ◌<◌, ◌⊎◌, inl, inr, ⊎_elim, ℕ, Bool, true, false, cond, List, [], ◌∷◌, ◌++◌, map, fold, length, get_or, Option, Some, None, refl, sym, ap, ◌∙◌, subst, append_assoc, append-nil}
+use Rattle.std.proofs.Common.{◌≡◌, ◌<◌, ⊎_elim, ℕ, Bool, true, false, cond, List, [], ◌∷◌, ◌++◌, map, fold, length, get_or, Option, Some, None, refl, sym, ap, ◌∙◌, subst, append_assoc, append-nil}
 use Rattle.std.specs.Prelude.{All, Contains, filter}
 use Rattle.std.specs.BTreeSet as ordered
 use Rattle.std.specs.Cmp.Lexicographic.{slice_cmp}
@@ -29,9 +29,9 @@ use Rattle.plan_components.specs.Chosen.{Selection, body_at}
 use Rattle.plan_components.specs.Needs.{needs_of}
 use Rattle.plan_components.specs.Plan.{needed}
 use Rattle.plan_components.specs.SameNode.{place_of}
-use Rattle.plan_components.specs.Steps.{no_node, node_at}
+use Rattle.plan_components.specs.Steps.{no_node}
 use Rattle.plan_lines.specs.declared.needed.Needed.{Needed}
-use Rattle.plan_lines.specs.Line.{line_by, line_of}
+use Rattle.plan_lines.specs.Line.{line_by}
 use Rattle.node_lines.specs.Lines.{HasLine, ids_for, is_of_library, needed_by, told}
 use Rattle.node_lines.specs.Numbers.{row_of}
 use Rattle.node_lines.proofs.Once.{one}

@@ -3,3 +3,4 @@ pub mod Telling
 pub mod Ranks
 pub mod Plan
 pub mod Before
+pub mod Examples
