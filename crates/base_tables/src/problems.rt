@@ -1,6 +1,7 @@
 // Problems as lines of words, with a space between two words; a problem without words is `-`.
 //
-// A name is the number of a package, with an `f` behind it where it is that of the package's flag. Values are digits.
+// A name is the number of a package, with an `f` behind it where it is that of the package's flag, and an `s` before it in the setup
+// script of the package 9. Values are digits.
 // NAME:VALUES            a variable, with its values in order
 // NAME:VALUES/VALUES     the same, with the values that may not be chosen
 // CHOICES>>NAME:VALUES   a root: where the choices are made, the variable has to have one of the values
@@ -20,14 +21,19 @@ pub(crate) fn package(number: u64) -> Var {
 }
 
 fn variable(name: &str) -> Result<Var, Fail> {
+    let (name, qual) = match name.strip_prefix('s') {
+        Some(name) => (name, Qual::Setup(9)),
+        None => (name, Qual::Top),
+    };
     let (number, part) = match name.strip_suffix('f') {
         Some(number) => (number, Part::Flag(0)),
         None => (name, Part::Package),
     };
-    let number = number.parse::<u64>()?;
+    let package = number.parse::<u64>()?;
     Ok(Var {
+        qual,
+        package,
         part,
-        ..package(number)
     })
 }
 
@@ -131,6 +137,8 @@ pub(crate) fn push_name(text: &mut String, var: Var) -> Result<(), NoMemory> {
     match (var.qual, var.part) {
         (Qual::Top, Part::Package) => write!(text, "{package}")?,
         (Qual::Top, Part::Flag(0)) => write!(text, "{package}f")?,
+        (Qual::Setup(9), Part::Package) => write!(text, "s{package}")?,
+        (Qual::Setup(9), Part::Flag(0)) => write!(text, "s{package}f")?,
         _ => write!(text, "{var:?}")?,
     }
     Ok(())

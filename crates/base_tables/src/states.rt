@@ -20,7 +20,7 @@ use validation::{State, Verdict};
 // The first has a bar, an active demand that refuses the value, and one that becomes active and is broken. The next three
 // are rings of packages, of which the first also asks for one that is on no cycle. The set of the cycle in the fifth has
 // the flag in its condition, and with the flag off there is none. In the last, what became active first is the reason, and
-// refuses first, wherever its owner stands.
+// refuses first, wherever its owner stands. The last ones have a package twice: the two disagree where they are of one instance.
 pub(crate) const CASES: &str = "\
 0:0 1:012/2 2:0 >>0:0 0.0>1:02 0.0>2:0 2.0>1: => ?0?210?0<? => 0 by; ok; 1 by 0; not 1; not 0 1; ok; 2 by 0; not 1 2; back; 1 by 0
 0:0 9:0 >>0:0 0.0>0:0 0.0>9:0 => 0? => not 0; 0 by
@@ -30,6 +30,9 @@ pub(crate) const CASES: &str = "\
 3:0 5:0 5f:10 7:10 >>5:0 5.0>5f:01 5.0,5f.1>7:0 5.0>3:0 3.0>7:0 => 0?0?1?10?<?<0? => ok; 3 by 5; ok; 5f by 5; ok; 7 by 3; not 3 7; ok; all; back; 7 by 3; back; ok; 7 by 3
 0:0 1:01 2:0 >>0:0 0.0>1:01 0.0>2:0 2.0>1:1 => *0*a*0*1*<<* => open 0; ok; open 1 2; ok; open 1; not 1 2; open 1; ok; open; back; back; open 1 2
 1:0 2:0 3:0/0 >>1:0 >>2:0 >>3:0 => *aa<* => open 1 2 3; ok; not 3; back; open 1 2 3
+0:0 1:0 2:01 s1:0 s2:01 >>0:0 0.0>1:0 0.0>2:01 0.0>s1:0 0.0>s2:01 1.0>2:01 s1.0>s2:01 => 000010<<b0 => ok; ok; ok; ok; not 1 2 s1 s2; ok; back; back; ok; not 1 2 s1 s2
+0:0 0f:10 1:0 s0:0 s0f:10 >>1:0 1.0>0:0 1.0>s0:0 0.0>0f:10 s0.0>s0f:10 => 001001 => ok; ok; ok; ok; not 0 0f s0 s0f; ok
+0:0 1:0 2:01 s1:01 s2:01 >>0:0 0.0>1:0 0.0>2:01 0.0>s1:01 1.0>2:01 s1.0>s2:01 s1.1>s2:01 => 00011 => ok; ok; ok; ok; ok
 often 0< ? => ok; back, 1000 times; 0 by
 ";
 

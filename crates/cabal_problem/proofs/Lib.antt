@@ -1,3 +1,4 @@
+pub mod Elsewhere
 mod RowDemands
 mod OrderTests
 mod Findings

@@ -1,5 +1,5 @@
 -- Small examples, computed: a local package `main` with a flag, tests and a setup script, and an installed `base`.
-use Rattle.std.specs.Prelude.{◌≡◌, Bool, true, false, List, [], ◌∷◌, None, codes, refl}
+use Rattle.std.specs.Prelude.{◌≡◌, ℕ, Bool, true, false, List, [], ◌∷◌, None, codes, refl}
 use Rattle.plan_types.specs.declared.condition.Cond.TheVariants.{Always}
 use Rattle.plan_types.specs.declared.dependency.DepKind.TheVariants as kind
 use Rattle.plan_types.specs.declared.dependency.LibName.TheVariants.{Main, Named}
@@ -17,6 +17,8 @@ use Rattle.qualified_goals.specs.declared.variable.Qual.TheVariants.{Top, Setup,
 use Rattle.qualified_goals.specs.declared.variable.Part.TheVariants.{Package as ThePackage, Flag, Tests}
 use Rattle.qualified_goals.specs.Names.{NameTable}
 use Rattle.cabal_problem.specs.Variables.{is_qual, is_known, domain_of}
+use Rattle.qualified_goals.specs.declared.variable.Var.{Var}
+use Rattle.choice_problem.specs.declared.problem.Choice.{Choice}
 use Rattle.cabal_problem.specs.Values.{order_of, package_var}
 use Rattle.solver_index.specs.Allowed.{allowed_unit, has_lib}
 use Rattle.cabal_problem.specs.ListedDemands.{flag_values, qual_for}
@@ -114,6 +116,14 @@ chosen-first = refl
 
 chosen-elsewhere : order_of packages names [] (Setup 1) 1 (Flag 0) (record { var = package_var Top 1; val = 0 } ∷ []) ≡ 0 ∷ 1 ∷ []
 chosen-elsewhere = refl
+
+-- an instance that was chosen in a setup comes first, once, also where preference has it last; that of the variable itself doesn't count
+abbrev taken : Var → ℕ → Choice
+taken v n = record { var = v; val = n }
+
+reused-first : order_of packages names ([] ∷ (2 ∷ 1 ∷ 0 ∷ []) ∷ []) Top 1 ThePackage
+    (taken (package_var Top 1) 1 ∷ taken (package_var (Setup 1) 1) 0 ∷ taken (package_var (Setup 0) 1) 0 ∷ taken (package_var (Setup 1) 0) 2 ∷ []) ≡ 0 ∷ 2 ∷ 1 ∷ []
+reused-first = refl
 
 on-before-off : order_of packages names [] Top 1 Tests [] ≡ 1 ∷ 0 ∷ []
 on-before-off = refl

@@ -4,7 +4,7 @@ use Rattle.std.specs.List.{list_all, list_any, position_or_len}
 use Rattle.std.proofs.Common.{sym, ap, ◌∙◌, subst, inl, inr, arith}
 use Rattle.std.proofs.lemmas.Bool.{false≢true, eqb-true, cases_lt, ltb-true, ltb-false, lt-ltb, and_parts, and_from}
 use Rattle.std.proofs.lemmas.List.{get_or_past}
-use Rattle.std.proofs.lemmas.List.Elements.{Contains-get_or}
+use Rattle.std.proofs.lemmas.List.Elements.{All-contains, Contains-get_or}
 use Rattle.plan_types.specs.declared.dependency.Dep.{Dep}
 use Rattle.plan_types.specs.declared.dependency.DepKind.{DepKind}
 use Rattle.plan_types.specs.declared.dependency.DepKind.TheVariants as kind
@@ -34,7 +34,9 @@ use Rattle.constraint_set.specs.Bars.{is_number}
 use Rattle.solver_index.specs.Places.{rising, entry_at, no_entry, number, flag_number}
 use Rattle.solver_index.specs.AllowedVersions.{allowed_versions}
 use Rattle.cabal_problem.specs.Variables.{is_qual, is_part, is_known, domain_of, is_tool, is_tool_of, component_asks, asks_for_tool, is_custom, declares, has_kind, is_suite, is_benchmark, body_has_kind, is_top}
-use Rattle.cabal_problem.specs.Values.{is_flag, on_first, package_var, chosen_default, chosen, order_of}
+use Rattle.choice_problem.specs.Twins.{is_whole, is_of_package}
+use Rattle.cabal_problem.specs.Reuse.{others-ordered, reused-of, reused-once}
+use Rattle.cabal_problem.specs.Values.{is_flag, on_first, package_var, chosen_default, chosen, reused, order_of}
 use Rattle.cabal_problem.specs.ListedDemands.{part_beside, target_for, flag_demand, stanza_demand, stanza_if, has_stanzas, choice_beside, when_of, can_count, flat_demand, flat_demands, setup_demand, setup_demands, setup_if, unit_demand, unit_demands, body_demands, part_demands, demands_of, local_root, local_roots, extra_root, roots_of}
 use Rattle.cabal_problem.specs.Bound.{all_quals, all_parts, vars_of, all_vars}
 use Rattle.cabal_problem.specs.Lawful.{is_found, has_qual_for, flat_finds, body_finds, package_finds, packages_find, extras_are_found, is_order_at, are_orders, is_lawful}
@@ -154,16 +156,31 @@ module _ (packages : List Package) (names : NameTable) where
 
   -- ---- orders
 
-  part-ordered : (orders : List (List ℕ)) → are_orders packages orders ≡ true → (q : Qual) (p : ℕ) (part : Part) (trail : List Choice) → p < length packages
+  -- the value of a choice of a package's instance is the place of one
+  instance-below : (p : ℕ) (c : Choice) → is_of_package p c ≡ true → c.val < domain_of packages c.var.«package» c.var.part → c.val < length (entries_of packages p)
+  instance-below p c of below =
+      let parts = and_parts (is_whole c.var.part) (nat_eq c.var.«package» p) of in
+      subst (λ n. c.val < length (entries_of packages n)) (eqb-true c.var.«package» p parts.1) (whole-below c.var.part parts.0 below)
+    where
+      whole-below : (part : Part) → is_whole part ≡ true → c.val < domain_of packages c.var.«package» part → c.val < length (entries_of packages c.var.«package»)
+      whole-below ThePackage whole h = h
+      whole-below (Flag n) whole h = absurd (false≢true whole)
+      whole-below Tests whole h = absurd (false≢true whole)
+      whole-below Benches whole h = absurd (false≢true whole)
+
+  part-ordered : (orders : List (List ℕ)) → are_orders packages orders ≡ true → (q : Qual) (p : ℕ) (part : Part) (trail : List Choice)
+      → ((c : Choice) → Contains trail c → c.val < domain_of packages c.var.«package» c.var.part) → p < length packages
       → IsOrderBelow (domain_of packages p part) (order_of packages names orders q p part trail)
-  part-ordered orders h q p ThePackage trail below =
+  part-ordered orders h q p ThePackage trail values_below below =
       let values = slice_index_or orders p [] in
       let is = all-at (is_order_at packages orders) (rising (length packages)) p h (rising-has (length packages) p below) in
       let same = eqb-true (length values) (length (entries_of packages p)) ((and_parts (nat_eq (length values) (length (entries_of packages p))) (is_order values) is).0) in
-      subst (λ n. IsOrderBelow n values) same (order-at values ((and_parts (nat_eq (length values) (length (entries_of packages p))) (is_order values) is).1))
-  part-ordered orders h q p (Flag f) trail below = on-first-order (chosen_default names f (entries_of packages p) (chosen trail q p))
-  part-ordered orders h q p Tests trail below = on-first-order true
-  part-ordered orders h q p Benches trail below = on-first-order true
+      others-ordered (reused trail (package_var q p)) values (length (entries_of packages p)) (reused-once trail (package_var q p))
+      (λ n k. let (c, among, of, is) = reused-of trail (package_var q p) n k in subst (λ m. m < length (entries_of packages p)) is (instance-below p c of (values_below c among)))
+      (subst (λ n. IsOrderBelow n values) same (order-at values ((and_parts (nat_eq (length values) (length (entries_of packages p))) (is_order values) is).1)))
+  part-ordered orders h q p (Flag f) trail values_below below = on-first-order (chosen_default names f (entries_of packages p) (chosen trail q p))
+  part-ordered orders h q p Tests trail values_below below = on-first-order true
+  part-ordered orders h q p Benches trail values_below below = on-first-order true
 
   -- ---- targets
 
@@ -362,7 +379,8 @@ module _ (packages : List Package) (project : Project) (names : NameTable) (orde
       let front = (and_parts (finds && extras) (are_orders packages orders) h).0 in
       record {
         bounded = record { variables = all_vars packages names; count = omega arith; each = var-in packages names };
-        order = λ v known trail choices. part-ordered packages names orders ((and_parts (finds && extras) (are_orders packages orders) h).1) v.qual v.«package» v.part trail (known-below packages names v known);
+        order = λ v known trail choices. part-ordered packages names orders ((and_parts (finds && extras) (are_orders packages orders) h).1) v.qual v.«package» v.part trail
+            (λ c among. (All-contains (IsChoice problem) trail c choices among).value) (known-below packages names v known);
         roots = all-where (IsRoot problem) (roots_of packages project names) (roots-are ((and_parts finds extras front).1));
         demands = λ owner is. all-where (IsOwned problem owner) (demands_of packages project names owner) (demands-are ((and_parts finds extras front).0) owner is);
       }

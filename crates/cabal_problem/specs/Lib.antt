@@ -1,5 +1,6 @@
 pub mod Variables
 pub mod Values
+pub mod Reuse
 pub mod ListedDemands
 pub mod Rows
 pub mod Bound

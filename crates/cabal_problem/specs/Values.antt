@@ -1,5 +1,5 @@
 -- The order in which the values of a variable are tried.
-use Rattle.std.specs.Prelude.{ℕ, Bool, true, false, List, [], ◌∷◌, Option, Some, None, slice_index_or}
+use Rattle.std.specs.Prelude.{ℕ, Bool, true, false, not, nat_eq, List, [], ◌∷◌, ◌++◌, map, filter, Option, Some, None, slice_index_or}
 use Rattle.plan_types.specs.declared.description.FlagDecl.{FlagDecl}
 use Rattle.plan_types.specs.declared.index.Entry.{Entry}
 use Rattle.plan_types.specs.declared.index.Package.{Package}
@@ -9,7 +9,10 @@ use Rattle.qualified_goals.specs.declared.variable.Part.TheVariants.{Package as 
 use Rattle.qualified_goals.specs.declared.variable.Var.{Var}
 use Rattle.qualified_goals.specs.Names.{NameTable, number_of}
 use Rattle.choice_problem.specs.declared.problem.Choice.{Choice}
+use Rattle.qualified_goals.specs.Variable.{same_var}
+use Rattle.choice_problem.specs.Assignment.{is_one_of}
 use Rattle.choice_problem.specs.Trail.{value_in}
+use Rattle.choice_problem.specs.Twins.{is_of_package}
 use Rattle.constraint_set.specs.Bars.{is_number}
 use Rattle.solver_index.specs.Defaults.{default_of}
 use Rattle.solver_index.specs.Places.{entry_at}
@@ -37,11 +40,39 @@ package_var q p = record { qual = q; «package» = p; part = ThePackage }
 abbrev pub chosen : List Choice → Qual → ℕ → Option ℕ
 chosen trail q p = value_in trail (package_var q p)
 
+-- ---- instances that were taken before
+
+-- some numbers, each once, where it stands first
+abbrev pub each_once : List ℕ → List ℕ
+each_once [] = []
+each_once (n ∷ ns) = n ∷ filter (λ m. not (nat_eq n m)) (each_once ns)
+
+-- those of some choices that are of other variables
+abbrev pub elsewhere : Var → List Choice → List Choice
+elsewhere v choices = filter (λ c. not (same_var c.var v)) choices
+
+-- the values of some choices of other variables, each once
+abbrev pub values_elsewhere : Var → List Choice → List ℕ
+values_elsewhere v choices = each_once (map (λ c. c.val) (elsewhere v choices))
+
+-- the instances of a package that were chosen for it under other qualifiers, in the order of the trail
+abbrev pub reused : List Choice → Var → List ℕ
+reused trail v = values_elsewhere v (filter (is_of_package v.«package») trail)
+
+-- the numbers of an order that are none of some
+abbrev pub others : List ℕ → List ℕ → List ℕ
+others first order = filter (λ n. not (is_one_of (Some n) first)) order
+
+-- some numbers, and then the others of an order
+abbrev pub with_others : List ℕ → List ℕ → List ℕ
+with_others first order = first ++ others first order
+
 -- ---- a variable
 
--- the values, the best first: orders has those of each package
+-- The values, the best first: of a package the instances that were chosen for it under other qualifiers, and then the others by
+-- preference. orders has those of each package by preference.
 abbrev pub order_of : List Package → NameTable → List (List ℕ) → Qual → ℕ → Part → List Choice → List ℕ
-order_of packages names orders q p ThePackage trail = slice_index_or orders p []
+order_of packages names orders q p ThePackage trail = with_others (reused trail (package_var q p)) (slice_index_or orders p [])
 order_of packages names orders q p (Flag f) trail = on_first (chosen_default names f (entries_of packages p) (chosen trail q p))
 order_of packages names orders q p Tests trail = on_first true
 order_of packages names orders q p Benches trail = on_first true

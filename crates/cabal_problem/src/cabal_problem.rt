@@ -1,5 +1,5 @@
 // The problem of an index and a project, as the search asks it.
-ghost use Rattle.std.specs.Prelude.{◌≡◌, ◌++◌, ◌<◌, IfOk, IsTrue, OnOk, length, map, true};
+ghost use Rattle.std.specs.Prelude.{◌≡◌, ◌++◌, [], ◌<◌, IfOk, IsTrue, OnOk, length, map, slice_index_or, true};
 ghost use Rattle.std.specs.List.{list_all};
 ghost use Rattle.constraint_set.specs.Bars.{bars, bars_part, names_flag};
 ghost use Rattle.constraint_set.specs.Stands.{StandsFor};
@@ -10,14 +10,14 @@ ghost use Rattle.solver_index.specs.Places.{entry_at};
 ghost use Rattle.cabal_problem.specs.ListedDemands.{entry_demands, flag_allows, flag_values, one_if};
 ghost use Rattle.cabal_problem.specs.Lawful.{is_lawful};
 ghost use Rattle.cabal_problem.specs.Rows.{flag_row, in_pairs, source_rows};
-ghost use Rattle.cabal_problem.specs.Values.{chosen_default};
+ghost use Rattle.cabal_problem.specs.Values.{chosen_default, package_var, reused, with_others};
 ghost use Rattle.plan_types.specs.Packages.{entries_of};
 
 use crate::demands::{alone, part_beside, push_custom, push_deps, push_stanzas, unit_demands};
 use crate::roots::roots_of;
-use crate::values::{copied, on_first, order_at, package_var};
+use crate::values::{on_first, order_at, package_var, values_elsewhere, with_others};
 use crate::variables::{domain_of, is_known};
-use choice_problem::{Choice, Choices, Demand, Part, Trail, Var};
+use choice_problem::{Choice, Choices, Demand, Part, Qual, Trail, Var};
 use constraint_set::Constraints;
 use plan_types::{
     Body, Description, Entry, FlagDecl, FlatDep, Index, Instance, List, NoMemory, Package, Settings,
@@ -252,6 +252,25 @@ impl<'a> CabalProblem<'a> {
         }
     }
 
+    // The instances of a package: those that were chosen for it under other qualifiers, and then the others by preference.
+    fn instances(
+        &self,
+        alloc: Global,
+        q: Qual,
+        p: u64,
+        trail: &Trail,
+    ) -> Result<List<u64>, NoMemory>
+        ensures { IfOk result (λ values. values ≡ with_others (reused trail.now (package_var q p)) (slice_index_or self.now.tables.orders p [])) }
+    {
+        let v = package_var(q, p);
+        let taken = values_elsewhere(alloc, trail.instances_of(p), v)?;
+        with_others(
+            alloc,
+            taken.as_slice(),
+            order_at(self.tables.orders.as_slice(), p),
+        )
+    }
+
     // The default of a flag as the instance declares it that was chosen.
     fn default_after(&self, f: u64, p: u64, instance: Option<u64>) -> bool
         ensures { result ≡ chosen_default self.now.names f (entries_of self.now.index.now.packages p) instance }
@@ -302,7 +321,7 @@ impl<'a> Choices for CabalProblem<'a> {
 
     fn order(&self, alloc: Global, v: Var, trail: &Trail) -> Result<List<u64>, NoMemory> {
         match v.part {
-            Part::Package => copied(alloc, order_at(self.tables.orders.as_slice(), v.package)),
+            Part::Package => self.instances(alloc, v.qual, v.package, trail),
             Part::Flag(f) => {
                 let instance = trail.value_of(package_var(v.qual, v.package));
                 on_first(alloc, self.default_after(f, v.package, instance))

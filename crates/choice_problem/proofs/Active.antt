@@ -46,6 +46,12 @@ find-some {X = X} test xs x h k =
       | Some y ↦ λ e. (y, refl)
     ] refl
 
+-- where none passes, none is found
+pub find-nothing : {X : Type 0} (test : X → Bool) (xs : List X) → ((x : X) → Contains xs x → test x ≡ false) → find test xs ≡ None
+find-nothing test [] h = refl
+find-nothing test (y ∷ xs) h =
+    ap (λ b. cond b (Some y) (find test xs)) (h y (contains-head y xs)) ∙ find-nothing test xs (λ x k. h x (contains-tail y xs x k))
+
 -- the first behind a variable is one of them
 pub behind-has : (v : Option Var) (vars : List Var) (w : Var) → first_behind v vars ≡ Some w → has vars w ≡ true
 behind-has None vars w h = first-has vars w h

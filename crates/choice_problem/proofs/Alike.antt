@@ -9,7 +9,8 @@ use Rattle.choice_problem.specs.Assignment.{Assignment, is_one_of}
 use Rattle.choice_problem.specs.Problem.{IsChoice}
 use Rattle.choice_problem.specs.General.{Request, General, LawfulGeneral}
 use Rattle.common_laws.specs.Graphs.{IsPath, last, more}
-use Rattle.choice_problem.specs.Holds.{IsAssignmentIn, IsEdge, HoldsWithin}
+use Rattle.choice_problem.specs.Holds.{IsAssignmentIn, IsEdge, IsAsked, HoldsWithin}
+use Rattle.choice_problem.specs.Twins.{must_agree}
 use Rattle.choice_problem.specs.ConflictSet.{first_of}
 use Rattle.choice_problem.specs.Trail.{value_in, demands_after, opens, open_vars, next_var, with_next, with_value, choice_of, trail_from, trail_of}
 use Rattle.choice_problem.specs.Valid.{IsWholeValid, IsEarlier, ComesBefore, IsFirst}
@@ -58,6 +59,11 @@ module _ (g h : General) (same : AreYesTogether g h) where
         enters = other.target ∙ edge.enters;
       }
 
+  asked-back : (set : Var → Bool) (A : Assignment) (r : Request) (asked : IsAsked h set A r) → IsAsked g set A (same.back A r asked.demand asked.yes).other
+  asked-back set A r asked =
+      let other = same.back A r asked.demand asked.yes in
+      record { demand = other.demand; yes = other.yes; inside = subst (λ x. IsTrue (set x)) (sym other.target) asked.inside }
+
   holds-there : (set : Var → Bool) (A : Assignment) → HoldsWithin g set A → HoldsWithin h set A
   holds-there set A holds = record {
     assignment = assignment-there set A holds.assignment;
@@ -67,6 +73,13 @@ module _ (g h : General) (same : AreYesTogether g h) where
         let met = holds.met other.other other.demand other.yes (subst (λ x. IsTrue (set x)) (sym other.target) inside) in
         subst (λ allowed. IsTrue (is_one_of (A r.target) allowed)) other.allowed (subst (λ x. IsTrue (is_one_of (A x) other.other.allowed)) other.target met);
     acyclic = λ v path. holds.acyclic v (path-map (IsEdge h set A) (IsEdge g set A) (edge-back set A) path);
+    agree = λ r s of-r of-s must.
+        let first = same.back A r of-r.demand of-r.yes in
+        let second = same.back A s of-s.demand of-s.yes in
+        let was : must_agree first.other.owner first.other.target second.other.owner second.other.target ≡ true =
+        ap (λ o. must_agree o first.other.target second.other.owner second.other.target) first.owner ∙ ap (λ v. must_agree r.owner v second.other.owner second.other.target) first.target
+        ∙ ap (λ o. must_agree r.owner r.target o second.other.target) second.owner ∙ ap (must_agree r.owner r.target s.owner) second.target ∙ must in
+        sym (ap A first.target) ∙ holds.agree first.other second.other (asked-back set A r of-r) (asked-back set A s of-s) was ∙ ap A second.target;
   }
 
   -- what is open in one is open in the other

@@ -2,7 +2,7 @@
 use Rattle.std.proofs.Common.{◌≡◌, ℕ, Bool, true, false, cond, not, ◌&&◌, List, [], ◌∷◌, ◌++◌, length, get_or, Option, Some, None, refl, sym, ap, ◌∙◌, subst, inl, inr, ◌⊎◌, arith}
 use Rattle.std.specs.Prelude.{is_some, find}
 use Rattle.std.specs.List.{Contains, All, flat_map}
-use Rattle.std.proofs.lemmas.Bool.{false≢true, not-true, not-false, and_parts}
+use Rattle.std.proofs.lemmas.Bool.{false≢true, not-true, not-false, eq-eqb, and_parts}
 use Rattle.std.proofs.lemmas.List.Elements.{All-contains, Contains-get_or}
 use Rattle.qualified_goals.specs.declared.variable.Var.{Var}
 use Rattle.choice_problem.specs.declared.problem.Choice.{Choice}
@@ -12,19 +12,20 @@ use Rattle.choice_problem.specs.Problem.{Problem, IsChoice, IsDemand, Lawful}
 use Rattle.choice_problem.specs.Assignment.{Assignment, is_one_of, is_yes, is_met}
 use Rattle.choice_problem.specs.General.{request_of, owner_of, general}
 use Rattle.common_laws.specs.Graphs.{IsPath, last, more}
-use Rattle.choice_problem.specs.Holds.{IsEdge, HoldsWithin}
+use Rattle.choice_problem.specs.Holds.{IsEdge, IsAsked, HoldsWithin}
 use Rattle.choice_problem.specs.Trail.{value_in}
 use Rattle.choice_problem.specs.Active.{made_active, active, vars_of}
 use Rattle.choice_problem.specs.ConflictSet.{has, set_of}
-use Rattle.choice_problem.specs.Conflict.{named_by, set_of_first, barred_set, refuses, refused_set, is_broken, broken_set, Edge, edges_from, edges_by, edges_of, leads, lies_on_cycle, circular, set_of_all, cycle_set, value_sets, lasting_sets, lasting_set, conflict}
+use Rattle.choice_problem.specs.Conflict.{named_by, set_of_first, barred_set, refuses, refused_set, is_broken, broken_set, Edge, edges_from, edges_by, edges_of, leads, lies_on_cycle, circular, set_of_all, cycle_set, first_clash, set_of_pair, agreement_set, value_sets, first_set, lasting_sets, lasting_set, conflict}
 use Rattle.choice_problem.specs.Sound.{MakesWithin, ConflictsAreSound}
 use Rattle.qualified_goals.specs.SameVariable.{same_var-is, same_var-refl}
-use Rattle.common_laws.specs.Lists.{contains-head, contains-tail, contains-none, contains-cases, contains-left, contains-append, contains-flat_map, flat_map-contains, map-contains, contains-filter, filter-none, filter-contains, any-from, any-at, filter-nothing}
+use Rattle.common_laws.specs.Lists.{contains-head, contains-tail, contains-none, contains-cases, contains-left, contains-right, contains-append, contains-flat_map, flat_map-contains, map-contains, contains-filter, filter-none, filter-contains, any-from, any-at, filter-nothing}
 use Rattle.choice_problem.proofs.Sets.{contains-has, has-set_of}
 use Rattle.choice_problem.proofs.Rules.{first-member, each-none, rest-none}
 use Rattle.choice_problem.proofs.Trails.{value_in-new, demand-general}
 use Rattle.choice_problem.proofs.Paths.{Way, start, step, way-edge, way-join, leads-way, way-leads}
 use Rattle.choice_problem.proofs.Active.{find-is, find-none, yes-from, yes-kept, active-yes, active-demand, made-is, made-demand}
+use Rattle.choice_problem.proofs.Pairs.{differ-are, clash-is}
 
 -- the variables that a demand names are in its set
 
@@ -47,6 +48,14 @@ all-named (d ∷ ds) set h = (
 pub none-named : (ds : List Demand) → set_of_all ds ≡ None → ds ≡ []
 none-named [] h = refl
 none-named (d ∷ ds) h = absurd (cc h)
+
+pair-named : (o : Option (Demand × Demand)) (set : List Var) → set_of_pair o ≡ Some set → (d : Demand) × (e : Demand) × (o ≡ Some (d, e)) × (set_of (named_by d ++ named_by e) ≡ set)
+pair-named None set h = absurd (cc h)
+pair-named (Some (d, e)) set h = (d, e, refl, cc h)
+
+none-paired : (o : Option (Demand × Demand)) → set_of_pair o ≡ None → o ≡ None
+none-paired None h = refl
+none-paired (Some (d, e)) h = absurd (cc h)
 
 none-first : (o : Option Demand) → set_of_first o ≡ None → o ≡ None
 none-first None h = refl
@@ -105,6 +114,13 @@ module _ (p : Problem) (lawful : Lawful p) where
     named-met : (d : Demand) → IsDemand p d → ((v : Var) → Contains (named_by d) v → has set v ≡ true) → is_yes (value_in trail) d ≡ true → is_one_of (A d.target) d.allowed ≡ true
     named-met d is inside h =
         holds.met (request_of d) (demand-general p d is) (named-yes d inside h) (inside d.target (contains-head d.target (vars_of d.when)))
+
+    named-asked : (d : Demand) → IsDemand p d → ((v : Var) → Contains (named_by d) v → has set v ≡ true) → is_yes (value_in trail) d ≡ true → IsAsked (general p) (has set) A (request_of d)
+    named-asked d is inside h = record {
+      demand = demand-general p d is;
+      yes = named-yes d inside h;
+      inside = inside d.target (contains-head d.target (vars_of d.when));
+    }
 
     module _ (ds : List Demand) (asked : (d : Demand) → Contains ds d → IsDemand p d × (is_yes (value_in trail) d ≡ true))
         (inside : (d : Demand) (v : Var) → Contains (circular ds) d → Contains (named_by d) v → has set v ≡ true) where
@@ -210,6 +226,22 @@ module _ (p : Problem) (lawful : Lawful p) where
         (λ d k. (active-demand p lawful after d choices k, active-yes p lawful after d k))
         all.2 all.0 all.1
 
+    agreement-sound : agreement_set (trail ++ c ∷ []) (active p (trail ++ c ∷ [])) ≡ Some set → ⊥
+    agreement-sound h =
+        let after = trail ++ c ∷ [] in
+        let (d, e, is, all) = pair-named (first_clash after (active p after)) set h in
+        let clash = clash-is after (active p after) d e is in
+        let first = λ (v : Var) (k : Contains (named_by d) v). set-has (named_by d ++ named_by e) set v all (contains-left (named_by d) (named_by e) v k) in
+        let second = λ (v : Var) (k : Contains (named_by e) v). set-has (named_by d ++ named_by e) set v all (contains-right (named_by d) (named_by e) v k) in
+        let asked = λ (x : Demand) (on : Contains (active p after) x) (inside : (v : Var) → Contains (named_by x) v → has set v ≡ true).
+        named-asked set after A holds makes x (active-demand p lawful after x choices on) inside (active-yes p lawful after x on) in
+        let values = differ-are (value_in after d.target) (value_in after e.target) clash.apart.values in
+        let of-first = makes d.target values.first (first d.target (contains-head d.target (vars_of d.when))) values.first_is in
+        let of-second = makes e.target values.second (second e.target (contains-head e.target (vars_of e.when))) values.second_is in
+        let same : Some values.first ≡ Some values.second =
+        sym of-first ∙ holds.agree (request_of d) (request_of e) (asked d clash.earlier first) (asked e clash.later second) clash.apart.must ∙ of-second in
+        false≢true (sym values.apart ∙ eq-eqb values.first values.second cc)
+
     -- what a rule gives isn't the set
     abbrev IsOther : Option (List Var) → Type 0
     IsOther o = o ≡ Some set → ⊥
@@ -229,9 +261,13 @@ module _ (p : Problem) (lawful : Lawful p) where
 
     lasting-sound : (o : Option (List Var)) → Contains (lasting_sets (trail ++ c ∷ []) (active p (trail ++ c ∷ []))) o → IsOther o
     lasting-sound o k =
-        elim (contains-cases (cycle_set (active p (trail ++ c ∷ []))) [] o k) [
+        let after = trail ++ c ∷ [] in
+        elim (contains-cases (cycle_set (active p after)) (agreement_set after (active p after) ∷ []) o k) [
           | inl e ↦ subst IsOther e cycle-sound
-          | inr none ↦ absurd (contains-none o none)
+          | inr r ↦ elim (contains-cases (agreement_set after (active p after)) [] o r) [
+            | inl e ↦ subst IsOther e agreement-sound
+            | inr none ↦ absurd (contains-none o none)
+          ]
         ]
 
     sound : conflict p trail c ≡ Some set → ⊥
@@ -255,9 +291,21 @@ and-false true b h k = h
 and-false false b h k = absurd (false≢true k)
 
 -- where the lasting rules give no set, no demand lies on a cycle
+pub lasting-circular : (trail : List Choice) (ds : List Demand) → lasting_set trail ds ≡ None → circular ds ≡ []
+lasting-circular trail ds h = none-named (circular ds) (each-none (lasting_sets trail ds) (cycle_set ds) h (contains-head (cycle_set ds) (agreement_set trail ds ∷ [])))
+
 pub lasting-acyclic : (trail : List Choice) (ds : List Demand) → lasting_set trail ds ≡ None → (d : Demand) → Contains ds d → lies_on_cycle (edges_of ds) d ≡ false
-lasting-acyclic trail ds h d k =
-    circular-none ds d (none-named (circular ds) (each-none (lasting_sets trail ds) (cycle_set ds) h (contains-head (cycle_set ds) []))) k
+lasting-acyclic trail ds h d k = circular-none ds d (lasting-circular trail ds h) k
+
+-- and no two that must agree have different values
+pub lasting-agree : (trail : List Choice) (ds : List Demand) → lasting_set trail ds ≡ None → first_clash trail ds ≡ None
+lasting-agree trail ds h =
+    none-paired (first_clash trail ds) (each-none (lasting_sets trail ds) (agreement_set trail ds) h
+    (contains-tail (cycle_set ds) (agreement_set trail ds ∷ []) (agreement_set trail ds) (contains-head (agreement_set trail ds) [])))
+
+-- where there is neither, the lasting rules give no set
+pub lasting-none : (trail : List Choice) (ds : List Demand) → circular ds ≡ [] → first_clash trail ds ≡ None → lasting_set trail ds ≡ None
+lasting-none trail ds h k = ap (λ es. first_set (set_of_all es ∷ agreement_set trail ds ∷ [])) h ∙ ap (λ o. first_set (set_of_pair o ∷ [])) k
 
 module _ (p : Problem) where
   -- the choice breaks none of the rules
@@ -273,9 +321,9 @@ module _ (p : Problem) where
       let lasting = lasting_sets (trail ++ c ∷ []) (active p (trail ++ c ∷ [])) in
       each-none (value_sets p trail c ++ lasting) o h (contains-left (value_sets p trail c) lasting o k)
 
-  lasting-none : (trail : List Choice) (c : Choice) → conflict p trail c ≡ None → lasting_set (trail ++ c ∷ []) (active p (trail ++ c ∷ [])) ≡ None
+  after-none : (trail : List Choice) (c : Choice) → conflict p trail c ≡ None → lasting_set (trail ++ c ∷ []) (active p (trail ++ c ∷ [])) ≡ None
   unfolding conflict
-  lasting-none trail c h = rest-none (value_sets p trail c) (lasting_sets (trail ++ c ∷ []) (active p (trail ++ c ∷ []))) h
+  after-none trail c h = rest-none (value_sets p trail c) (lasting_sets (trail ++ c ∷ []) (active p (trail ++ c ∷ []))) h
 
   pub free : (trail : List Choice) (c : Choice) → conflict p trail c ≡ None → IsFree trail c
   free trail c h =
@@ -292,5 +340,5 @@ module _ (p : Problem) where
         kept = λ d n k e.
             not-false (is_one_of (Some n) d.allowed)
             (subst (λ o. is_some o && not (is_one_of o d.allowed) ≡ false) e (find-none (is_broken after) (made_active p trail c) d broken k));
-        lasting = lasting-none trail c h;
+        lasting = after-none trail c h;
       }

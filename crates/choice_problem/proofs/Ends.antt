@@ -2,7 +2,7 @@
 use Rattle.std.proofs.Common.{◌≡◌, ◌≢◌, ℕ, zero, suc, ◌<◌, Bool, true, false, cond, not, ◌&&◌, List, [], ◌∷◌, ◌++◌, length, map, Some, None, refl, sym, ap, ◌∙◌, subst, inl, inr, ◌⊎◌, append_assoc}
 use Rattle.std.specs.Prelude.{is_none, is_some}
 use Rattle.std.specs.List.{Contains, All, AllPairs, list_any}
-use Rattle.std.proofs.lemmas.Bool.{false≢true}
+use Rattle.std.proofs.lemmas.Bool.{false≢true, and_right}
 use Rattle.std.proofs.lemmas.List.{append-nil}
 use Rattle.std.proofs.lemmas.List.Elements.{All-contains, All-push, All-nil}
 use Rattle.plan_types.specs.declared.limit.Limit.TheVariants.{Unlimited}
@@ -12,21 +12,23 @@ use Rattle.choice_problem.specs.declared.problem.Demand.{Demand}
 use Rattle.choice_problem.specs.declared.outcome.Counts.{Counts}
 use Rattle.choice_problem.specs.Problem.{Problem, IsChoice, IsDemand, IsRoot, Lawful}
 use Rattle.choice_problem.specs.Assignment.{Assignment, is_one_of, is_yes}
-use Rattle.choice_problem.specs.General.{Request, general}
+use Rattle.choice_problem.specs.General.{Request, request_of, general}
+use Rattle.choice_problem.specs.Twins.{must_agree}
 use Rattle.common_laws.specs.Graphs.{IsPath, last, more}
-use Rattle.choice_problem.specs.Holds.{IsEdge, HoldsWithin}
+use Rattle.choice_problem.specs.Holds.{IsEdge, IsAsked, HoldsWithin}
 use Rattle.choice_problem.specs.Trail.{value_in, next_var, with_next, choice_of, trail_from, trail_of}
 use Rattle.choice_problem.specs.Valid.{IsWholeValid, IsFirst}
 use Rattle.choice_problem.specs.Active.{active, least_open, reason}
 use Rattle.choice_problem.specs.ConflictSet.{has, set_of, union}
-use Rattle.choice_problem.specs.Conflict.{Edge, edges_from, edges_by, edges_of, leads, lies_on_cycle, set_of_all, first_set, lasting_set, conflict}
+use Rattle.choice_problem.specs.Conflict.{Edge, edges_from, edges_by, edges_of, leads, lies_on_cycle, disagree, lasting_set, conflict}
 use Rattle.choice_problem.specs.Answer.{Found, Failed, GaveUp, Answer, Manner, gives_up, one_visited, one_exhausted, after_conflict, of_value, after_end, of_values, answer_from, none_counted, answer_of}
 use Rattle.choice_problem.specs.Sound.{AdmitsNoneWith, IsRightEnd}
 use Rattle.common_laws.specs.Lists.{contains-head, contains-tail, contains-none, contains-cases, contains-append, contains-right, contains-map, map-contains, flat_map-contains, cancel-front, earlier-in-front, any-from}
 use Rattle.choice_problem.proofs.Trails.{value_in-made, value_in-kept, value_in-new, value_in-some, Passes, passes-value, passes-push, passes-front, next-none, next-unchosen, target-known, yes-after, Room, room-start, room-zero, room-next, trail-step, trail-end, passes-trail, passes-choices, choices-general, choice-general, choices-plain, demand-plain, general-lawful}
 use Rattle.choice_problem.proofs.Paths.{Way, start, step, way-leads}
 use Rattle.choice_problem.proofs.Active.{value_in-last, yes-active, yes-made, IsOpen, least-open}
-use Rattle.choice_problem.proofs.Conflicts.{and-false, of-edge, acyclic-none, lasting-acyclic, IsFree, free}
+use Rattle.choice_problem.proofs.Pairs.{no-clash, one-value}
+use Rattle.choice_problem.proofs.Conflicts.{and-false, of-edge, acyclic-none, lasting-acyclic, lasting-agree, lasting-none, IsFree, free}
 use Rattle.choice_problem.proofs.Failures.{within, within-at, restrict, open-known, value-sound, failures-sound}
 use Rattle.choice_problem.proofs.Limits.{no-limit}
 
@@ -258,8 +260,12 @@ module _ (p : Problem) (lawful : Lawful p) where
         | inr none ↦ absurd (contains-none d none)
       ]
 
+  -- and nothing has a value
+  nothing-apart : (d e : Demand) → disagree [] (d, e) ≡ false
+  nothing-apart d e = and_right (must_agree (request_of d).owner d.target (request_of e).owner e.target) false refl
+
   pub lasting-start : lasting_set [] (active p []) ≡ None
-  lasting-start = ap (λ ds. first_set (set_of_all ds ∷ [])) (acyclic-none (active p []) roots-acyclic)
+  lasting-start = lasting-none [] (active p []) (acyclic-none (active p []) roots-acyclic) (no-clash [] (active p []) (λ d e h k. nothing-apart d e))
 
   kept-start : IsKept p []
   kept-start = record { unbarred = λ c h. absurd (contains-none c h); met = λ d n is h e. absurd (cc e); lasting = lasting-start }
@@ -367,12 +373,49 @@ module _ (p : Problem) (lawful : Lawful p) where
               (found-kept.met d n plain.1 held (ap (λ (x : Request). value_in found x.target) plain.2 ∙ e))
         ] refl closed
 
+    -- a demand that is Yes, as one of those that are active, with a value
+    record IsHeld (r : Request) : Type 0 where
+      demand : Demand
+      request : request_of demand ≡ r
+      member : Contains (active p found) demand
+      value : ℕ
+      value_is : value_in found demand.target ≡ Some value
+
+    found-held : (r : Request) → IsAsked (general p) p.known (value_in found) r → IsHeld r
+    found-held r asked =
+        let (d, is, same) = demand-plain p r asked.demand in
+        let met = found-met r asked.demand asked.yes in
+        elim (value_in found d.target) as (λ o. value_in found d.target ≡ o → is_one_of o r.allowed ≡ true → IsHeld r) [
+          | None ↦ λ e k. absurd (false≢true k)
+          | Some n ↦ λ e k. record {
+            demand = d;
+            request = same;
+            member = yes-active p lawful found d is (ap (λ (x : Request). x.is_yes (value_in found)) same ∙ asked.yes);
+            value = n;
+            value_is = e;
+          }
+        ] refl (ap (λ (x : Request). is_one_of (value_in found x.target) r.allowed) same ∙ met)
+
+    found-agree : (r s : Request) → IsAsked (general p) p.known (value_in found) r → IsAsked (general p) p.known (value_in found) s → must_agree r.owner r.target s.owner s.target ≡ true
+        → value_in found r.target ≡ value_in found s.target
+    found-agree r s of-r of-s must =
+        let first = found-held r of-r in
+        let second = found-held s of-s in
+        let was : must_agree (request_of first.demand).owner first.demand.target (request_of second.demand).owner second.demand.target ≡ true =
+        ap (λ (x : Request). must_agree x.owner x.target (request_of second.demand).owner second.demand.target) first.request
+        ∙ ap (λ (x : Request). must_agree r.owner r.target x.owner x.target) second.request ∙ must in
+        ap (λ (x : Request). value_in found x.target) (sym first.request) ∙ first.value_is
+        ∙ ap Some (one-value found (active p found) first.demand second.demand first.value second.value (lasting-agree found (active p found) found-kept.lasting)
+        first.member second.member was first.value_is second.value_is)
+        ∙ sym (ap (λ (x : Request). value_in found x.target) (sym second.request) ∙ second.value_is)
+
     found-holds : HoldsWithin (general p) p.known (value_in found)
     found-holds = record {
       assignment = record { inside = λ v n h. (found-choice (choice_of v n) h).variable; choice = found-choice };
       unbarred = λ c h. found-kept.unbarred c (value_in-made found c.var c.val h);
       met = λ r is h known. found-met r is h;
       acyclic = λ v path. no-loop found v found-kept (path-loop found v v path);
+      agree = found-agree;
     }
 
     found-whole-valid : IsWholeValid (general p) (value_in found)

@@ -9,7 +9,7 @@ use Rattle.choice_problem.specs.declared.outcome.Counts.{Counts}
 use Rattle.choice_problem.specs.Problem.{Problem, IsChoice, IsDemand, Lawful}
 use Rattle.choice_problem.specs.Assignment.{Assignment, is_one_of}
 use Rattle.choice_problem.specs.General.{Request, request_of, general}
-use Rattle.choice_problem.specs.Holds.{IsEdge, HoldsWithin}
+use Rattle.choice_problem.specs.Holds.{IsEdge, IsAsked, HoldsWithin}
 use Rattle.choice_problem.specs.Trail.{with_next, choice_of}
 use Rattle.choice_problem.specs.Active.{least_open, reason}
 use Rattle.choice_problem.specs.ConflictSet.{has, set_of, union}
@@ -49,6 +49,14 @@ module _ (p : Problem) where
       subst (λ x. x.is_yes (within set A) ≡ true → x.is_yes A ≡ true) plain.2
       (λ h. yes-from (within set A) A plain.0 (λ c k e. (within-some set A c.var c.val e).1) h)
 
+  asked-wider : (large small : Var → Bool) (A : Assignment) → ((r : Request) → IsDemand (general p) r → small r.target ≡ true → large r.target ≡ true)
+      → (r : Request) → IsAsked (general p) small (within small A) r → IsAsked (general p) large A r
+  asked-wider large small A targets r asked = record {
+    demand = asked.demand;
+    yes = yes-wider small A r asked.demand asked.yes;
+    inside = targets r asked.demand asked.inside;
+  }
+
   -- what holds within a set, holds in another one that has no further targets
   pub restrict : (large small : Var → Bool) (A : Assignment) → ((r : Request) → IsDemand (general p) r → small r.target ≡ true → large r.target ≡ true)
       → HoldsWithin (general p) large A → HoldsWithin (general p) small (within small A)
@@ -74,6 +82,9 @@ module _ (p : Problem) where
           enters = e.enters;
         })
         path);
+    agree = λ r s of-r of-s must.
+        within-at small A r.target of-r.inside ∙ holds.agree r s (asked-wider large small A targets r of-r) (asked-wider large small A targets s of-s) must
+        ∙ sym (within-at small A s.target of-s.inside);
   }
 
   -- with a set that admits none a larger one does neither

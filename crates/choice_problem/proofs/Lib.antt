@@ -7,6 +7,7 @@ pub mod InOrder
 pub mod Trails
 pub mod Paths
 pub mod Active
+pub mod Pairs
 pub mod Conflicts
 pub mod Failures
 pub mod Ends

@@ -1,12 +1,19 @@
 -- One choice more or less at the end of a trail.
-use Rattle.std.proofs.Common.{◌≡◌, ℕ, true, false, cond, List, [], ◌∷◌, ◌++◌, Some, None, refl, sym, ap, ◌∙◌, subst}
+use Rattle.std.proofs.Common.{◌≡◌, ℕ, ◌-◌, true, false, cond, List, [], ◌∷◌, ◌++◌, length, take, Some, None, refl, sym, ap, ◌∙◌, subst, arith, append-nil, length-append}
+use Rattle.std.specs.Prelude.{nat_eq}
+use Rattle.std.specs.List.{filter}
+use Rattle.std.proofs.Math.Seq.{take-append_seam}
 use Rattle.std.proofs.lemmas.Bool.{false≢true}
+use Rattle.std.proofs.lemmas.List.Elements.{filter-append}
+use Rattle.indexmap.specs.IndexMap.{IndexMap}
+use Rattle.keyed_lists.specs.Lists.{all_but_last, items_at}
 use Rattle.qualified_goals.specs.declared.variable.Var.{Var}
 use Rattle.qualified_goals.specs.Variable.{same_var}
 use Rattle.qualified_goals.specs.SameVariable.{same_var-is}
 use Rattle.choice_problem.specs.declared.problem.Choice.{Choice}
 use Rattle.choice_problem.specs.Table.{entry, with_entry, without_entry}
 use Rattle.choice_problem.specs.Trail.{value_in, AreNew, IsTrail}
+use Rattle.choice_problem.specs.Twins.{is_of_package}
 use Rattle.choice_problem.specs.Trail.AreNew.{before_any, one_more}
 
 -- a list with one item more
@@ -74,20 +81,58 @@ new-last (one_more {before = before} new d free is) front c e =
 
 -- what is kept of a trail
 
-pub trail-push : (front trail : List Choice) (old new : List (Var × ℕ)) (c : Choice) → IsTrail front old → value_in front c.var ≡ None → trail ≡ front ++ c ∷ []
-    → ((v : Var) → entry new v ≡ with_entry c.var c.val (entry old) v) → IsTrail trail new
-trail-push front trail old new c h free is updates = record {
+-- the choices of a package's instances, with one choice more
+pub instances-push : (front : List Choice) (c : Choice) (n : ℕ) → filter (is_of_package n) (front ++ c ∷ []) ≡ filter (is_of_package n) front ++ filter (is_of_package n) (c ∷ [])
+instances-push front c n = filter-append (is_of_package n) front (c ∷ [])
+
+-- and with the last one taken off
+last-off : (xs : List Choice) (x : Choice) → all_but_last (xs ++ x ∷ []) ≡ xs
+last-off xs x =
+    let count : length (xs ++ x ∷ []) - 1 ≡ length xs = omega (arith, length-append xs (x ∷ [])) in
+    ap (λ n. take n (xs ++ x ∷ [])) count ∙ take-append_seam xs (x ∷ [])
+
+instances-pop : (front : List Choice) (c : Choice) (n : ℕ) → cond (is_of_package n c) (all_but_last (filter (is_of_package n) (front ++ c ∷ []))) (filter (is_of_package n) (front ++ c ∷ []))
+    ≡ filter (is_of_package n) front
+instances-pop front c n =
+    ap (λ l. cond (is_of_package n c) (all_but_last l) l) (instances-push front c n)
+    ∙ elim (is_of_package n c) as (λ b. cond b (all_but_last (filter (is_of_package n) front ++ cond b (c ∷ []) [])) (filter (is_of_package n) front ++ cond b (c ∷ []) []) ≡ filter (is_of_package n) front) [
+      | true ↦ last-off (filter (is_of_package n) front) c
+      | false ↦ append-nil (filter (is_of_package n) front)
+    ]
+
+pub trail-push : {S : Type 0} (front trail : List Choice) (old new : List (Var × ℕ)) (were are : IndexMap ℕ (List Choice) S) (c : Choice) → IsTrail front old were → value_in front c.var ≡ None → trail ≡ front ++ c ∷ []
+    → ((v : Var) → entry new v ≡ with_entry c.var c.val (entry old) v) → ((n : ℕ) → items_at nat_eq are n ≡ items_at nat_eq were n ++ filter (is_of_package n) (c ∷ [])) → IsTrail trail new are
+trail-push front trail old new were are c h free is updates more = record {
   new = one_more {before = front} h.new c free is;
   values = λ v. updates v ∙ ap (λ o. cond (same_var c.var v) (Some c.val) o) (h.values v) ∙ sym (value-push front c v free) ∙ ap (λ t. value_in t v) (sym is);
+  instances_are = λ n.
+      more n ∙ ap (λ l. l ++ filter (is_of_package n) (c ∷ [])) (h.instances_are n) ∙ sym (instances-push front c n) ∙ ap (filter (is_of_package n)) (sym is);
 }
 
-pub trail-pop : (front trail : List Choice) (old new : List (Var × ℕ)) (c : Choice) → IsTrail trail old → trail ≡ front ++ c ∷ []
-    → ((v : Var) → entry new v ≡ without_entry c.var (entry old) v) → IsTrail front new
-trail-pop front trail old new c h is updates = record {
+pub trail-pop : {S : Type 0} (front trail : List Choice) (old new : List (Var × ℕ)) (were are : IndexMap ℕ (List Choice) S) (c : Choice) → IsTrail trail old were → trail ≡ front ++ c ∷ []
+    → ((v : Var) → entry new v ≡ without_entry c.var (entry old) v)
+    → ((n : ℕ) → items_at nat_eq are n ≡ cond (is_of_package n c) (all_but_last (items_at nat_eq were n)) (items_at nat_eq were n)) → IsTrail front new are
+trail-pop front trail old new were are c h is updates less = record {
   new = new-front h.new front c is;
   values = λ v.
       updates v ∙ ap (λ o. cond (same_var c.var v) None o) (h.values v ∙ ap (λ t. value_in t v) is) ∙ value-pop front c v (new-last h.new front c is);
+  instances_are = λ n.
+      less n ∙ ap (λ l. cond (is_of_package n c) (all_but_last l) l) (h.instances_are n ∙ ap (filter (is_of_package n)) is) ∙ instances-pop front c n;
 }
 
-pub trail-none : (trail : List Choice) (table : List (Var × ℕ)) → trail ≡ [] → ((v : Var) → entry table v ≡ None) → IsTrail trail table
-trail-none trail table is none = record { new = subst (λ (t : List Choice). AreNew t) (sym is) before_any; values = λ v. none v ∙ ap (λ t. value_in t v) (sym is) }
+-- where the tables have what they had, so have the choices
+pub trail-same : {S : Type 0} (old trail : List Choice) (before after : List (Var × ℕ)) (were are : IndexMap ℕ (List Choice) S) → IsTrail old before were → trail ≡ old
+    → ((v : Var) → entry after v ≡ entry before v) → ((n : ℕ) → items_at nat_eq are n ≡ items_at nat_eq were n) → IsTrail trail after are
+trail-same old trail before after were are h is values instances = record {
+  new = subst (λ (t : List Choice). AreNew t) (sym is) h.new;
+  values = λ v. values v ∙ h.values v ∙ ap (λ t. value_in t v) (sym is);
+  instances_are = λ n. instances n ∙ h.instances_are n ∙ ap (filter (is_of_package n)) (sym is);
+}
+
+pub trail-none : {S : Type 0} (trail : List Choice) (table : List (Var × ℕ)) (instances : IndexMap ℕ (List Choice) S) → trail ≡ [] → ((v : Var) → entry table v ≡ None)
+    → ((n : ℕ) → items_at nat_eq instances n ≡ []) → IsTrail trail table instances
+trail-none trail table instances is none empty = record {
+  new = subst (λ (t : List Choice). AreNew t) (sym is) before_any;
+  values = λ v. none v ∙ ap (λ t. value_in t v) (sym is);
+  instances_are = λ n. empty n ∙ ap (filter (is_of_package n)) (sym is);
+}

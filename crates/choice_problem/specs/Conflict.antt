@@ -1,5 +1,5 @@
 -- The conflict of one choice of an open variable: the set of the first rule that it breaks.
-use Rattle.std.specs.Prelude.{ℕ, zero, suc, Bool, cond, not, ◌&&◌, ◌||◌, List, [], ◌∷◌, ◌++◌, length, Option, Some, None, is_some, filter, find, flat_map}
+use Rattle.std.specs.Prelude.{ℕ, zero, suc, Bool, cond, not, ◌&&◌, ◌||◌, List, [], ◌∷◌, ◌++◌, length, Option, Some, None, is_some, filter, find, flat_map, map}
 use Rattle.std.specs.List.{list_any}
 use Rattle.qualified_goals.specs.declared.variable.Var.{Var}
 use Rattle.choice_problem.specs.declared.problem.Choice.{Choice}
@@ -7,6 +7,8 @@ use Rattle.choice_problem.specs.declared.problem.Demand.{Demand}
 use Rattle.qualified_goals.specs.Variable.{same_var}
 use Rattle.choice_problem.specs.Assignment.{is_one_of, is_met}
 use Rattle.choice_problem.specs.Problem.{Problem}
+use Rattle.choice_problem.specs.General.{owner_of}
+use Rattle.choice_problem.specs.Twins.{must_agree, differ}
 use Rattle.choice_problem.specs.Trail.{value_in}
 use Rattle.choice_problem.specs.Active.{made_active, active, vars_of}
 use Rattle.choice_problem.specs.ConflictSet.{set_of}
@@ -80,6 +82,28 @@ set_of_all (d ∷ demands) = Some (set_of (flat_map named_by (d ∷ demands)))
 abbrev pub cycle_set : List Demand → Option (List Var)
 cycle_set demands = set_of_all (circular demands)
 
+-- whether two demands must agree, and their targets have values that differ
+abbrev pub disagree : List Choice → Demand × Demand → Bool
+disagree trail (d, e) = must_agree (owner_of d.when) d.target (owner_of e.when) e.target && differ (value_in trail d.target) (value_in trail e.target)
+
+-- the pairs of some demands of which the later one stands behind others: by the later one, and then by the earlier
+abbrev pub pairs_behind : List Demand → List Demand → List (Demand × Demand)
+pairs_behind before [] = []
+pairs_behind before (d ∷ rest) = map (λ e. (e, d)) before ++ pairs_behind (before ++ d ∷ []) rest
+
+-- the first pair that disagrees
+unfoldable pub first_clash : List Choice → List Demand → Option (Demand × Demand)
+first_clash trail demands = find (disagree trail) (pairs_behind [] demands)
+
+-- the set of the variables that two demands name, where there are two
+abbrev pub set_of_pair : Option (Demand × Demand) → Option (List Var)
+set_of_pair None = None
+set_of_pair (Some (d, e)) = Some (set_of (named_by d ++ named_by e))
+
+-- 5. Two active demands that must agree have targets with values that differ.
+abbrev pub agreement_set : List Choice → List Demand → Option (List Var)
+agreement_set trail demands = set_of_pair (first_clash trail demands)
+
 -- the first of some sets, of which each may be missing
 abbrev pub first_set : List (Option (List Var)) → Option (List Var)
 first_set [] = None
@@ -92,7 +116,7 @@ value_sets p trail c = barred_set p c ∷ refused_set p trail c ∷ broken_set p
 
 -- The rules that last: they are of choices and the demands that are active after them, whichever choice came last.
 abbrev pub lasting_sets : List Choice → List Demand → List (Option (List Var))
-lasting_sets trail demands = cycle_set demands ∷ []
+lasting_sets trail demands = cycle_set demands ∷ agreement_set trail demands ∷ []
 
 -- the set of the first lasting rule that is broken, if any is
 abbrev pub lasting_set : List Choice → List Demand → Option (List Var)

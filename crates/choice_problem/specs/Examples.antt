@@ -15,7 +15,7 @@ use Rattle.choice_problem.specs.Trail.{open_vars, next_var, trail_of, choice_of}
 use Rattle.choice_problem.specs.Valid.{ComesBefore}
 use Rattle.choice_problem.specs.ConflictSet.{set_of, has}
 use Rattle.choice_problem.specs.Active.{made_active, active, reason}
-use Rattle.choice_problem.specs.Conflict.{circular, conflict}
+use Rattle.choice_problem.specs.Conflict.{circular, first_clash, conflict}
 use Rattle.choice_problem.specs.Answer.{Found, Failed, GaveUp, counts_of, answer_of, plain_count, outcome_of}
 use Rattle.choice_problem.specs.Written.{problem_of}
 
@@ -134,7 +134,7 @@ better = record {
 
 -- the search tries seven values: b's value 1 makes c's value 1 break a demand, and c's value 0 asks for what is gone
 pub late_found : answer_of late Unlimited ≡ record { ended = Found plan_trail; counts = counts_of 7 2 }
-unfolding answer_of open_vars reason conflict circular made_active active
+unfolding answer_of open_vars reason conflict circular first_clash made_active active
 late_found = refl
 
 -- sets are in goal order, with each variable once
@@ -185,22 +185,22 @@ rules = problem_of
     (asks (choice 0 0) 1 (0 ∷ 2 ∷ []) ∷ asks (choice 1 0) 2 [] ∷ [])
 
 pub by_bar : conflict rules (choice 0 0 ∷ []) (choice 1 2) ≡ Some (package_var 1 ∷ [])
-unfolding conflict circular made_active active
+unfolding conflict circular first_clash made_active active
 by_bar = refl
 
 -- the package 0 is active already and doesn't allow 1's value 1
 pub by_refusal : conflict rules (choice 0 0 ∷ []) (choice 1 1) ≡ Some (package_var 0 ∷ package_var 1 ∷ [])
-unfolding conflict circular made_active active
+unfolding conflict circular first_clash made_active active
 by_refusal = refl
 
 -- the demand of 1's value 0 becomes active, and doesn't allow what 2 has
 pub by_breach : conflict rules (choice 0 0 ∷ choice 2 0 ∷ []) (choice 1 0) ≡ Some (package_var 1 ∷ package_var 2 ∷ [])
-unfolding conflict circular made_active active
+unfolding conflict circular first_clash made_active active
 by_breach = refl
 
 -- as long as 2 isn't chosen it does no harm
 pub no_conflict : conflict rules (choice 0 0 ∷ []) (choice 1 0) ≡ None
-unfolding conflict circular made_active active
+unfolding conflict circular first_clash made_active active
 no_conflict = refl
 
 -- 0 asks for 1, which asks back where its flag is on: the set of the cycle has the flag, and 3 lies on none
@@ -215,11 +215,11 @@ ring = problem_of
     ∷ record { when = choice 1 0 ∷ []; target = flag_var 1 0; allowed = 0 ∷ 1 ∷ [] } ∷ asks_back ∷ [])
 
 pub by_cycle : conflict ring (choice 0 0 ∷ choice 1 0 ∷ []) (choice_of (flag_var 1 0) 1) ≡ Some (package_var 0 ∷ package_var 1 ∷ flag_var 1 0 ∷ [])
-unfolding conflict circular made_active active
+unfolding conflict circular first_clash made_active active
 by_cycle = refl
 
 pub off_cycle : conflict ring (choice 0 0 ∷ choice 1 0 ∷ []) (choice_of (flag_var 1 0) 0) ≡ None
-unfolding conflict circular made_active active
+unfolding conflict circular first_clash made_active active
 off_cycle = refl
 
 -- Backjumps and counts. The packages 0 to 2 are asked for, and what 3 asks for isn't allowed by 0's only value, so that
@@ -232,20 +232,20 @@ far = problem_of
 
 -- each value of 0 tries 1, 2 and 3 once: three exhausted points, of which the last is the first one
 pub far_failed : answer_of far Unlimited ≡ record { ended = Failed (package_var 0 ∷ package_var 3 ∷ []); counts = counts_of 8 3 }
-unfolding answer_of open_vars reason conflict circular made_active active
+unfolding answer_of open_vars reason conflict circular first_clash made_active active
 far_failed = refl
 
 -- without leaving a point early there are more tries
 pub far_plain : plain_count far ≡ 22
-unfolding plain_count open_vars reason conflict circular made_active active
+unfolding plain_count open_vars reason conflict circular first_clash made_active active
 far_plain = refl
 
 -- the limit 1 is met at the second exhausted point, which isn't counted
 pub far_limit : answer_of far (At 1) ≡ record { ended = GaveUp; counts = counts_of 8 1 }
-unfolding answer_of open_vars reason conflict circular made_active active
+unfolding answer_of open_vars reason conflict circular first_clash made_active active
 far_limit = refl
 
 -- the limit 2 is met at the first point alone, which never gives up
 pub first_point : outcome_of (answer_of far (At 2)) ≡ outcome.NoPlan (package_var 0 ∷ package_var 3 ∷ []) (counts_of 8 3)
-unfolding answer_of open_vars reason conflict circular made_active active
+unfolding answer_of open_vars reason conflict circular first_clash made_active active
 first_point = refl

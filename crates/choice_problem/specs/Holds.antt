@@ -5,6 +5,7 @@ use Rattle.choice_problem.specs.declared.problem.Choice.{Choice}
 use Rattle.choice_problem.specs.Assignment.{Assignment, is_one_of}
 use Rattle.choice_problem.specs.Problem.{IsChoice, IsDemand}
 use Rattle.choice_problem.specs.General.{Request, General}
+use Rattle.choice_problem.specs.Twins.{must_agree}
 use Rattle.common_laws.specs.Graphs.{HasNoCycle}
 
 -- the values are those of known variables of the set, and of their domains
@@ -23,12 +24,23 @@ pub record IsEdge (g : General) (set : Var → Bool) (A : Assignment) (from to :
   pub leaves : owner.var ≡ from
   pub enters : request.target ≡ to
 
+-- a demand that is Yes, with its target in the set
+pub record IsAsked (g : General) (set : Var → Bool) (A : Assignment) (r : Request) : Type 0 where
+  pub demand : IsDemand g r
+  pub yes : IsTrue (r.is_yes A)
+  pub inside : IsTrue (set r.target)
+
+-- demands that must agree have targets with one value
+abbrev pub HaveOneValue : Assignment → Request → Request → Type 0
+HaveOneValue A r s = IsTrue (must_agree r.owner r.target s.owner s.target) → A r.target ≡ A s.target
+
 -- A gives values to variables of the set alone, and within it breaks nothing
 pub record HoldsWithin (g : General) (set : Var → Bool) (A : Assignment) : Type 0 where
   pub assignment : IsAssignmentIn g set A
   pub unbarred : (c : Choice) → A c.var ≡ Some c.val → IsFalse (g.barred c)
   pub met : (r : Request) → IsDemand g r → IsTrue (r.is_yes A) → IsTrue (set r.target) → IsTrue (is_one_of (A r.target) r.allowed)
   pub acyclic : HasNoCycle (IsEdge g set A)
+  pub agree : (r s : Request) → IsAsked g set A r → IsAsked g set A s → HaveOneValue A r s
 
 -- no assignment holds within the set
 abbrev pub AdmitsNone : General → (Var → Bool) → Type 0

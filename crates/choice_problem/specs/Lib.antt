@@ -1,6 +1,7 @@
 pub mod Problem
 pub mod Assignment
 pub mod General
+pub mod Twins
 pub mod Holds
 pub mod Table
 pub mod Trail

@@ -1,11 +1,14 @@
 -- The trail of an assignment: its choices in the order in which demands open their variables.
-use Rattle.std.specs.Prelude.{◌≡◌, ℕ, zero, suc, Bool, cond, ◌&&◌, List, [], ◌∷◌, ◌++◌, Option, Some, None, is_none, filter, map, flat_map}
+use Rattle.std.specs.Prelude.{◌≡◌, ℕ, zero, suc, Bool, cond, ◌&&◌, List, [], ◌∷◌, ◌++◌, Option, Some, None, is_none, filter, map, flat_map, nat_eq}
 use Rattle.qualified_goals.specs.declared.variable.Var.{Var}
 use Rattle.choice_problem.specs.declared.problem.Choice.{Choice}
 use Rattle.qualified_goals.specs.Variable.{same_var}
 use Rattle.choice_problem.specs.Assignment.{Assignment}
 use Rattle.choice_problem.specs.Problem.{ProblemOf}
+use Rattle.indexmap.specs.IndexMap.{IndexMap}
+use Rattle.keyed_lists.specs.Lists.{items_at}
 use Rattle.choice_problem.specs.Table.{entry}
+use Rattle.choice_problem.specs.Twins.{is_of_package}
 use Rattle.choice_problem.specs.General.{Request, General}
 use Rattle.choice_problem.specs.ConflictSet.{first_of, set_of}
 
@@ -19,10 +22,11 @@ pub data AreNew : List Choice → Type 0 where
   before_any : AreNew []
   one_more : {before : List Choice} {all : List Choice} → AreNew before → (c : Choice) → value_in before c.var ≡ None → all ≡ before ++ c ∷ [] → AreNew all
 
--- what a trail keeps of its choices: each is of another variable, and the table has their values
-pub record IsTrail (choices : List Choice) (table : List (Var × ℕ)) : Type 0 where
+-- what a trail keeps of its choices: each is of another variable, one table has their values, and another those of each package's instances
+pub record IsTrail {S : Type 0} (choices : List Choice) (table : List (Var × ℕ)) (instances : IndexMap ℕ (List Choice) S) : Type 0 where
   pub new : AreNew choices
   pub values : (v : Var) → entry table v ≡ value_in choices v
+  pub instances_are : (n : ℕ) → items_at nat_eq instances n ≡ filter (is_of_package n) choices
 
 -- the demands so far: the roots, and those that the choices own
 abbrev pub demands_after : {D : Type 0} → ProblemOf D → List Choice → List D

@@ -12,6 +12,7 @@ mod rising;
 mod steps;
 mod table;
 mod trail;
+mod values;
 mod written;
 
 pub use conflict_set::ConflictSet;
@@ -21,10 +22,11 @@ pub use laws::{
 };
 pub use outcome::{Counts, Outcome};
 pub use plan_types::Limit;
-pub use problem::{Choice, Choices, Demand};
+pub use problem::{Choice, Choices, Demand, push_named};
 pub use qualified_goals::{Names, Part, Qual, Var, is_before, is_same};
 pub use rising::{place_of, stands_at};
 pub use steps::Steps;
 pub use table::Table;
 pub use trail::Trail;
+pub use values::Values;
 pub use written::{Written, WrittenVar};

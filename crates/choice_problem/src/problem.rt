@@ -1,5 +1,6 @@
 // What a problem answers, and what it is made of.
-ghost use Rattle.std.specs.Prelude.{◌≡◌, IfOk, IsTrue, All};
+ghost use Rattle.std.specs.Prelude.{◌≡◌, ◌++◌, IfOk, IsTrue, OnOk, All};
+ghost use Rattle.choice_problem.specs.Conflict.{named_by};
 ghost use Rattle.choice_problem.specs.Problem.{Problem, IsChoice, Lawful};
 
 use crate::{Trail, Var};
@@ -20,6 +21,17 @@ pub struct Demand {
     pub when: List<Choice>,
     pub target: Var,
     pub allowed: List<u64>,
+}
+
+/// Puts the variables that a demand names behind others: its target, and those of its condition.
+pub fn push_named(named: &mut Vec<Var>, demand: &Demand) -> Result<(), NoMemory>
+    ensures { OnOk result (named.new.items ≡ named.old.items ++ named_by demand.now) }
+{
+    named.push(demand.target)?;
+    for c in demand.when.as_slice() {
+        named.push(c.var)?;
+    }
+    Ok(())
 }
 
 /// A problem of choices. Each answer is a function of the arguments, which `problem` collects.

@@ -1,10 +1,17 @@
 // The choices of a search, with their values by variable.
-ghost use Rattle.std.specs.Prelude.{◌≡◌, ◌++◌, ◌∷◌, [], None, is_some, OnOk, OnErr, MatchOption};
+ghost use Rattle.std.specs.Prelude.{◌≡◌, ◌++◌, ◌∷◌, [], None, ℕ, cond, filter, is_some, nat_eq, OnOk, OnErr, MatchOption};
+ghost use Rattle.qualified_goals.specs.declared.variable.Var.{Var};
+ghost use Rattle.keyed_lists.specs.Lists.{all_but_last, items_at};
+ghost use Rattle.choice_problem.specs.Table.{entry, with_entry};
 ghost use Rattle.choice_problem.specs.Trail.{value_in};
+ghost use Rattle.choice_problem.specs.Twins.{is_of_package};
 
 use crate::table::Table;
 use crate::{Choice, Var};
+use indexmap::IndexMap;
+use keyed_lists::{Lists, items_at, pop_at, push_at};
 use plan_types::{List, NoMemory};
+use qualified_goals::Part;
 use std::alloc::Global;
 use std::marker::Model;
 
@@ -13,6 +20,8 @@ use std::marker::Model;
 pub struct Trail {
     choices: List<Choice>,
     values: Table,
+    // By the number of the package.
+    instances: Lists<u64, Choice>,
 }
 
 impl Model for Trail {
@@ -24,7 +33,7 @@ impl Model for Trail {
 
     ghost view = { λ t. t.choices };
 
-    ghost invariant = { λ t. IsTrail t.choices t.values };
+    ghost invariant = { λ t. IsTrail t.choices t.values t.instances };
 }
 
 impl Trail {
@@ -35,6 +44,7 @@ impl Trail {
         Trail {
             choices: List::new(alloc),
             values: Table::new(alloc),
+            instances: IndexMap::new(alloc),
         }
     }
 
@@ -65,14 +75,21 @@ impl Trail {
         self.values.has(v)
     }
 
+    /// The choices of a package's instances, under any qualifier.
+    pub fn instances_of(&self, package: u64) -> &[Choice]
+        ensures { result.now ≡ filter (is_of_package «package») self.now }
+    {
+        items_at(&self.instances, &package)
+    }
+
     /// Appends a choice of a variable that has no value yet.
-    pub fn push(&mut self, c: Choice) -> Result<(), NoMemory>
+    pub fn push(&mut self, alloc: Global, c: Choice) -> Result<(), NoMemory>
         requires { value_in self.old c.var ≡ None }
         ensures ok { OnOk result (self.new ≡ self.old ++ c ∷ []) }
         ensures err { OnErr result (self.new ≡ self.old) }
     {
         self.choices.push(c)?;
-        if self.values.set(c.var, c.val).is_err() {
+        if keep(alloc, &mut self.values, &mut self.instances, c).is_err() {
             self.choices.pop();
             return Err(NoMemory);
         }
@@ -87,6 +104,51 @@ impl Trail {
             return None;
         };
         self.values.remove(c.var);
+        drop_instance(&mut self.instances, c);
         Some(c)
+    }
+}
+
+// Keeps a choice of a variable that has no value yet in both tables.
+fn keep(
+    alloc: Global,
+    values: &mut Table,
+    instances: &mut Lists<u64, Choice>,
+    c: Choice,
+) -> Result<(), NoMemory>
+    requires { entry values.old c.var ≡ None }
+    ensures values { OnOk result ((v : Var) → entry values.new v ≡ with_entry c.var c.val (entry values.old) v) }
+    ensures instances { OnOk result ((n : ℕ) → items_at nat_eq instances.new n ≡ items_at nat_eq instances.old n ++ filter (is_of_package n) (c ∷ [])) }
+    ensures no_value { OnErr result ((v : Var) → entry values.new v ≡ entry values.old v) }
+    ensures no_instance { OnErr result ((n : ℕ) → items_at nat_eq instances.new n ≡ items_at nat_eq instances.old n) }
+{
+    values.set(c.var, c.val)?;
+    if add_instance(alloc, instances, c).is_err() {
+        values.remove(c.var);
+        return Err(NoMemory);
+    }
+    Ok(())
+}
+
+fn add_instance(
+    alloc: Global,
+    instances: &mut Lists<u64, Choice>,
+    c: Choice,
+) -> Result<(), NoMemory>
+    ensures ok { OnOk result ((n : ℕ) → items_at nat_eq instances.new n ≡ items_at nat_eq instances.old n ++ filter (is_of_package n) (c ∷ [])) }
+    ensures err { OnErr result ((n : ℕ) → items_at nat_eq instances.new n ≡ items_at nat_eq instances.old n) }
+{
+    match c.var.part {
+        Part::Package => push_at(alloc, instances, c.var.package, c),
+        Part::Flag(_) | Part::Tests | Part::Benches => Ok(()),
+    }
+}
+
+fn drop_instance(instances: &mut Lists<u64, Choice>, c: Choice)
+    ensures { (n : ℕ) → items_at nat_eq instances.new n ≡ cond (is_of_package n c) (all_but_last (items_at nat_eq instances.old n)) (items_at nat_eq instances.old n) }
+{
+    match c.var.part {
+        Part::Package => pop_at(instances, &c.var.package),
+        Part::Flag(_) | Part::Tests | Part::Benches => {}
     }
 }

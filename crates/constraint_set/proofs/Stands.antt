@@ -8,7 +8,7 @@ use Rattle.qualified_goals.specs.Names.{NameTable, is_listed}
 use Rattle.constraint_set.specs.declared.constraints.Constraints.{Constraints}
 use Rattle.constraint_set.specs.declared.rules.Setting.{Setting}
 use Rattle.constraint_set.specs.Bars.{asks, bars, bars_part, boot_libraries, excludes, is_met, is_unit, is_value, names_flag, wants}
-use Rattle.constraint_set.specs.Lists.{items_at}
+use Rattle.keyed_lists.specs.Lists.{items_at}
 use Rattle.constraint_set.specs.Rules.{is_set, rule_bars, settings_at}
 use Rattle.constraint_set.specs.Stands.{StandsFor}
 use Rattle.constraint_set.proofs.Asked.{rules-bar, settings-ask, settings-name}

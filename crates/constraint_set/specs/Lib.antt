@@ -1,7 +1,6 @@
 pub mod Bars
 pub mod Relaxed
 pub mod Relaxing
-pub mod Lists
 pub mod NumberedScope
 pub mod Rules
 pub mod Stands

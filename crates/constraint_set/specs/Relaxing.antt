@@ -6,7 +6,7 @@ use Rattle.plan_types.specs.declared.dependency.Relax.{Relax}
 use Rattle.plan_types.specs.declared.dependency.RelaxOwner.{RelaxOwner}
 use Rattle.plan_types.specs.declared.index.Instance.{Instance}
 use Rattle.qualified_goals.specs.Names.{Name}
-use Rattle.constraint_set.specs.Lists.{items_at}
+use Rattle.keyed_lists.specs.Lists.{items_at}
 use Rattle.constraint_set.specs.Relaxed.{is_dep, is_owner, relaxes}
 use Rattle.constraint_set.specs.declared.relaxing.Relaxing.{Relaxing}
 

@@ -11,7 +11,7 @@ use Rattle.qualified_goals.specs.declared.variable.Part.{Part}
 use Rattle.qualified_goals.specs.declared.variable.Part.TheVariants.{Package, Flag, Tests as TestPart, Benches as BenchPart}
 use Rattle.qualified_goals.specs.Names.{NameTable}
 use Rattle.constraint_set.specs.Bars.{is_on, is_unit, is_value, values_of}
-use Rattle.constraint_set.specs.Lists.{items_at}
+use Rattle.keyed_lists.specs.Lists.{items_at}
 use Rattle.constraint_set.specs.NumberedScope.{numbered, numbered_holds}
 use Rattle.constraint_set.specs.declared.numbered_scope.NumberedScope.{NumberedScope}
 use Rattle.constraint_set.specs.declared.rules.Wanted.{Wanted}

@@ -7,14 +7,14 @@ ghost use Rattle.qualified_goals.specs.Names.{NameTable, is_listed};
 ghost use Rattle.version_range.specs.Version.{has_versions};
 ghost use Rattle.version_range.specs.Cuts.{Relaxes, inside};
 ghost use Rattle.constraint_set.specs.Bars.{bars, bars_part, boot_libraries, is_unit, is_value, names_flag, wants};
-ghost use Rattle.constraint_set.specs.Lists.{items_at};
+ghost use Rattle.keyed_lists.specs.Lists.{items_at};
 ghost use Rattle.constraint_set.specs.Relaxed.{relaxes};
 ghost use Rattle.constraint_set.specs.Rules.{is_set, rule_bars, settings_at};
 ghost use Rattle.constraint_set.specs.Stands.{StandsFor};
 
-use crate::lists::items_at;
 use crate::relaxing::Relaxing;
 use crate::rules::{PartOf, Rules, Setting, is_unit};
+use keyed_lists::items_at;
 use plan_types::{Instance, NoMemory, Project, Range, Text};
 use qualified_goals::{Names, Part, Var};
 use std::alloc::Global;

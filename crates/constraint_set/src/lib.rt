@@ -4,10 +4,8 @@
 #![tactic(auto)]
 
 mod constraints;
-mod lists;
 mod numbered_scope;
 mod relaxing;
 mod rules;
 
 pub use constraints::Constraints;
-pub use lists::{Lists, items_at, push_at};

@@ -3,12 +3,12 @@ ghost use Rattle.std.specs.Prelude.{◌≡◌, ◌++◌, [], ◌∷◌, IfOk, On
 ghost use Rattle.std.specs.List.{list_any};
 ghost use Rattle.qualified_goals.specs.Names.{Name};
 ghost use Rattle.plan_types.specs.Bytes.{same_text};
-ghost use Rattle.constraint_set.specs.Lists.{items_at};
+ghost use Rattle.keyed_lists.specs.Lists.{items_at};
 ghost use Rattle.constraint_set.specs.Relaxed.{is_owner, is_version};
 ghost use Rattle.constraint_set.specs.Relaxing.{AddsOwner, AddsRelax, RelaxesAs, is_relaxing};
 
-use crate::lists::{Lists, items_at, push_at};
 use indexmap::IndexMap;
+use keyed_lists::{Lists, items_at, push_at};
 use plan_types::{Instance, NoMemory, Relax, RelaxOwner, Text, Version};
 use std::alloc::Global;
 

@@ -5,9 +5,9 @@ ghost use Rattle.constraint_set.specs.Bars.{is_unit, is_value, set_values};
 ghost use Rattle.constraint_set.specs.NumberedScope.{numbered};
 ghost use Rattle.constraint_set.specs.Rules.{AddsRules, AddsSettings, RulesAre, at_package, at_part, excluded, is_set, rule_bars, rules_of, rules_on, settings_as, settings_of, settings_on};
 
-use crate::lists::{Lists, push_at};
 use crate::numbered_scope::NumberedScope;
 use indexmap::IndexMap;
+use keyed_lists::{Lists, push_at};
 use plan_types::{Constraint, FlagSet, Instance, NoMemory, Origin, Range, What};
 use qualified_goals::{Names, Part, Qual};
 use std::alloc::Global;

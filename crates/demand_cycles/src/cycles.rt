@@ -9,7 +9,7 @@ ghost use Rattle.demand_cycles.specs.Cycles.{HasEdge, AreAncestors, leads_to_any
 ghost use Rattle.demand_cycles.specs.Side.{IsSide, reversed};
 
 use crate::side::{Side, add_keys, are_apart, have_met, is_around};
-use choice_problem::{ConflictSet, Demand, Var, is_same};
+use choice_problem::{ConflictSet, Demand, Var, is_same, push_named};
 use indexmap::IndexSet;
 use plan_types::{List, NoMemory};
 use std::alloc::Global;
@@ -104,16 +104,6 @@ pub fn push_owner(owners: &mut Vec<Var>, demand: &Demand) -> Result<(), NoMemory
 {
     if let [owner, ..] = demand.when.as_slice() {
         owners.push(owner.var)?;
-    }
-    Ok(())
-}
-
-fn push_named(named: &mut Vec<Var>, demand: &Demand) -> Result<(), NoMemory>
-    ensures { OnOk result (named.new.items ≡ named.old.items ++ named_by demand.now) }
-{
-    named.push(demand.target)?;
-    for c in demand.when.as_slice() {
-        named.push(c.var)?;
     }
     Ok(())
 }

@@ -9,7 +9,7 @@ use Rattle.std.proofs.lemmas.Option.{slice_get-get_or, slice_get_within, get_or_
 use Rattle.common_laws.specs.Lists.{contains-head, contains-tail, contains-left, contains-right}
 use Rattle.choice_problem.proofs.Paths.{parted}
 use Rattle.goal_links.specs.declared.ring.Node.{Node}
-use Rattle.goal_links.specs.Beside.{last_from, last_of, first_of, beside, behind_first}
+use Rattle.goal_links.specs.Beside.{last_of, first_of, beside, behind_first}
 use Rattle.goal_links.specs.Ring.{IsPath, IsRing, no_node, ring_of, next_at, prev_at, with_place, IsWithin}
 use Rattle.goal_links.specs.Row.{Line, with_node, has_node, without_node, behind, StandsIn, MayReturn, IsGap, kept_from}
 use Rattle.goal_links.proofs.Paths.{AreOnce, last-end, path-parts, path-last, path-first, path-stays, path-more, path-unlinked, path-linked, last-contains, place-other, not-last, not-first}

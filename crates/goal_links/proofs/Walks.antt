@@ -1,5 +1,5 @@
 -- Mentions as cells: the variables of entries, the numbers of the cells of an entry, a cell more or less, and the walk along a chain.
-use Rattle.std.proofs.Common.{◌≡◌, ℕ, suc, ◌+◌, ◌-◌, ◌<◌, ◌≤◌, arith, length, get_or, eqb, eqb-true, eq-eqb, true, false, cond, ◌||◌, List, [], ◌∷◌, ◌++◌, Option, Some, None, is_some, map, filter, refl, sym, ap, ◌∙◌, subst, inl, inr, ◌⊎◌, append_assoc, append-nil, length-append}
+use Rattle.std.proofs.Common.{◌≡◌, ℕ, suc, ◌+◌, ◌-◌, ◌<◌, ◌≤◌, arith, length, get_or, eqb, eqb-true, eq-eqb, true, false, cond, ◌||◌, List, [], ◌∷◌, ◌++◌, Option, Some, None, is_some, IfSome, map, filter, refl, sym, ap, ◌∙◌, subst, inl, inr, ◌⊎◌, append_assoc, append-nil, length-append}
 use Rattle.std.specs.List.{Contains, slice_get}
 use Rattle.std.proofs.Math.ListN.{set}
 use Rattle.std.proofs.Math.Seq.{get_or-append_seam}
@@ -13,19 +13,20 @@ use Rattle.qualified_goals.specs.Variable.{same_var}
 use Rattle.qualified_goals.specs.SameVariable.{same_var-is}
 use Rattle.choice_problem.specs.ConflictSet.{has}
 use Rattle.goal_links.specs.declared.chains.Cell.{Cell}
-use Rattle.goal_links.specs.Beside.{last_from, last_of, first_of}
+use Rattle.goal_links.specs.Beside.{last_of, first_of}
 use Rattle.goal_links.specs.Row.{has_node, behind}
 use Rattle.goal_links.specs.Chains.{no_cell, cell_at, chain_at, without_last}
 use Rattle.goal_links.specs.Links.{Entries, no_var, var_at, chain_with, registered, with_cell, with_cells, lengthened, shortened}
 use Rattle.choice_problem.proofs.Paths.{parted}
 use Rattle.choice_problem.proofs.Sets.{contains-has}
 use Rattle.goal_links.proofs.Paths.{AreOnce, last-end}
+use Rattle.goal_links.proofs.Rings.{has-contains}
 use Rattle.goal_links.proofs.Nodes.{not-in, behind-parted, apart-front}
 use Rattle.goal_links.proofs.Chained.{without-last}
 use Rattle.goal_links.proofs.Entries.{same-number}
 use Rattle.goal_links.proofs.Mapped.{get-contains, map-alike}
 use Rattle.goal_links.specs.declared.mentions.Mention.{Mention}
-use Rattle.goal_links.specs.Mentions.{mention_in, mentions, numbers_from, place_at, places_on, AreMentions, vars_at}
+use Rattle.goal_links.specs.Mentions.{mention_in, mentions, numbers_from, indices_from, indices_on, place_at, places_on, AreMentions, vars_at}
 use Rattle.goal_links.proofs.LastItems.{last-split}
 
 -- the variable of an entry
@@ -131,6 +132,22 @@ module _ (vars : List Var) (once : (m n : ℕ) → m < length vars → n < lengt
         | false ↦ has-from (suc n) cells (λ k lt. within (suc k) (omega (arith, lt)))
       ]
 
+  indices-at : (n : ℕ) (cells : List Cell) → ((k : ℕ) → k < length cells → (cell_at cells k).entry < length vars)
+      → indices_from n (var_at vars entry) (map (mention_in vars) cells) ≡ numbers_from n entry cells
+  indices-at n [] within = refl
+  indices-at n (x ∷ cells) within =
+      let later = indices_from (suc n) (var_at vars entry) (map (mention_in vars) cells) in
+      ap (λ b. cond b (n ∷ later) later) (same-number vars once x.entry entry (within 0 (omega arith)) fits)
+      ∙ ap (λ l. cond (eqb entry x.entry) (n ∷ l) l) (indices-at (suc n) cells (λ k lt. within (suc k) (omega (arith, lt))))
+
+pub chain-indices : (s : Entries) → AreMentions s → ((m n : ℕ) → m < length s.vars → n < length s.vars → var_at s.vars m ≡ var_at s.vars n → m ≡ n)
+    → (entry : ℕ) (v : Var) → slice_get s.vars entry ≡ Some v → indices_on v (mentions s) ≡ chain_at s.chains entry
+chain-indices s h once entry v at =
+    let lt = slice_get_within s.vars entry v at in
+    ap (λ w. indices_on w (mentions s)) (sym (get_or_from_slice_get s.vars entry v no_var at))
+    ∙ indices-at s.vars once entry lt 0 s.cells h.within
+    ∙ sym (h.chains entry lt)
+
 pub chain-places : (s : Entries) → AreMentions s → ((m n : ℕ) → m < length s.vars → n < length s.vars → var_at s.vars m ≡ var_at s.vars n → m ≡ n)
     → (entry : ℕ) (v : Var) → slice_get s.vars entry ≡ Some v → places_on v (mentions s) ≡ map (place_at s.cells) (chain_at s.chains entry)
 chain-places s h once entry v at =
@@ -168,6 +185,13 @@ module _ (vars : List Var) (v : Var) (fresh : has vars v ≡ false) where
       let others = filter (λ m. same_var m.var v) (map (mention_in vars) cells) in
       ap (λ b. map (λ m. m.place) (cond b (mention_in vars x ∷ others) others)) (not-at x.entry (within 0 (omega arith)))
       ∙ unknown-places cells (λ k lt. within (suc k) (omega (arith, lt)))
+
+  pub unknown-indices : (n : ℕ) (cells : List Cell) → ((k : ℕ) → k < length cells → (cell_at cells k).entry < length vars) → indices_from n v (map (mention_in vars) cells) ≡ []
+  unknown-indices n [] within = refl
+  unknown-indices n (x ∷ cells) within =
+      let later = indices_from (suc n) v (map (mention_in vars) cells) in
+      ap (λ b. cond b (n ∷ later) later) (not-at x.entry (within 0 (omega arith)))
+      ∙ unknown-indices (suc n) cells (λ k lt. within (suc k) (omega (arith, lt)))
 
 -- a variable is registered
 
@@ -382,3 +406,20 @@ walk-next chain k o h c e =
     let all : chain ≡ (part.0 ++ k ∷ []) ++ part.1 = part.2 ∙ sym (append_assoc part.0 (k ∷ []) part.1) in
     ap (walk_from chain) (e ∙ ap first_of is) ∙ ap (λ l. walk_from l (first_of part.1)) all
     ∙ from-rest (part.0 ++ k ∷ []) part.1 (subst (λ l. AreOnce None l) all h) ∙ sym is
+
+-- a place on the chain of an entry, or its end
+pub record IsOnChain (s : Entries) (entry : ℕ) (at : Option ℕ) : Type 0 where
+  pub within : IfSome at (λ k. k < length s.cells)
+  pub linked : IfSome at (λ k. has_node (chain_with s k) k ≡ true)
+  pub owner : IfSome at (λ k. (cell_at s.cells k).entry ≡ entry)
+
+-- what is left from a cell on is that cell, and what is left from the next one on
+pub walk-on : (s : Entries) → AreMentions s → (entry : ℕ) → entry < length s.vars → (at next : Option ℕ) (k : ℕ) → IsOnChain s entry at → at ≡ Some k
+    → next ≡ first_of (behind (Some k) (chain_with s k)) → walk_from (chain_at s.chains entry) at ≡ k ∷ walk_from (chain_at s.chains entry) next
+walk-on s h entry fits at next k on is then =
+    let chain = chain_at s.chains entry in
+    let owner : (cell_at s.cells k).entry ≡ entry = subst (λ (o : Option ℕ). IfSome o (λ n. (cell_at s.cells n).entry ≡ entry)) is on.owner in
+    let linked : has_node (chain_with s k) k ≡ true = subst (λ (o : Option ℕ). IfSome o (λ n. has_node (chain_with s n) n ≡ true)) is on.linked in
+    let among : Contains chain k = has-contains chain k (ap (λ n. has_node (chain_at s.chains n) k) (sym owner) ∙ linked) in
+    ap (walk_from chain) is
+    ∙ ap (λ l. k ∷ l) (sym (walk-next chain k next (chain-once s h entry fits) among (then ∙ ap (λ n. first_of (behind (Some k) (chain_at s.chains n))) owner)))

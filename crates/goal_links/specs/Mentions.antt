@@ -28,6 +28,15 @@ place_at cells k = (cell_at cells k).demand
 abbrev pub places_on : Var → List Mention → List ℕ
 places_on v ms = map (λ m. m.place) (filter (λ m. same_var m.var v) ms)
 
+-- the indices of the mentions of a variable, among mentions that come after n others
+abbrev pub indices_from : ℕ → Var → List Mention → List ℕ
+indices_from n v [] = []
+indices_from n v (m ∷ ms) = cond (same_var m.var v) (n ∷ indices_from (suc n) v ms) (indices_from (suc n) v ms)
+
+-- the indices of the mentions of a variable, in order
+abbrev pub indices_on : Var → List Mention → List ℕ
+indices_on v ms = indices_from 0 v ms
+
 -- the chain of each entry has the numbers of its cells
 pub record AreMentions (s : Entries) : Type 0 where
   pub counted : length s.chains ≡ length s.vars

@@ -2,7 +2,7 @@
 ghost use Rattle.std.specs.Prelude.{◌≡◌, ◌<◌, ◌++◌, [], ◌∷◌, IfOk, OnOk, OnErr, MatchOption, length, take, map, slice_index_or};
 ghost use Rattle.choice_problem.specs.ConflictSet.{has};
 ghost use Rattle.goal_links.specs.Chains.{chain_at};
-ghost use Rattle.goal_links.specs.Mentions.{place_at, places_on, AreMentions, vars_at};
+ghost use Rattle.goal_links.specs.Mentions.{indices_on, place_at, places_on, AreMentions, vars_at};
 
 use crate::links::Links;
 use choice_problem::Var;
@@ -85,6 +85,17 @@ impl Mentions {
         Ok(found)
     }
 
+    /// The indices of the mentions of a variable.
+    pub fn indices(&self, alloc: Global, v: Var) -> Result<Vec<usize>, NoMemory>
+        ensures { IfOk result (λ found. found.items ≡ indices_on v self.now) }
+    {
+        let Some(entry) = self.links.entry_of(v) else {
+            return Ok(Vec::new(alloc));
+        };
+        let found = cells_in(alloc, &self.links, entry)?;
+        Ok(found)
+    }
+
     /// Takes the last mention off. It takes no memory.
     pub fn pop(&mut self) -> Option<Mention>
         ensures { MatchOption result ((self.old ≡ []) × (self.new ≡ [])) (λ last. self.old ≡ self.new ++ last ∷ []) }
@@ -134,6 +145,21 @@ fn places_in(alloc: Global, links: &Links, entry: u64) -> Result<Vec<usize>, NoM
     while let Some(cell) = at {
         let place = links.demand_of(cell);
         found.push(place as usize)?;
+        at = links.chain_next(cell);
+    }
+    Ok(found)
+}
+
+// The numbers of the cells of an entry's chain.
+fn cells_in(alloc: Global, links: &Links, entry: u64) -> Result<Vec<usize>, NoMemory>
+    requires entry { entry < length links.now.vars }
+    requires mentions { AreMentions links.now }
+    ensures { IfOk result (λ found. found.items ≡ chain_at links.now.chains entry) }
+{
+    let mut found = Vec::new(alloc);
+    let mut at = links.chain_first(entry);
+    while let Some(cell) = at {
+        found.push(cell as usize)?;
         at = links.chain_next(cell);
     }
     Ok(found)

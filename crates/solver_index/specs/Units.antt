@@ -5,7 +5,7 @@ use Rattle.std.specs.declared.hash.BuildHasherDefault.{BuildHasherDefault}
 use Rattle.indexmap.specs.IndexMap.{IndexMap}
 use Rattle.plan_types.specs.declared.index.Package.{Package}
 use Rattle.qualified_goals.specs.Names.{Name}
-use Rattle.constraint_set.specs.Lists.{items_at}
+use Rattle.keyed_lists.specs.Lists.{items_at}
 use Rattle.solver_index.specs.Allowed.{allowed_unit}
 use Rattle.solver_index.specs.Rows.{AreRows}
 use Rattle.plan_types.specs.Bytes.{same_text}

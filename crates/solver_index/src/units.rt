@@ -1,7 +1,7 @@
 // The places of installed units, by their ids.
 ghost use Rattle.std.specs.Prelude.{◌≡◌, List, IfOk, length};
 ghost use Rattle.plan_types.specs.declared.index.Package.{Package};
-ghost use Rattle.constraint_set.specs.Lists.{items_at};
+ghost use Rattle.keyed_lists.specs.Lists.{items_at};
 ghost use Rattle.qualified_goals.specs.Names.{Name};
 ghost use Rattle.solver_index.specs.Allowed.{allowed_unit, is_unit};
 ghost use Rattle.solver_index.specs.Places.{places};
@@ -9,8 +9,8 @@ ghost use Rattle.solver_index.specs.Units.{AreUnits, AreUnitsOf};
 ghost use Rattle.plan_types.specs.Bytes.{same_text};
 ghost use Rattle.plan_types.specs.Packages.{is_installed, package_at};
 
-use constraint_set::{Lists, items_at, push_at};
 use indexmap::IndexMap;
+use keyed_lists::{Lists, items_at, push_at};
 use plan_types::{Body, Entry, List, NoMemory, Package, Text};
 use std::alloc::Global;
 

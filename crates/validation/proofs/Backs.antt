@@ -1,5 +1,5 @@
 -- What a trail stands for with its last choice taken back.
-use Rattle.std.proofs.Common.{◌≡◌, ℕ, zero, suc, ◌≤◌, arith, length, take, true, false, ◌&&◌, ◌||◌, List, [], ◌∷◌, ◌++◌, refl, sym, ap, ◌∙◌, subst, length-append, None}
+use Rattle.std.proofs.Common.{◌≡◌, ℕ, zero, suc, ◌≤◌, arith, length, take, true, false, ◌&&◌, ◌||◌, List, [], ◌∷◌, ◌++◌, refl, sym, ap, ◌∙◌, subst, length-append, Some, None}
 use Rattle.std.specs.List.{All, list_any}
 use Rattle.std.proofs.lemmas.Bool.{false≢true, and_parts, and_from}
 use Rattle.std.proofs.lemmas.Grind.{flat_map-append}
@@ -9,15 +9,16 @@ use Rattle.choice_problem.specs.declared.problem.Choice.{Choice}
 use Rattle.choice_problem.specs.declared.problem.Demand.{Demand}
 use Rattle.qualified_goals.specs.Variable.{same_var}
 use Rattle.choice_problem.specs.Problem.{Problem, IsChoice}
-use Rattle.choice_problem.specs.Trail.{AreNew, demands_after}
+use Rattle.choice_problem.specs.Trail.{AreNew, demands_after, value_in}
 use Rattle.choice_problem.specs.Active.{active, made_active}
-use Rattle.choice_problem.specs.Conflict.{Edge, edges_by, edges_of, leads, lies_on_cycle, circular, cycle_set, set_of_all, first_set, lasting_sets, lasting_set}
+use Rattle.choice_problem.specs.Conflict.{Edge, edges_by, edges_of, leads, lies_on_cycle, circular, lasting_set}
 use Rattle.common_laws.specs.Each.{some-then}
-use Rattle.common_laws.specs.Lists.{contains-head, contains-left, filter-none, filter-nothing}
+use Rattle.common_laws.specs.Lists.{contains-left, filter-none, filter-nothing}
 use Rattle.common_laws.specs.Passing.{any-front}
 use Rattle.choice_problem.proofs.Active.{active-push}
-use Rattle.choice_problem.proofs.Conflicts.{none-named}
-use Rattle.choice_problem.proofs.Rules.{each-none}
+use Rattle.choice_problem.proofs.Conflicts.{lasting-circular, lasting-agree, lasting-none}
+use Rattle.choice_problem.proofs.Pairs.{clash-front}
+use Rattle.choice_problem.proofs.Trails.{value_in-kept}
 use Rattle.choice_problem.proofs.TrailEnds.{new-split, new-front}
 use Rattle.validation.specs.View.{View, Represents, listed_counts, counts_before, view_of}
 use Rattle.validation.specs.Stack.{undone, front_of, last_number}
@@ -56,9 +57,10 @@ acyclic-front xs ys h = filter-nothing (lies_on_cycle (edges_of xs)) xs (λ d k.
       | false ↦ λ e. refl
     ] refl)
 
-pub lasting-front : (trail front : List Choice) (xs ys : List Demand) → lasting_set trail (xs ++ ys) ≡ None → lasting_set front xs ≡ None
-lasting-front trail front xs ys h =
-    ap (λ ds. first_set (set_of_all ds ∷ [])) (acyclic-front xs ys (none-named (circular (xs ++ ys)) (each-none (lasting_sets trail (xs ++ ys)) (cycle_set (xs ++ ys)) h (contains-head (cycle_set (xs ++ ys)) []))))
+pub lasting-front : (trail front : List Choice) (xs ys : List Demand) → ((v : Var) (n : ℕ) → value_in front v ≡ Some n → value_in trail v ≡ Some n)
+    → lasting_set trail (xs ++ ys) ≡ None → lasting_set front xs ≡ None
+lasting-front trail front xs ys kept h =
+    lasting-none front xs (acyclic-front xs ys (lasting-circular trail (xs ++ ys) h)) (clash-front front trail xs ys kept (lasting-agree trail (xs ++ ys) h))
 
 pub stands-undone : (p : Problem) (x y : View) → Represents p x → (x.trail ≡ [] → ⊥) → y ≡ undone x → Represents p y
 stands-undone p x y h some e =
@@ -91,5 +93,6 @@ stands-undone p x y h some e =
       same = same ∙ ap (view_of p) (sym trail);
       lasting =
           ap (λ ds. lasting_set y.trail ds) acts
-          ∙ lasting-front x.trail y.trail (active p front) (made_active p front c) (ap (λ ds. lasting_set x.trail ds) (sym all_active) ∙ h.lasting);
+          ∙ lasting-front x.trail y.trail (active p front) (made_active p front c)
+          (λ v n e. ap (λ t. value_in t v) split.2 ∙ value_in-kept front (c ∷ []) v n (ap (λ t. value_in t v) (sym trail) ∙ e)) (ap (λ ds. lasting_set x.trail ds) (sym all_active) ∙ h.lasting);
     }

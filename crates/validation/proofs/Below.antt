@@ -1,5 +1,5 @@
 -- Places of demands that are listed, and those of the demands that name a variable.
-use Rattle.std.proofs.Common.{◌≡◌, ℕ, zero, suc, ◌+◌, ◌<◌, ◌≤◌, arith, length, get_or, Bool, true, false, cond, ◌&&◌, ◌||◌, List, [], ◌∷◌, ◌++◌, map, filter, refl, sym, ap, ◌∙◌, subst, append_assoc, length-append}
+use Rattle.std.proofs.Common.{◌≡◌, ℕ, suc, ◌+◌, ◌<◌, arith, length, Bool, true, false, cond, ◌&&◌, ◌||◌, List, [], ◌∷◌, ◌++◌, map, filter, refl, sym, ap, ◌∙◌, subst, append_assoc, length-append}
 use Rattle.std.proofs.Math.Seq.{get_or-append_seam}
 use Rattle.qualified_goals.specs.declared.variable.Var.{Var}
 use Rattle.choice_problem.specs.declared.problem.Choice.{Choice}
@@ -9,24 +9,7 @@ use Rattle.qualified_goals.specs.SameVariable.{same_var-is}
 use Rattle.goal_links.specs.Mentions.{places_on, mention_of}
 use Rattle.validation.specs.Stack.{no_demand, demand_at, demands_at, are_naming, names, watchers_by, watchers_from, AllBelow}
 use Rattle.goal_links.proofs.Walks.{places-append}
-
-pub below-at : (n : ℕ) (xs : List ℕ) (k : ℕ) → AllBelow n xs → k < length xs → get_or xs k 0 < n
-below-at n [] k h within = absurd (omega (arith, within))
-below-at n (x ∷ xs) zero h within = h.0
-below-at n (x ∷ xs) (suc k) h within = below-at n xs k h.1 (omega (arith, within))
-
-pub below-filter : (n : ℕ) (test : ℕ → Bool) (xs : List ℕ) → AllBelow n xs → AllBelow n (filter test xs)
-below-filter n test [] h = tt
-below-filter n test (x ∷ xs) h =
-    elim (test x) as (λ b. AllBelow n (cond b (x ∷ filter test xs) (filter test xs))) [ true ↦ (h.0, below-filter n test xs h.1) | false ↦ below-filter n test xs h.1 ]
-
-pub below-more : (n m : ℕ) (xs : List ℕ) → n ≤ m → AllBelow n xs → AllBelow m xs
-below-more n m [] le h = tt
-below-more n m (x ∷ xs) le h = (let less : x < m = omega (arith, le, h.0) in less, below-more n m xs le h.1)
-
-pub below-append : (n : ℕ) (xs ys : List ℕ) → AllBelow n xs → AllBelow n ys → AllBelow n (xs ++ ys)
-below-append n [] ys h k = k
-below-append n (x ∷ xs) ys h k = (h.0, below-append n xs ys h.1 k)
+pub use Rattle.demand_agreement.proofs.Below.{below-at, below-filter, below-more, below-append}
 
 -- a demand waits for a variable once, where its condition names it
 waits-on : (n : ℕ) (v : Var) (when : List Choice) → places_on v (watchers_by n when) ≡ cond (are_naming v when) (n ∷ []) []

@@ -10,3 +10,4 @@ pub mod Verdicts
 pub mod Settles
 pub mod Backs
 pub mod Weighed
+pub mod Disagreeing

@@ -18,13 +18,9 @@ use Rattle.goal_links.specs.Links.{Entries, var_at, vars_behind, registered, lin
 use Rattle.goal_links.proofs.Entries.{may-return, slice_get-set}
 use Rattle.goal_links.proofs.Walks.{at-entry, entry-known, get-at}
 use Rattle.validation.specs.Open.{AreInOrder, Keeps, StayKept, MayComeBack, any_var, is_other, is_behind}
-
 -- what keeps its place
 
-pub get-front : {X : Type 0} (xs ys : List X) (n : ℕ) (x : X) → slice_get xs n ≡ Some x → slice_get (xs ++ ys) n ≡ Some x
-get-front [] ys n x h = absurd (cc h)
-get-front (y ∷ xs) ys zero x h = h
-get-front (y ∷ xs) ys (suc n) x h = get-front xs ys n x h
+pub use Rattle.demand_agreement.proofs.Members.{get-front}
 
 get-other : {X : Type 0} (xs : List X) (i n : ℕ) (y x : X) → (n ≡ i → ⊥) → slice_get xs n ≡ Some x → slice_get (set xs i y) n ≡ Some x
 get-other [] i n y x other h = absurd (cc h)

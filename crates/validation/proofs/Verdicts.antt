@@ -15,6 +15,7 @@ use Rattle.choice_problem.specs.ConflictSet.{has}
 use Rattle.choice_problem.proofs.Active.{active-push}
 use Rattle.choice_problem.proofs.Ends.{lasting-start}
 use Rattle.choice_problem.proofs.Rules.{front-some, front-none, rest-none}
+pub use Rattle.demand_agreement.proofs.Members.{none-from}
 use Rattle.validation.specs.View.{View, Represents, listed_counts, counts_before, view_of}
 use Rattle.validation.specs.Pending.{count_before}
 use Rattle.validation.specs.Stack.{made, turned}
@@ -146,7 +147,3 @@ stands-new p x roots lawful is e =
           ap (λ (t : List Choice). lasting_set t x.active) trail
           ∙ ap (λ (ds : List Demand). lasting_set [] ds) acts ∙ lasting-start p lawful;
     }
-
-pub none-from : {X : Type 0} (o : Option X) → ((x : X) → o ≡ Some x → ⊥) → o ≡ None
-none-from None h = refl
-none-from (Some x) h = absurd (h x refl)

@@ -15,7 +15,7 @@ use Rattle.qualified_goals.specs.SameVariable.{same_var-is, same_var-refl}
 use Rattle.choice_problem.specs.declared.problem.Choice.{Choice}
 use Rattle.choice_problem.specs.declared.problem.Demand.{Demand}
 use Rattle.choice_problem.specs.Problem.{Problem, IsChoice, IsOwned, Lawful}
-use Rattle.choice_problem.specs.Conflict.{Edge, edges_by, edges_of, is_broken, set_of_first, lasting_set}
+use Rattle.choice_problem.specs.Conflict.{Edge, edges_by, edges_of, is_broken, set_of_first, lasting_set, first_clash}
 use Rattle.common_laws.specs.Lists.{contains-head, contains-tail, contains-append, contains-left, contains-right, contains-filter}
 use Rattle.demand_cycles.specs.Cycles.{HasEdge}
 use Rattle.validation.specs.View.{View}
@@ -136,6 +136,12 @@ module _ (s : View) (c : Choice) (demands : List Demand) where
       ap (λ (t : List Choice). lasting_set t (take (count_before (made s c demands)) (made s c demands).active)) (front-of s.trail c)
       ∙ ap (λ (n : ℕ). lasting_set s.trail (take n (made s c demands).active)) before-is
       ∙ ap (lasting_set s.trail) (take-append_seam s.active (turned (s.trail ++ c ∷ []) c.var (s.listed ++ demands))) ∙ h
+
+  pub weighed-clash : first_clash (front_of (made s c demands).trail) (take (count_before (made s c demands)) (made s c demands).active) ≡ first_clash s.trail s.active
+  weighed-clash =
+      ap (λ (t : List Choice). first_clash t (take (count_before (made s c demands)) (made s c demands).active)) (front-of s.trail c)
+      ∙ ap (λ (n : ℕ). first_clash s.trail (take n (made s c demands).active)) before-is
+      ∙ ap (first_clash s.trail) (take-append_seam s.active (turned (s.trail ++ c ∷ []) c.var (s.listed ++ demands)))
 
 module _ (s : View) (a : Addition) (woken fresh : List Demand) (count : ℕ) (h : ArePending s a woken fresh count) where
   pub pending-active : (made s a.choice a.demands).active ≡ s.active ++ (woken ++ fresh)

@@ -1,8 +1,9 @@
 -- What a choice would make of a stack.
-use Rattle.std.specs.Prelude.{◌≡◌, ℕ, ◌+◌, true, List, [], ◌∷◌, ◌++◌, length, drop, find, Option, None}
+use Rattle.std.specs.Prelude.{◌≡◌, ℕ, zero, suc, ◌+◌, true, cond, List, [], ◌∷◌, ◌++◌, length, drop, find, Option, None}
 use Rattle.std.specs.List.{Contains}
 use Rattle.qualified_goals.specs.declared.variable.Var.{Var}
 use Rattle.choice_problem.specs.declared.problem.Demand.{Demand}
+use Rattle.choice_problem.specs.Active.{asks_for}
 use Rattle.choice_problem.specs.Conflict.{is_broken}
 use Rattle.choice_problem.specs.Trail.{value_in}
 use Rattle.validation.specs.declared.addition.Addition.{Addition}
@@ -29,3 +30,12 @@ pub record ArePending (s : View) (a : Addition) (woken fresh : List Demand) (cou
   pub woken_is : woken ≡ turned (s.trail ++ a.choice ∷ []) a.choice.var s.listed
   pub fresh_is : fresh ≡ turned (s.trail ++ a.choice ∷ []) a.choice.var a.demands
   pub counted : count ≡ length s.active + (length woken + length fresh)
+
+-- the place of a demand, where it is on a variable
+abbrev pub place_if : ℕ → Var → Demand → List ℕ
+place_if place v d = cond (asks_for v d) (place ∷ []) []
+
+-- so many places from one on
+abbrev pub rising_from : ℕ → ℕ → List ℕ
+rising_from n zero = []
+rising_from n (suc count) = n ∷ rising_from (suc n) count

@@ -2,8 +2,6 @@
 use Rattle.std.specs.Prelude.{◌≡◌, ◌↔◌, ℕ, suc, ◌-◌, ◌<◌, ◌≤◌, Bool, true, false, cond, ◌&&◌, List, [], ◌∷◌, ◌++◌, length, take, map, filter, None, is_none, slice_index_or, option_to_list, flat_map}
 use Rattle.std.specs.List.{Contains, list_any}
 use Rattle.qualified_goals.specs.declared.variable.Var.{Var}
-use Rattle.qualified_goals.specs.declared.variable.Qual.TheVariants.{Top}
-use Rattle.qualified_goals.specs.declared.variable.Part.TheVariants.{Package}
 use Rattle.choice_problem.specs.declared.problem.Choice.{Choice}
 use Rattle.choice_problem.specs.declared.problem.Demand.{Demand}
 use Rattle.qualified_goals.specs.Variable.{same_var}
@@ -19,14 +17,7 @@ use Rattle.validation.specs.declared.stack.Mark.{Mark}
 use Rattle.validation.specs.View.{View}
 use Rattle.validation.specs.Open.{Keeps}
 use Rattle.demand_cycles.specs.Cycles.{owner_of}
-
--- what stands behind the last demand
-abbrev pub no_demand : Demand
-no_demand = record { when = []; target = record { qual = Top; «package» = 0; part = Package }; allowed = [] }
-
--- the demand at a place
-abbrev pub demand_at : List Demand → ℕ → Demand
-demand_at listed place = slice_index_or listed place no_demand
+pub use Rattle.demand_agreement.specs.Places.{no_demand, demand_at, AllBelow}
 
 -- the demands at some places
 abbrev pub demands_at : List Demand → List ℕ → List Demand
@@ -131,11 +122,6 @@ HasActivated old new = (more : List Demand) × (new ≡ with_active old more)
 -- some demands more are listed, and some active
 abbrev pub HasGrown : View → View → Type 0
 HasGrown old new = (more : List Demand) × (asked : List Demand) × (new ≡ with_active (with_listed old more) asked)
-
--- each of these numbers is below n
-abbrev pub AllBelow : ℕ → List ℕ → Type 0
-AllBelow n [] = Unit {0}
-AllBelow n (x ∷ xs) = (x < n) × AllBelow n xs
 
 -- whether a demand's condition names a variable
 abbrev pub names : Var → Demand → Bool

@@ -10,8 +10,7 @@ ghost use Rattle.choice_problem.specs.Trail.{value_in};
 ghost use Rattle.validation.specs.Stack.{AllBelow, are_naming, demand_at, demands_at, is_owned_by, is_turned, owners_of, place_turned, source_on, sources_on, target_by, targets_by, turned};
 ghost use Rattle.demand_cycles.specs.Cycles.{owner_of};
 
-use crate::values::Values;
-use choice_problem::{Choice, ConflictSet, Demand, Var, is_same};
+use choice_problem::{Choice, ConflictSet, Demand, Values, Var, is_same, push_named};
 use demand_cycles::push_owner;
 use plan_types::NoMemory;
 use std::alloc::Global;
@@ -80,8 +79,8 @@ pub(crate) fn set_at(
 fn set_named_by(alloc: Global, d: &Demand) -> Result<ConflictSet, NoMemory>
     ensures { IfOk result (λ set. set ≡ set_of (named_by d.now)) }
 {
-    let mut named = vars_of(alloc, d.when.as_slice())?;
-    named.insert(0, d.target)?;
+    let mut named = Vec::new(alloc);
+    push_named(&mut named, d)?;
     let set = ConflictSet::of(alloc, named.as_slice())?;
     Ok(set)
 }

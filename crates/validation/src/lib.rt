@@ -9,7 +9,6 @@ mod pending;
 mod picked;
 mod stack;
 mod state;
-mod values;
 mod verdict;
 
 pub use state::State;

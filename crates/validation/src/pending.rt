@@ -1,15 +1,16 @@
 // What a choice would make of a stack.
-ghost use Rattle.std.specs.Prelude.{◌≡◌, ◌+◌, ◌++◌, None, IfOk};
-ghost use Rattle.choice_problem.specs.Conflict.{set_of_first};
+ghost use Rattle.std.specs.Prelude.{◌≡◌, ◌+◌, ◌-◌, ◌++◌, None, IfOk, OnOk, take};
+ghost use Rattle.choice_problem.specs.Conflict.{agreement_set, first_clash, set_of_first};
 ghost use Rattle.choice_problem.specs.Trail.{value_in};
 ghost use Rattle.validation.specs.Addition.{IsAddition};
-ghost use Rattle.validation.specs.Pending.{AreOwned, count_before, first_broken};
-ghost use Rattle.validation.specs.Stack.{IsSettled, made, targets_by};
+ghost use Rattle.validation.specs.Pending.{AreOwned, count_before, first_broken, place_if, rising_from};
+ghost use Rattle.validation.specs.Stack.{IsSettled, front_of, made, targets_by};
 
 use crate::addition::Addition;
 use crate::picked::Picked;
 use crate::stack::Stack;
 use choice_problem::{ConflictSet, Demand, Var, is_same};
+use demand_agreement::{Asked, agreement_set_of};
 use demand_cycles::Graph;
 use plan_types::{List, NoMemory};
 use std::alloc::Global;
@@ -79,6 +80,21 @@ impl<'a> Pending<'a> {
     }
 }
 
+impl<'a> Pending<'a> {
+    /// The set of the first two demands that must agree and don't, where there were none before the choice: a demand that would
+    /// become active, or one on the variable of the choice, is among them.
+    pub(crate) fn disagreement(&self, alloc: Global) -> Result<Option<ConflictSet>, NoMemory>
+        requires { first_clash (front_of self.now.trail) (take (count_before self.now) self.now.active) ≡ None }
+        ensures { IfOk result (λ set. set ≡ agreement_set self.now.trail self.now.active) }
+    {
+        let trail = self.stack.values_with(self.addition.choice);
+        let mut places = self.stack.places_on(alloc, self.addition.choice.var)?;
+        push_range(&mut places, self.stack.count(), self.count)?;
+        let set = agreement_set_of(alloc, self, &trail, places.as_slice())?;
+        Ok(set)
+    }
+}
+
 impl<'a> Graph for Pending<'a> {
     ghost demands = { λ s. s.active };
 
@@ -121,6 +137,40 @@ impl<'a> Graph for Pending<'a> {
         }
         self.stack.names(v)
     }
+}
+
+impl<'a> Asked for Pending<'a> {
+    ghost demands = { λ s. s.active };
+
+    fn demand_at(&self, place: usize) -> &Demand {
+        self.demand(place)
+    }
+
+    fn places_on(&self, alloc: Global, v: Var) -> Result<Vec<usize>, NoMemory> {
+        let mut found = self.stack.places_on(alloc, v)?;
+        for place in self.stack.count()..self.count {
+            push_on(&mut found, self.demand(place), place, v)?;
+        }
+        Ok(found)
+    }
+}
+
+fn push_range(places: &mut Vec<usize>, from: usize, to: usize) -> Result<(), NoMemory>
+    ensures { OnOk result (places.new.items ≡ places.old.items ++ rising_from from (to - from)) }
+{
+    for place in from..to {
+        places.push(place)?;
+    }
+    Ok(())
+}
+
+fn push_on(found: &mut Vec<usize>, d: &Demand, place: usize, v: Var) -> Result<(), NoMemory>
+    ensures { OnOk result (found.new.items ≡ found.old.items ++ place_if place v d.now) }
+{
+    if is_same(d.target, v) {
+        found.push(place)?;
+    }
+    Ok(())
 }
 
 // The targets of those of some demands of one owner that a variable owns.

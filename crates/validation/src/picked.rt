@@ -4,8 +4,7 @@ ghost use Rattle.choice_problem.specs.Conflict.{is_broken, set_of_first};
 ghost use Rattle.validation.specs.Stack.{AllBelow, demands_at, sources_on, targets_by};
 
 use crate::checks::{demand_in, first_broken, owners_on, set_at, targets_at};
-use crate::values::Values;
-use choice_problem::{ConflictSet, Demand, Var};
+use choice_problem::{ConflictSet, Demand, Values, Var};
 use plan_types::{List, NoMemory};
 use std::alloc::Global;
 use std::marker::Model;

@@ -7,6 +7,7 @@ ghost use Rattle.choice_problem.specs.Active.{asks_for, vars_of_first, waiting};
 ghost use Rattle.choice_problem.specs.Conflict.{edges_of, refuses, set_of_first};
 ghost use Rattle.choice_problem.specs.ConflictSet.{first_behind, has, set_of};
 ghost use Rattle.validation.specs.Open.{StayKept, is_chosen_in};
+ghost use Rattle.demand_agreement.specs.Places.{places_on};
 ghost use Rattle.demand_cycles.specs.Cycles.{HasEdge};
 ghost use Rattle.goal_links.specs.declared.mentions.Mention.{Mention};
 ghost use Rattle.validation.specs.Addition.{IsAddition};
@@ -19,8 +20,7 @@ use crate::checks::{
     are_naming, demand_in, first_refusing, owners_at, reason_at, set_at, targets_at, yes_among,
 };
 use crate::open::OpenVars;
-use crate::values::Values;
-use choice_problem::{Choice, ConflictSet, Demand, Trail, Var};
+use choice_problem::{Choice, ConflictSet, Demand, Trail, Values, Var};
 use goal_links::{Mention, Mentions};
 use plan_types::{List, NoMemory};
 use std::alloc::Global;
@@ -121,7 +121,7 @@ impl Stack {
     }
 
     /// Makes a choice of an open variable.
-    pub(crate) fn hold(&mut self, c: Choice) -> Result<(), NoMemory>
+    pub(crate) fn hold(&mut self, alloc: Global, c: Choice) -> Result<(), NoMemory>
         requires new { value_in self.old.trail c.var ≡ None }
         requires asked { IsTrue (has (map (λ d. d.target) self.old.active) c.var) }
         ensures ok { OnOk result (self.new ≡ held self.old c) }
@@ -134,7 +134,7 @@ impl Stack {
             active: self.active.len(),
             entry,
         };
-        add_level(&mut self.trail, &mut self.marks, c, mark)?;
+        add_level(alloc, &mut self.trail, &mut self.marks, c, mark)?;
         self.opens.take_out(entry);
         Ok(())
     }
@@ -233,7 +233,7 @@ impl Stack {
     }
 
     /// Makes a choice of an open variable, lists its demands, and makes active what turns Yes.
-    pub(crate) fn make(&mut self, addition: Addition) -> Result<(), NoMemory>
+    pub(crate) fn make(&mut self, alloc: Global, addition: Addition) -> Result<(), NoMemory>
         requires new { value_in self.old.trail addition.choice.var ≡ None }
         requires asked { IsTrue (has (map (λ d. d.target) self.old.active) addition.choice.var) }
         requires turned { IsAddition self.old addition }
@@ -246,7 +246,7 @@ impl Stack {
             woken,
             fresh,
         } = addition;
-        self.hold(choice)?;
+        self.hold(alloc, choice)?;
         if self
             .grow(demands, woken.as_slice(), fresh.as_slice())
             .is_err()
@@ -338,6 +338,14 @@ impl Stack {
     {
         let listed = self.active.at(place).place;
         demand_in(self.listed.as_slice(), listed)
+    }
+
+    /// The places of the active demands on a variable.
+    pub(crate) fn places_on(&self, alloc: Global, v: Var) -> Result<Vec<usize>, NoMemory>
+        ensures { IfOk result (λ found. found.items ≡ places_on v self.now.active) }
+    {
+        let found = self.active.indices(alloc, v)?;
+        Ok(found)
     }
 
     /// The variables that edges to this one leave.
@@ -460,6 +468,7 @@ fn add_watchers(watchers: &mut Mentions, place: usize, when: &[Choice]) -> Resul
 }
 
 fn add_level(
+    alloc: Global,
     trail: &mut Trail,
     marks: &mut List<Mark>,
     c: Choice,
@@ -469,7 +478,7 @@ fn add_level(
     ensures ok { OnOk result ((trail.new ≡ trail.old ++ c ∷ []) × (marks.new ≡ marks.old ++ mark ∷ [])) }
     ensures err { OnErr result ((trail.new ≡ trail.old) × (marks.new ≡ marks.old)) }
 {
-    trail.push(c)?;
+    trail.push(alloc, c)?;
     if marks.push(mark).is_err() {
         trail.pop();
         return Err(NoMemory);

@@ -7,7 +7,7 @@ ghost use Rattle.choice_problem.specs.Conflict.{lasting_set, conflict};
 ghost use Rattle.choice_problem.specs.ConflictSet.{set_of};
 ghost use Rattle.choice_problem.specs.Trail.{value_in};
 ghost use Rattle.validation.specs.Addition.{IsAddition};
-ghost use Rattle.validation.specs.Pending.{AreOwned};
+ghost use Rattle.validation.specs.Pending.{AreOwned, count_before};
 ghost use Rattle.validation.specs.View.{View, Represents, view_of};
 ghost use Rattle.validation.specs.Stack.{front_of, made, IsSettled};
 ghost use Rattle.validation.specs.Verdict.{verdict_of, Leaves, set_before, set_after};
@@ -128,7 +128,7 @@ impl State {
         if let Some(set) = fault_after(alloc, &self.stack, &addition)? {
             return Ok(Verdict::Conflict(set));
         }
-        self.stack.make(addition)?;
+        self.stack.make(alloc, addition)?;
         Ok(Verdict::Accepted)
     }
 
@@ -177,20 +177,19 @@ fn fault_after(
     if let Some(set) = pending.broken(alloc)? {
         return Ok(Some(set));
     }
-    let before = pending.before();
-    let set = lasting_fault(alloc, &pending, before)?;
+    let set = lasting_fault(alloc, &pending)?;
     Ok(set)
 }
 
 // The set of the first lasting rule, where these gave none before the last choice.
-fn lasting_fault(
-    alloc: Global,
-    pending: &Pending<'_>,
-    before: usize,
-) -> Result<Option<ConflictSet>, NoMemory>
-    requires { lasting_set (front_of pending.now.trail) (take before pending.now.active) ≡ None }
+fn lasting_fault(alloc: Global, pending: &Pending<'_>) -> Result<Option<ConflictSet>, NoMemory>
+    requires { lasting_set (front_of pending.now.trail) (take (count_before pending.now) pending.now.active) ≡ None }
     ensures { IfOk result (λ set. set ≡ lasting_set pending.now.trail pending.now.active) }
 {
-    let set = cycle_set_of(alloc, pending, before)?;
+    let before = pending.before();
+    if let Some(set) = cycle_set_of(alloc, pending, before)? {
+        return Ok(Some(set));
+    }
+    let set = pending.disagreement(alloc)?;
     Ok(set)
 }

@@ -1,11 +1,9 @@
-use Rattle.std.proofs.Common.{◌≡◌, ◌<◌, ◌++◌, ◌∷◌, [], ◌∙◌, ℕ, List, Option, Some, true, IfSome, length, map, sym, ap, subst, arith, append_assoc, append-nil}
-use Rattle.std.specs.List.{Contains}
-use Rattle.goal_links.specs.Beside.{first_of}
-use Rattle.goal_links.specs.Row.{has_node, behind}
+use Rattle.std.proofs.Common.{◌≡◌, ◌<◌, ◌++◌, ◌∷◌, [], ◌∙◌, ℕ, List, Option, true, IfSome, length, map, sym, ap, subst, arith, append_assoc, append-nil}
+use Rattle.goal_links.specs.Row.{has_node}
 use Rattle.goal_links.specs.Chains.{cell_at, chain_at}
-use Rattle.goal_links.proofs.Rings.{has-contains}
 use Rattle.goal_links.specs.Mentions.{place_at}
-use Rattle.goal_links.proofs.Walks.{chain-once, walk_from, walk-first, walk-next}
+use Rattle.goal_links.specs.Links.{chain_with}
+use Rattle.goal_links.proofs.Walks.{chain-once, walk_from, walk-first, walk-on}
 use Rattle.goal_links.proofs.mentions.places_in.Goals as goal
 
 pub loop-at-init : goal.loop-at-init
@@ -16,55 +14,46 @@ loop-at-init c =
       places =
           ap (map (place_at s.cells)) (sym (walk-first chain c.chain_first-at.result (chain-once s c.requires.mentions c.args.entry c.requires.entry) c.chain_first-at.ensures.first))
           ∙ ap (λ (l : List ℕ). l ++ map (place_at s.cells) (walk_from chain c.chain_first-at.result)) (sym c.new-found.ensures.items);
-      within = c.chain_first-at.ensures.within;
-      linked = c.chain_first-at.ensures.linked;
-      owner = c.chain_first-at.ensures.owner;
+      on = record { within = c.chain_first-at.ensures.within; linked = c.chain_first-at.ensures.linked; owner = c.chain_first-at.ensures.owner };
     }
 
 pub demand_of-place-requires : goal.demand_of-place-requires
-demand_of-place-requires c = subst (λ (o : Option ℕ). IfSome o (λ k. k < length c.args.links.now.cells)) c.in-Some.is c.loop-at.invariant.within
+demand_of-place-requires c = subst (λ (o : Option ℕ). IfSome o (λ k. k < length c.args.links.now.cells)) c.in-Some.is c.loop-at.invariant.on.within
 
 pub chain_next-at-requires-clause-cell : goal.chain_next-at-requires-clause-cell
-chain_next-at-requires-clause-cell c = subst (λ (o : Option ℕ). IfSome o (λ k. k < length c.args.links.now.cells)) c.in-Some.is c.loop-at.invariant.within
+chain_next-at-requires-clause-cell c = subst (λ (o : Option ℕ). IfSome o (λ k. k < length c.args.links.now.cells)) c.in-Some.is c.loop-at.invariant.on.within
 
 pub chain_next-at-requires-clause-linked : goal.chain_next-at-requires-clause-linked
 chain_next-at-requires-clause-linked c =
-    subst (λ (o : Option ℕ). IfSome o (λ k. has_node (chain_at c.args.links.now.chains (cell_at c.args.links.now.cells k).entry) k ≡ true)) c.in-Some.is c.loop-at.invariant.linked
+    subst (λ (o : Option ℕ). IfSome o (λ k. has_node (chain_with c.args.links.now k) k ≡ true)) c.in-Some.is c.loop-at.invariant.on.linked
 
 pub loop-at-smaller : goal.loop-at-smaller
 loop-at-smaller c =
     let s = c.args.links.now in
-    let chain = chain_at s.chains c.args.entry in
-    let k = c.in-Some.cell in
-    let owner : (cell_at s.cells k).entry ≡ c.args.entry = subst (λ (o : Option ℕ). IfSome o (λ n. (cell_at s.cells n).entry ≡ c.args.entry)) c.in-Some.is c.loop-at.invariant.owner in
-    let linked : has_node (chain_at s.chains (cell_at s.cells k).entry) k ≡ true = subst (λ (o : Option ℕ). IfSome o (λ n. has_node (chain_at s.chains (cell_at s.cells n).entry) n ≡ true)) c.in-Some.is c.loop-at.invariant.linked in
-    let among : Contains chain k = has-contains chain k (ap (λ n. has_node (chain_at s.chains n) k) (sym owner) ∙ linked) in
-    let rest = walk-next chain k c.chain_next-at.result (chain-once s c.requires.mentions c.args.entry c.requires.entry) among
-    (c.chain_next-at.ensures.next ∙ ap (λ n. first_of (behind (Some k) (chain_at s.chains n))) owner) in
-    subst (λ (o : Option ℕ). length (walk_from chain c.chain_next-at.result) < length (walk_from chain o)) (sym c.in-Some.is) (omega (arith, ap length rest))
+    let rest = walk-on s c.requires.mentions c.args.entry c.requires.entry c.loop-at.at c.chain_next-at.result c.in-Some.cell c.loop-at.invariant.on c.in-Some.is c.chain_next-at.ensures.next in
+    omega (arith, ap length rest)
 
 pub loop-at-preserved : goal.loop-at-preserved
 loop-at-preserved c =
     let s = c.args.links.now in
     let chain = chain_at s.chains c.args.entry in
     let k = c.in-Some.cell in
-    let owner : (cell_at s.cells k).entry ≡ c.args.entry = subst (λ (o : Option ℕ). IfSome o (λ n. (cell_at s.cells n).entry ≡ c.args.entry)) c.in-Some.is c.loop-at.invariant.owner in
-    let linked : has_node (chain_at s.chains (cell_at s.cells k).entry) k ≡ true = subst (λ (o : Option ℕ). IfSome o (λ n. has_node (chain_at s.chains (cell_at s.cells n).entry) n ≡ true)) c.in-Some.is c.loop-at.invariant.linked in
-    let among : Contains chain k = has-contains chain k (ap (λ n. has_node (chain_at s.chains n) k) (sym owner) ∙ linked) in
-    let rest = walk-next chain k c.chain_next-at.result (chain-once s c.requires.mentions c.args.entry c.requires.entry) among
-    (c.chain_next-at.ensures.next ∙ ap (λ n. first_of (behind (Some k) (chain_at s.chains n))) owner) in
-    let behind_k = map (place_at s.cells) (behind (Some k) chain) in
+    let rest = walk-on s c.requires.mentions c.args.entry c.requires.entry c.loop-at.at c.chain_next-at.result k c.loop-at.invariant.on c.in-Some.is c.chain_next-at.ensures.next in
+    let behind_k = map (place_at s.cells) (walk_from chain c.chain_next-at.result) in
     let items : c.push.new.self.items ≡ c.loop-at.found.items ++ place_at s.cells k ∷ [] =
     c.in_ok-push.ensures.items ∙ ap (λ n. c.loop-at.found.items ++ n ∷ []) c.demand_of-place.ensures in
     record {
       places =
-          c.loop-at.invariant.places ∙ ap (λ (o : Option ℕ). c.loop-at.found.items ++ map (place_at s.cells) (walk_from chain o)) c.in-Some.is
+          c.loop-at.invariant.places ∙ ap (λ (l : List ℕ). c.loop-at.found.items ++ map (place_at s.cells) (l)) rest
           ∙ sym (append_assoc c.loop-at.found.items (place_at s.cells k ∷ []) behind_k)
-          ∙ ap (λ (l : List ℕ). l ++ behind_k) (sym items)
-          ∙ ap (λ (l : List ℕ). c.push.new.self.items ++ map (place_at s.cells) l) (sym rest);
-      within = c.chain_next-at.ensures.within;
-      linked = c.chain_next-at.ensures.linked;
-      owner = subst (λ (e : ℕ). IfSome c.chain_next-at.result (λ n. (cell_at s.cells n).entry ≡ e)) owner c.chain_next-at.ensures.owner;
+          ∙ ap (λ (l : List ℕ). l ++ behind_k) (sym items);
+      on = record {
+        within = c.chain_next-at.ensures.within;
+        linked = c.chain_next-at.ensures.linked;
+        owner =
+            subst (λ (e : ℕ). IfSome c.chain_next-at.result (λ n. (cell_at s.cells n).entry ≡ e))
+            (subst (λ (o : Option ℕ). IfSome o (λ n. (cell_at s.cells n).entry ≡ c.args.entry)) c.in-Some.is c.loop-at.invariant.on.owner) c.chain_next-at.ensures.owner;
+      };
     }
 
 pub returns : goal.returns

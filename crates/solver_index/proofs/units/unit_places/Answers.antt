@@ -3,7 +3,7 @@ use Rattle.std.specs.List.{filter}
 use Rattle.std.proofs.lemmas.List.{append-nil, get_or_read}
 use Rattle.solver_index.specs.Allowed.{is_unit}
 use Rattle.solver_index.specs.Places.{entry_at, no_entry, rising}
-use Rattle.constraint_set.specs.Lists.{items_at}
+use Rattle.keyed_lists.specs.Lists.{items_at}
 use Rattle.solver_index.specs.Units.{UnitPlaces}
 use Rattle.solver_index.proofs.ListLaws.{rising-more}
 use Rattle.solver_index.proofs.units.unit_places.Goals as goal
@@ -22,7 +22,7 @@ loop-place-preserved c = λ id.
       | then-is_installed+in_ok-copy+in_ok-push_at w ↦
           let installed : is_installed e.body ≡ true = sym c.is_installed.ensures ∙ w.if-is_installed.true in
           let here_is : test i ≡ same_text e.instance.unit id = ap (is_unit id) (sym here) ∙ ap (λ b. b && same_text e.instance.unit id) installed in
-          ap (λ (u : UnitPlaces). items_at same_text u id) w.units-is ∙ w.in_ok-push_at.ensures id
+          ap (λ (u : UnitPlaces). items_at same_text u id) w.units-is ∙ w.in_ok-push_at.ensures.ok id
           ∙ ap (λ l. l ++ cond (same_text w.in_ok-copy.field-0 id) (i ∷ []) []) (c.loop-place.invariant id)
           ∙ ap (λ b. filter test (rising i) ++ cond b (i ∷ []) []) (ap (λ k. same_text k id) w.in_ok-copy.ensures ∙ sym here_is)
           ∙ sym (rising-more test i (test i) refl)

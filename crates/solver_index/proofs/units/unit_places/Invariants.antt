@@ -1,7 +1,7 @@
 -- the places so far
 use Rattle.std.proofs.Common.{◌≡◌}
 use Rattle.std.specs.List.{filter}
-use Rattle.constraint_set.specs.Lists.{items_at}
+use Rattle.keyed_lists.specs.Lists.{items_at}
 use Rattle.qualified_goals.specs.Names.{Name}
 use Rattle.solver_index.specs.Allowed.{is_unit}
 use Rattle.solver_index.specs.Places.{entry_at, rising}

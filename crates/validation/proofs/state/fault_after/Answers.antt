@@ -1,4 +1,4 @@
-use Rattle.std.proofs.Common.{◌≡◌, ◌∙◌, ◌∷◌, ℕ, Option, List, sym, ap, subst, take, None}
+use Rattle.std.proofs.Common.{◌≡◌, ◌∙◌, ◌∷◌, Option, List, sym, ap, subst, take, None}
 use Rattle.qualified_goals.specs.declared.variable.Var.{Var}
 use Rattle.choice_problem.specs.Conflict.{first_set, lasting_sets, lasting_set}
 use Rattle.validation.specs.View.{View}
@@ -15,6 +15,5 @@ returns-in-Some c =
 
 pub lasting_fault-requires : goal.lasting_fault-requires
 lasting_fault-requires c =
-    subst (λ (n : ℕ). lasting_set (front_of c.in_ok-pending.pending.trail) (take n c.in_ok-pending.pending.active) ≡ None) (sym c.before-before.ensures)
-    (subst (λ (x : View). lasting_set (front_of x.trail) (take (count_before x) x.active) ≡ None) (sym c.in_ok-pending.ensures)
-    (weighed-lasting c.args.stack.now c.args.addition.now.choice c.args.addition.now.demands c.requires.lasting))
+    subst (λ (x : View). lasting_set (front_of x.trail) (take (count_before x) x.active) ≡ None) (sym c.in_ok-pending.ensures)
+    (weighed-lasting c.args.stack.now c.args.addition.now.choice c.args.addition.now.demands c.requires.lasting)

@@ -8,5 +8,7 @@ use Rattle.choice_problem.proofs.trail.Trail.push.Goals as goal
 pub invariant_of-self-else-is_err : goal.invariant_of-self-else-is_err
 invariant_of-self-else-is_err c =
     let s = c.self.inside in
-    trail-push s.choices c.push.new.self s.values c.set.new.self c.args.c c.self.invariant (ap (λ (t : List Choice). value_in t c.args.c.var) c.self.view_is ∙ c.requires)
-    c.in_ok-push.ensures.ok (ok-where c.set.result c.set.ensures.ok (sym c.is_err.ensures.value ∙ c.if-is_err.false))
+    let kept = sym c.is_err.ensures.value ∙ c.if-is_err.false in
+    trail-push s.choices c.push.new.self s.values c.keep.new.values s.instances c.keep.new.instances c.args.c c.self.invariant
+    (ap (λ (t : List Choice). value_in t c.args.c.var) c.self.view_is ∙ c.requires) c.in_ok-push.ensures.ok
+    (ok-where c.keep.result c.keep.ensures.values kept) (ok-where c.keep.result c.keep.ensures.instances kept)

@@ -1,0 +1,4 @@
+pub mod Below
+pub mod Members
+pub mod Least
+pub mod First

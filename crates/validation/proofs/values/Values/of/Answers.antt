@@ -1,5 +1,0 @@
-use Rattle.std.proofs.Common.{append-nil}
-use Rattle.validation.proofs.values.Values.of.Goals as goal
-
-pub returns : goal.returns
-returns c = append-nil c.args.trail.now
