@@ -4,6 +4,7 @@ pub mod Members
 pub mod Ranking
 pub mod Planned
 pub mod Needed
+pub mod Whole
 pub mod Sorted
 pub mod Ties
 pub mod Unique

@@ -137,15 +137,15 @@ module _ (selection : Selection) (all : List Told) (ranked : AreRanked selection
 -- ---- each line once
 
 -- of those that were looked at a line is kept, and each that stands before it is told in front
-record IsFirst (seen front : List PlanNode) (line : PlanNode) : Type 0 where
+pub record IsFirst (seen front : List PlanNode) (line : PlanNode) : Type 0 where
   before : List PlanNode
   after : List PlanNode
   is : seen ≡ before ++ line ∷ after
   covered : (x : PlanNode) → Contains before x → Contains (map node_line front) (node_line x)
 
-record Keeps (seen kept : List PlanNode) : Type 0 where
-  covers : (x : PlanNode) → Contains seen x → Contains (map node_line kept) (node_line x)
-  splits : (front rest : List PlanNode) (line : PlanNode) → kept ≡ front ++ line ∷ rest → IsFirst seen front line
+pub record Keeps (seen kept : List PlanNode) : Type 0 where
+  pub covers : (x : PlanNode) → Contains seen x → Contains (map node_line kept) (node_line x)
+  pub splits : (front rest : List PlanNode) (line : PlanNode) → kept ≡ front ++ line ∷ rest → IsFirst seen front line
 
 later : (seen front : List PlanNode) (line x : PlanNode) → IsFirst seen front line → IsFirst (seen ++ x ∷ []) front line
 later seen front line x f = record {
@@ -194,7 +194,7 @@ all-kept seen kept (x ∷ more) k =
     subst (λ s. Keeps s (fold (insert_key same_line) (insert_key same_line kept x) more)) (append_assoc seen (x ∷ []) more)
     (all-kept (seen ++ x ∷ []) (insert_key same_line kept x) more (step seen kept x k))
 
-once-kept : (lines : List PlanNode) → Keeps lines (each_line_once lines)
+pub once-kept : (lines : List PlanNode) → Keeps lines (each_line_once lines)
 once-kept lines = all-kept [] [] lines (record {
   covers = λ x c. absurd (contains-none x c);
   splits = λ front rest line is. absurd (no-cons line rest (none-back front (line ∷ rest) (sym is)));

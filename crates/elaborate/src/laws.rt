@@ -4,6 +4,8 @@ ghost use Rattle.plan_nodes.specs.declared.node.PlanNode.{PlanNode};
 ghost use Rattle.plan_components.specs.Chosen.{Selection};
 ghost use Rattle.elaborate.specs.Before.{AreToldBefore};
 ghost use Rattle.elaborate.specs.Plan.{IsPlan};
+ghost use Rattle.elaborate.specs.Whole.{LacksNone};
+ghost use Rattle.node_lines.specs.Lines.{HaveLines};
 
 /// What is chosen makes one plan.
 pub fn one_plan()
@@ -13,4 +15,9 @@ pub fn one_plan()
 /// Each identifier that a line needs is told before it.
 pub fn each_need_told_before()
     ensures { (selection : Selection) (lines : List PlanNode) → IsPlan selection lines → AreToldBefore lines }
+{}
+
+/// Where each node of the plan has a line, each is told.
+pub fn no_node_is_lacking()
+    ensures { (selection : Selection) (lines : List PlanNode) → IsPlan selection lines → HaveLines selection → LacksNone selection lines }
 {}

@@ -10,6 +10,7 @@ use Rattle.plan_components.specs.declared.node.Need.{Need}
 use Rattle.plan_components.specs.declared.node.Node.{Node}
 use Rattle.plan_components.specs.Chosen.{Selection}
 use Rattle.plan_components.specs.Needs.{needs_of}
+use Rattle.plan_components.specs.Plan.{IsInPlan}
 use Rattle.plan_components.specs.Steps.{node_at}
 use Rattle.plan_lines.specs.declared.needed.Needed.{Needed}
 use Rattle.plan_lines.specs.Line.{line_of}
@@ -37,6 +38,10 @@ pub data HasLine (selection : Selection) : Node → PlanNode → Type 0 where
   told : (node : Node) (line : PlanNode) (line_at : Node → PlanNode)
       → ((need : Need) → Contains (needs_of selection node) need → HasLine selection need.node (line_at need.node))
       → line_of selection node (needed_by line_at (needs_of selection node)) ≡ Some line → HasLine selection node line
+
+-- each node of the plan has a line
+abbrev pub HaveLines : Selection → Type 0
+HaveLines selection = (node : Node) → IsInPlan selection node → (line : PlanNode) × HasLine selection node line
 
 -- beside each node its line, where it has one
 pub record AreLines (selection : Selection) (nodes : List Node) (lines : List (Option PlanNode)) : Type 0 where

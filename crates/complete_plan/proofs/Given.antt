@@ -1,0 +1,202 @@
+-- What is chosen by an assignment that holds within all known variables, and what its demands say.
+use Rattle.std.proofs.Common.{◌≡◌, ◌<◌, ◌+◌, ℕ, zero, suc, Bool, true, false, cond, not, nat_eq, inr, List, [], ◌∷◌, length, get_or, Option, Some, None, slice_get, refl, sym, ap, ◌∙◌, subst, arith}
+use Rattle.std.specs.List.{AllByRecursion, Contains, IsDistinct, position_or_len}
+use Rattle.std.specs.Option.{option_and_then, option_map, unwrap_or}
+use Rattle.std.proofs.lemmas.Bool.{eqb-true, false≢true, lt-ltb}
+use Rattle.std.proofs.lemmas.List.{get_or-map, length-map}
+use Rattle.std.proofs.lemmas.Option.{get_or_from_slice_get, none-some, same_Some, slice_get-get_or, slice_get_within}
+use Rattle.std.proofs.lemmas.Slice.Eq.{bytes_eq-Decides}
+use Rattle.common_laws.specs.Each.{each-at}
+use Rattle.common_laws.specs.Lists.{any-at}
+use Rattle.common_laws.specs.Small.{same-is}
+use Rattle.plan_types.specs.Bytes.{same_text}
+use Rattle.plan_types.specs.Packages.{entries_of, no_package, package_at}
+use Rattle.plan_types.specs.declared.condition.Env.{Env}
+use Rattle.plan_types.specs.declared.dependency.Dep.{Dep}
+use Rattle.plan_types.specs.declared.index.Body.{Body}
+use Rattle.plan_types.specs.declared.index.Entry.{Entry}
+use Rattle.plan_types.specs.declared.index.Index.{Index}
+use Rattle.plan_types.specs.declared.index.Instance.{Instance}
+use Rattle.plan_types.specs.declared.index.Package.{Package}
+use Rattle.plan_types.specs.declared.project.Project.{Project}
+use Rattle.plan_types.specs.declared.version.Version.{Version}
+use Rattle.flatten.specs.Sound.{IsBody, IsEntry, IsPackage, IsSound, instance_of}
+use Rattle.qualified_goals.specs.declared.variable.Qual.{Qual}
+use Rattle.qualified_goals.specs.declared.variable.Var.{Var}
+use Rattle.qualified_goals.specs.Names.{AreNumbers, Name, NameTable, number_of, package_names}
+use Rattle.choice_problem.specs.declared.problem.Choice.{Choice}
+use Rattle.choice_problem.specs.Assignment.{Assignment, is_one_of}
+use Rattle.choice_problem.specs.General.{General, Request}
+use Rattle.choice_problem.specs.Holds.{HoldsWithin, IsEdge}
+use Rattle.choice_problem.specs.Problem.{IsChoice, IsDemand}
+use Rattle.choice_problem.specs.Trail.{choice_of}
+use Rattle.solver_index.specs.AllowedVersions.{allowed_versions}
+use Rattle.solver_index.specs.Places.{entry_at, no_entry, number}
+use Rattle.cabal_problem.specs.Laws.{known-below}
+use Rattle.cabal_problem.specs.Values.{package_var}
+use Rattle.cabal_problem.specs.Variables.{is_known}
+use Rattle.cabal_problem.specs.WholeDemands.{body_requests, whole_problem}
+use Rattle.plan_components.specs.Chosen.{Selection, body_at, selection_from}
+
+-- an assignment that holds within all variables of the problem that a sound index makes
+pub record Given : Type 0 where
+  pub env : Env
+  pub index : Index
+  pub project : Project
+  pub names : NameTable
+  pub orders : List (List ℕ)
+  pub assignment : Assignment
+  pub sound : IsSound env index
+  pub numbers : AreNumbers index.packages names
+  pub known : (r : Request) → IsDemand (whole_problem env index.packages project names orders) r → r.is_yes assignment ≡ true → is_known index.packages names r.target ≡ true
+  pub holds : HoldsWithin (whole_problem env index.packages project names orders) (whole_problem env index.packages project names orders).known assignment
+
+-- ---- a name has its own number
+
+self : (name : Name) → same_text name name ≡ true
+self name = (bytes_eq-Decides name name).1 refl
+
+apart-at : (n : Name) (ns : List Name) (p : ℕ) → AllByRecursion (λ m. same_text n m ≡ false) ns → p < length ns → same_text n (get_or ns p []) ≡ false
+apart-at n [] p h lt = absurd (omega (arith, lt))
+apart-at n (m ∷ ns) zero h lt = h.0
+apart-at n (m ∷ ns) (suc p) h lt = apart-at n ns p h.1 (omega (arith, lt))
+
+flipped : (m n : Name) → same_text n m ≡ false → same_text m n ≡ false
+flipped m n h =
+    elim (same_text m n) as (λ b. same_text m n ≡ b → b ≡ false) [
+      | true ↦ λ e. absurd (false≢true (sym h ∙ ap (same_text n) (same-is m n e) ∙ self n))
+      | false ↦ λ e. refl
+    ] refl
+
+own-place : (ns : List Name) (p : ℕ) → IsDistinct same_text ns → p < length ns → position_or_len (same_text (get_or ns p [])) ns ≡ p
+unfolding IsDistinct
+own-place [] p h lt = absurd (omega (arith, lt))
+own-place (n ∷ ns) zero h lt = ap (λ b. cond (not b) (1 + position_or_len (same_text n) ns) 0) (self n)
+own-place (n ∷ ns) (suc p) h lt =
+    let m = get_or ns p [] in
+    let inner = own-place ns p h.1 (omega (arith, lt)) in
+    let same : 1 + position_or_len (same_text m) ns ≡ suc p = omega (arith, inner) in
+    ap (λ b. cond (not b) (1 + position_or_len (same_text m) ns) 0) (flipped m n (apart-at n ns p h.0 (omega (arith, lt)))) ∙ same
+
+own-number : (ns : List Name) (p : ℕ) → IsDistinct same_text ns → p < length ns → number_of ns (get_or ns p []) ≡ Some p
+own-number ns p h lt =
+    let place = position_or_len (same_text (get_or ns p [])) ns in
+    let is = own-place ns p h lt in
+    ap (λ b. cond b (Some place) None) (lt-ltb place (length ns) (subst (λ k. k < length ns) (sym is) lt)) ∙ ap Some is
+
+-- ---- values
+
+allowed-value : (o : Option ℕ) (values : List ℕ) → is_one_of o values ≡ true → (n : ℕ) × (o ≡ Some n) × Contains values n
+allowed-value None values h = absurd (false≢true h)
+allowed-value (Some n) values h =
+    let found = any-at (λ m. nat_eq n m) values h in
+    (n, refl, subst (Contains values) (sym (eqb-true n found.0 found.2)) found.1)
+
+module _ (g : Given) where
+  abbrev pub packages : List Package
+  packages = g.index.packages
+
+  abbrev pub whole : General
+  whole = whole_problem g.env g.index.packages g.project g.names g.orders
+
+  abbrev pub selection : Selection
+  selection = selection_from g.index g.names g.env g.assignment
+
+  -- one package's choice depends on another's
+  abbrev pub PackageEdge : Var → Var → Type 0
+  PackageEdge = IsEdge whole whole.known g.assignment
+
+  -- ---- instances
+
+  -- the instance of a package that is chosen under a qualifier
+  pub record IsChosen (q : Qual) (p : ℕ) (body : Body) : Type 0 where
+    pub place : ℕ
+    pub value : g.assignment (package_var q p) ≡ Some place
+    pub within : place < length (entries_of packages p)
+    pub body_is : (entry_at (entries_of packages p) place).body ≡ body
+
+  chosen-by : (q : Qual) (p : ℕ) (body : Body) (o : Option ℕ) → g.assignment (package_var q p) ≡ o
+      → option_map (λ (e : Entry). e.body) (option_and_then (slice_get (entries_of packages p)) o) ≡ Some body → IsChosen q p body
+  chosen-by q p body None is h = absurd (none-some body h)
+  chosen-by q p body (Some i) is h =
+      let entries = entries_of packages p in
+      elim (slice_get entries i) as (λ o. slice_get entries i ≡ o → option_map (λ (e : Entry). e.body) o ≡ Some body → IsChosen q p body) [
+        | None ↦ λ at k. absurd (none-some body k)
+        | Some e ↦ λ at k. record {
+          place = i;
+          value = is;
+          within = slice_get_within entries i e at;
+          body_is = ap (λ (x : Entry). x.body) (get_or_from_slice_get entries i e no_entry at) ∙ same_Some e.body body k;
+        }
+      ] refl h
+
+  pub chosen-at : (q : Qual) (p : ℕ) (body : Body) → body_at selection q p ≡ Some body → IsChosen q p body
+  chosen-at q p body h = chosen-by q p body (g.assignment (package_var q p)) refl h
+
+  pub at-chosen : (q : Qual) (p i : ℕ) → g.assignment (package_var q p) ≡ Some i → i < length (entries_of packages p)
+      → body_at selection q p ≡ Some (entry_at (entries_of packages p) i).body
+  at-chosen q p i is lt =
+      ap (λ o. option_map (λ (e : Entry). e.body) (option_and_then (slice_get (entries_of packages p)) o)) is
+      ∙ ap (option_map (λ (e : Entry). e.body)) (slice_get-get_or (entries_of packages p) i no_entry lt)
+
+  module _ (q : Qual) (p : ℕ) (body : Body) (c : IsChosen q p body) where
+    abbrev pub owner : Choice
+    owner = choice_of (package_var q p) c.place
+
+    abbrev pub entry : Entry
+    entry = entry_at (entries_of packages p) c.place
+
+    abbrev pub allows : Dep → Version → Bool
+    allows = allowed_versions g.project entry.instance
+
+    is-choice : IsChoice whole owner
+    is-choice = g.holds.assignment.choice owner c.value
+
+    below : p < length packages
+    below = known-below packages g.names (package_var q p) is-choice.variable
+
+    entry-is : IsEntry g.env g.index (package_at packages p) entry
+    entry-is =
+        let found = each-at (IsPackage g.env g.index) packages p (package_at packages p) g.sound.packages (slice_get-get_or packages p no_package below) in
+        each-at (IsEntry g.env g.index (package_at packages p)) (entries_of packages p) c.place entry found.entries
+        (slice_get-get_or (entries_of packages p) c.place no_entry c.within)
+
+    pub body-sound : IsBody g.env g.index body
+    body-sound = subst (IsBody g.env g.index) c.body_is entry-is.body
+
+    -- the name that the instance states is that of its package
+    own-name : (instance_of (package_at packages p).local body).name ≡ (package_at packages p).name
+    own-name =
+        ap (λ (b : Body). (instance_of (package_at packages p).local b).name) (sym c.body_is)
+        ∙ ap (λ (i : Instance). i.name) (sym entry-is.instance_is) ∙ entry-is.named
+
+    -- and has its number
+    pub own-number-is : number packages g.names (instance_of (package_at packages p).local body).name ≡ p
+    own-number-is =
+        let named = package_names packages in
+        let within : p < length named = subst (λ n. p < n) (sym (length-map packages (λ (k : Package). k.name))) below in
+        let name-at : get_or named p [] ≡ (package_at packages p).name = get_or-map (λ (k : Package). k.name) packages p no_package [] below in
+        ap (number packages g.names) (own-name ∙ sym name-at)
+        ∙ ap (λ ns. unwrap_or (number_of ns (get_or named p [])) (length packages)) g.numbers.packages_are
+        ∙ ap (λ o. unwrap_or o (length packages)) (own-number named p g.sound.in_goal_order.once within)
+
+    -- ---- demands
+
+    module _ (r : Request) (asked : Contains (body_requests g.env packages g.project g.names owner allows body) r) (yes : r.is_yes g.assignment ≡ true) where
+      demand : IsDemand whole r
+      demand = inr (owner, is-choice, subst (λ b. Contains (body_requests g.env packages g.project g.names owner allows b) r) (sym c.body_is) asked)
+
+      pub edge-to : r.owner ≡ Some owner → PackageEdge (package_var q p) r.target
+      edge-to owned = record {
+        request = r;
+        owner = owner;
+        demand = demand;
+        owner_is = owned;
+        yes = yes;
+        inside = g.known r demand yes;
+        leaves = refl;
+        enters = refl;
+      }
+
+      pub value-of-target : (n : ℕ) × (g.assignment r.target ≡ Some n) × Contains r.allowed n
+      value-of-target = allowed-value (g.assignment r.target) r.allowed (g.holds.met r demand yes (g.known r demand yes))

@@ -1,0 +1,9 @@
+pub mod Descent
+pub mod Known
+pub mod Given
+pub mod Requests
+pub mod Flags
+pub mod Pieces
+pub mod Edges
+pub mod Cycles
+pub mod Whole

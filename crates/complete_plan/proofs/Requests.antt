@@ -1,0 +1,44 @@
+-- What a source instance that is chosen asks for, part by part.
+use Rattle.std.proofs.Common.{ℕ, List, ◌++◌, map}
+use Rattle.std.specs.List.{Contains, filter}
+use Rattle.common_laws.specs.Lists.{contains-left, contains-right}
+use Rattle.plan_types.specs.declared.description.Description.{Description}
+use Rattle.plan_types.specs.declared.index.Body.{Body}
+use Rattle.plan_types.specs.declared.index.Body.TheVariants.{Source}
+use Rattle.plan_types.specs.declared.index.Exposed.{Exposed}
+use Rattle.plan_types.specs.declared.index.FlatDep.{FlatDep}
+use Rattle.flatten.specs.Demands.{outward}
+use Rattle.qualified_goals.specs.declared.variable.Qual.{Qual}
+use Rattle.choice_problem.specs.declared.problem.Choice.{Choice}
+use Rattle.choice_problem.specs.General.{Request}
+use Rattle.cabal_problem.specs.ListedDemands.{has_stanzas}
+use Rattle.cabal_problem.specs.WholeDemands.{body_requests, can_ask, front_demands, requests_of, setup_request, setup_requests, whole_request}
+use Rattle.complete_plan.proofs.Given.{Given, IsChosen, allows, owner, packages}
+
+module _ (g : Given) (q : Qual) (p : ℕ) (d : Description) (flats : List FlatDep) (offer : Exposed) (c : IsChosen g q p (Source d flats offer)) where
+  abbrev pub body : Body
+  body = Source d flats offer
+
+  abbrev pub chooser : Choice
+  chooser = owner g q p body c
+
+  abbrev pub front : List Request
+  front = requests_of (front_demands (packages g) g.project g.names chooser d)
+
+  abbrev pub deps : List Request
+  deps = map (whole_request g.env (packages g) g.names chooser (allows g q p body c)) (filter (can_ask (has_stanzas (packages g) chooser.var)) (outward d))
+
+  abbrev pub scripts : List Request
+  scripts = setup_requests d.custom (map (setup_request (packages g) g.names chooser (allows g q p body c)) d.setup)
+
+  abbrev pub asked : List Request
+  asked = body_requests g.env (packages g) g.project g.names chooser (allows g q p body c) body
+
+  pub from-front : (r : Request) → Contains front r → Contains asked r
+  from-front r h = contains-left (front ++ deps) scripts r (contains-left front deps r h)
+
+  pub from-deps : (r : Request) → Contains deps r → Contains asked r
+  from-deps r h = contains-left (front ++ deps) scripts r (contains-right front deps r h)
+
+  pub from-scripts : (r : Request) → Contains scripts r → Contains asked r
+  from-scripts r h = contains-right (front ++ deps) scripts r h

@@ -1,0 +1,45 @@
+// Whatever is chosen by a whole valid assignment can be built.
+ghost use Rattle.std.specs.Prelude.{◌≡◌, ℕ, List, true};
+ghost use Rattle.std.specs.List.{list_all};
+ghost use Rattle.plan_types.specs.declared.condition.Env.{Env};
+ghost use Rattle.plan_types.specs.declared.index.Index.{Index};
+ghost use Rattle.plan_types.specs.declared.project.Project.{Project};
+ghost use Rattle.qualified_goals.specs.Names.{AreNumbers, NameTable};
+ghost use Rattle.flatten.specs.Sound.{IsSound, has_package};
+ghost use Rattle.choice_problem.specs.Assignment.{Assignment};
+ghost use Rattle.choice_problem.specs.Valid.{IsWholeValid};
+ghost use Rattle.solver_index.specs.Orders.{AreOrders};
+ghost use Rattle.cabal_problem.specs.WholeDemands.{whole_problem};
+ghost use Rattle.plan_components.specs.Chosen.{selection_from};
+ghost use Rattle.plan_nodes.specs.declared.node.PlanNode.{PlanNode};
+ghost use Rattle.node_lines.specs.Lines.{HaveLines};
+ghost use Rattle.elaborate.specs.Plan.{IsPlan};
+ghost use Rattle.elaborate.specs.Whole.{LacksNone};
+
+use cabal_problem::{listed_as_whole, problem_is_lawful};
+use elaborate::no_node_is_lacking;
+
+/// Each node of the plan that a whole valid assignment makes of a sound index has a line.
+pub fn every_node_has_a_line()
+    ensures { (env : Env) (index : Index) (project : Project) (names : NameTable) (orders : List (List ℕ)) (assignment : Assignment)
+        → IsSound env index → AreNumbers index.packages names → AreOrders project index.packages orders
+        → list_all (λ named. has_package index named.name) project.extra ≡ true
+        → IsWholeValid (whole_problem env index.packages project names orders) assignment
+        → HaveLines (selection_from index names env assignment) }
+{
+    listed_as_whole();
+    problem_is_lawful();
+}
+
+/// So that plan tells each of its nodes.
+pub fn valid_plan_lacks_none()
+    ensures { (env : Env) (index : Index) (project : Project) (names : NameTable) (orders : List (List ℕ)) (assignment : Assignment)
+        (lines : List PlanNode) → IsSound env index → AreNumbers index.packages names → AreOrders project index.packages orders
+        → list_all (λ named. has_package index named.name) project.extra ≡ true
+        → IsWholeValid (whole_problem env index.packages project names orders) assignment
+        → IsPlan (selection_from index names env assignment) lines
+        → LacksNone (selection_from index names env assignment) lines }
+{
+    every_node_has_a_line();
+    no_node_is_lacking();
+}
