@@ -114,6 +114,29 @@ conflict main util
 visited 1 exhausted 2
 
 $ cabal-plan plan
+main.cabal: cabal-version: 2.4;name: main;version: 1;build-type: Custom;custom-setup;  setup-depends: h;library;  build-depends: h ==1
+index/h/1/h.cabal h 1
+index/h/2/h.cabal h 2
+=> 0
+plan
+choose main 1 local
+choose h 1 source
+choose main:setup.h 1 source
+node store h-1 lib h-1-9690318e80b6747d5725623b98d279c047dbdd88f4d1338517ed69f288b7fd94
+node local main-1 package main-1-inplace needs h-1-9690318e80b6747d5725623b98d279c047dbdd88f4d1338517ed69f288b7fd94
+visited 4 exhausted 0
+
+$ cabal-plan plan
+main.cabal: cabal-version: 2.4;name: main;version: 1;build-type: Custom;custom-setup;  setup-depends: h, k ==2;library;  build-depends: h, k ==1
+index/h/1/h.cabal h 1 k
+index/k/1/k.cabal k 1
+index/k/2/k.cabal k 2
+=> 1
+no plan
+conflict main h k main:setup.h main:setup.k
+visited 7 exhausted 5
+
+$ cabal-plan plan
 main.cabal: cabal-version: 3.4;name: main;version: 1;library;  if os(linux);    import: s
 => 3
 refused main.cabal:6 UnknownStanza
