@@ -3,4 +3,5 @@ pub mod Place
 pub mod Note
 pub mod Choice
 pub mod Texts
+pub mod Summary
 pub mod Examples

@@ -1,5 +1,5 @@
 // The line of a choice.
-ghost use Rattle.std.specs.Prelude.{◌≡◌, ◌++◌, OnOk, slice_get};
+ghost use Rattle.std.specs.Prelude.{◌≡◌, ◌++◌, IfOk, OnOk, slice_get};
 ghost use Rattle.plan_print.specs.Choice.{choice_line, entry_text, instance_text, origin_text, switch_text, value_text};
 ghost use Rattle.plan_types.specs.Packages.{entries_of};
 
@@ -25,6 +25,15 @@ pub fn push_choice(
     text.push_str(" ")?;
     push_value(alloc, text, choice, index)?;
     text.push_str("\n")
+}
+
+/// The value of a choice as it is printed.
+pub fn value_text(alloc: Global, choice: Choice, index: &Index) -> Result<Text, NoMemory>
+    ensures { IfOk result (λ text. text ≡ value_text index.now choice) }
+{
+    let mut text = Text::new(alloc);
+    push_value(alloc, &mut text, choice, index)?;
+    Ok(text)
 }
 
 fn push_value(alloc: Global, text: &mut Text, choice: Choice, index: &Index) -> Result<(), NoMemory>

@@ -1,5 +1,5 @@
 // The lines of what a user should know of an index.
-ghost use Rattle.std.specs.Prelude.{◌≡◌, ◌++◌, OnOk, flat_map};
+ghost use Rattle.std.specs.Prelude.{◌≡◌, ◌++◌, IfOk, OnOk, flat_map};
 ghost use Rattle.plan_print.specs.Note.{skipped_line, skipped_note, warning_line, warning_note, notes_text};
 
 use crate::cause::cause_name;
@@ -13,6 +13,24 @@ pub fn push_notes(alloc: Global, text: &mut Text, index: &Index) -> Result<(), N
 {
     push_skipped_lines(alloc, text, index.skipped.as_slice())?;
     push_warning_lines(alloc, text, index.warnings.as_slice())
+}
+
+/// What is said of a file that was skipped.
+pub fn skipped_note(alloc: Global, file: &Skipped) -> Result<Text, NoMemory>
+    ensures { IfOk result (λ note. note ≡ skipped_note file.now) }
+{
+    let mut note = Text::new(alloc);
+    push_skipped_note(alloc, &mut note, file)?;
+    Ok(note)
+}
+
+/// What is said of something that was accepted unread.
+pub fn warning_note(alloc: Global, warning: &Warning) -> Result<Text, NoMemory>
+    ensures { IfOk result (λ note. note ≡ warning_note warning.now) }
+{
+    let mut note = Text::new(alloc);
+    push_warning_note(alloc, &mut note, warning)?;
+    Ok(note)
 }
 
 fn push_skipped_lines(alloc: Global, text: &mut Text, skipped: &[Skipped]) -> Result<(), NoMemory>

@@ -123,7 +123,8 @@ fn push_vars(alloc: Global, text: &mut Text, vars: &[Var], names: &Names) -> Res
     Ok(())
 }
 
-fn push_counts(alloc: Global, text: &mut Text, counts: Counts) -> Result<(), NoMemory>
+// The line of the counts of a search.
+pub fn push_counts(alloc: Global, text: &mut Text, counts: Counts) -> Result<(), NoMemory>
     ensures { OnOk result (text.new ≡ text.old ++ counts_line counts) }
 {
     let visited = counts.visited;

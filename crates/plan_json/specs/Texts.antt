@@ -1,0 +1,103 @@
+-- The lines of answers as JSON. A text in quotes has a backslash before a quote and a backslash, and its control bytes spelled.
+use Rattle.std.specs.Prelude.{ℕ, Bool, true, false, List, [], ◌∷◌, ◌++◌, flat_map, codes}
+use Rattle.std.specs.List.{concat}
+use Rattle.std.specs.Fmt.{decimal}
+use Rattle.json.specs.Print.{quoted}
+use Rattle.plan_types.specs.declared.index.Index.{Index}
+use Rattle.plan_types.specs.declared.index.Skipped.{Skipped}
+use Rattle.plan_types.specs.declared.index.Warning.{Warning}
+use Rattle.qualified_goals.specs.declared.variable.Var.{Var}
+use Rattle.qualified_goals.specs.Names.{NameTable}
+use Rattle.qualified_goals.specs.Printed.{var_text}
+use Rattle.choice_problem.specs.declared.problem.Choice.{Choice}
+use Rattle.choice_problem.specs.declared.outcome.Counts.{Counts}
+use Rattle.plan_nodes.specs.declared.node.PlanNode.{PlanNode}
+use Rattle.plan_nodes.specs.Line.{all_needs, kind_word, package_text}
+use Rattle.plan_print.specs.Choice.{value_text}
+use Rattle.plan_print.specs.Note.{skipped_note, warning_note}
+
+-- a text with the end of its line
+abbrev pub line : List ℕ → List ℕ
+line text = text ++ 10 ∷ []
+
+-- an item behind another
+abbrev pub behind_comma : {A : Type 0} → (A → List ℕ) → A → List ℕ
+behind_comma text x = codes "," ++ text x
+
+-- a list
+abbrev pub list_text : {A : Type 0} → (A → List ℕ) → List A → List ℕ
+list_text text [] = codes "[]"
+list_text text (x ∷ xs) = concat (codes "[" ∷ text x ∷ flat_map (behind_comma text) xs ∷ codes "]" ∷ [])
+
+-- a word for what is or isn't so
+abbrev pub truth_text : Bool → List ℕ
+truth_text true = codes "true"
+truth_text false = codes "false"
+
+-- what the line of a skipped file says behind its first word
+abbrev pub skipped_json : Skipped → List ℕ
+skipped_json file = quoted (skipped_note file)
+
+-- what the line of a warning says behind its first word
+abbrev pub warning_json : Warning → List ℕ
+warning_json warning = quoted (warning_note warning)
+
+-- a variable as it is printed
+abbrev pub variable_json : NameTable → Var → List ℕ
+variable_json names v = quoted (var_text names v)
+
+-- a choice: its value and its variable
+abbrev pub choice_json : Index → NameTable → Choice → List ℕ
+choice_json index names choice =
+    concat
+    (codes "{\"value\":" ∷ quoted (value_text index choice)
+    ∷ codes ",\"var\":" ∷ variable_json names choice.var
+    ∷ codes "}" ∷ [])
+
+-- a node
+abbrev pub node_json : PlanNode → List ℕ
+node_json node =
+    concat
+    (codes "{\"component\":" ∷ quoted node.component
+    ∷ codes ",\"id\":" ∷ quoted node.id
+    ∷ codes ",\"kind\":" ∷ quoted (kind_word node.kind)
+    ∷ codes ",\"needs\":" ∷ list_text (λ id. quoted id) (all_needs node)
+    ∷ codes ",\"package\":" ∷ quoted (package_text node)
+    ∷ codes ",\"unbuildable\":" ∷ truth_text node.unbuildable
+    ∷ codes "}" ∷ [])
+
+-- a plan: its choices and its nodes in their order
+abbrev pub plan_json : Index → NameTable → List Choice → List PlanNode → Counts → List ℕ
+plan_json index names trail nodes counts =
+    line
+    (concat
+    (codes "{\"choices\":" ∷ list_text (choice_json index names) trail
+    ∷ codes ",\"exhausted\":" ∷ decimal counts.exhausted
+    ∷ codes ",\"nodes\":" ∷ list_text node_json nodes
+    ∷ codes ",\"skipped\":" ∷ list_text skipped_json index.skipped
+    ∷ codes ",\"status\":\"plan\",\"visited\":" ∷ decimal counts.visited
+    ∷ codes ",\"warnings\":" ∷ list_text warning_json index.warnings
+    ∷ codes "}" ∷ []))
+
+-- the variables that can't be met together, in goal order
+abbrev pub conflict_json : Index → NameTable → List Var → Counts → List ℕ
+conflict_json index names set counts =
+    line
+    (concat
+    (codes "{\"conflict\":" ∷ list_text (variable_json names) set
+    ∷ codes ",\"exhausted\":" ∷ decimal counts.exhausted
+    ∷ codes ",\"skipped\":" ∷ list_text skipped_json index.skipped
+    ∷ codes ",\"status\":\"no plan\",\"visited\":" ∷ decimal counts.visited
+    ∷ codes ",\"warnings\":" ∷ list_text warning_json index.warnings
+    ∷ codes "}" ∷ []))
+
+-- a search that gave up
+abbrev pub gave_up_json : Index → Counts → List ℕ
+gave_up_json index counts =
+    line
+    (concat
+    (codes "{\"exhausted\":" ∷ decimal counts.exhausted
+    ∷ codes ",\"skipped\":" ∷ list_text skipped_json index.skipped
+    ∷ codes ",\"status\":\"gave up\",\"visited\":" ∷ decimal counts.visited
+    ∷ codes ",\"warnings\":" ∷ list_text warning_json index.warnings
+    ∷ codes "}" ∷ []))

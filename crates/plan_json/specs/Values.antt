@@ -1,0 +1,94 @@
+-- Answers as values of JSON. The keys of an object stand in the order of their bytes.
+use Rattle.std.specs.Prelude.{ℕ, List, map, codes}
+use Rattle.serde_json.specs.Data.{Data, Members, array, boolean, number, object, string, unsigned, member, no_members, put}
+use Rattle.serde_json.specs.View.{items_of}
+use Rattle.plan_types.specs.declared.index.Index.{Index}
+use Rattle.plan_types.specs.declared.index.Skipped.{Skipped}
+use Rattle.plan_types.specs.declared.index.Warning.{Warning}
+use Rattle.qualified_goals.specs.declared.variable.Var.{Var}
+use Rattle.qualified_goals.specs.Names.{NameTable}
+use Rattle.qualified_goals.specs.Printed.{var_text}
+use Rattle.choice_problem.specs.declared.problem.Choice.{Choice}
+use Rattle.choice_problem.specs.declared.outcome.Counts.{Counts}
+use Rattle.plan_nodes.specs.declared.node.PlanNode.{PlanNode}
+use Rattle.plan_nodes.specs.Line.{all_needs, kind_word, package_text}
+use Rattle.plan_print.specs.Choice.{value_text}
+use Rattle.plan_print.specs.Note.{skipped_note, warning_note}
+
+-- a list, each item made in the same way
+abbrev pub list_of : {A : Type 0} → (A → Data) → List A → Data
+list_of value xs = array (items_of (map value xs))
+
+-- what the line of a skipped file says behind its first word
+abbrev pub skipped_value : Skipped → Data
+skipped_value file = string (skipped_note file)
+
+-- what the line of a warning says behind its first word
+abbrev pub warning_value : Warning → Data
+warning_value warning = string (warning_note warning)
+
+-- a variable as it is printed
+abbrev pub variable_value : NameTable → Var → Data
+variable_value names v = string (var_text names v)
+
+-- a choice: its value and its variable, as its line says them
+abbrev pub choice_value : Index → NameTable → Choice → Data
+choice_value index names choice =
+    object (member (codes "value") (string (value_text index choice)) (member (codes "var") (variable_value names choice.var) no_members))
+
+-- the identifiers of all that a node needs
+abbrev pub ids_value : PlanNode → Data
+ids_value node = list_of (λ id. string id) (all_needs node)
+
+-- a node, as its line tells it
+abbrev pub node_value : PlanNode → Data
+node_value node =
+    object
+    (member (codes "component") (string node.component)
+    (member (codes "id") (string node.id)
+    (member (codes "kind") (string (kind_word node.kind))
+    (member (codes "needs") (ids_value node)
+    (member (codes "package") (string (package_text node))
+    (member (codes "unbuildable") (boolean node.unbuildable) no_members))))))
+
+-- an answer with what each has besides: the counts, what was skipped and warned of, and its head
+abbrev pub with_end : List ℕ → Index → Counts → Members → Members
+with_end head index counts members =
+    put (codes "exhausted") (number (unsigned counts.exhausted))
+    (put (codes "skipped") (list_of skipped_value index.skipped)
+    (put (codes "status") (string head)
+    (put (codes "visited") (number (unsigned counts.visited))
+    (put (codes "warnings") (list_of warning_value index.warnings) members))))
+
+-- a plan
+abbrev pub plan_value : Index → NameTable → List Choice → List PlanNode → Counts → Data
+plan_value index names trail nodes counts =
+    object
+    (member (codes "choices") (list_of (choice_value index names) trail)
+    (member (codes "exhausted") (number (unsigned counts.exhausted))
+    (member (codes "nodes") (list_of node_value nodes)
+    (member (codes "skipped") (list_of skipped_value index.skipped)
+    (member (codes "status") (string (codes "plan"))
+    (member (codes "visited") (number (unsigned counts.visited))
+    (member (codes "warnings") (list_of warning_value index.warnings) no_members)))))))
+
+-- the variables that can't be met together, in goal order
+abbrev pub conflict_value : Index → NameTable → List Var → Counts → Data
+conflict_value index names set counts =
+    object
+    (member (codes "conflict") (list_of (variable_value names) set)
+    (member (codes "exhausted") (number (unsigned counts.exhausted))
+    (member (codes "skipped") (list_of skipped_value index.skipped)
+    (member (codes "status") (string (codes "no plan"))
+    (member (codes "visited") (number (unsigned counts.visited))
+    (member (codes "warnings") (list_of warning_value index.warnings) no_members))))))
+
+-- a search that gave up
+abbrev pub gave_up_value : Index → Counts → Data
+gave_up_value index counts =
+    object
+    (member (codes "exhausted") (number (unsigned counts.exhausted))
+    (member (codes "skipped") (list_of skipped_value index.skipped)
+    (member (codes "status") (string (codes "gave up"))
+    (member (codes "visited") (number (unsigned counts.visited))
+    (member (codes "warnings") (list_of warning_value index.warnings) no_members)))))

@@ -1,0 +1,120 @@
+// The answers as JSON.
+ghost use Rattle.std.specs.Prelude.{◌≡◌, IfOk, OnOk};
+ghost use Rattle.serde_json.specs.View.{members_view, view};
+ghost use Rattle.plan_json.specs.Line.{ReadsAs};
+ghost use Rattle.plan_json.specs.Texts.{conflict_json, gave_up_json, plan_json};
+ghost use Rattle.plan_json.specs.Values.{conflict_value, gave_up_value, plan_value, with_end};
+
+use crate::line::line_of;
+use crate::parts::{choice_list, node_list, skipped_list, variable_list, warning_list};
+use choice_problem::{Choice, ConflictSet, Counts};
+use plan_nodes::PlanNode;
+use plan_types::{Index, List, NoMemory, Text};
+use qualified_goals::Names;
+use serde_json::{Map, Value, put};
+use std::alloc::Global;
+
+/// A plan: its choices and its nodes in their order, what a user should know of the index, and the counts of the search.
+pub fn json_of_plan(
+    alloc: Global,
+    trail: &List<Choice>,
+    index: &Index,
+    names: &Names,
+    nodes: &List<PlanNode>,
+    counts: Counts,
+) -> Result<Text, NoMemory>
+    ensures text { IfOk result (λ text. text ≡ plan_json index.now names.now trail.now nodes.now counts) }
+    ensures reads { IfOk result (ReadsAs (plan_value index.now names.now trail.now nodes.now counts)) }
+{
+    let value = plan_value(alloc, trail, index, names, nodes, counts)?;
+    line_of(alloc, &value)
+}
+
+/// That there is no plan: the variables that can't be met together in goal order, what a user should know of the index, and
+/// the counts of the search.
+pub fn json_of_conflict(
+    alloc: Global,
+    set: &ConflictSet,
+    index: &Index,
+    names: &Names,
+    counts: Counts,
+) -> Result<Text, NoMemory>
+    ensures text { IfOk result (λ text. text ≡ conflict_json index.now names.now set.now counts) }
+    ensures reads { IfOk result (ReadsAs (conflict_value index.now names.now set.now counts)) }
+{
+    let value = conflict_value(alloc, set, index, names, counts)?;
+    line_of(alloc, &value)
+}
+
+/// That the search met its limit: what a user should know of the index, and the counts of the search.
+pub fn json_of_giving_up(alloc: Global, index: &Index, counts: Counts) -> Result<Text, NoMemory>
+    ensures text { IfOk result (λ text. text ≡ gave_up_json index.now counts) }
+    ensures reads { IfOk result (ReadsAs (gave_up_value index.now counts)) }
+{
+    let value = gave_up_value(alloc, index, counts)?;
+    line_of(alloc, &value)
+}
+
+fn plan_value(
+    alloc: Global,
+    trail: &List<Choice>,
+    index: &Index,
+    names: &Names,
+    nodes: &List<PlanNode>,
+    counts: Counts,
+) -> Result<Value, NoMemory>
+    ensures { IfOk result (λ value. view value ≡ plan_value index.now names.now trail.now nodes.now counts) }
+{
+    let choices = choice_list(alloc, trail.as_slice(), index, names)?;
+    let nodes = node_list(alloc, nodes.as_slice())?;
+    let mut members = Map::new(alloc);
+    put(&mut members, alloc, "choices", choices)?;
+    put(&mut members, alloc, "nodes", nodes)?;
+    put_end(&mut members, alloc, "plan", index, counts)?;
+    Ok(Value::from(members))
+}
+
+fn conflict_value(
+    alloc: Global,
+    set: &ConflictSet,
+    index: &Index,
+    names: &Names,
+    counts: Counts,
+) -> Result<Value, NoMemory>
+    ensures { IfOk result (λ value. view value ≡ conflict_value index.now names.now set.now counts) }
+{
+    let conflict = variable_list(alloc, set.vars(), names)?;
+    let mut members = Map::new(alloc);
+    put(&mut members, alloc, "conflict", conflict)?;
+    put_end(&mut members, alloc, "no plan", index, counts)?;
+    Ok(Value::from(members))
+}
+
+fn gave_up_value(alloc: Global, index: &Index, counts: Counts) -> Result<Value, NoMemory>
+    ensures { IfOk result (λ value. view value ≡ gave_up_value index.now counts) }
+{
+    let mut members = Map::new(alloc);
+    put_end(&mut members, alloc, "gave up", index, counts)?;
+    Ok(Value::from(members))
+}
+
+// What each answer has: its head, what a user should know of the index, and the counts of the search.
+fn put_end(
+    members: &mut Map<String, Value>,
+    alloc: Global,
+    head: &str,
+    index: &Index,
+    counts: Counts,
+) -> Result<(), NoMemory>
+    ensures { OnOk result (members_view members.new.entries ≡ with_end head.now index.now counts (members_view members.old.entries)) }
+{
+    let skipped = skipped_list(alloc, index.skipped.as_slice())?;
+    let warnings = warning_list(alloc, index.warnings.as_slice())?;
+    let head = Value::try_from_str(alloc, head)?;
+    put(members, alloc, "warnings", warnings)?;
+    put(members, alloc, "visited", Value::from(counts.visited))?;
+    put(members, alloc, "status", head)?;
+    put(members, alloc, "skipped", skipped)?;
+    put(members, alloc, "exhausted", Value::from(counts.exhausted))?;
+    Ok(())
+}

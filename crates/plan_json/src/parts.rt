@@ -1,0 +1,184 @@
+// The lists of an answer: choices, nodes, and what stands in their lines besides.
+ghost use Rattle.std.specs.Prelude.{◌≡◌, ◌∷◌, ◌++◌, [], IfOk, OnOk, map, fold};
+ghost use Rattle.std.specs.BTreeSet.{insert_key};
+ghost use Rattle.std.specs.Cmp.Lexicographic.{slice_cmp};
+ghost use Rattle.std.specs.Ordering.{nat_cmp};
+ghost use Rattle.serde_json.specs.Data.{put as with_member, string};
+ghost use Rattle.serde_json.specs.View.{members_view, view};
+ghost use Rattle.plan_nodes.specs.Line.{kind_word};
+ghost use Rattle.plan_json.specs.Values.{choice_value, ids_value, list_of, node_value, skipped_value, variable_value, warning_value};
+
+use choice_problem::{Choice, Var};
+use plan_nodes::{NodeKind, PlanNode, package_text};
+use plan_print::{skipped_note, value_text, warning_note};
+use plan_types::{Index, NoMemory, Skipped, Text, Warning};
+use qualified_goals::Names;
+use serde_json::{Map, Value, json, put};
+use std::alloc::Global;
+use std::collections::BTreeSet;
+
+/// The choices of a trail in their order.
+pub fn choice_list(
+    alloc: Global,
+    trail: &[Choice],
+    index: &Index,
+    names: &Names,
+) -> Result<Value, NoMemory>
+    ensures { IfOk result (λ value. view value ≡ list_of (choice_value index.now names.now) trail.now) }
+{
+    let mut items = Vec::new(alloc);
+    for choice in trail {
+        let item = choice_value(alloc, *choice, index, names)?;
+        push(&mut items, item)?;
+    }
+    Ok(Value::from(items))
+}
+
+/// The nodes in their order.
+pub fn node_list(alloc: Global, nodes: &[PlanNode]) -> Result<Value, NoMemory>
+    ensures { IfOk result (λ value. view value ≡ list_of node_value nodes.now) }
+{
+    let mut items = Vec::new(alloc);
+    for node in nodes {
+        let item = node_value(alloc, node)?;
+        push(&mut items, item)?;
+    }
+    Ok(Value::from(items))
+}
+
+/// The variables of a conflict in their order.
+pub fn variable_list(alloc: Global, vars: &[Var], names: &Names) -> Result<Value, NoMemory>
+    ensures { IfOk result (λ value. view value ≡ list_of (variable_value names.now) vars.now) }
+{
+    let mut items = Vec::new(alloc);
+    for var in vars {
+        let shown = names.print_var(alloc, *var)?;
+        push_text(alloc, &mut items, shown.as_str())?;
+    }
+    Ok(Value::from(items))
+}
+
+/// What is said of the files that were skipped.
+pub fn skipped_list(alloc: Global, skipped: &[Skipped]) -> Result<Value, NoMemory>
+    ensures { IfOk result (λ value. view value ≡ list_of skipped_value skipped.now) }
+{
+    let mut items = Vec::new(alloc);
+    for file in skipped {
+        let note = skipped_note(alloc, file)?;
+        push_text(alloc, &mut items, note.as_str())?;
+    }
+    Ok(Value::from(items))
+}
+
+/// What is said of what was accepted unread.
+pub fn warning_list(alloc: Global, warnings: &[Warning]) -> Result<Value, NoMemory>
+    ensures { IfOk result (λ value. view value ≡ list_of warning_value warnings.now) }
+{
+    let mut items = Vec::new(alloc);
+    for warning in warnings {
+        let note = warning_note(alloc, warning)?;
+        push_text(alloc, &mut items, note.as_str())?;
+    }
+    Ok(Value::from(items))
+}
+
+fn choice_value(
+    alloc: Global,
+    choice: Choice,
+    index: &Index,
+    names: &Names,
+) -> Result<Value, NoMemory>
+    ensures { IfOk result (λ value. view value ≡ choice_value index.now names.now choice) }
+{
+    let chosen = value_text(alloc, choice, index)?;
+    let var = names.print_var(alloc, choice.var)?;
+    let value = json!(in alloc; {"value": chosen.as_str(), "var": var.as_str()})?;
+    Ok(value)
+}
+
+fn node_value(alloc: Global, node: &PlanNode) -> Result<Value, NoMemory>
+    ensures { IfOk result (λ value. view value ≡ node_value node.now) }
+{
+    let needs = need_list(alloc, node)?;
+    let package = package_text(alloc, node)?;
+    let mut members = Map::new(alloc);
+    put_text(&mut members, alloc, "component", node.component.as_str())?;
+    put_text(&mut members, alloc, "id", node.id.as_str())?;
+    put_text(&mut members, alloc, "kind", kind_word(node.kind))?;
+    put(&mut members, alloc, "needs", needs)?;
+    put_text(&mut members, alloc, "package", package.as_str())?;
+    put(
+        &mut members,
+        alloc,
+        "unbuildable",
+        Value::from(node.unbuildable),
+    )?;
+    Ok(Value::from(members))
+}
+
+fn put_text(
+    members: &mut Map<String, Value>,
+    alloc: Global,
+    key: &str,
+    text: &str,
+) -> Result<(), NoMemory>
+    ensures { OnOk result (members_view members.new.entries ≡ with_member key.now (string text.now) (members_view members.old.entries)) }
+{
+    let value = Value::try_from_str(alloc, text)?;
+    put(members, alloc, key, value)?;
+    Ok(())
+}
+
+fn kind_word<'a>(kind: NodeKind) -> &'a str
+    ensures { result.now ≡ kind_word kind }
+{
+    match kind {
+        NodeKind::Installed => "installed",
+        NodeKind::Local => "local",
+        NodeKind::Store => "store",
+    }
+}
+
+// The identifiers of all that a node needs.
+fn need_list(alloc: Global, node: &PlanNode) -> Result<Value, NoMemory>
+    ensures { IfOk result (λ value. view value ≡ ids_value node.now) }
+{
+    let mut ids = BTreeSet::new(alloc);
+    add_ids(&mut ids, node.libs.as_slice())?;
+    add_ids(&mut ids, node.tools.as_slice())?;
+    add_ids(&mut ids, node.setups.as_slice())?;
+    id_values(alloc, &ids)
+}
+
+fn add_ids(ids: &mut BTreeSet<Text>, more: &[Text]) -> Result<(), NoMemory>
+    ensures { OnOk result (ids.new.keys ≡ fold (insert_key (slice_cmp nat_cmp)) ids.old.keys more.now) }
+{
+    for id in more {
+        ids.insert(id.copy()?)?;
+    }
+    Ok(())
+}
+
+fn id_values(alloc: Global, ids: &BTreeSet<Text>) -> Result<Value, NoMemory>
+    ensures { IfOk result (λ value. view value ≡ list_of (λ id. string id) ids.now.keys) }
+{
+    let mut items = Vec::new(alloc);
+    for id in ids.iter() {
+        push_text(alloc, &mut items, id.as_str())?;
+    }
+    Ok(Value::from(items))
+}
+
+fn push_text(alloc: Global, items: &mut Vec<Value>, text: &str) -> Result<(), NoMemory>
+    ensures { OnOk result (map view items.new.items ≡ map view items.old.items ++ string text.now ∷ []) }
+{
+    let item = Value::try_from_str(alloc, text)?;
+    push(items, item)
+}
+
+fn push(items: &mut Vec<Value>, item: Value) -> Result<(), NoMemory>
+    ensures { OnOk result (map view items.new.items ≡ map view items.old.items ++ view item ∷ []) }
+{
+    items.push(item)?;
+    Ok(())
+}
