@@ -1,4 +1,5 @@
 pub mod Draws
 pub mod Text
 pub mod Generated
+pub mod SureFolder
 pub mod Examples

@@ -4,6 +4,8 @@
 
 mod draws;
 mod folder;
+mod sure_folder;
 mod text;
 
 pub use folder::generate;
+pub use sure_folder::SureFolder;
