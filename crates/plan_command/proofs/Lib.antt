@@ -2,4 +2,3 @@ pub mod OneAnswer
 pub mod Outputs
 pub mod Words
 pub mod Buildable
-pub mod Generates

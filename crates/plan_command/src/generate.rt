@@ -28,8 +28,7 @@ pub(crate) fn output_of_generate(
     ensures read { IfOk result (λ output. output.status ≢ Status.Usage) }
 {
     let options = default_options(alloc, limit)?;
-    let made = generate(alloc, number)?;
-    let mut folder = SureFolder::new(made);
+    let mut folder = SureFolder::new(generate(alloc, number)?);
     match output_of_plan(alloc, Form::Summary(number), options, &mut folder) {
         Ok(output) => Ok(output),
         Err(Trouble::NoMemory) => Err(NoMemory),

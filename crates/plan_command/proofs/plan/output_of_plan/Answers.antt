@@ -22,13 +22,13 @@ pub returns-in_ok-refused-in-Err-Refused-clause-headline : goal.returns-in_ok-re
 returns-in_ok-refused-in-Err-Refused-clause-headline g c = λ files t.
     let halted : Answers {A = Task} (IsTask c.args.options files) (Err c.in-Err-Refused.field-0) = some_at _ _ files t c.in-Err-Refused.ensures.told in
     let told = subst (λ (h : Halt). Answers {A = Task} (IsTask c.args.options files) (Err h)) c.in-Err-Refused.field-0-is halted in
-    refused-means c.args.form c.args.options files c.in-Err-Refused.refusal c.in_ok-refused-in-Err-Refused.field-0 told c.in_ok-refused-in-Err-Refused.ensures.output
+    refused-means c.args.form c.args.options files c.in-Err-Refused.refusal c.in_ok-refused-in-Err-Refused.field-0 told (rw c.in-Err-Refused.field-0-is at c.in_ok-refused-in-Err-Refused.ensures.output)
 
 pub returns-in_ok-refused-in-Err-Refused-clause-told : goal.returns-in_ok-refused-in-Err-Refused-clause-told
 returns-in_ok-refused-in-Err-Refused-clause-told g c = λ files t.
     let halted : Answers {A = Task} (IsTask c.args.options files) (Err c.in-Err-Refused.field-0) = some_at _ _ files t c.in-Err-Refused.ensures.told in
     let told = subst (λ (h : Halt). Answers {A = Task} (IsTask c.args.options files) (Err h)) c.in-Err-Refused.field-0-is halted in
-    refused-output c.args.form c.args.options files c.in-Err-Refused.refusal c.in_ok-refused-in-Err-Refused.field-0 told c.in_ok-refused-in-Err-Refused.ensures.output
+    refused-output c.args.form c.args.options files c.in-Err-Refused.refusal c.in_ok-refused-in-Err-Refused.field-0 told (rw c.in-Err-Refused.field-0-is at c.in_ok-refused-in-Err-Refused.ensures.output)
 
 pub returns-in_ok-refused-in-Err-Refused-clause-form : goal.returns-in_ok-refused-in-Err-Refused-clause-form
-returns-in_ok-refused-in-Err-Refused-clause-form g c = formed-refusal c.in-Err-Refused.refusal c.in_ok-refused-in-Err-Refused.field-0 c.in_ok-refused-in-Err-Refused.ensures.output
+returns-in_ok-refused-in-Err-Refused-clause-form g c = formed-refusal c.in-Err-Refused.refusal c.in_ok-refused-in-Err-Refused.field-0 (rw c.in-Err-Refused.field-0-is at c.in_ok-refused-in-Err-Refused.ensures.output)
