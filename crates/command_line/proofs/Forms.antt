@@ -1,5 +1,5 @@
 -- The forms of values: digits, and the text of a version.
-use Rattle.std.proofs.Common.{add-one, suc, ◌≡◌, ◌∙◌, ◌<◌, ◌≤◌, ◌^◌, ◌&&◌, ◌||◌, ℕ, true, not, refl, sym, ap, ap₂, arith, List, [], ◌∷◌, ◌++◌, map, length, get_or, Option, Some, None}
+use Rattle.std.proofs.Common.{add-one, suc, ◌≡◌, ◌∙◌, ◌<◌, ◌≤◌, ◌^◌, ◌&&◌, ◌||◌, ℕ, Bool, true, not, refl, sym, ap, ap₂, arith, List, [], ◌∷◌, ◌++◌, map, length, get_or, Option, Some, None}
 use Rattle.std.specs.Prelude.{◌==◌, nat_le}
 use Rattle.std.specs.Fmt.{decimal}
 use Rattle.std.specs.List.{join_with_byte, list_all, slice_split}
@@ -16,7 +16,7 @@ use Rattle.version_range.specs.Number.{is_count}
 use Rattle.version_range.specs.Version.{IsNumber, is_version, number_after, version_text}
 use Rattle.version_range.proofs.Numbers.{numeral_text}
 use Rattle.condition_text.proofs.Names.{Run, name_ascii, run, run_reads}
-use Rattle.command_line.specs.Form.{is_compiler, is_part, is_version_text, parts_of}
+use Rattle.command_line.specs.Form.{is_compiler, is_number, is_part, is_version_text, number_in, parts_of}
 use Rattle.command_line.specs.Reading.{compiler_or}
 
 few_digits : (text : List ℕ) → is_count text ≡ true → (all_ascii_digits text ≡ true) × (length text ≤ 9)
@@ -74,3 +74,13 @@ compiler_ascii (b ∷ bs) h =
 pub compiler_formed : (given : Option (List ℕ)) → option_map_or is_compiler given true ≡ true → is_compiler (compiler_or given) ≡ true
 compiler_formed None h = refl
 compiler_formed (Some text) h = h
+
+-- a number of packages lies within its bounds
+pub number_bounds : (text : List ℕ) → is_number text ≡ true → (1 ≤ number_in text) × (number_in text ≤ 2000)
+number_bounds text h =
+    let least : Bool = nat_le 1 (number_in text) in
+    let most : Bool = nat_le (number_in text) 2000 in
+    let p = and_parts (nat_le (length text) 4) (is_count text && (least && most)) h in
+    let q = and_parts (is_count text) (least && most) p.1 in
+    let r = and_parts least most q.1 in
+    (leb-true 1 (number_in text) r.0, leb-true (number_in text) 2000 r.1)

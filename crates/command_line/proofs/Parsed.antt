@@ -1,6 +1,6 @@
 -- Words that have a reading are a command with options around it, so that the parser takes them and finds their values.
 use Rattle.std.proofs.Common.{◌≡◌, ◌∙◌, ◌+◌, ◌≤◌, ◌&&◌, ◌||◌, ℕ, Bool, true, false, refl, sym, ap, ap₂, subst, arith, List, [], ◌∷◌, ◌++◌, map, take, drop, length, cond}
-use Rattle.std.specs.Prelude.{◌==◌, Some, find, is_some, nat_le}
+use Rattle.std.specs.Prelude.{◌==◌, Option, Some, None, codes, find, is_some, nat_le}
 use Rattle.std.specs.Option.{option_map_or}
 use Rattle.std.specs.List.{count_by, list_all, list_any}
 use Rattle.std.proofs.lemmas.Bool.{and_parts, eqb-true, false≢true, leb-true}
@@ -10,20 +10,31 @@ use Rattle.std.proofs.lemmas.Slice.Eq.{bytes_eq-Decides}
 use Rattle.clap.specs.Walk.{Text, first_of, nothing_held, walk}
 use Rattle.clap.specs.Simple.{matches_of}
 use Rattle.clap.specs.Takes.{takes}
+use Rattle.command_line.specs.declared.option_name.OptionKind.{OptionKind}
+use Rattle.command_line.specs.declared.option_name.OptionKind.TheVariants.{Valued, Flag}
 use Rattle.command_line.specs.declared.option_name.OptionName.{OptionName}
-use Rattle.command_line.specs.OptionName.{gives, name_of, prefix_of, value_in}
-use Rattle.command_line.specs.Form.{has_form}
-use Rattle.command_line.specs.CommandName.{command_word, commands, taken_by}
+use Rattle.command_line.specs.OptionName.{gives, gives_as, kind_of, name_of, sign_of, value_in}
+use Rattle.command_line.specs.Form.{has_form, is_number}
+use Rattle.command_line.specs.CommandName.{command_word, commands, needed_by, taken_by}
 use Rattle.command_line.specs.declared.command_name.CommandName.{CommandName}
-use Rattle.command_line.specs.Words.{asked, asks_for, given, is_command, is_known, is_well_given, options}
-use Rattle.command_line.specs.Parser.{parser}
-use Rattle.command_line.proofs.Table.{each_option, rules}
-use Rattle.command_line.proofs.Walk.{Given, Once, word_of, words_around, rows_around, words_taken, values_given, counts_alike, finished_rows, walks}
+use Rattle.command_line.specs.declared.command_name.CommandName.TheVariants.{Generate}
+use Rattle.command_line.specs.declared.option_name.OptionName.TheVariants.{Number}
+use Rattle.command_line.specs.Words.{asked, asks_for, given, is_command, is_given, is_known, is_well_given, options}
+use Rattle.command_line.specs.Parser.{found_in, parser}
+use Rattle.command_line.proofs.Table.{Given, each_option, rules, spelled, word_of}
+use Rattle.command_line.proofs.Walk.{Once, words_around, rows_around, with_flag, words_taken, values_found, counts_alike, finished_rows, walks}
 
 is_given_word : (option : OptionName) (word : Text) → gives option word ≡ true → word ≡ word_of (option, value_in option word)
-is_given_word option word gives_it =
-    let n : ℕ = length (prefix_of option) in
-    sym (take-append-drop n word) ∙ ap (λ front. front ++ drop n word) (sym ((bytes_eq-Decides (prefix_of option) (take n word)).0 gives_it))
+is_given_word option word = by (kind_of option)
+  where
+    by : (kind : OptionKind)
+        → gives_as kind (codes "--" ++ name_of option ++ sign_of kind) word ≡ true
+        → word ≡ spelled kind (name_of option) (drop (length (codes "--" ++ name_of option ++ sign_of kind)) word)
+    by Valued gives_it =
+        let prefix : Text = codes "--" ++ name_of option ++ codes "=" in
+        let n : ℕ = length prefix in
+        sym (take-append-drop n word) ∙ ap (λ front. front ++ drop n word) (sym ((bytes_eq-Decides prefix (take n word)).0 gives_it))
+    by Flag gives_it = (bytes_eq-Decides word (codes "--" ++ name_of option ++ [])).0 gives_it
 
 any_option : (word : Text) (others : List OptionName) → list_any (λ option. gives option word) others ≡ true → (g : Given) × (word ≡ word_of g)
 any_option word [] none = cc
@@ -75,12 +86,21 @@ record Reads (words : List Text) (command : CommandName) : Type 0 where
   known : list_all (is_known command) words ≡ true
   once : count_by (is_command command) words ≡ 1
   options_are : (option : OptionName) → is_well_given words option ≡ true
+  needed : list_all (is_given words) (needed_by command) ≡ true
 
 reads : (words : List Text) (command : CommandName) → asks_for words command ≡ true → Reads words command
 reads words command h =
-    let p = and_parts (list_all (is_known command) words) (count_by (is_command command) words == 1 && list_all (is_well_given words) options) h in
-    let q = and_parts (count_by (is_command command) words == 1) (list_all (is_well_given words) options) p.1 in
-    record { known = p.0; once = eqb-true (count_by (is_command command) words) 1 q.0; options_are = each_option (is_well_given words) q.1 }
+    let one : Bool = count_by (is_command command) words == 1 in
+    let formed : Bool = list_all (is_well_given words) options in
+    let p = and_parts (list_all (is_known command) words) ((one && formed) && list_all (is_given words) (needed_by command)) h in
+    let q = and_parts (one && formed) (list_all (is_given words) (needed_by command)) p.1 in
+    let r = and_parts one formed q.0 in
+    record {
+      known = p.0;
+      once = eqb-true (count_by (is_command command) words) 1 r.0;
+      options_are = each_option (is_well_given words) r.1;
+      needed = q.1;
+    }
 
 -- what is found passes
 asked_one : {X : Type 0} (test : X → Bool) (xs : List X) → is_some (find test xs) ≡ true → (x : X) × (test x ≡ true)
@@ -101,17 +121,38 @@ well_formed words h option =
     let command = asked_one (asks_for words) commands h in
     (and_parts (nat_le (count_by (gives option) words) 1) (option_map_or (has_form option) (given option words) true) ((reads words command.0 command.1).options_are option)).1
 
+-- what a command needs is given
+asked_for : (words : List Text) (command : CommandName) (rest : List CommandName) → find (asks_for words) rest ≡ Some command → asks_for words command ≡ true
+asked_for words command [] found = absurd (cc found)
+asked_for words command (one ∷ rest) found = go (asks_for words one) refl found (asked_for words command rest)
+  where
+    go : (b : Bool) → asks_for words one ≡ b → cond b (Some one) (find (asks_for words) rest) ≡ Some command
+        → (find (asks_for words) rest ≡ Some command → asks_for words command ≡ true) → asks_for words command ≡ true
+    go true e is more = let same : one ≡ command = cc is in ap (asks_for words) (sym same) ∙ e
+    go false e is more = more is
+
+pub number_given : (words : List Text) → asked words ≡ Some Generate → option_map_or is_number (given Number words) false ≡ true
+number_given words h =
+    let r = reads words Generate (asked_for words Generate commands h) in
+    let there = (and_parts (is_given words Number) true r.needed).0 in
+    let formed = (and_parts (nat_le (count_by (gives Number) words) 1) (option_map_or (has_form Number) (given Number words) true) (r.options_are Number)).1 in
+    go (given Number words) there formed
+  where
+    go : (value : Option Text) → is_some value ≡ true → option_map_or (has_form Number) value true ≡ true → option_map_or is_number value false ≡ true
+    go None there formed = absurd (false≢true there)
+    go (Some text) there formed = formed
+
 -- what the parser makes of words that have a reading
 pub record Parses (words : List Text) : Type 0 where
   pub takes_them : takes parser words ≡ true
-  pub values : (option : OptionName) → first_of (name_of option) (matches_of parser words) ≡ given option words
+  pub values : (option : OptionName) → first_of (name_of option) (matches_of parser words) ≡ found_in option words
 
 parses_around : (command : CommandName) (before after : List Given) → Once (rows_around command before after) → Parses (words_around command before after)
 parses_around command before after once =
     let end = (walk rules [] nothing_held (words_around command before after)).held in
     record {
       takes_them = words_taken command before after once;
-      values = λ option. ap (first_of (name_of option)) (finished_rows end ∙ (walks command before after once).ends.rows_are) ∙ values_given command option before after;
+      values = λ option. ap (first_of (name_of option)) (finished_rows end ∙ ap with_flag (walks command before after once).ends.rows_are) ∙ values_found command before after option;
     }
 
 pub parses : (words : List Text) → is_some (asked words) ≡ true → Parses words

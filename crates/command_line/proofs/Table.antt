@@ -1,21 +1,23 @@
--- What holds of each option of the table, and what a word that gives an option a value looks like.
-use Rattle.std.proofs.Common.{◌≡◌, ◌∙◌, ◌+◌, ◌&&◌, ◌||◌, ℕ, zero, suc, Bool, true, false, not, cond, refl, sym, ap, ap₂, arith, List, [], ◌∷◌, ◌++◌, map, take, drop, length, codes, Option, Some, None}
-use Rattle.std.specs.Prelude.{◌==◌, find, is_some, nat_eq, slice_get}
+-- What holds of each option of the table, and what a word that gives an option looks like.
+use Rattle.std.proofs.Common.{◌≡◌, ◌∙◌, ◌+◌, ◌&&◌, ◌||◌, ℕ, zero, suc, Bool, true, false, not, cond, refl, sym, ap, ap₂, arith, List, [], ◌∷◌, ◌++◌, map, take, drop, length, codes, subst, append-nil, Option, Some, None}
+use Rattle.std.specs.Prelude.{◌==◌, find, nat_eq, slice_get}
+use Rattle.std.specs.Option.{option_map}
 use Rattle.std.specs.List.{after_first, before_first, list_all, list_any, position_or_len}
 use Rattle.std.specs.Str.{bytes_eq}
 use Rattle.std.specs.Cmp.{nat_eq_equiv}
 use Rattle.std.proofs.lemmas.Bool.{and_parts, false≢true, not-true, or_parts}
-use Rattle.std.proofs.lemmas.Map.Keys.{any_passes_from_place}
+use Rattle.std.proofs.lemmas.List.{take_all}
 use Rattle.std.proofs.lemmas.Slice.Eq.{bytes_eq-Decides}
 use Rattle.clap.specs.Lexer.{has_byte, long_of, long_of_rest}
-use Rattle.clap.specs.Simple.{Shape, built, filled, new_rule, with_index}
-use Rattle.clap.specs.Walk.{Rule, Text, arg_by_long, has_long, is_empty}
-use Rattle.clap.specs.declared.builder.action.ArgAction.TheVariants.{Set}
+use Rattle.clap.specs.Simple.{Shape, built, filled}
+use Rattle.clap.specs.Walk.{Rule, Text, arg_by_long, is_empty}
+use Rattle.command_line.specs.declared.option_name.OptionKind.{OptionKind}
+use Rattle.command_line.specs.declared.option_name.OptionKind.TheVariants.{Valued, Flag}
 use Rattle.command_line.specs.declared.option_name.OptionName.{OptionName}
-use Rattle.command_line.specs.declared.option_name.OptionName.TheVariants.{Index, Installed, Os, Arch, Compiler, MaxBackjumps}
-use Rattle.command_line.specs.OptionName.{gives, name_of, prefix_of, value_in}
+use Rattle.command_line.specs.declared.option_name.OptionName.TheVariants.{Index, Installed, Os, Arch, Compiler, MaxBackjumps, Number, Json}
+use Rattle.command_line.specs.OptionName.{gives, gives_as, kind_of, name_of, prefix_of, sign_of, value_in}
 use Rattle.command_line.specs.Words.{options}
-use Rattle.command_line.specs.Parser.{command_rule, parser}
+use Rattle.command_line.specs.Parser.{parser, rule_as}
 
 -- ---- each option
 
@@ -27,6 +29,8 @@ place_of Os = 2
 place_of Arch = 3
 place_of Compiler = 4
 place_of MaxBackjumps = 5
+place_of Number = 6
+place_of Json = 7
 
 stands : (option : OptionName) → slice_get options (place_of option) ≡ Some option
 stands Index = refl
@@ -35,6 +39,8 @@ stands Os = refl
 stands Arch = refl
 stands Compiler = refl
 stands MaxBackjumps = refl
+stands Number = refl
+stands Json = refl
 
 all-at : {A : Type 0} (test : A → Bool) (xs : List A) (i : ℕ) (x : A) → slice_get xs i ≡ Some x → list_all test xs ≡ true → test x ≡ true
 all-at test [] i x at all = absurd (cc at)
@@ -81,15 +87,58 @@ command_not option = (good option).command_not
 pub same_name : (option : OptionName) → bytes_eq (name_of option) (name_of option) ≡ true
 same_name option = (bytes_eq-Decides (name_of option) (name_of option)).1 refl
 
--- ---- a word that gives an option a value
+-- the option of a name
+abbrev named : Text → Option OptionName
+named name = find (λ option. bytes_eq (name_of option) name) options
+
+its_own : (option : OptionName) → named (name_of option) ≡ Some option
+its_own Index = refl
+its_own Installed = refl
+its_own Os = refl
+its_own Arch = refl
+its_own Compiler = refl
+its_own MaxBackjumps = refl
+its_own Number = refl
+its_own Json = refl
+
+-- options of one name are one
+pub one_option : (option other : OptionName) → bytes_eq (name_of other) (name_of option) ≡ true → other ≡ option
+one_option option other same =
+    let names : name_of other ≡ name_of option = (bytes_eq-Decides (name_of other) (name_of option)).0 same in
+    cc (sym (its_own other) ∙ ap named names ∙ its_own option)
+
+-- ---- a word that gives an option
+
+-- an option with what stands behind its name in a word; for a flag that is left out
+abbrev pub Given : Type 0
+Given = OptionName × Text
+
+abbrev pub spelled : OptionKind → Text → Text → Text
+spelled Valued name v = (codes "--" ++ name ++ codes "=") ++ v
+spelled Flag name v = codes "--" ++ name ++ []
+
+abbrev pub word_of : Given → Text
+word_of g = spelled (kind_of g.0) (name_of g.0) g.1
+
+-- the value that stands in such a word
+abbrev pub attached : OptionKind → Text → Option Text
+attached Valued v = Some v
+attached Flag v = None
+
+-- what is held of such a word
+abbrev pub held_of : OptionKind → Text → Text
+held_of Valued v = v
+held_of Flag v = codes "true"
 
 -- such a word is no `--`
-pub not_dashes : (option : OptionName) (v : Text) → bytes_eq (prefix_of option ++ v) (45 ∷ 45 ∷ []) ≡ false
-not_dashes option v = go (name_of option)
-  where
-    go : (name : Text) → bytes_eq ((name ++ codes "=") ++ v) [] ≡ false
-    go [] = refl
-    go (x ∷ name) = refl
+not_dashes_as : (kind : OptionKind) (name v : Text) → is_empty name ≡ false → bytes_eq (spelled kind name v) (45 ∷ 45 ∷ []) ≡ false
+not_dashes_as Valued [] v some = refl
+not_dashes_as Valued (x ∷ name) v some = refl
+not_dashes_as Flag [] v some = absurd (false≢true (sym some))
+not_dashes_as Flag (x ∷ name) v some = refl
+
+pub not_dashes : (g : Given) → bytes_eq (word_of g) (45 ∷ 45 ∷ []) ≡ false
+not_dashes g = not_dashes_as (kind_of g.0) (name_of g.0) g.1 (good g.0).some
 
 -- behind a name without one comes the first `=`
 first_equals : (name v : Text) → has_byte 61 name ≡ false → position_or_len (λ x. x == 61) ((name ++ codes "=") ++ v) ≡ length name
@@ -128,29 +177,39 @@ long_rest (x ∷ name) v some none =
     ap (λ b. Some (before_first (λ c. c == 61) text, cond b (Some (after_first (λ c. c == 61) text)) None)) (has_equals (x ∷ name) v)
     ∙ ap₂ (λ n w. Some (n, Some w)) before after
 
--- it is cut into the name and the value
-pub long_is : (option : OptionName) (v : Text) → long_of (prefix_of option ++ v) ≡ Some (name_of option, Some v)
-long_is option v = long_rest (name_of option) v (good option).some (good option).no_equals
+-- behind a name without one comes no `=`
+no_equals_first : (name : Text) → has_byte 61 name ≡ false → position_or_len (λ x. x == 61) (name ++ []) ≡ length name
+no_equals_first [] none = refl
+no_equals_first (x ∷ name) none = go (x == 61) none (no_equals_first name)
+  where
+    go : (b : Bool) → (b || has_byte 61 name) ≡ false → (has_byte 61 name ≡ false → position_or_len (λ x. x == 61) (name ++ []) ≡ length name)
+        → cond (not b) (1 + position_or_len (λ x. x == 61) (name ++ [])) 0 ≡ length (x ∷ name)
+    go true e more = absurd (false≢true (sym e))
+    go false e more = let same : position_or_len (λ x. x == 61) (name ++ []) ≡ length name = more e in omega arith
+
+flag_rest : (name : Text) → is_empty name ≡ false → has_byte 61 name ≡ false → long_of_rest (name ++ []) ≡ Some (name, None)
+flag_rest [] some none = absurd (false≢true (sym some))
+flag_rest (x ∷ name) some none =
+    let whole : (x ∷ name) ++ [] ≡ x ∷ name = append-nil (x ∷ name) in
+    let first : position_or_len (λ c. c == 61) ((x ∷ name) ++ []) ≡ length (x ∷ name) = no_equals_first (x ∷ name) none in
+    let before : before_first (λ c. c == 61) ((x ∷ name) ++ []) ≡ x ∷ name =
+    ap (λ n. take n ((x ∷ name) ++ [])) first ∙ ap (take (length (x ∷ name))) whole ∙ take_all (length (x ∷ name)) (x ∷ name) (omega arith) in
+    ap (λ b. Some (before_first (λ c. c == 61) ((x ∷ name) ++ []), cond b (Some (after_first (λ c. c == 61) ((x ∷ name) ++ []))) None)) (ap (has_byte 61) whole ∙ none)
+    ∙ ap (λ n. Some (n, None)) before
+
+-- a word is cut into the name and the value
+long_as : (kind : OptionKind) (name v : Text) → is_empty name ≡ false → has_byte 61 name ≡ false → long_of (spelled kind name v) ≡ Some (name, attached kind v)
+long_as Valued name v some none = long_rest name v some none
+long_as Flag name v some none = flag_rest name some none
+
+pub long_is : (g : Given) → long_of (word_of g) ≡ Some (name_of g.0, attached (kind_of g.0) g.1)
+long_is g = long_as (kind_of g.0) (name_of g.0) g.1 (good g.0).some (good g.0).no_equals
 
 -- ---- the rule of an option
 
--- what is built of the rule of a name
-abbrev pub built_option : Text → Rule
-built_option name = filled (record (new_rule name) { long = Some name; action = Some Set })
-
-find_named : (others : List OptionName) (name : Text) → list_any (λ option. bytes_eq (name_of option) name) others ≡ true
-    → find (λ a. not (is_some a.index) && has_long a name) (map (λ option. built_option (name_of option)) others) ≡ Some (built_option name)
-find_named [] name some = absurd (false≢true some)
-find_named (option ∷ others) name some = go (bytes_eq (name_of option) name) refl some (find_named others name)
-  where
-    rest : Option Rule
-    rest = find (λ a. not (is_some a.index) && has_long a name) (map (λ o. built_option (name_of o)) others)
-
-    go : (b : Bool) → bytes_eq (name_of option) name ≡ b → (b || list_any (λ o. bytes_eq (name_of o) name) others) ≡ true
-        → (list_any (λ o. bytes_eq (name_of o) name) others ≡ true → rest ≡ Some (built_option name))
-        → cond (b || false) (Some (built_option (name_of option))) rest ≡ Some (built_option name)
-    go true is e more = ap (λ n. Some (built_option n)) ((bytes_eq-Decides (name_of option) name).0 is)
-    go false is e more = more e
+-- what is built of the rule of a kind and a name
+abbrev pub built_as : OptionKind → Text → Rule
+built_as kind name = filled (rule_as kind name)
 
 abbrev pub shape : Shape
 shape = (built parser).top
@@ -158,15 +217,17 @@ shape = (built parser).top
 abbrev pub rules : List Rule
 rules = shape.rules
 
-rules_are : rules ≡ with_index 1 (filled command_rule) ∷ map (λ option. built_option (name_of option)) options
-rules_are = refl
+pub rule_is : (option : OptionName) → arg_by_long rules (name_of option) ≡ Some (built_as (kind_of option) (name_of option))
+rule_is Index = refl
+rule_is Installed = refl
+rule_is Os = refl
+rule_is Arch = refl
+rule_is Compiler = refl
+rule_is MaxBackjumps = refl
+rule_is Number = refl
+rule_is Json = refl
 
-pub rule_is : (option : OptionName) → arg_by_long rules (name_of option) ≡ Some (built_option (name_of option))
-rule_is option =
-    ap (λ rs. arg_by_long rs (name_of option)) rules_are
-    ∙ find_named options (name_of option) (any_passes_from_place (λ o. bytes_eq (name_of o) (name_of option)) options (place_of option) option (stands option) (same_name option))
-
--- ---- which option a word gives a value
+-- ---- which option a word gives
 
 -- texts that end with their first `=` begin alike where they are one
 ended : (a b v : Text) → has_byte 61 a ≡ false → has_byte 61 b ≡ false → bytes_eq (a ++ codes "=") (take (length (a ++ codes "=")) ((b ++ codes "=") ++ v)) ≡ bytes_eq b a
@@ -184,20 +245,92 @@ ended (x ∷ a) [] v none others = go (x == 61) none
 ended (x ∷ a) (y ∷ b) v none others =
     ap₂ (λ c d. c && d) (nat_eq_equiv.symm x y) (ended a b v (or_parts (x == 61) (has_byte 61 a) none).1 (or_parts (y == 61) (has_byte 61 b) others).1)
 
--- a word gives an option a value where the names are one
-pub same_test : (option other : OptionName) (v : Text) → gives option (prefix_of other ++ v) ≡ bytes_eq (name_of other) (name_of option)
-same_test option other v = ended (name_of option) (name_of other) v (good option).no_equals (good other).no_equals
+-- a flag's word begins no word with a value, nor does such a name begin a flag's word
+false-and : (b c : Bool) → c ≡ false → (b && c) ≡ false
+false-and true c e = e
+false-and false c e = refl
+
+not_equals : (x : ℕ) (name : Text) → has_byte 61 (x ∷ name) ≡ false → (61 == x) ≡ false
+not_equals x name none = nat_eq_equiv.symm 61 x ∙ (or_parts (x == 61) (has_byte 61 name) none).0
+
+longer : (a b v : Text) → has_byte 61 a ≡ false → bytes_eq ((b ++ codes "=") ++ v) (a ++ []) ≡ false
+longer [] [] v none = refl
+longer [] (y ∷ b) v none = refl
+longer (x ∷ a) [] v none = ap (λ c. c && bytes_eq v (a ++ [])) (not_equals x a none)
+longer (x ∷ a) (y ∷ b) v none = false-and (y == x) (bytes_eq ((b ++ codes "=") ++ v) (a ++ [])) (longer a b v (or_parts (x == 61) (has_byte 61 a) none).1)
+
+shorter : (a b : Text) → has_byte 61 b ≡ false → bytes_eq (a ++ codes "=") (take (length (a ++ codes "=")) (b ++ [])) ≡ false
+shorter [] [] none = refl
+shorter [] (y ∷ b) none = ap (λ c. c && true) (not_equals y b none)
+shorter (x ∷ a) [] none = refl
+shorter (x ∷ a) (y ∷ b) none =
+    false-and (x == y) (bytes_eq (a ++ codes "=") (take (length (a ++ codes "=")) (b ++ []))) (shorter a b (or_parts (y == 61) (has_byte 61 b) none).1)
+
+abbrev alike : OptionKind → OptionKind → Bool
+alike Valued Valued = true
+alike Valued Flag = false
+alike Flag Valued = false
+alike Flag Flag = true
+
+-- options of two kinds have two names
+two_names : (option other : OptionName) → (alike (kind_of option) (kind_of other) || not (bytes_eq (name_of other) (name_of option))) ≡ true
+two_names option other =
+    each_option (λ p. alike (kind_of option) (kind_of p) || not (bytes_eq (name_of p) (name_of option)))
+    (each_option (λ o. list_all (λ p. alike (kind_of o) (kind_of p) || not (bytes_eq (name_of p) (name_of o))) options) refl option) other
+
+-- the one flag
+pub only_flag : (option : OptionName) → kind_of option ≡ Flag → option ≡ Json
+only_flag Index e = absurd (cc e)
+only_flag Installed e = absurd (cc e)
+only_flag Os e = absurd (cc e)
+only_flag Arch e = absurd (cc e)
+only_flag Compiler e = absurd (cc e)
+only_flag MaxBackjumps e = absurd (cc e)
+only_flag Number e = absurd (cc e)
+only_flag Json e = refl
+
+-- it has a name of its own
+pub not_flag : (option : OptionName) → kind_of option ≡ Valued → bytes_eq (name_of Json) (name_of option) ≡ false
+not_flag option e = not-true (bytes_eq (name_of Json) (name_of option)) (ap (λ k. alike k Flag || not (bytes_eq (name_of Json) (name_of option))) (sym e) ∙ two_names option Json)
+
+-- a word gives an option where the names are one
+pub same_test : (option : OptionName) (g : Given) → gives option (word_of g) ≡ bytes_eq (name_of g.0) (name_of option)
+same_test option g = by (kind_of option) (kind_of g.0) (two_names option g.0)
+  where
+    a : Text
+    a = name_of option
+
+    b : Text
+    b = name_of g.0
+
+    by : (kind other : OptionKind) → (alike kind other || not (bytes_eq b a)) ≡ true
+        → gives_as kind (codes "--" ++ a ++ sign_of kind) (spelled other b g.1) ≡ bytes_eq b a
+    by Valued Valued apart = ended a b g.1 (good option).no_equals (good g.0).no_equals
+    by Valued Flag apart = shorter a b (good g.0).no_equals ∙ sym (not-true (bytes_eq b a) apart)
+    by Flag Valued apart = longer a b g.1 (good option).no_equals ∙ sym (not-true (bytes_eq b a) apart)
+    by Flag Flag apart = ap₂ (λ x y. bytes_eq x y) (append-nil b) (append-nil a)
 
 dropped_all : (front v : Text) → drop (length front) (front ++ v) ≡ v
 dropped_all [] v = refl
 dropped_all (x ∷ front) v = dropped_all front v
 
--- and then this is what stands behind the `=`
-pub same_value : (option other : OptionName) (v : Text) → cond (bytes_eq (name_of other) (name_of option)) (value_in option (prefix_of other ++ v)) v ≡ v
-same_value option other v = go (bytes_eq (name_of other) (name_of option)) refl
+-- what is held of an option that was given a value, or of a flag that was given
+abbrev pub held_as : OptionKind → Option Text → Option Text
+held_as Valued value = value
+held_as Flag value = option_map (λ _. codes "true") value
+
+-- of a word of the option that is what stands in it
+pub held_here : (option : OptionName) (v : Text) → held_as (kind_of option) (Some (value_in option (word_of (option, v)))) ≡ Some (held_of (kind_of option) v)
+held_here option v = by (kind_of option)
   where
-    go : (b : Bool) → bytes_eq (name_of other) (name_of option) ≡ b → cond b (value_in option (prefix_of other ++ v)) v ≡ v
-    go true is =
-        ap (λ name. drop (length (prefix_of option)) ((codes "--" ++ name ++ codes "=") ++ v)) ((bytes_eq-Decides (name_of other) (name_of option)).0 is)
-        ∙ dropped_all (prefix_of option) v
-    go false is = refl
+    by : (kind : OptionKind)
+        → held_as kind (Some (drop (length (codes "--" ++ name_of option ++ sign_of kind)) (spelled kind (name_of option) v))) ≡ Some (held_of kind v)
+    by Valued = ap Some (dropped_all (codes "--" ++ name_of option ++ codes "=") v)
+    by Flag = refl
+
+-- an option of one name holds the same
+pub held_found : (option : OptionName) (g : Given) → bytes_eq (name_of g.0) (name_of option) ≡ true
+    → Some (held_of (kind_of g.0) g.1) ≡ held_as (kind_of option) (Some (value_in option (word_of g)))
+held_found option g same =
+    subst (λ o. Some (held_of (kind_of o) g.1) ≡ held_as (kind_of option) (Some (value_in option (word_of (o, g.1))))) (sym (one_option option g.0 same))
+    (sym (held_here option g.1))

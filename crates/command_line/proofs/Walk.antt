@@ -1,28 +1,32 @@
 -- What a parse makes of words that are a command and options.
-use Rattle.std.proofs.Common.{◌≡◌, ◌∙◌, ◌+◌, ◌≤◌, ◌&&◌, ◌||◌, ℕ, Bool, true, false, refl, sym, ap, ap₂, subst, arith, List, [], ◌∷◌, ◌++◌, map, Some, None, codes, append-nil, append_assoc, cond}
+use Rattle.std.proofs.Common.{◌≡◌, ◌∙◌, ◌+◌, ◌≤◌, ◌&&◌, ◌||◌, ℕ, Bool, true, false, refl, sym, ap, ap₂, subst, arith, List, [], ◌∷◌, ◌++◌, map, Option, Some, None, codes, append-nil, append_assoc, cond}
 use Rattle.std.specs.List.{count_by, find, fold, list_all, list_any}
 use Rattle.std.proofs.lemmas.List.Sums.{fold-append, sum_by-append, sum_by-cons}
 use Rattle.std.specs.Option.{option_map, option_map_or}
-use Rattle.std.specs.Prelude.{option_and_then, slice_get}
+use Rattle.std.specs.Prelude.{is_some, option_and_then, slice_get}
+use Rattle.std.proofs.lemmas.Bool.{false≢true}
 use Rattle.std.specs.Str.{bytes_eq}
 use Rattle.clap.specs.Facts.{explicit_source}
 use Rattle.clap.specs.Lexer.{long_of}
 use Rattle.clap.specs.Walk.{arg_by_long, Held, Row, Rule, Text, Walk, idle, at_row, has_row, more_values, walk, walked, walk_from, nothing_held, with_values, without, first_of, settled, finished, default_rows, with_default, is_empty, reading_by}
-use Rattle.clap.specs.Simple.{built}
+use Rattle.clap.specs.Simple.{built, filled, with_index}
 use Rattle.clap.specs.Takes.{walk_passes, turn_passes, takes, settle_passes, is_given, is_valid}
 use Rattle.clap.specs.declared.builder.value_parser.Reading.{Reading}
-use Rattle.clap.specs.declared.parser.matches.ValueSource.TheVariants.{CommandLine}
+use Rattle.clap.specs.declared.parser.matches.ValueSource.TheVariants.{DefaultValue, CommandLine}
 use Rattle.clap.proofs.TakesLemmas.{leaf_takes}
 use Rattle.clap.proofs.SimpleLemmas.{is_nil}
 use Rattle.clap.proofs.WalkLemmas.{both}
 use Rattle.command_line.specs.CommandName.{command_word}
 use Rattle.command_line.specs.declared.command_name.CommandName.{CommandName}
-use Rattle.command_line.specs.declared.command_name.CommandName.TheVariants.{Plan}
+use Rattle.command_line.specs.declared.command_name.CommandName.TheVariants.{Plan, Generate}
+use Rattle.command_line.specs.declared.option_name.OptionKind.{OptionKind}
+use Rattle.command_line.specs.declared.option_name.OptionKind.TheVariants.{Valued, Flag}
 use Rattle.command_line.specs.declared.option_name.OptionName.{OptionName}
-use Rattle.command_line.specs.OptionName.{gives, name_of, prefix_of, value_in}
+use Rattle.command_line.specs.declared.option_name.OptionName.TheVariants.{Index, Installed, Os, Arch, Compiler, MaxBackjumps, Number, Json}
+use Rattle.command_line.specs.OptionName.{gives, gives_as, kind_of, name_of, sign_of, value_in}
 use Rattle.command_line.specs.Words.{given}
-use Rattle.command_line.specs.Parser.{command_rule, parser}
-use Rattle.command_line.proofs.Table.{built_option, command_not, long_is, not_command, not_dashes, rule_is, rules, same_name, same_test, same_value, shape}
+use Rattle.command_line.specs.Parser.{command_rule, found_as, found_in, parser, truth_text}
+use Rattle.command_line.proofs.Table.{Given, attached, built_as, command_not, held_as, held_found, held_of, long_is, not_command, not_dashes, not_flag, only_flag, rule_is, rules, same_name, same_test, shape, word_of}
 
 -- ---- rows
 
@@ -51,71 +55,77 @@ between rows position = record { held = record { rows = rows; pending = None; sk
 abbrev pub behind : CommandName → List Row → Walk
 behind command rows = record { held = record { rows = rows; pending = Some (codes "command", command_word command ∷ []); skip = 0 }; waiting = idle; position = 2; is_trailing = false; stopped = None }
 
--- a word that is cut into the name of an option and a value
-record IsCut (word name v : Text) : Type 0 where
+-- a word that is cut into the name of an option of a kind, and its value
+record IsCut (word : Text) (kind : OptionKind) (name v : Text) : Type 0 where
   no_dashes : bytes_eq word (45 ∷ 45 ∷ []) ≡ false
-  long : long_of word ≡ Some (name, Some v)
-  rule : arg_by_long rules name ≡ Some (built_option name)
+  long : long_of word ≡ Some (name, attached kind v)
+  rule : arg_by_long rules name ≡ Some (built_as kind name)
 
-cut : (option : OptionName) (v : Text) → IsCut (prefix_of option ++ v) (name_of option) v
-cut option v = record { no_dashes = not_dashes option v; long = long_is option v; rule = rule_is option }
+cut : (g : Given) → IsCut (word_of g) (kind_of g.0) (name_of g.0) g.1
+cut g = record { no_dashes = not_dashes g; long = long_is g; rule = rule_is g.0 }
 
-cut_walked : (word name v : Text) (rows : List Row) (p : ℕ) → IsCut word name v
-    → walked rules [] (between rows p) word ≡ between (with_values name (reading_by command_rule) CommandLine (v ∷ []) (without name rows)) p
+-- the rows with what is held of an option
+abbrev with_held : OptionKind → Text → Text → List Row → List Row
+with_held kind name v rows = with_values name (reading_by (built_as kind name)) CommandLine (held_of kind v ∷ []) (without name rows)
+
+cut_walked : (word : Text) (kind : OptionKind) (name v : Text) (rows : List Row) (p : ℕ) → IsCut word kind name v
+    → walked rules [] (between rows p) word ≡ between (with_held kind name v rows) p
 unfolding walked
-cut_walked word name v rows p is = rw (is.no_dashes, is.long, is.rule) refl
+cut_walked word Valued name v rows p is = rw (is.no_dashes, is.long, is.rule) refl
+cut_walked word Flag name v rows p is = rw (is.no_dashes, is.long, is.rule) refl
 
-cut_passes : (word name v : Text) (rows : List Row) (p : ℕ) → IsCut word name v → has_row name rows ≡ false → turn_passes shape [] (between rows p) word ≡ true
-cut_passes word name v rows p is fresh = rw (is.no_dashes, is.long, is.rule, fresh) refl
+cut_passes : (word : Text) (kind : OptionKind) (name v : Text) (rows : List Row) (p : ℕ) → IsCut word kind name v → has_row name rows ≡ false
+    → turn_passes shape [] (between rows p) word ≡ true
+cut_passes word Valued name v rows p is fresh = rw (is.no_dashes, is.long, is.rule, fresh) refl
+cut_passes word Flag name v rows p is fresh = rw (is.no_dashes, is.long, is.rule, fresh) refl
 
-option_walked : (option : OptionName) (v : Text) (rows : List Row) (p : ℕ)
-    → walked rules [] (between rows p) (prefix_of option ++ v) ≡ between (with_values (name_of option) (reading_by command_rule) CommandLine (v ∷ []) (without (name_of option) rows)) p
-option_walked option v rows p = cut_walked (prefix_of option ++ v) (name_of option) v rows p (cut option v)
+option_walked : (g : Given) (rows : List Row) (p : ℕ)
+    → walked rules [] (between rows p) (word_of g) ≡ between (with_held (kind_of g.0) (name_of g.0) g.1 rows) p
+option_walked g rows p = cut_walked (word_of g) (kind_of g.0) (name_of g.0) g.1 rows p (cut g)
 
-option_passes : (option : OptionName) (v : Text) (rows : List Row) (p : ℕ) → has_row (name_of option) rows ≡ false
-    → turn_passes shape [] (between rows p) (prefix_of option ++ v) ≡ true
-option_passes option v rows p fresh = cut_passes (prefix_of option ++ v) (name_of option) v rows p (cut option v) fresh
+option_passes : (g : Given) (rows : List Row) (p : ℕ) → has_row (name_of g.0) rows ≡ false → turn_passes shape [] (between rows p) (word_of g) ≡ true
+option_passes g rows p fresh = cut_passes (word_of g) (kind_of g.0) (name_of g.0) g.1 rows p (cut g) fresh
 
 command_walked : (command : CommandName) (rows : List Row) → walked rules [] (between rows 1) (command_word command) ≡ behind command rows
 unfolding walked
 command_walked Plan rows = refl
+command_walked Generate rows = refl
 
 command_passes : (command : CommandName) (rows : List Row) → turn_passes shape [] (between rows 1) (command_word command) ≡ true
 command_passes Plan rows = refl
+command_passes Generate rows = refl
 
-behind_cut_walked : (command : CommandName) (word name v : Text) (rows : List Row) → IsCut word name v
-    → walked rules [] (behind command rows) word
-    ≡ between (with_values name (reading_by command_rule) CommandLine (v ∷ []) (without name
-    (with_values (codes "command") (reading_by command_rule) CommandLine (command_word command ∷ []) (without (codes "command") rows)))) 2
+-- the rows with the command behind which a word stands
+abbrev with_command : CommandName → List Row → List Row
+with_command command rows = with_values (codes "command") (reading_by command_rule) CommandLine (command_word command ∷ []) (without (codes "command") rows)
+
+behind_cut_walked : (command : CommandName) (word : Text) (kind : OptionKind) (name v : Text) (rows : List Row) → IsCut word kind name v
+    → walked rules [] (behind command rows) word ≡ between (with_held kind name v (with_command command rows)) 2
 unfolding walked
-behind_cut_walked command word name v rows is = rw (is.no_dashes, is.long, is.rule) refl
+behind_cut_walked command word Valued name v rows is = rw (is.no_dashes, is.long, is.rule) refl
+behind_cut_walked command word Flag name v rows is = rw (is.no_dashes, is.long, is.rule) refl
 
-behind_cut_passes : (command : CommandName) (word name v : Text) (rows : List Row) → IsCut word name v → has_row (codes "command") rows ≡ false
-    → has_row name (with_values (codes "command") (reading_by command_rule) CommandLine (command_word command ∷ []) (without (codes "command") rows)) ≡ false
-    → turn_passes shape [] (behind command rows) word ≡ true
-behind_cut_passes command word name v rows is fresh other = rw (is.no_dashes, is.long, is.rule, fresh, other) refl
+behind_cut_passes : (command : CommandName) (word : Text) (kind : OptionKind) (name v : Text) (rows : List Row) → IsCut word kind name v
+    → has_row (codes "command") rows ≡ false → has_row name (with_command command rows) ≡ false → turn_passes shape [] (behind command rows) word ≡ true
+behind_cut_passes command word Valued name v rows is fresh other = rw (is.no_dashes, is.long, is.rule, fresh, other) refl
+behind_cut_passes command word Flag name v rows is fresh other = rw (is.no_dashes, is.long, is.rule, fresh, other) refl
 
-behind_walked : (command : CommandName) (option : OptionName) (v : Text) (rows : List Row)
-    → walked rules [] (behind command rows) (prefix_of option ++ v)
-    ≡ between (with_values (name_of option) (reading_by command_rule) CommandLine (v ∷ []) (without (name_of option)
-    (with_values (codes "command") (reading_by command_rule) CommandLine (command_word command ∷ []) (without (codes "command") rows)))) 2
-behind_walked command option v rows = behind_cut_walked command (prefix_of option ++ v) (name_of option) v rows (cut option v)
+behind_walked : (command : CommandName) (g : Given) (rows : List Row)
+    → walked rules [] (behind command rows) (word_of g) ≡ between (with_held (kind_of g.0) (name_of g.0) g.1 (with_command command rows)) 2
+behind_walked command g rows = behind_cut_walked command (word_of g) (kind_of g.0) (name_of g.0) g.1 rows (cut g)
 
-behind_passes : (command : CommandName) (option : OptionName) (v : Text) (rows : List Row) → has_row (codes "command") rows ≡ false
-    → has_row (name_of option) (with_values (codes "command") (reading_by command_rule) CommandLine (command_word command ∷ []) (without (codes "command") rows)) ≡ false
-    → turn_passes shape [] (behind command rows) (prefix_of option ++ v) ≡ true
-behind_passes command option v rows fresh other = behind_cut_passes command (prefix_of option ++ v) (name_of option) v rows (cut option v) fresh other
+behind_passes : (command : CommandName) (g : Given) (rows : List Row) → has_row (codes "command") rows ≡ false
+    → has_row (name_of g.0) (with_command command rows) ≡ false → turn_passes shape [] (behind command rows) (word_of g) ≡ true
+behind_passes command g rows fresh other = behind_cut_passes command (word_of g) (kind_of g.0) (name_of g.0) g.1 rows (cut g) fresh other
 
 -- ---- words as options with their values, around a command
 
-abbrev pub Given : Type 0
-Given = OptionName × Text
-
-abbrev pub word_of : Given → Text
-word_of g = prefix_of g.0 ++ g.1
+abbrev row_as : OptionKind → Text → Text → Row
+row_as kind name v =
+    record { id = name; values = held_of kind v ∷ []; count = None; source = Some CommandLine; reading = reading_by (built_as kind name) }
 
 abbrev pub row_of : Given → Row
-row_of g = row (name_of g.0) g.1
+row_of g = row_as (kind_of g.0) (name_of g.0) g.1
 
 abbrev pub command_row : CommandName → Row
 command_row command = row (codes "command") (command_word command)
@@ -146,7 +156,10 @@ fresh_here g rows rest once =
 
 option_done : (g : Given) (rows : List Row) (p : ℕ) → has_row (name_of g.0) rows ≡ false
     → walked rules [] (between rows p) (word_of g) ≡ between (rows ++ row_of g ∷ []) p
-option_done g rows p fresh = option_walked g.0 g.1 rows p ∙ ap (λ rs. between rs p) (used_fresh (name_of g.0) g.1 (reading_by command_rule) rows fresh)
+option_done g rows p fresh =
+    option_walked g rows p
+    ∙ ap (λ rs. between rs p)
+    (used_fresh (name_of g.0) (held_of (kind_of g.0) g.1) (reading_by (built_as (kind_of g.0) (name_of g.0))) rows fresh)
 
 regroup : (rows rest : List Row) (r : Row) → rows ++ r ∷ rest ≡ (rows ++ r ∷ []) ++ rest
 regroup rows rest r = sym (append_assoc rows (r ∷ []) rest)
@@ -166,7 +179,7 @@ unfolding walk_passes
 options_pass [] rows p rest once = refl
 options_pass (g ∷ gs) rows p rest once =
     let fresh = fresh_here g rows (map row_of gs ++ rest) once in
-    rw (option_passes g.0 g.1 rows p fresh, option_done g rows p fresh)
+    rw (option_passes g rows p fresh, option_done g rows p fresh)
     (options_pass gs (rows ++ row_of g ∷ []) p rest (subst Once (regroup rows (map row_of gs ++ rest) (row_of g)) once))
 
 and_more : (b s t u : Bool) → s ≡ (t && u) → (b && s) ≡ ((b && t) && u)
@@ -205,14 +218,15 @@ after_command command (g ∷ gs) rows fresh once =
     let fresh_now : has_row (name_of g.0) now ≡ false = fresh_here g now (map row_of gs) once_now in
     let used = command_used command rows fresh in
     let step : walked rules [] (behind command rows) (word_of g) ≡ between (now ++ row_of g ∷ []) 2 =
-    behind_walked command g.0 g.1 rows
-    ∙ ap (λ rs. between (with_values (name_of g.0) (reading_by command_rule) CommandLine (g.1 ∷ []) (without (name_of g.0) rs)) 2) used
-    ∙ ap (λ rs. between rs 2) (used_fresh (name_of g.0) g.1 (reading_by command_rule) now fresh_now) in
+    behind_walked command g rows
+    ∙ ap (λ rs. between (with_held (kind_of g.0) (name_of g.0) g.1 rs) 2) used
+    ∙ ap (λ rs. between rs 2)
+    (used_fresh (name_of g.0) (held_of (kind_of g.0) g.1) (reading_by (built_as (kind_of g.0) (name_of g.0))) now fresh_now) in
     let whole : now ++ row_of g ∷ map row_of gs ≡ (now ++ row_of g ∷ []) ++ map row_of gs = regroup now (map row_of gs) (row_of g) in
     let once_rest : Once ((now ++ row_of g ∷ []) ++ (map row_of gs ++ [])) = subst Once (whole ∙ ap (λ rs. (now ++ row_of g ∷ []) ++ rs) (sym (append-nil (map row_of gs)))) once_now in
     let ends : fold (walked rules []) (behind command rows) (map word_of (g ∷ gs)) ≡ between ((now ++ row_of g ∷ []) ++ map row_of gs) 2 =
     ap (λ w. fold (walked rules []) w (map word_of gs)) step ∙ options_walked gs (now ++ row_of g ∷ []) 2 [] once_rest in
-    let turn : turn_passes shape [] (behind command rows) (word_of g) ≡ true = behind_passes command g.0 g.1 rows fresh (ap (has_row (name_of g.0)) used ∙ fresh_now) in (
+    let turn : turn_passes shape [] (behind command rows) (word_of g) ≡ true = behind_passes command g rows fresh (ap (has_row (name_of g.0)) used ∙ fresh_now) in (
       record {
         rows_are = ap (λ w. (settled rules w.held).rows) ends ∙ sym (regrouped ∙ whole);
         passes = ap (λ w. settle_passes rules false w.held) ends;
@@ -252,7 +266,9 @@ walks command before after once =
           ∙ end.1);
     }
 
--- no argument has a default
+-- ---- the end: a flag that isn't there has a row of its own
+
+-- an argument without a default
 plain : (rows : List Row) (a : Rule) → a.defaults ≡ [] → with_default rows a ≡ rows
 plain rows a none = ap (λ ds. cond (has_row a.id rows) rows (default_rows a.id (reading_by a) ds rows)) none ∙ go (has_row a.id rows)
   where
@@ -266,8 +282,40 @@ plain_all (a ∷ others) rows all =
     let parts = both (is_empty a.defaults) (list_all (λ r. is_empty r.defaults) others) all in
     ap (λ rs. fold with_default rs others) (plain rows a (is_nil a.defaults parts.0)) ∙ plain_all others rows parts.1
 
-pub finished_rows : (h : Held) → finished rules h ≡ (settled rules h).rows
-finished_rows h = plain_all rules (settled rules h).rows refl
+-- the row of the flag where no word gives it
+abbrev absent : Row
+absent = record { id = name_of Json; values = codes "false" ∷ []; count = None; source = Some DefaultValue; reading = reading_by (built_as Flag (name_of Json)) }
+
+-- the rows with it
+abbrev pub with_flag : List Row → List Row
+with_flag rows = cond (has_row (name_of Json) rows) rows (rows ++ absent ∷ [])
+
+flag_default : (rows : List Row) → with_default rows (built_as Flag (name_of Json)) ≡ with_flag rows
+flag_default rows = go (has_row (name_of Json) rows) refl
+  where
+    given_or : List Row
+    given_or = with_values (name_of Json) (reading_by (built_as Flag (name_of Json))) DefaultValue (codes "false" ∷ []) rows
+
+    go : (b : Bool) → has_row (name_of Json) rows ≡ b → cond b rows given_or ≡ cond b rows (rows ++ absent ∷ [])
+    go true e = refl
+    go false e = at_fresh (name_of Json) (more_values DefaultValue (codes "false" ∷ [])) (absent ∷ []) rows e
+
+-- the rules before that of the flag
+abbrev front : List Rule
+front = with_index 1 (filled command_rule) ∷ map (λ option. built_as Valued (name_of option)) (Index ∷ Installed ∷ Os ∷ Arch ∷ Compiler ∷ MaxBackjumps ∷ Number ∷ [])
+
+rules_are : rules ≡ front ++ built_as Flag (name_of Json) ∷ []
+rules_are = refl
+
+pub finished_rows : (h : Held) → finished rules h ≡ with_flag (settled rules h).rows
+finished_rows h =
+    let rows : List Row = (settled rules h).rows in
+    ap (fold with_default rows) rules_are ∙ fold-append with_default rows front (built_as Flag (name_of Json) ∷ [])
+    ∙ ap (λ rs. with_default rs (built_as Flag (name_of Json))) (plain_all front rows refl) ∙ flag_default rows
+
+find_more : {X : Type 0} (p : X → Bool) (xs : List X) (x : X) → p x ≡ false → find p (xs ++ x ∷ []) ≡ find p xs
+find_more p [] x e = ap (λ b. cond b (Some x) None) e
+find_more p (y ∷ xs) x e = ap (λ rest. cond (p y) (Some y) rest) (find_more p xs x e)
 
 find_past : {X : Type 0} (p : X → Bool) (xs ys : List X) → list_any p xs ≡ false → find p (xs ++ ys) ≡ find p ys
 find_past p [] ys none = refl
@@ -277,9 +325,21 @@ find_past p (x ∷ xs) ys none = go (p x) none (find_past p xs ys)
     go true e more = cc
     go false e more = more e
 
-command_given : (command : CommandName) (before after : List Given) → is_given (codes "command") (rows_around command before after) ≡ true
-command_given command before after =
+command_found : (command : CommandName) (before after : List Given) → is_given (codes "command") (rows_around command before after) ≡ true
+command_found command before after =
     ap (λ found. option_map_or (λ r. explicit_source r.source) found false) (find_past (λ r. bytes_eq r.id (codes "command")) (map row_of before) (command_row command ∷ map row_of after) (no_command_row before))
+
+command_given : (command : CommandName) (before after : List Given) → is_given (codes "command") (with_flag (rows_around command before after)) ≡ true
+command_given command before after = go (has_row (name_of Json) (rows_around command before after))
+  where
+    rows : List Row
+    rows = rows_around command before after
+
+    go : (b : Bool) → is_given (codes "command") (cond b rows (rows ++ absent ∷ [])) ≡ true
+    go true = command_found command before after
+    go false =
+        ap (λ found. option_map_or (λ r. explicit_source r.source) found false) (find_more (λ r. bytes_eq r.id (codes "command")) rows absent refl)
+        ∙ command_found command before after
 
 valid : (rows : List Row) → is_given (codes "command") rows ≡ true → is_valid shape rows false ≡ true
 valid rows given = rw given refl
@@ -288,32 +348,107 @@ pub words_taken : (command : CommandName) (before after : List Given) → Once (
 words_taken command before after once =
     let whole = walks command before after once in
     let end = (walk rules [] nothing_held (words_around command before after)).held in
-    let is_valid_here : is_valid shape (finished rules end) false ≡ true = valid (finished rules end) (ap (is_given (codes "command")) (finished_rows end ∙ whole.ends.rows_are) ∙ command_given command before after) in
+    let is_valid_here : is_valid shape (finished rules end) false ≡ true = valid (finished rules end) (ap (is_given (codes "command")) (finished_rows end ∙ ap with_flag whole.ends.rows_are) ∙ command_given command before after) in
     leaf_takes (built parser) nothing_held (words_around command before after) refl (rw (whole.passes, whole.ends.passes, is_valid_here) refl)
 
 -- ---- the values
 
--- what a row of the option or a word for it says, in front of more
-value_found : (option : OptionName) (gs : List Given) (rows : List Row) (words : List Text) → first_of (name_of option) rows ≡ given option words
-    → first_of (name_of option) (map row_of gs ++ rows) ≡ given option (map word_of gs ++ words)
+-- what is held of an option by its row, or by a word for it, in front of more
+value_found : (option : OptionName) (gs : List Given) (rows : List Row) (words : List Text) → first_of (name_of option) rows ≡ held_as (kind_of option) (given option words)
+    → first_of (name_of option) (map row_of gs ++ rows) ≡ held_as (kind_of option) (given option (map word_of gs ++ words))
 value_found option [] rows words same = same
 value_found option (g ∷ gs) rows words same =
-    rw (same_test option g.0 g.1) (go (bytes_eq (name_of g.0) (name_of option)) (same_value option g.0 g.1) (value_found option gs rows words same))
+    rw (same_test option g) (go (bytes_eq (name_of g.0) (name_of option)) (held_found option g) (value_found option gs rows words same))
   where
-    go : (b : Bool) → cond b (value_in option (word_of g)) g.1 ≡ g.1 → first_of (name_of option) (map row_of gs ++ rows) ≡ given option (map word_of gs ++ words)
+    go : (b : Bool) → (b ≡ true → Some (held_of (kind_of g.0) g.1) ≡ held_as (kind_of option) (Some (value_in option (word_of g))))
+        → first_of (name_of option) (map row_of gs ++ rows) ≡ held_as (kind_of option) (given option (map word_of gs ++ words))
         → option_and_then (λ r. slice_get r.values 0) (cond b (Some (row_of g)) (find (λ r. bytes_eq r.id (name_of option)) (map row_of gs ++ rows)))
-        ≡ option_map (value_in option) (cond b (Some (word_of g)) (find (gives option) (map word_of gs ++ words)))
-    go true e more = ap Some (sym e)
+        ≡ held_as (kind_of option) (option_map (value_in option) (cond b (Some (word_of g)) (find (gives option) (map word_of gs ++ words))))
+    go true e more = e refl
     go false e more = more
 
-command_gives_none : (command : CommandName) (option : OptionName) → gives option (command_word command) ≡ false
-command_gives_none Plan option = refl
+no_word : (command : CommandName) (kind : OptionKind) (name : Text) → gives_as kind (codes "--" ++ name ++ sign_of kind) (command_word command) ≡ false
+no_word Plan Valued name = refl
+no_word Plan Flag name = refl
+no_word Generate Valued name = refl
+no_word Generate Flag name = refl
 
-pub values_given : (command : CommandName) (option : OptionName) (before after : List Given) → first_of (name_of option) (rows_around command before after) ≡ given option (words_around command before after)
+command_gives_none : (command : CommandName) (option : OptionName) → gives option (command_word command) ≡ false
+command_gives_none command option = no_word command (kind_of option) (name_of option)
+
+values_given : (command : CommandName) (option : OptionName) (before after : List Given)
+    → first_of (name_of option) (rows_around command before after) ≡ held_as (kind_of option) (given option (words_around command before after))
 values_given command option before after =
-    let behind_all : first_of (name_of option) (map row_of after) ≡ given option (map word_of after) =
-    ap (first_of (name_of option)) (sym (append-nil (map row_of after))) ∙ value_found option after [] [] refl ∙ ap (given option) (append-nil (map word_of after)) in
+    let behind_all : first_of (name_of option) (map row_of after) ≡ held_as (kind_of option) (given option (map word_of after)) =
+    ap (first_of (name_of option)) (sym (append-nil (map row_of after))) ∙ value_found option after [] [] (nothing (kind_of option))
+    ∙ ap (λ words. held_as (kind_of option) (given option words)) (append-nil (map word_of after)) in
     value_found option before (command_row command ∷ map row_of after) (command_word command ∷ map word_of after) (rw (command_not option, command_gives_none command option) behind_all)
+  where
+    nothing : (kind : OptionKind) → None ≡ held_as kind None
+    nothing Valued = refl
+    nothing Flag = refl
+
+-- an option has a row where a word gives it
+same_there : (option : OptionName) (gs : List Given) (rows : List Row) (words : List Text) → has_row (name_of option) rows ≡ is_some (given option words)
+    → has_row (name_of option) (map row_of gs ++ rows) ≡ is_some (given option (map word_of gs ++ words))
+same_there option [] rows words same = same
+same_there option (g ∷ gs) rows words same =
+    rw (same_test option g) (go (bytes_eq (name_of g.0) (name_of option)) (same_there option gs rows words same))
+  where
+    go : (b : Bool) → has_row (name_of option) (map row_of gs ++ rows) ≡ is_some (given option (map word_of gs ++ words))
+        → (b || has_row (name_of option) (map row_of gs ++ rows))
+        ≡ is_some (option_map (value_in option) (cond b (Some (word_of g)) (find (gives option) (map word_of gs ++ words))))
+    go true more = refl
+    go false more = more
+
+there_alike : (command : CommandName) (option : OptionName) (before after : List Given)
+    → has_row (name_of option) (rows_around command before after) ≡ is_some (given option (words_around command before after))
+there_alike command option before after =
+    let behind_all : has_row (name_of option) (map row_of after) ≡ is_some (given option (map word_of after)) =
+    ap (has_row (name_of option)) (sym (append-nil (map row_of after))) ∙ same_there option after [] [] refl ∙ ap (λ words. is_some (given option words)) (append-nil (map word_of after)) in
+    same_there option before (command_row command ∷ map row_of after) (command_word command ∷ map word_of after) (rw (command_not option, command_gives_none command option) behind_all)
+
+-- ---- what is found at the end
+
+module _ (command : CommandName) (before after : List Given) where
+  abbrev held_rows : List Row
+  held_rows = rows_around command before after
+
+  abbrev all_words : List Text
+  all_words = words_around command before after
+
+  valued_found : (option : OptionName) → kind_of option ≡ Valued → first_of (name_of option) (with_flag held_rows) ≡ given option all_words
+  valued_found option valued = go (has_row (name_of Json) held_rows)
+    where
+      held : first_of (name_of option) held_rows ≡ given option all_words
+      held = values_given command option before after ∙ ap (λ kind. held_as kind (given option all_words)) valued
+
+      go : (b : Bool) → first_of (name_of option) (cond b held_rows (held_rows ++ absent ∷ [])) ≡ given option all_words
+      go true = held
+      go false = ap (option_and_then (λ r. slice_get r.values 0)) (find_more (λ r. bytes_eq r.id (name_of option)) held_rows absent (not_flag option valued)) ∙ held
+
+  flag_found : first_of (name_of Json) (with_flag held_rows) ≡ Some (truth_text (is_some (given Json all_words)))
+  flag_found = go (has_row (name_of Json) held_rows) refl
+    where
+      there : has_row (name_of Json) held_rows ≡ is_some (given Json all_words)
+      there = there_alike command Json before after
+
+      set : (value : Option Text) → is_some value ≡ true → held_as Flag value ≡ Some (truth_text (is_some value))
+      set None e = absurd (false≢true e)
+      set (Some v) e = refl
+
+      go : (b : Bool) → has_row (name_of Json) held_rows ≡ b → first_of (name_of Json) (cond b held_rows (held_rows ++ absent ∷ [])) ≡ Some (truth_text (is_some (given Json all_words)))
+      go true e = values_given command Json before after ∙ set (given Json all_words) (sym there ∙ e)
+      go false e =
+          ap (option_and_then (λ r. slice_get r.values 0)) (find_past (λ r. bytes_eq r.id (name_of Json)) held_rows (absent ∷ []) e)
+          ∙ ap (λ b. Some (truth_text b)) (sym e ∙ there)
+
+  pub values_found : (option : OptionName) → first_of (name_of option) (with_flag held_rows) ≡ found_in option all_words
+  values_found option = by (kind_of option) refl
+    where
+      by : (kind : OptionKind) → kind_of option ≡ kind → first_of (name_of option) (with_flag held_rows) ≡ found_in option all_words
+      by Valued e = valued_found option e ∙ ap (λ kind. found_as kind (given option all_words)) (sym e)
+      by Flag e = subst (λ o. first_of (name_of o) (with_flag held_rows) ≡ found_in o all_words) (sym (only_flag option e)) flag_found
 
 -- each option has as many rows as words
 same_count : (option : OptionName) (gs : List Given) (rows : List Row) (words : List Text) → count_by (is_row option) rows ≡ count_by (gives option) words
@@ -321,7 +456,7 @@ same_count : (option : OptionName) (gs : List Given) (rows : List Row) (words : 
 same_count option [] rows words same = same
 same_count option (g ∷ gs) rows words same =
     sum_by-cons (λ r. cond (is_row option r) 1 0) (row_of g) (map row_of gs ++ rows)
-    ∙ ap₂ (λ b n. cond b 1 0 + n) (sym (same_test option g.0 g.1)) (same_count option gs rows words same)
+    ∙ ap₂ (λ b n. cond b 1 0 + n) (sym (same_test option g)) (same_count option gs rows words same)
     ∙ sym (sum_by-cons (λ w. cond (gives option w) 1 0) (word_of g) (map word_of gs ++ words))
 
 pub counts_alike : (command : CommandName) (option : OptionName) (before after : List Given) → count_by (is_row option) (rows_around command before after) ≡ count_by (gives option) (words_around command before after)

@@ -1,18 +1,25 @@
--- The commands: the word of each, and the options that it takes.
+-- The commands: the word of each, the options that it takes, and those that it needs.
 use Rattle.std.specs.Prelude.{ℕ, List, [], ◌∷◌, codes}
 use Rattle.command_line.specs.declared.command_name.CommandName.{CommandName}
-use Rattle.command_line.specs.declared.command_name.CommandName.TheVariants.{Plan}
+use Rattle.command_line.specs.declared.command_name.CommandName.TheVariants.{Plan, Generate}
 use Rattle.command_line.specs.declared.option_name.OptionName.{OptionName}
-use Rattle.command_line.specs.declared.option_name.OptionName.TheVariants.{Index, Installed, Os, Arch, Compiler, MaxBackjumps}
+use Rattle.command_line.specs.declared.option_name.OptionName.TheVariants.{Index, Installed, Os, Arch, Compiler, MaxBackjumps, Number, Json}
 
 -- every command
 abbrev pub commands : List CommandName
-commands = Plan ∷ []
+commands = Plan ∷ Generate ∷ []
 
 -- the word of a command
 abbrev pub command_word : CommandName → List ℕ
 command_word Plan = codes "plan"
+command_word Generate = codes "generate"
 
 -- the options that a command takes
 abbrev pub taken_by : CommandName → List OptionName
-taken_by Plan = Index ∷ Installed ∷ Os ∷ Arch ∷ Compiler ∷ MaxBackjumps ∷ []
+taken_by Plan = Index ∷ Installed ∷ Os ∷ Arch ∷ Compiler ∷ MaxBackjumps ∷ Json ∷ []
+taken_by Generate = MaxBackjumps ∷ Number ∷ []
+
+-- the options that a command needs
+abbrev pub needed_by : CommandName → List OptionName
+needed_by Plan = []
+needed_by Generate = Number ∷ []

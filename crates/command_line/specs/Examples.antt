@@ -1,8 +1,8 @@
 -- What words mean, computed.
 use Rattle.std.specs.Prelude.{◌≡◌, refl, false, [], ◌∷◌, Some, None, codes}
 use Rattle.plan_types.specs.declared.limit.Limit.TheVariants.{Unlimited, At}
-use Rattle.command_line.specs.declared.option_name.OptionName.TheVariants.{Index}
-use Rattle.command_line.specs.declared.reading.Command.TheVariants.{Plan}
+use Rattle.command_line.specs.declared.option_name.OptionName.TheVariants.{Index, Json}
+use Rattle.command_line.specs.declared.reading.Command.TheVariants.{Plan, Generate}
 use Rattle.command_line.specs.Form.{is_compiler, is_path, is_signed}
 use Rattle.command_line.specs.Words.{given}
 use Rattle.command_line.specs.Reading.{reading}
@@ -12,6 +12,7 @@ plain : reading (codes "plan" ∷ []) ≡ Some (Plan (record {
   places = record { index = codes "index"; installed = codes "installed" };
   env = record { os = codes "linux"; arch = codes "x86_64"; compiler = codes "ghc"; compiler_version = record { parts = 9 ∷ 4 ∷ 7 ∷ [] } };
   limit = None;
+  json = false;
 }))
 plain = refl
 
@@ -19,8 +20,27 @@ told : reading (codes "--os=Win32" ∷ codes "plan" ∷ codes "--compiler=GHC-8.
   places = record { index = codes "a/b"; installed = codes "installed" };
   env = record { os = codes "windows"; arch = codes "x86_64"; compiler = codes "ghc"; compiler_version = record { parts = 8 ∷ 10 ∷ [] } };
   limit = Some (At 7);
+  json = false;
 }))
 told = refl
+
+a-folder : reading (codes "--number=0100" ∷ codes "generate" ∷ []) ≡ Some (Generate 100 (At 4000))
+a-folder = refl
+
+no-number : reading (codes "generate" ∷ []) ≡ None
+no-number = refl
+
+too-many : reading (codes "generate" ∷ codes "--number=2001" ∷ []) ≡ None
+too-many = refl
+
+of-another-command : reading (codes "generate" ∷ codes "--number=1" ∷ codes "--json" ∷ []) ≡ None
+of-another-command = refl
+
+as-json : given Json (codes "plan" ∷ codes "--json" ∷ []) ≡ Some []
+as-json = refl
+
+a-flag-with-a-value : reading (codes "plan" ∷ codes "--json=true" ∷ []) ≡ None
+a-flag-with-a-value = refl
 
 -- the value is all that follows the first `=`
 all-behind : given Index (codes "plan" ∷ codes "--index=a=b" ∷ []) ≡ Some (codes "a=b")

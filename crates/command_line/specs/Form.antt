@@ -1,14 +1,16 @@
 -- The forms of the values of options, and what they stand for.
-use Rattle.std.specs.Prelude.{ℕ, Bool, ◌==◌, ◌&&◌, ◌||◌, not, List, length, map, codes, is_some}
+use Rattle.std.specs.Prelude.{ℕ, Bool, ◌==◌, ◌&&◌, ◌||◌, not, List, length, map, codes, Option, Some, None, is_some, nat_le}
 use Rattle.std.specs.List.{list_all, slice_split, before_last, after_last}
 use Rattle.std.specs.Str.{bytes_eq}
 use Rattle.plan_types.specs.Bytes.{begins_with}
 use Rattle.plan_types.specs.Name.{is_component_name}
+use Rattle.plan_types.specs.declared.limit.Limit.{Limit}
+use Rattle.plan_types.specs.declared.limit.Limit.TheVariants.{Unlimited, At}
 use Rattle.version_range.specs.Number.{is_count, limit_of}
 use Rattle.version_range.specs.Version.{number_after}
 use Rattle.condition_text.specs.Grammar.{is_compiler_name}
 use Rattle.command_line.specs.declared.option_name.OptionName.{OptionName}
-use Rattle.command_line.specs.declared.option_name.OptionName.TheVariants.{Index, Installed, Os, Arch, Compiler, MaxBackjumps}
+use Rattle.command_line.specs.declared.option_name.OptionName.TheVariants.{Index, Installed, Os, Arch, Compiler, MaxBackjumps, Number, Json}
 
 -- a name of a directory in a path, which leads down
 abbrev pub is_directory : List ℕ → Bool
@@ -46,7 +48,21 @@ is_compiler text = is_compiler_name (compiler_name text) && is_version_text (com
 abbrev pub is_signed : List ℕ → Bool
 is_signed text = is_some (limit_of text)
 
--- whether a value has the form of its option
+-- the number that a limit is
+abbrev pub counted : Option Limit → ℕ
+counted (Some (At number)) = number
+counted (Some Unlimited) = 0
+counted None = 0
+
+-- the number that a text is
+abbrev pub number_in : List ℕ → ℕ
+number_in text = counted (limit_of text)
+
+-- one to four digits, from 1 to 2,000
+abbrev pub is_number : List ℕ → Bool
+is_number text = nat_le (length text) 4 && (is_count text && (nat_le 1 (number_in text) && nat_le (number_in text) 2000))
+
+-- whether a value has the form of its option; a flag has none
 abbrev pub has_form : OptionName → List ℕ → Bool
 has_form Index value = is_path value
 has_form Installed value = is_path value
@@ -54,3 +70,5 @@ has_form Os value = is_component_name value
 has_form Arch value = is_component_name value
 has_form Compiler value = is_compiler value
 has_form MaxBackjumps value = is_signed value
+has_form Number value = is_number value
+has_form Json value = length value == 0

@@ -1,8 +1,22 @@
--- The options, each one word: its name, and all that follows the first `=`.
-use Rattle.std.specs.Prelude.{ℕ, Bool, List, ◌++◌, codes, length, drop, nat_eq}
+-- The options, each one word: its name and all that follows the first `=`, or the name of a flag alone.
+use Rattle.std.specs.Prelude.{ℕ, Bool, List, [], ◌++◌, codes, length, drop, nat_eq}
 use Rattle.std.specs.List.{starts_with}
+use Rattle.std.specs.Str.{bytes_eq}
+use Rattle.command_line.specs.declared.option_name.OptionKind.{OptionKind}
+use Rattle.command_line.specs.declared.option_name.OptionKind.TheVariants.{Valued, Flag}
 use Rattle.command_line.specs.declared.option_name.OptionName.{OptionName}
-use Rattle.command_line.specs.declared.option_name.OptionName.TheVariants.{Index, Installed, Os, Arch, Compiler, MaxBackjumps}
+use Rattle.command_line.specs.declared.option_name.OptionName.TheVariants.{Index, Installed, Os, Arch, Compiler, MaxBackjumps, Number, Json}
+
+-- whether a value stands in the word of an option
+abbrev pub kind_of : OptionName → OptionKind
+kind_of Index = Valued
+kind_of Installed = Valued
+kind_of Os = Valued
+kind_of Arch = Valued
+kind_of Compiler = Valued
+kind_of MaxBackjumps = Valued
+kind_of Number = Valued
+kind_of Json = Flag
 
 -- the name of an option
 abbrev pub name_of : OptionName → List ℕ
@@ -12,15 +26,27 @@ name_of Os = codes "os"
 name_of Arch = codes "arch"
 name_of Compiler = codes "compiler"
 name_of MaxBackjumps = codes "max-backjumps"
+name_of Number = codes "number"
+name_of Json = codes "json"
+
+-- what stands behind the name
+abbrev pub sign_of : OptionKind → List ℕ
+sign_of Valued = codes "="
+sign_of Flag = []
 
 -- what stands before the value
 abbrev pub prefix_of : OptionName → List ℕ
-prefix_of option = codes "--" ++ name_of option ++ codes "="
+prefix_of option = codes "--" ++ name_of option ++ sign_of (kind_of option)
 
--- whether the word gives the option a value
+-- whether the word gives a value, or is that of the flag
+abbrev pub gives_as : OptionKind → List ℕ → List ℕ → Bool
+gives_as Valued prefix word = starts_with nat_eq word prefix
+gives_as Flag prefix word = bytes_eq word prefix
+
+-- whether the word gives the option
 abbrev pub gives : OptionName → List ℕ → Bool
-gives option word = starts_with nat_eq word (prefix_of option)
+gives option word = gives_as (kind_of option) (prefix_of option) word
 
--- the value that stands in the word of an option
+-- the value that stands in the word of an option; that of a flag is empty
 abbrev pub value_in : OptionName → List ℕ → List ℕ
 value_in option word = drop (length (prefix_of option)) word

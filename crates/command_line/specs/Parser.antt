@@ -1,19 +1,51 @@
 -- The parser: one required command, and an argument for each option, without help and version flags.
-use Rattle.std.specs.Prelude.{true, Some, codes, fold}
+use Rattle.std.specs.Prelude.{◌≡◌, ℕ, Bool, true, false, List, Option, Some, codes, fold, is_some}
 use Rattle.clap.specs.Walk.{Rule}
+use Rattle.clap.specs.Matches.{first_value}
+use Rattle.clap.specs.declared.parser.matches.Found.{Found}
 use Rattle.clap.specs.Simple.{App, new_app, new_rule, on_top, with_rule}
-use Rattle.clap.specs.declared.builder.action.ArgAction.TheVariants.{Set}
+use Rattle.clap.specs.declared.builder.action.ArgAction.{ArgAction}
+use Rattle.clap.specs.declared.builder.action.ArgAction.TheVariants.{Set, SetTrue}
+use Rattle.command_line.specs.declared.option_name.OptionKind.{OptionKind}
+use Rattle.command_line.specs.declared.option_name.OptionKind.TheVariants.{Valued, Flag}
 use Rattle.command_line.specs.declared.option_name.OptionName.{OptionName}
-use Rattle.command_line.specs.OptionName.{name_of}
-use Rattle.command_line.specs.Words.{options}
+use Rattle.command_line.specs.OptionName.{kind_of, name_of}
+use Rattle.command_line.specs.Words.{given, options}
 
 -- one word is the command
 abbrev pub command_rule : Rule
 command_rule = record (new_rule (codes "command")) { required = true; action = Some Set }
 
--- an option takes a value
+-- what is done at an option: its value is taken, or the flag is set
+abbrev pub action_as : OptionKind → ArgAction
+action_as Valued = Set
+action_as Flag = SetTrue
+
+-- an option of a kind and a name
+abbrev pub rule_as : OptionKind → List ℕ → Rule
+rule_as kind name = record (new_rule name) { long = Some name; action = Some (action_as kind) }
+
+-- the rule of an option
 abbrev pub option_rule : OptionName → Rule
-option_rule option = record (new_rule (name_of option)) { long = Some (name_of option); action = Some Set }
+option_rule option = rule_as (kind_of option) (name_of option)
+
+-- what is found of a flag
+abbrev pub truth_text : Bool → List ℕ
+truth_text true = codes "true"
+truth_text false = codes "false"
+
+-- what is found of an option that was given this, or nothing
+abbrev pub found_as : OptionKind → Option (List ℕ) → Option (List ℕ)
+found_as Valued value = value
+found_as Flag value = Some (truth_text (is_some value))
+
+-- what is found of an option in words
+abbrev pub found_in : OptionName → List (List ℕ) → Option (List ℕ)
+found_in option words = found_as (kind_of option) (given option words)
+
+-- that is what was found of each option
+abbrev pub Finds : List (List ℕ) → Found → Type 0
+Finds words found = (option : OptionName) → first_value found (name_of option) ≡ found_in option words
 
 -- the parser without rules
 abbrev pub bare : App

@@ -1,15 +1,17 @@
 -- The command that words mean.
-use Rattle.std.specs.Prelude.{ℕ, List, Option, unwrap_or, codes}
-use Rattle.std.specs.Str.{str_to_ascii_lowercase}
+use Rattle.std.specs.Prelude.{ℕ, ◌≤◌, Bool, false, List, [], Option, Some, None, is_some, unwrap_or, codes}
+use Rattle.std.specs.Str.{bytes_eq, str_to_ascii_lowercase}
 use Rattle.plan_types.specs.declared.condition.Env.{Env}
 use Rattle.plan_types.specs.declared.index.Places.{Places}
+use Rattle.plan_types.specs.declared.limit.Limit.{Limit}
+use Rattle.plan_types.specs.declared.limit.Limit.TheVariants.{At}
 use Rattle.command_line.specs.declared.command_name.CommandName.{CommandName}
 use Rattle.command_line.specs.declared.command_name.CommandName.TheVariants as command
-use Rattle.command_line.specs.declared.option_name.OptionName.TheVariants.{Index, Installed, Os, Arch, Compiler, MaxBackjumps}
+use Rattle.command_line.specs.declared.option_name.OptionName.TheVariants.{Index, Installed, Os, Arch, Compiler, MaxBackjumps, Number, Json}
 use Rattle.command_line.specs.declared.reading.Command.{Command}
-use Rattle.command_line.specs.declared.reading.Command.TheVariants.{Plan}
+use Rattle.command_line.specs.declared.reading.Command.TheVariants.{Plan, Generate}
 use Rattle.command_line.specs.declared.reading.Options.{Options}
-use Rattle.command_line.specs.Form.{compiler_name, compiler_digits, parts_of}
+use Rattle.command_line.specs.Form.{compiler_name, compiler_digits, number_in, parts_of}
 use Rattle.command_line.specs.Words.{asked, given}
 use Rattle.conditionals.specs.Environment.{system_of}
 use Rattle.version_range.specs.Number.{limit_of}
@@ -38,12 +40,33 @@ options_of words = record {
   places = places_of (given Index words) (given Installed words);
   env = env_of (given Os words) (given Arch words) (given Compiler words);
   limit = option_and_then limit_of (given MaxBackjumps words);
+  json = is_some (given Json words);
 }
+
+-- the options where words give none, but with this limit
+abbrev pub default_options : Limit → Options
+default_options limit = record { places = places_of None None; env = env_of None None None; limit = Some limit; json = false }
+
+-- whether what is found of a flag says that it is there
+abbrev pub is_true : Option (List ℕ) → Bool
+is_true None = false
+is_true (Some text) = bytes_eq text (codes "true")
+
+-- the folder that words ask for, and the limit that they give, or the one of a project that sets none
+abbrev pub generate_of : List (List ℕ) → Command
+generate_of words =
+    Generate (number_in (unwrap_or (given Number words) [])) (unwrap_or (option_and_then limit_of (given MaxBackjumps words)) (At 4000))
 
 -- what a command means with the options of its words
 abbrev pub meant : List (List ℕ) → CommandName → Command
 meant words command.Plan = Plan (options_of words)
+meant words command.Generate = generate_of words
 
 -- the command that words mean
 abbrev pub reading : List (List ℕ) → Option Command
 reading words = option_map (meant words) (asked words)
+
+-- a folder is made of 1 to 2,000 packages
+abbrev pub IsBounded : Command → Type 0
+IsBounded (Plan options) = Unit {0}
+IsBounded (Generate number limit) = (1 ≤ number) × (number ≤ 2000)

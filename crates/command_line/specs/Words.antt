@@ -1,18 +1,18 @@
 -- Which words have a reading.
-use Rattle.std.specs.Prelude.{ℕ, Bool, true, ◌==◌, ◌&&◌, ◌||◌, List, [], ◌∷◌, Option, option_map, nat_le, count_by, find}
+use Rattle.std.specs.Prelude.{ℕ, Bool, true, ◌==◌, ◌&&◌, ◌||◌, List, [], ◌∷◌, Option, option_map, is_some, nat_le, count_by, find}
 use Rattle.std.specs.List.{list_all, list_any}
 use Rattle.std.specs.Option.{option_map_or}
 use Rattle.std.specs.Str.{bytes_eq}
-use Rattle.command_line.specs.CommandName.{command_word, commands, taken_by}
+use Rattle.command_line.specs.CommandName.{command_word, commands, needed_by, taken_by}
 use Rattle.command_line.specs.declared.command_name.CommandName.{CommandName}
 use Rattle.command_line.specs.declared.option_name.OptionName.{OptionName}
-use Rattle.command_line.specs.declared.option_name.OptionName.TheVariants.{Index, Installed, Os, Arch, Compiler, MaxBackjumps}
+use Rattle.command_line.specs.declared.option_name.OptionName.TheVariants.{Index, Installed, Os, Arch, Compiler, MaxBackjumps, Number, Json}
 use Rattle.command_line.specs.OptionName.{gives, value_in}
 use Rattle.command_line.specs.Form.{has_form}
 
 -- every option
 abbrev pub options : List OptionName
-options = Index ∷ Installed ∷ Os ∷ Arch ∷ Compiler ∷ MaxBackjumps ∷ []
+options = Index ∷ Installed ∷ Os ∷ Arch ∷ Compiler ∷ MaxBackjumps ∷ Number ∷ Json ∷ []
 
 -- whether a word is that of a command
 abbrev pub is_command : CommandName → List ℕ → Bool
@@ -26,14 +26,19 @@ is_known command word = is_command command word || list_any (λ option. gives op
 abbrev pub given : OptionName → List (List ℕ) → Option (List ℕ)
 given option words = option_map (value_in option) (find (gives option) words)
 
+-- the words give the option
+abbrev pub is_given : List (List ℕ) → OptionName → Bool
+is_given words option = is_some (given option words)
+
 -- the option stands at most once, and its value has its form
 abbrev pub is_well_given : List (List ℕ) → OptionName → Bool
 is_well_given words option = nat_le (count_by (gives option) words) 1 && option_map_or (has_form option) (given option words) true
 
--- the words ask for a command: its word, and around it options that it takes, in any order
+-- the words ask for a command: its word, and around it options that it takes, in any order, those that it needs among them
 abbrev pub asks_for : List (List ℕ) → CommandName → Bool
 asks_for words command =
-    list_all (is_known command) words && (count_by (is_command command) words == 1 && list_all (is_well_given words) options)
+    list_all (is_known command) words
+    && ((count_by (is_command command) words == 1 && list_all (is_well_given words) options) && list_all (is_given words) (needed_by command))
 
 -- the command that words ask for, where they ask for one
 abbrev pub asked : List (List ℕ) → Option CommandName

@@ -1,6 +1,6 @@
-// The commands: the word of each, and the options that it takes.
+// The commands: the word of each, the options that it takes, and those that it needs.
 ghost use Rattle.std.specs.Prelude.{◌≡◌};
-ghost use Rattle.command_line.specs.CommandName.{command_word, commands, taken_by};
+ghost use Rattle.command_line.specs.CommandName.{command_word, commands, needed_by, taken_by};
 
 use crate::option_name::OptionName;
 
@@ -8,13 +8,14 @@ use crate::option_name::OptionName;
 #[derive(Clone, Copy, Debug, PartialEq, Eq)]
 pub enum CommandName {
     Plan,
+    Generate,
 }
 
 /// Every command of the command line.
-pub fn commands() -> [CommandName; 1]
+pub fn commands() -> [CommandName; 2]
     ensures { result ≡ commands }
 {
-    [CommandName::Plan]
+    [CommandName::Plan, CommandName::Generate]
 }
 
 /// The word of a command.
@@ -23,6 +24,7 @@ pub fn command_word<'a>(command: CommandName) -> &'a str
 {
     match command {
         CommandName::Plan => "plan",
+        CommandName::Generate => "generate",
     }
 }
 
@@ -38,6 +40,18 @@ pub fn taken_by(command: CommandName) -> &'static [OptionName]
             OptionName::Arch,
             OptionName::Compiler,
             OptionName::MaxBackjumps,
+            OptionName::Json,
         ],
+        CommandName::Generate => &[OptionName::MaxBackjumps, OptionName::Number],
+    }
+}
+
+/// The options that a command needs.
+pub fn needed_by(command: CommandName) -> &'static [OptionName]
+    ensures { result.now ≡ needed_by command }
+{
+    match command {
+        CommandName::Plan => &[],
+        CommandName::Generate => &[OptionName::Number],
     }
 }

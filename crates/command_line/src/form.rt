@@ -1,12 +1,12 @@
 // The forms of the values of options.
-ghost use Rattle.std.specs.Prelude.{◌≡◌, ◌≤◌, ◌-◌, ◌==◌, not, length, take};
+ghost use Rattle.std.specs.Prelude.{◌≡◌, ◌≤◌, ◌-◌, ◌==◌, ◌&&◌, not, length, nat_le, take};
 ghost use Rattle.std.specs.List.{list_all, suffix_len};
 ghost use Rattle.plan_types.specs.Name.{is_letter_or_digit};
 ghost use Rattle.condition_text.specs.Grammar.{is_compiler_name};
-ghost use Rattle.command_line.specs.Form.{compiler_digits, compiler_name, has_form, is_compiler, is_directory, is_part, is_path, is_signed, is_version_text};
+ghost use Rattle.command_line.specs.Form.{compiler_digits, compiler_name, has_form, is_compiler, is_directory, is_number, is_part, is_path, is_signed, is_version_text, number_in};
 
 use crate::option_name::OptionName;
-use plan_types::is_component_name;
+use plan_types::{Limit, is_component_name};
 use text_grammar::begins_with;
 use version_range::{is_count, limit_of};
 
@@ -21,6 +21,8 @@ pub fn has_form(option: OptionName, value: &[u8]) -> bool
         OptionName::Arch => is_component_name(value),
         OptionName::Compiler => is_compiler(value),
         OptionName::MaxBackjumps => is_signed(value),
+        OptionName::Number => is_number(value),
+        OptionName::Json => value.is_empty(),
     }
 }
 
@@ -89,6 +91,30 @@ fn is_signed(text: &[u8]) -> bool
     ensures { result ≡ is_signed text.now }
 {
     limit_of(text).is_some()
+}
+
+// One to four digits, from 1 to 2,000.
+fn is_number(text: &[u8]) -> bool
+    ensures { result ≡ is_number text.now }
+{
+    text.len() <= 4 && is_count(text) && is_within(number_in(text))
+}
+
+fn is_within(number: u64) -> bool
+    ensures { result ≡ (nat_le 1 number && nat_le number 2000) }
+{
+    1 <= number && number <= 2000
+}
+
+/// The number that a text is.
+pub fn number_in(text: &[u8]) -> u64
+    ensures { result ≡ number_in text.now }
+{
+    match limit_of(text) {
+        Some(Limit::At(number)) => number,
+        Some(Limit::Unlimited) => 0,
+        None => 0,
+    }
 }
 
 // Where the last dash ends; 0 where there is none.

@@ -10,4 +10,4 @@ mod parser;
 mod reading;
 mod words;
 
-pub use reading::{Command, Options, WordsFault, read_words};
+pub use reading::{Command, Options, WordsFault, default_options, read_words};

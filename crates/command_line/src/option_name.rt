@@ -1,6 +1,6 @@
-// The options, and their names.
+// The options, their kinds and their names.
 ghost use Rattle.std.specs.Prelude.{◌≡◌, drop};
-ghost use Rattle.command_line.specs.OptionName.{gives, name_of, prefix_of, value_in};
+ghost use Rattle.command_line.specs.OptionName.{gives, kind_of, name_of, prefix_of, value_in};
 
 /// An option of the command line.
 #[derive(Clone, Copy, Debug, PartialEq, Eq)]
@@ -11,6 +11,33 @@ pub enum OptionName {
     Arch,
     Compiler,
     MaxBackjumps,
+    Number,
+    Json,
+}
+
+/// What stands in the word of an option.
+#[derive(Clone, Copy, Debug, PartialEq, Eq)]
+pub enum OptionKind {
+    /// Its name and a value.
+    Valued,
+    /// Its name alone.
+    Flag,
+}
+
+/// The option's kind.
+pub fn kind_of(option: OptionName) -> OptionKind
+    ensures { result ≡ kind_of option }
+{
+    match option {
+        OptionName::Index => OptionKind::Valued,
+        OptionName::Installed => OptionKind::Valued,
+        OptionName::Os => OptionKind::Valued,
+        OptionName::Arch => OptionKind::Valued,
+        OptionName::Compiler => OptionKind::Valued,
+        OptionName::MaxBackjumps => OptionKind::Valued,
+        OptionName::Number => OptionKind::Valued,
+        OptionName::Json => OptionKind::Flag,
+    }
 }
 
 /// The option's name, without the dashes.
@@ -24,14 +51,20 @@ pub fn name_of<'a>(option: OptionName) -> &'a str
         OptionName::Arch => "arch",
         OptionName::Compiler => "compiler",
         OptionName::MaxBackjumps => "max-backjumps",
+        OptionName::Number => "number",
+        OptionName::Json => "json",
     }
 }
 
-/// Whether a word gives the option a value.
+/// Whether a word gives the option: with a value behind it, or a flag by itself.
 pub fn gives(option: OptionName, word: &[u8]) -> bool
     ensures { result ≡ gives option word.now }
 {
-    word.starts_with(prefix_of(option).as_bytes())
+    let prefix = prefix_of(option).as_bytes();
+    match kind_of(option) {
+        OptionKind::Valued => word.starts_with(prefix),
+        OptionKind::Flag => word == prefix,
+    }
 }
 
 /// The value that a word gives the option.
@@ -52,6 +85,8 @@ fn prefix_of(option: OptionName) -> &'static str
         OptionName::Arch => "--arch=",
         OptionName::Compiler => "--compiler=",
         OptionName::MaxBackjumps => "--max-backjumps=",
+        OptionName::Number => "--number=",
+        OptionName::Json => "--json",
     }
 }
 

@@ -1,24 +1,23 @@
 // The parser of words that have a reading.
 ghost use Rattle.std.specs.Prelude.{◌≡◌, true, is_some, IfOk, IfErr};
-ghost use Rattle.clap.specs.Words.{app_of, first_value, found_of, kind_of, with_rule};
-ghost use Rattle.command_line.specs.declared.option_name.OptionName.{OptionName as Named};
-ghost use Rattle.command_line.specs.OptionName.{name_of};
-ghost use Rattle.command_line.specs.Words.{asked, given};
-ghost use Rattle.command_line.specs.Parser.{bare, command_rule, parser, with_option};
+ghost use Rattle.clap.specs.Words.{app_of, found_of, kind_of as error_kind, with_rule};
+ghost use Rattle.command_line.specs.OptionName.{kind_of};
+ghost use Rattle.command_line.specs.Words.{asked};
+ghost use Rattle.command_line.specs.Parser.{Finds, action_as, bare, command_rule, parser, with_option};
 
-use crate::option_name::{OptionName, name_of};
+use crate::option_name::{OptionKind, OptionName, kind_of, name_of};
 use crate::words::options;
 use clap::error::ErrorKind;
 use clap::{Arg, ArgAction, ArgMatches, Command, Error};
 use plan_types::Text;
 use std::alloc::{AllocError, Global};
 
-/// What the parser finds in words that have a reading: for each option its value, where it has one.
+/// What the parser finds in words that have a reading: of each option its value, where it has one, and of a flag whether it is
+/// there.
 pub fn parsed<'a>(alloc: Global, words: &'a [Text]) -> Result<ArgMatches<'a>, Error>
     requires { is_some (asked words.now) ≡ true }
-    ensures values { IfOk result (λ matches. (option : Named)
-        → first_value (found_of matches) (name_of option) ≡ given option words.entry.now) }
-    ensures no_memory { IfErr result (λ error. kind_of error ≡ ErrorKind.OutOfMemory) }
+    ensures values { IfOk result (λ matches. Finds words.entry.now (found_of matches)) }
+    ensures no_memory { IfErr result (λ error. error_kind error ≡ ErrorKind.OutOfMemory) }
 {
     let command = parser(alloc)?;
     command.try_get_matches_from(words)
@@ -60,6 +59,15 @@ fn with_option<'a>(
     ensures { IfOk result (λ more. app_of more ≡ with_option (app_of command.entry) option) }
 {
     let name = name_of(option);
-    let arg = Arg::new(alloc, name).long(name).action(ArgAction::Set);
+    let arg = Arg::new(alloc, name).long(name).action(action_of(option));
     command.arg(arg)
+}
+
+fn action_of(option: OptionName) -> ArgAction
+    ensures { result ≡ action_as (kind_of option) }
+{
+    match kind_of(option) {
+        OptionKind::Valued => ArgAction::Set,
+        OptionKind::Flag => ArgAction::SetTrue,
+    }
 }

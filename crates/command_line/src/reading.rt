@@ -1,17 +1,17 @@
 // What words come to: a command and its options.
-ghost use Rattle.std.specs.Prelude.{◌≡◌, IfOk, IfErr, IsErrOf, Some, None, true, is_some, unwrap_or};
-ghost use Rattle.std.specs.Option.{option_and_then, option_copied};
+ghost use Rattle.std.specs.Prelude.{◌≡◌, ◌≤◌, IfOk, IfErr, IsErrOf, Some, None, [], true, false, is_some, unwrap_or};
+ghost use Rattle.std.specs.Option.{option_and_then, option_copied, option_map_or};
 ghost use Rattle.std.specs.Str.{str_to_ascii_lowercase};
 ghost use Rattle.clap.specs.Words.{first_value, found_of};
 ghost use Rattle.command_line.specs.declared.reading.WordsFault.TheVariants.{Usage, NoMemory as words_no_memory};
 ghost use Rattle.command_line.specs.OptionName.{name_of};
-ghost use Rattle.command_line.specs.Form.{compiler_digits, compiler_name, is_compiler, is_version_text, parts_of};
+ghost use Rattle.command_line.specs.Form.{compiler_digits, compiler_name, is_compiler, is_number, is_version_text, number_in, parts_of};
 ghost use Rattle.version_range.specs.Number.{limit_of};
 ghost use Rattle.command_line.specs.Words.{asked};
-ghost use Rattle.command_line.specs.Reading.{compiler_or, env_of, meant, options_of, places_of, reading};
+ghost use Rattle.command_line.specs.Reading.{IsBounded, compiler_or, default_options, env_of, generate_of, is_true, meant, options_of, places_of, reading};
 
 use crate::command_name::CommandName;
-use crate::form::cut_at_last_dash;
+use crate::form::{cut_at_last_dash, number_in};
 use crate::option_name::{OptionName, name_of};
 use crate::parser::parsed;
 use crate::words::asked;
@@ -29,12 +29,16 @@ pub struct Options {
     pub env: Env,
     /// Where the words set none, the project does.
     pub limit: Option<Limit>,
+    /// Whether an answer is printed as JSON.
+    pub json: bool,
 }
 
 /// What is to be done.
 #[derive(Debug, Drop)]
 pub enum Command {
     Plan(Options),
+    /// A folder of so many packages, from 1 to 2,000, is made and planned.
+    Generate { number: u32, limit: Limit },
 }
 
 /// Why words give no command.
@@ -59,6 +63,7 @@ pub fn read_words(alloc: Global, words: &[Text]) -> Result<Command, WordsFault>
     ensures command { IfOk result (λ command. reading words.now ≡ Some command) }
     ensures usage { IfErr result (λ fault. fault ≡ Usage → reading words.now ≡ None) }
     ensures no_reading { reading words.now ≡ None → IsErrOf result Usage }
+    ensures bounded { IfOk result IsBounded }
 {
     match asked(words) {
         None => Err(WordsFault::Usage),
@@ -72,14 +77,47 @@ pub fn read_words(alloc: Global, words: &[Text]) -> Result<Command, WordsFault>
 // What a command means with the options of its words.
 fn meant(alloc: Global, words: &[Text], command: CommandName) -> Result<Command, NoMemory>
     requires { asked words.now ≡ Some command }
-    ensures { IfOk result (λ found. found ≡ meant words.now command) }
+    ensures meant { IfOk result (λ found. found ≡ meant words.now command) }
+    ensures bounded { IfOk result IsBounded }
 {
     match command {
         CommandName::Plan => {
             let options = options_of(alloc, words)?;
             Ok(Command::Plan(options))
         }
+        CommandName::Generate => generate_of(alloc, words),
     }
+}
+
+fn generate_of(alloc: Global, words: &[Text]) -> Result<Command, NoMemory>
+    requires { asked words.now ≡ Some CommandName.Generate }
+    ensures meant { IfOk result (λ found. found ≡ generate_of words.now) }
+    ensures bounded { IfOk result IsBounded }
+{
+    let matches = match parsed(alloc, words) {
+        Ok(matches) => matches,
+        Err(_) => return Err(NoMemory),
+    };
+    let number = number_of(value_of(&matches, OptionName::Number));
+    let limit = limit_in(value_of(&matches, OptionName::MaxBackjumps));
+    Ok(Command::Generate {
+        number,
+        limit: limit.unwrap_or(Limit::At(4000)),
+    })
+}
+
+/// The options where words give none, but with this limit.
+pub fn default_options(alloc: Global, limit: Limit) -> Result<Options, NoMemory>
+    ensures { IfOk result (λ options. options ≡ default_options limit) }
+{
+    let places = places_of(alloc, None, None)?;
+    let env = env_of(alloc, None, None, None)?;
+    Ok(Options {
+        places,
+        env,
+        limit: Some(limit),
+        json: false,
+    })
 }
 
 fn options_of(alloc: Global, words: &[Text]) -> Result<Options, NoMemory>
@@ -99,13 +137,40 @@ fn options_of(alloc: Global, words: &[Text]) -> Result<Options, NoMemory>
     let places = places_of(alloc, index, installed)?;
     let env = env_of(alloc, os, arch, compiler)?;
     let limit = limit_in(limit);
-    Ok(Options { places, env, limit })
+    let json = is_set(value_of(&matches, OptionName::Json));
+    Ok(Options {
+        places,
+        env,
+        limit,
+        json,
+    })
 }
 
 fn value_of<'a>(matches: &ArgMatches<'a>, option: OptionName) -> Option<&'a str>
     ensures { option_copied result ≡ first_value (found_of matches.now) (name_of option) }
 {
     matches.get_str(name_of(option))
+}
+
+// Whether a flag was found.
+fn is_set(value: Option<&str>) -> bool
+    ensures { result ≡ is_true (option_copied value.entry) }
+{
+    match value {
+        Some(text) => text == "true",
+        None => false,
+    }
+}
+
+fn number_of(value: Option<&str>) -> u32
+    requires { option_map_or is_number (option_copied value) false ≡ true }
+    ensures number { result ≡ number_in (unwrap_or (option_copied value.entry) []) }
+    ensures bounded { (1 ≤ result) × (result ≤ 2000) }
+{
+    match value {
+        Some(text) => number_in(text.as_bytes()) as u32,
+        None => 0,
+    }
 }
 
 fn places_of(

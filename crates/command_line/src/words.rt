@@ -4,10 +4,10 @@ ghost use Rattle.std.specs.List.{list_any, list_all};
 ghost use Rattle.std.specs.Option.{option_copied, option_map_or};
 ghost use Rattle.command_line.specs.OptionName.{gives};
 ghost use Rattle.command_line.specs.Form.{has_form};
-ghost use Rattle.command_line.specs.CommandName.{taken_by};
-ghost use Rattle.command_line.specs.Words.{asked, asks_for, given, is_command, is_known, is_well_given, options};
+ghost use Rattle.command_line.specs.CommandName.{needed_by, taken_by};
+ghost use Rattle.command_line.specs.Words.{asked, asks_for, given, is_command, is_given, is_known, is_well_given, options};
 
-use crate::command_name::{CommandName, command_word, commands, taken_by};
+use crate::command_name::{CommandName, command_word, commands, needed_by, taken_by};
 use crate::form::has_form;
 use crate::option_name::{OptionName, gives, value_in};
 use plan_types::Text;
@@ -30,17 +30,31 @@ fn asked_among(words: &[Text], commands: &[CommandName]) -> Option<CommandName>
     None
 }
 
-// The words are that of the command, and around it options that it takes, in any order.
+// The words are that of the command, and around it options that it takes, in any order; those that it needs among them.
 fn asks_for(words: &[Text], command: CommandName) -> bool
     ensures { result ≡ asks_for words.now command }
 {
-    are_known(words, command) && is_one_command(words, command)
+    are_known(words, command) && is_one_command(words, command) && has_needed(words, command)
 }
 
 fn are_known(words: &[Text], command: CommandName) -> bool
     ensures { result ≡ list_all (is_known command) words.now }
 {
     words.iter().all(|word| is_known(word, command))
+}
+
+fn has_needed(words: &[Text], command: CommandName) -> bool
+    ensures { result ≡ list_all (is_given words.now) (needed_by command) }
+{
+    needed_by(command)
+        .iter()
+        .all(|option| is_given(*option, words))
+}
+
+fn is_given(option: OptionName, words: &[Text]) -> bool
+    ensures { result ≡ is_given words.now option }
+{
+    given(option, words).is_some()
 }
 
 fn is_one_command(words: &[Text], command: CommandName) -> bool
@@ -50,7 +64,7 @@ fn is_one_command(words: &[Text], command: CommandName) -> bool
 }
 
 /// Every option of the command line.
-pub fn options() -> [OptionName; 6]
+pub fn options() -> [OptionName; 8]
     ensures { result ≡ options }
 {
     [
@@ -60,6 +74,8 @@ pub fn options() -> [OptionName; 6]
         OptionName::Arch,
         OptionName::Compiler,
         OptionName::MaxBackjumps,
+        OptionName::Number,
+        OptionName::Json,
     ]
 }
 

@@ -10,10 +10,14 @@ use Rattle.project_config.specs.Project.{IsFolderProject}
 use Rattle.project_config.specs.declared.project.FolderProject.{FolderProject}
 use Rattle.index_assembly.specs.Folder.{IsFolderIndex}
 use Rattle.outside_folder.specs.Files.{Bytes, Files}
-use Rattle.command_line.specs.Reading.{reading}
+use Rattle.command_line.specs.Reading.{default_options, reading}
 use Rattle.command_line.specs.declared.reading.Command.{Command}
-use Rattle.command_line.specs.declared.reading.Command.TheVariants.{Plan}
+use Rattle.command_line.specs.declared.reading.Command.TheVariants.{Plan, Generate}
 use Rattle.command_line.specs.declared.reading.Options.{Options}
+use Rattle.plan_generate.specs.Generated.{generated}
+use Rattle.plan_command.specs.declared.form.Form.{Form}
+use Rattle.plan_command.specs.declared.form.Form.TheVariants.{Summary}
+use Rattle.plan_command.specs.Form.{form_of}
 use Rattle.plan_command.specs.declared.output.Output.{Output}
 use Rattle.plan_task.specs.Task.{IsTask, IsTaskOf, task_or_refusal}
 use Rattle.plan_task.specs.declared.task.Task.{Task}
@@ -43,23 +47,23 @@ abbrev pub OnePlan : Type 0
 OnePlan = (selection : Selection) (a b : List PlanNode) → IsPlan selection a → IsPlan selection b → a ≡ b
 
 module _ (project : OneProject) (one : OneIndex) (alike : OneFinding) (plan : OnePlan) where
-  of_outcome : (env : Env) (index : Index) (names : NameTable) (found : Outcome) (a b : Output)
-      → IsOutputOfOutcome env index names found a → IsOutputOfOutcome env index names found b → a ≡ b
-  of_outcome env index names (outcome.Found trail counts) a b (nodes, is-plan, is) (others, also-plan, also) =
+  of_outcome : (form : Form) (env : Env) (index : Index) (names : NameTable) (found : Outcome) (a b : Output)
+      → IsOutputOfOutcome form env index names found a → IsOutputOfOutcome form env index names found b → a ≡ b
+  of_outcome form env index names (outcome.Found trail counts) a b (nodes, is-plan, is) (others, also-plan, also) =
       let same = plan (selection_from index names env (value_in trail)) nodes others is-plan also-plan in
-      is ∙ ap (λ ns. planned index names trail ns counts) same ∙ sym also
-  of_outcome env index names (outcome.NoPlan set counts) a b is also = is ∙ sym also
-  of_outcome env index names (outcome.GaveUp counts) a b is also = is ∙ sym also
+      is ∙ ap (λ ns. planned form index names trail ns counts) same ∙ sym also
+  of_outcome form env index names (outcome.NoPlan set counts) a b is also = is ∙ sym also
+  of_outcome form env index names (outcome.GaveUp counts) a b is also = is ∙ sym also
 
-  of_task : (task : Task) (a b : Output) → IsOutputOfTask task a → IsOutputOfTask task b → a ≡ b
-  of_task task a b h k =
+  of_task : (form : Form) (task : Task) (a b : Output) → IsOutputOfTask form task a → IsOutputOfTask form task b → a ≡ b
+  of_task form task a b h k =
       let same = alike task.index task.settings h.finding k.finding h.found k.found in
-      of_outcome task.settings.env task.index k.finding.names k.finding.outcome a b
-      (subst (λ (f : Finding). IsOutputOfOutcome task.settings.env task.index f.names f.outcome a) same h.output_is) k.output_is
+      of_outcome form task.settings.env task.index k.finding.names k.finding.outcome a b
+      (subst (λ (f : Finding). IsOutputOfOutcome form task.settings.env task.index f.names f.outcome a) same h.output_is) k.output_is
 
-  of_read : (read : Result Task Refusal) (a b : Output) → IsOutputOfRead read a → IsOutputOfRead read b → a ≡ b
-  of_read (Ok task) a b h k = of_task task a b h k
-  of_read (Err refusal) a b h k = h ∙ sym k
+  of_read : (form : Form) (read : Result Task Refusal) (a b : Output) → IsOutputOfRead form read a → IsOutputOfRead form read b → a ≡ b
+  of_read form (Ok task) a b h k = of_task form task a b h k
+  of_read form (Err refusal) a b h k = h ∙ sym k
 
   module _ (options : Options) (files : Files) where
     one_task_of : (found : Result FolderProject Refusal) (a b : Result Task Refusal) → IsTaskOf options files found a → IsTaskOf options files found b → a ≡ b
@@ -72,15 +76,16 @@ module _ (project : OneProject) (one : OneIndex) (alike : OneFinding) (plan : On
         let same = project options.env files h.0 k.0 h.1 k.1 in
         one_task_of k.0 a b (subst (λ (f : Result FolderProject Refusal). IsTaskOf options files f a) same h.2) k.2
 
-    of_plan : (a b : Output) → IsOutputOfPlan options files a → IsOutputOfPlan options files b → a ≡ b
+    of_plan : (form : Form) (a b : Output) → IsOutputOfPlan form options files a → IsOutputOfPlan form options files b → a ≡ b
     unfolding IsOutputOfPlan
-    of_plan a b h k =
+    of_plan form a b h k =
         let same = one_task h.0 k.0 h.1 k.1 in
-        of_read k.0 a b (subst (λ (r : Result Task Refusal). IsOutputOfRead r a) same h.2) k.2
+        of_read form k.0 a b (subst (λ (r : Result Task Refusal). IsOutputOfRead form r a) same h.2) k.2
 
   of_command : (files : Files) (command : Option Command) (a b : Output) → IsOutputOfCommand command files a → IsOutputOfCommand command files b → a ≡ b
   of_command files None a b h k = h ∙ sym k
-  of_command files (Some (Plan options)) a b h k = of_plan options files a b h k
+  of_command files (Some (Plan options)) a b h k = of_plan options files (form_of options) a b h k
+  of_command files (Some (Generate number limit)) a b h k = of_plan (default_options limit) (generated number) (Summary number) a b h k
 
   pub one-answer : (words : List Bytes) (files : Files) (a b : Output) → IsOutputOf words files a → IsOutputOf words files b → a ≡ b
   one-answer words files a b h k = of_command files (reading words) a b h k

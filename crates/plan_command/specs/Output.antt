@@ -14,7 +14,9 @@ use Rattle.plan_components.specs.Chosen.{selection_from}
 use Rattle.plan_nodes.specs.declared.node.PlanNode.{PlanNode}
 use Rattle.elaborate.specs.Before.{AreToldBefore}
 use Rattle.elaborate.specs.Plan.{IsPlan}
-use Rattle.plan_print.specs.Texts.{plan_text, conflict_text, gave_up_text, refusal_text}
+use Rattle.plan_print.specs.Texts.{refusal_text}
+use Rattle.plan_command.specs.declared.form.Form.{Form}
+use Rattle.plan_command.specs.Form.{plan_text_in, conflict_text_in, gave_up_text_in}
 use Rattle.plan_command.specs.declared.output.Output.{Output}
 use Rattle.plan_command.specs.declared.status.Status.{Status}
 use Rattle.plan_command.specs.declared.status.Status.TheVariants as status
@@ -28,17 +30,17 @@ abbrev pub ArePlanned : Env → Index → NameTable → List Choice → List Pla
 ArePlanned env index names trail nodes = IsPlan (selection_from index names env (value_in trail)) nodes
 
 -- the output of a plan
-abbrev pub planned : Index → NameTable → List Choice → List PlanNode → Counts → Output
-planned index names trail nodes counts = record { status = status.Planned; text = plan_text index names trail nodes counts }
+abbrev pub planned : Form → Index → NameTable → List Choice → List PlanNode → Counts → Output
+planned form index names trail nodes counts = record { status = status.Planned; text = plan_text_in form index names trail nodes counts }
 
 -- the output of what a search found
-abbrev pub IsOutputOfOutcome : Env → Index → NameTable → Outcome → Output → Type 0
-IsOutputOfOutcome env index names (outcome.Found trail counts) output =
-    (nodes : List PlanNode) × ArePlanned env index names trail nodes × (output ≡ planned index names trail nodes counts)
-IsOutputOfOutcome env index names (outcome.NoPlan set counts) output =
-    output ≡ record { status = status.NoPlan; text = conflict_text index names set counts }
-IsOutputOfOutcome env index names (outcome.GaveUp counts) output =
-    output ≡ record { status = status.GaveUp; text = gave_up_text index counts }
+abbrev pub IsOutputOfOutcome : Form → Env → Index → NameTable → Outcome → Output → Type 0
+IsOutputOfOutcome form env index names (outcome.Found trail counts) output =
+    (nodes : List PlanNode) × ArePlanned env index names trail nodes × (output ≡ planned form index names trail nodes counts)
+IsOutputOfOutcome form env index names (outcome.NoPlan set counts) output =
+    output ≡ record { status = status.NoPlan; text = conflict_text_in form index names set counts }
+IsOutputOfOutcome form env index names (outcome.GaveUp counts) output =
+    output ≡ record { status = status.GaveUp; text = gave_up_text_in form index counts }
 
 -- the line for words without a reading
 abbrev pub usage_text : Bytes
@@ -48,21 +50,22 @@ usage_text = codes "usage: cabal-plan plan or generate, with options" ++ 10 ∷ 
 abbrev pub usage : Output
 usage = record { status = status.Usage; text = usage_text }
 
--- an output's form: the line of a refusal, the lines of what a search found, or the usage line
+-- an output's form: the line of a refusal, what a search found in one of the forms in which it is printed, or the usage line
 pub data HasForm : Output → Type 0 where
   of_refusal : (refusal : Refusal) → HasForm (refused refusal)
-  of_outcome : (env : Env) (index : Index) (names : NameTable) (outcome : Outcome) (output : Output)
-      → IsOutputOfOutcome env index names outcome output → HasForm output
+  of_outcome : (form : Form) (env : Env) (index : Index) (names : NameTable) (outcome : Outcome) (output : Output)
+      → IsOutputOfOutcome form env index names outcome output → HasForm output
   of_usage : HasForm usage
 
 -- the output of a plan in which each identifier that a node needs is told before it
 pub record IsInOrder (output : Output) : Type 0 where
+  pub form : Form
   pub index : Index
   pub names : NameTable
   pub trail : List Choice
   pub nodes : List PlanNode
   pub counts : Counts
-  pub output_is : output ≡ planned index names trail nodes counts
+  pub output_is : output ≡ planned form index names trail nodes counts
   pub told_before : AreToldBefore nodes
 
 -- where an output is a plan, it is one in order

@@ -1,12 +1,14 @@
 -- The output of words over a folder, and what a run leaves in the sink.
-use Rattle.std.specs.Prelude.{◌≡◌, Result, Ok, Err, Option, Some, None, List}
+use Rattle.std.specs.Prelude.{◌≡◌, ℕ, Result, Ok, Err, Option, Some, None, List}
+use Rattle.plan_types.specs.declared.limit.Limit.{Limit}
 use Rattle.plan_types.specs.declared.refusal.Refusal.{Refusal}
 use Rattle.outside_folder.specs.Files.{Bytes, Files}
 use Rattle.outside_folder.specs.Sink.{Appends, AppendsPrefix}
-use Rattle.command_line.specs.Reading.{reading}
+use Rattle.command_line.specs.Reading.{default_options, reading}
 use Rattle.command_line.specs.declared.reading.Command.{Command}
-use Rattle.command_line.specs.declared.reading.Command.TheVariants.{Plan}
+use Rattle.command_line.specs.declared.reading.Command.TheVariants.{Plan, Generate}
 use Rattle.command_line.specs.declared.reading.Options.{Options}
+use Rattle.plan_generate.specs.Generated.{generated}
 use Rattle.plan_task.specs.Task.{IsTask}
 use Rattle.plan_task.specs.declared.task.Task.{Task}
 use Rattle.plan_search.specs.Finding.{IsFindingOf}
@@ -14,38 +16,49 @@ use Rattle.plan_search.specs.declared.search.Finding.{Finding}
 use Rattle.plan_command.specs.declared.status.Status.{Status}
 use Rattle.plan_command.specs.declared.status.Status.TheVariants as status
 use Rattle.plan_command.specs.declared.output.Output.{Output}
+use Rattle.plan_command.specs.declared.form.Form.{Form}
+use Rattle.plan_command.specs.declared.form.Form.TheVariants.{Summary}
+use Rattle.plan_command.specs.Form.{form_of}
 use Rattle.plan_command.specs.Output.{IsOutputOfOutcome, refused, usage}
 
 -- ---- the output of words over a folder
 
 -- what a search over a task finds, as it is printed
-pub record IsOutputOfTask (task : Task) (output : Output) : Type 0 where
+pub record IsOutputOfTask (form : Form) (task : Task) (output : Output) : Type 0 where
   pub finding : Finding
   pub found : IsFindingOf task.index task.settings finding
-  pub output_is : IsOutputOfOutcome task.settings.env task.index finding.names finding.outcome output
+  pub output_is : IsOutputOfOutcome form task.settings.env task.index finding.names finding.outcome output
 
 -- the output of a task, or of the refusal that came instead
-abbrev pub IsOutputOfRead : Result Task Refusal → Output → Type 0
-IsOutputOfRead (Ok task) output = IsOutputOfTask task output
-IsOutputOfRead (Err refusal) output = output ≡ refused refusal
+abbrev pub IsOutputOfRead : Form → Result Task Refusal → Output → Type 0
+IsOutputOfRead form (Ok task) output = IsOutputOfTask form task output
+IsOutputOfRead form (Err refusal) output = output ≡ refused refusal
 
--- what is printed for the command `plan`
-unfoldable pub IsOutputOfPlan : Options → Files → Output → Type 0
-IsOutputOfPlan options files output = (task : Result Task Refusal) × IsTask options files task × IsOutputOfRead task output
+-- what is printed of a plan of these files, in this form
+unfoldable pub IsOutputOfPlan : Form → Options → Files → Output → Type 0
+IsOutputOfPlan form options files output = (task : Result Task Refusal) × IsTask options files task × IsOutputOfRead form task output
+
+-- what is printed for the command `generate`: of a plan of the folder that the number makes, with the options where words give
+-- none but for the limit, the summary
+abbrev pub IsOutputOfGenerate : ℕ → Limit → Output → Type 0
+IsOutputOfGenerate number limit output = IsOutputOfPlan (Summary number) (default_options limit) (generated number) output
 
 -- the output of a command, or for words without a reading
 abbrev pub IsOutputOfCommand : Option Command → Files → Output → Type 0
 IsOutputOfCommand None files output = output ≡ usage
-IsOutputOfCommand (Some (Plan options)) files output = IsOutputOfPlan options files output
+IsOutputOfCommand (Some (Plan options)) files output = IsOutputOfPlan (form_of options) options files output
+IsOutputOfCommand (Some (Generate number limit)) files output = IsOutputOfGenerate number limit output
 
 -- what is printed for words over a folder
 abbrev pub IsOutputOf : List Bytes → Files → Output → Type 0
 IsOutputOf words files output = IsOutputOfCommand (reading words) files output
 
--- The files that are read for a command: those that the folder tells, or any where none is read, as for words without a reading.
+-- The files that are read for a command: those that the folder tells, or any where none is read, as for words without a reading
+-- and for a folder that is made of a number.
 abbrev pub Reads : Option Command → Option Files → Files → Type 0
 Reads None tells files = Unit {0}
 Reads (Some (Plan options)) tells files = tells ≡ Some files
+Reads (Some (Generate number limit)) tells files = Unit {0}
 
 -- ---- what is left in the sink
 

@@ -1,16 +1,20 @@
 // The top call: the words are read, and what the command gives is written.
-ghost use Rattle.std.specs.Prelude.{◌≡◌, ◌≢◌, ◌≤◌, IfOk, IsErrOf, Some, None};
+ghost use Rattle.std.specs.Prelude.{◌≡◌, ◌≢◌, ◌≤◌, ℕ, IfOk, IsErrOf, Some, None};
 ghost use Rattle.outside_folder.specs.Calls.{Leaves};
 ghost use Rattle.outside_folder.specs.Faults.{Rose};
 ghost use Rattle.outside_folder.specs.Files.{Files};
-ghost use Rattle.command_line.specs.Reading.{reading};
-ghost use Rattle.command_line.specs.declared.reading.Command.TheVariants.{Plan};
+ghost use Rattle.plan_types.specs.declared.limit.Limit.{Limit as TheLimit};
+ghost use Rattle.command_line.specs.Reading.{IsBounded, reading};
+ghost use Rattle.command_line.specs.declared.reading.Command.TheVariants.{Generate, Plan};
 ghost use Rattle.command_line.specs.declared.reading.Options.{Options as PlanOptions};
 ghost use Rattle.plan_command.specs.Output.{BuildsInOrder, HasForm, IsMade, IsUsage, usage};
-ghost use Rattle.plan_command.specs.Meaning.{Means};
+ghost use Rattle.plan_command.specs.Form.{form_of};
+ghost use Rattle.plan_command.specs.Meaning.{Means, MeansGenerated};
 ghost use Rattle.plan_command.specs.Run.{IsOutputOf, IsOutputOfCommand, Prints, Reads};
 
 use crate::Status;
+use crate::form::form_of;
+use crate::generate::output_of_generate;
 use crate::output::Output;
 use crate::plan::output_of_plan;
 use command_line::{Command, WordsFault, read_words};
@@ -29,7 +33,7 @@ pub fn run<F: Folder, S: Sink>(alloc: Global, words: &[Text], folder: &mut F, ou
     // limit the search never gives up.
     ensures headline { (options : PlanOptions) (files : Files)
         → reading words.now ≡ Some (Plan options) → F.tells folder.old ≡ Some files
-        → Prints (Means options files) (S.bytes out.old) (S.bytes out.new) result }
+        → Prints (Means (form_of options) options files) (S.bytes out.old) (S.bytes out.new) result }
 
     // What is printed is that of the words and of the files that are read for them, whether or not a count rose.
     ensures told { (files : Files) → Reads (reading words.now) (F.tells folder.old) files
@@ -40,6 +44,12 @@ pub fn run<F: Folder, S: Sink>(alloc: Global, words: &[Text], folder: &mut F, ou
 
     // In any plan, with a limit or without, each identifier that a node needs is told before it.
     ensures in_order { Prints BuildsInOrder (S.bytes out.old) (S.bytes out.new) result }
+
+    // A folder that is made of a number is planned, and not the one that was handed in, of which nothing is asked.
+    ensures generated { (number : ℕ) (limit : TheLimit) → reading words.now ≡ Some (Generate number limit)
+        → Prints (MeansGenerated number limit) (S.bytes out.old) (S.bytes out.new) result }
+    ensures unasked { (number : ℕ) (limit : TheLimit) → reading words.now ≡ Some (Generate number limit)
+        → (folder.new ≡ folder.old) × (result ≢ Status.ReadFault) }
 
     ensures folder { Leaves F.tells F.faults folder.old folder.new (result ≡ Status.ReadFault) }
     ensures sink { S.faults out.old ≤ S.faults out.new }
@@ -73,10 +83,15 @@ fn perform<F: Folder, S: Sink>(
     folder: &mut F,
     out: &mut S,
 ) -> Status
+    requires { IsBounded command }
     ensures headline { (options : PlanOptions) (files : Files) → command ≡ Plan options → F.tells folder.old ≡ Some files
-        → Prints (Means options files) (S.bytes out.old) (S.bytes out.new) result }
+        → Prints (Means (form_of options) options files) (S.bytes out.old) (S.bytes out.new) result }
     ensures told { (files : Files) → Reads (Some command) (F.tells folder.old) files
         → Prints (IsOutputOfCommand (Some command) files) (S.bytes out.old) (S.bytes out.new) result }
+    ensures generated { (number : ℕ) (limit : TheLimit) → command ≡ Generate number limit
+        → Prints (MeansGenerated number limit) (S.bytes out.old) (S.bytes out.new) result }
+    ensures unasked { (number : ℕ) (limit : TheLimit) → command ≡ Generate number limit
+        → (folder.new ≡ folder.old) × (result ≢ Status.ReadFault) }
     ensures one_text { Prints HasForm (S.bytes out.old) (S.bytes out.new) result }
     ensures folder { Leaves F.tells F.faults folder.old folder.new (result ≡ Status.ReadFault) }
     ensures sink { S.faults out.old ≤ S.faults out.new }
@@ -92,17 +107,25 @@ fn perform<F: Folder, S: Sink>(
 
 // The output of a command.
 fn output_of<F: Folder>(alloc: Global, command: Command, folder: &mut F) -> Result<Output, Trouble>
+    requires { IsBounded command }
     ensures headline { (options : PlanOptions) (files : Files) → command ≡ Plan options → F.tells folder.old ≡ Some files
-        → IfOk result (Means options files) }
+        → IfOk result (Means (form_of options) options files) }
     ensures told { (files : Files) → Reads (Some command) (F.tells folder.old) files
         → IfOk result (IsOutputOfCommand (Some command) files) }
+    ensures generated { (number : ℕ) (limit : TheLimit) → command ≡ Generate number limit → IfOk result (MeansGenerated number limit) }
+    ensures unasked { (number : ℕ) (limit : TheLimit) → command ≡ Generate number limit
+        → (folder.new ≡ folder.old) × (IsErrOf result Trouble.Failed → ⊥) }
     ensures form { IfOk result HasForm }
     ensures made { IfOk result (λ output. IsMade output.status) }
     ensures read { IfOk result (λ output. output.status ≢ Status.Usage) }
     ensures folder { Leaves F.tells F.faults folder.old folder.new (IsErrOf result Trouble.Failed) }
 {
     match command {
-        Command::Plan(options) => output_of_plan(alloc, options, folder),
+        Command::Plan(options) => output_of_plan(alloc, form_of(&options), options, folder),
+        Command::Generate { number, limit } => {
+            let output = output_of_generate(alloc, number, limit)?;
+            Ok(output)
+        }
     }
 }
 

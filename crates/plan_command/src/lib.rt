@@ -3,6 +3,8 @@
 #![tactic(auto)]
 
 mod command;
+mod form;
+mod generate;
 mod laws;
 mod output;
 mod plan;

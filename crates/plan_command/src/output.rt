@@ -4,9 +4,10 @@ ghost use Rattle.flatten.specs.Sound.{IsSound};
 ghost use Rattle.plan_command.specs.Output.{IsMade, IsOutputOfOutcome, refused};
 
 use crate::Status;
+use crate::form::{Form, conflict_text_in, gave_up_text_in, plan_text_in};
 use choice_problem::Outcome;
 use elaborate::elaborate;
-use plan_print::{text_of_conflict, text_of_giving_up, text_of_plan, text_of_refusal};
+use plan_print::text_of_refusal;
 use plan_types::{Env, Index, NoMemory, Refusal, Text};
 use qualified_goals::Names;
 use std::alloc::Global;
@@ -31,13 +32,14 @@ pub(crate) fn refused(alloc: Global, refusal: &Refusal) -> Result<Output, NoMemo
 
 pub(crate) fn output_of_outcome(
     alloc: Global,
+    form: Form,
     env: &Env,
     index: &Index,
     names: &Names,
     outcome: &Outcome,
 ) -> Result<Output, NoMemory>
     requires { IsSound env.now index.now }
-    ensures output { IfOk result (IsOutputOfOutcome env.now index.now names.now outcome.now) }
+    ensures output { IfOk result (IsOutputOfOutcome form env.now index.now names.now outcome.now) }
     ensures made { IfOk result (λ output. IsMade output.status) }
     ensures read { IfOk result (λ output. output.status ≢ Status.Usage) }
 {
@@ -46,16 +48,16 @@ pub(crate) fn output_of_outcome(
             let nodes = elaborate(alloc, trail.as_slice(), index, names, env)?;
             Ok(Output {
                 status: Status::Planned,
-                text: text_of_plan(alloc, trail, index, names, &nodes, *counts)?,
+                text: plan_text_in(alloc, form, trail, index, names, &nodes, *counts)?,
             })
         }
         Outcome::NoPlan { set, counts } => Ok(Output {
             status: Status::NoPlan,
-            text: text_of_conflict(alloc, set, index, names, *counts)?,
+            text: conflict_text_in(alloc, form, set, index, names, *counts)?,
         }),
         Outcome::GaveUp { counts } => Ok(Output {
             status: Status::GaveUp,
-            text: text_of_giving_up(alloc, index, *counts)?,
+            text: gave_up_text_in(alloc, form, index, *counts)?,
         }),
     }
 }

@@ -2,6 +2,7 @@
 use crate::packages::{self, index, names};
 use crate::variables::variable;
 use choice_problem::{Choice, ConflictSet, Counts};
+use plan_json::{json_of_conflict, json_of_giving_up, json_of_plan};
 use plan_nodes::{NodeKind, PlanNode};
 use plan_print::{text_of_conflict, text_of_giving_up, text_of_plan, text_of_refusal};
 use plan_types::{Cause, Index, List, NoMemory, Refusal, Text, TextFault};
@@ -13,6 +14,10 @@ pub const CASES: &str = "\
 plan => plan;skipped index/a/3/a.cabal MissingField;skipped index/b/1/b.cabal:10 BadName;warning main.cabal:28 build-tools;choose base 4.17.0 installed base-4.17.0;choose main 1 local;choose main:*test on;choose main:*bench off;choose a 1.0 source;choose main:setup.a 2 source;node local main-1 exe:tool main-1-inplace-tool unbuildable;node store a-1.0 lib a-1.0-aa needs base-4.17.0 base-4.18;visited 18446744073709551615 exhausted 0;\n\
 conflict => no plan;skipped index/a/3/a.cabal MissingField;skipped index/b/1/b.cabal:10 BadName;warning main.cabal:28 build-tools;conflict main a main:setup.base a:main:exe.a;visited 7 exhausted 4;\n\
 giving up => gave up;skipped index/a/3/a.cabal MissingField;skipped index/b/1/b.cabal:10 BadName;warning main.cabal:28 build-tools;visited 4001 exhausted 4000;\n\
+json plan => {\"choices\":[{\"value\":\"4.17.0 installed base-4.17.0\",\"var\":\"base\"},{\"value\":\"1 local\",\"var\":\"main\"},{\"value\":\"on\",\"var\":\"main:*test\"},{\"value\":\"off\",\"var\":\"main:*bench\"},{\"value\":\"1.0 source\",\"var\":\"a\"},{\"value\":\"2 source\",\"var\":\"main:setup.a\"}],\"exhausted\":0,\"nodes\":[{\"component\":\"exe:tool\",\"id\":\"main-1-inplace-tool\",\"kind\":\"local\",\"needs\":[],\"package\":\"main-1\",\"unbuildable\":true},{\"component\":\"lib\",\"id\":\"a-1.0-aa\",\"kind\":\"store\",\"needs\":[\"base-4.17.0\",\"base-4.18\"],\"package\":\"a-1.0\",\"unbuildable\":false}],\"skipped\":[\"index/a/3/a.cabal MissingField\",\"index/b/1/b.cabal:10 BadName\"],\"status\":\"plan\",\"visited\":18446744073709551615,\"warnings\":[\"main.cabal:28 build-tools\"]};\n\
+json node => {\"choices\":[],\"exhausted\":0,\"nodes\":[{\"component\":\"lib\",\"id\":\"a\\\"b\\\\c\\u0001\\t\\u001f\\n\x7f\u{e9}\",\"kind\":\"installed\",\"needs\":[\"a\\\"b\\\\c\\u0001\\t\\u001f\\n\x7f\u{e9}\"],\"package\":\"a-1\",\"unbuildable\":false}],\"skipped\":[\"index/a/3/a.cabal MissingField\",\"index/b/1/b.cabal:10 BadName\"],\"status\":\"plan\",\"visited\":1,\"warnings\":[\"main.cabal:28 build-tools\"]};\n\
+json conflict => {\"conflict\":[\"main\",\"a\",\"main:setup.base\",\"a:main:exe.a\"],\"exhausted\":4,\"skipped\":[\"index/a/3/a.cabal MissingField\",\"index/b/1/b.cabal:10 BadName\"],\"status\":\"no plan\",\"visited\":7,\"warnings\":[\"main.cabal:28 build-tools\"]};\n\
+json giving up => {\"exhausted\":4000,\"skipped\":[\"index/a/3/a.cabal MissingField\",\"index/b/1/b.cabal:10 BadName\"],\"status\":\"gave up\",\"visited\":4001,\"warnings\":[\"main.cabal:28 build-tools\"]};\n\
 refusal 1 pkg-Tool => refused cabal.project:1 TwoCabalFiles pkg-Tool;\n\
 refusal 0 => refused cabal.project NoPackages;\n";
 
@@ -74,31 +79,64 @@ fn nodes(alloc: Global) -> Result<List<PlanNode>, Fail> {
     Ok(nodes)
 }
 
+// A node of which the identifier, which it needs too, has to be spelled.
+fn spelled(alloc: Global) -> Result<List<PlanNode>, Fail> {
+    let id = "a\"b\\c\u{1}\t\u{1f}\n\u{7f}\u{e9}";
+    let mut library = node(alloc, NodeKind::Installed, "a", "1", "lib")?;
+    library.id = Text::from_str(alloc, id)?;
+    library.libs.push(Text::from_str(alloc, id)?)?;
+    library.tools.push(Text::from_str(alloc, id)?)?;
+    let mut nodes = List::new(alloc);
+    nodes.push(library)?;
+    Ok(nodes)
+}
+
+const PLAN: Counts = Counts {
+    visited: u64::MAX,
+    exhausted: 0,
+};
+
+const NODE: Counts = Counts {
+    visited: 1,
+    exhausted: 0,
+};
+
+const CONFLICT: Counts = Counts {
+    visited: 7,
+    exhausted: 4,
+};
+
+const GAVE_UP: Counts = Counts {
+    visited: 4001,
+    exhausted: 4000,
+};
+
 fn plan(alloc: Global, index: &Index, names: &Names) -> Result<Text, Fail> {
-    let counts = Counts {
-        visited: u64::MAX,
-        exhausted: 0,
-    };
     let trail = trail(alloc, names)?;
     let nodes = nodes(alloc)?;
-    Ok(text_of_plan(alloc, &trail, index, names, &nodes, counts)?)
+    Ok(text_of_plan(alloc, &trail, index, names, &nodes, PLAN)?)
+}
+
+fn json_plan(alloc: Global, index: &Index, names: &Names) -> Result<Text, Fail> {
+    let trail = trail(alloc, names)?;
+    let nodes = nodes(alloc)?;
+    Ok(json_of_plan(alloc, &trail, index, names, &nodes, PLAN)?)
+}
+
+fn json_node(alloc: Global, index: &Index, names: &Names) -> Result<Text, Fail> {
+    let nodes = spelled(alloc)?;
+    let trail = List::new(alloc);
+    Ok(json_of_plan(alloc, &trail, index, names, &nodes, NODE)?)
 }
 
 fn conflict(alloc: Global, index: &Index, names: &Names) -> Result<Text, Fail> {
-    let counts = Counts {
-        visited: 7,
-        exhausted: 4,
-    };
     let set = set(alloc, names)?;
-    Ok(text_of_conflict(alloc, &set, index, names, counts)?)
+    Ok(text_of_conflict(alloc, &set, index, names, CONFLICT)?)
 }
 
-fn giving_up(alloc: Global, index: &Index) -> Result<Text, NoMemory> {
-    let counts = Counts {
-        visited: 4001,
-        exhausted: 4000,
-    };
-    text_of_giving_up(alloc, index, counts)
+fn json_conflict(alloc: Global, index: &Index, names: &Names) -> Result<Text, Fail> {
+    let set = set(alloc, names)?;
+    Ok(json_of_conflict(alloc, &set, index, names, CONFLICT)?)
 }
 
 fn refusal(alloc: Global, line: u32, detail: &str) -> Result<Text, NoMemory> {
@@ -125,7 +163,11 @@ fn of_index(alloc: Global, index: &Index, names: &Names, case: &str) -> Result<T
     match case {
         "plan" => plan(alloc, index, names),
         "conflict" => conflict(alloc, index, names),
-        _ => Ok(giving_up(alloc, index)?),
+        "giving up" => Ok(text_of_giving_up(alloc, index, GAVE_UP)?),
+        "json plan" => json_plan(alloc, index, names),
+        "json node" => json_node(alloc, index, names),
+        "json conflict" => json_conflict(alloc, index, names),
+        _ => Ok(json_of_giving_up(alloc, index, GAVE_UP)?),
     }
 }
 

@@ -3,11 +3,10 @@ mod runs;
 
 use outside_folder::{MemFile, MemFolder, MemSink};
 use plan_command::{code_of, run};
-use plan_generate::generate;
 use plan_types::{List, Text};
 use runs::{
-    EIGHTH_CALL, NINTH_CALL, NO_READING, PROJECT_RUNS, RUNS, SECOND_CALL, SIXTH_CALL, SMALL,
-    SMALL_ANSWER, THIRD_CALL,
+    EIGHTH_CALL, GENERATED_RUNS, JSON_RUNS, NINTH_CALL, NO_READING, PROJECT_RUNS, RUNS,
+    SECOND_CALL, SIXTH_CALL, SMALL, SMALL_ANSWER, THIRD_CALL,
 };
 use std::alloc::Global;
 use std::test::Fail;
@@ -155,6 +154,21 @@ fn answers_to_projects(rt: HostRuntime) -> Result<(), Fail> {
 }
 
 #[test]
+fn answers_as_json(rt: HostRuntime) -> Result<(), Fail> {
+    let others = others(rt.alloc(), JSON_RUNS, 0)?;
+    assert_eq!(rt; others.as_str(), "");
+    Ok(())
+}
+
+// Nothing is asked of the folder that is handed in, of which the first call would fail.
+#[test]
+fn answers_to_numbers(rt: HostRuntime) -> Result<(), Fail> {
+    let others = others(rt.alloc(), GENERATED_RUNS, 1)?;
+    assert_eq!(rt; others.as_str(), "");
+    Ok(())
+}
+
+#[test]
 fn words_without_a_reading(rt: HostRuntime) -> Result<(), Fail> {
     let alloc = rt.alloc();
     for asked in NO_READING.lines() {
@@ -238,32 +252,11 @@ fn too_many_records(rt: HostRuntime) -> Result<(), Fail> {
     Ok(())
 }
 
-fn count_of(printed: &str, word: &str) -> usize {
-    printed
-        .lines()
-        .filter(|line| line.starts_with(word))
-        .count()
-}
-
-// How many choices and nodes a plan has, and its last line.
-fn summary(alloc: Global, printed: &str) -> Result<String, Fail> {
-    let choices = count_of(printed, "choose ");
-    let nodes = count_of(printed, "node ");
-    let last = printed.lines().last().unwrap_or("");
-    Ok(format!(in alloc; "{choices} choices, {nodes} nodes, {last}")?)
-}
-
+// The last line has the digest of the plan's text, and this is what stands above it.
 #[test]
 fn many_packages(rt: HostRuntime) -> Result<(), Fail> {
-    let alloc = rt.alloc();
-    let words = words(alloc, "$ cabal-plan plan")?;
-    let folder = generate(alloc, 700)?;
-    let out = MemSink::new(alloc, 1_000_000, 1_000_000, List::new(alloc))?;
-    let found = answer(alloc, &words, folder, out)?;
-    let summary = summary(alloc, found.as_str())?;
-    assert_eq!(rt;
-        summary.as_str(),
-        "801 choices, 701 nodes, visited 40501 exhausted 100"
-    );
+    let found = answer_to(rt.alloc(), "$ cabal-plan generate --number=700", 1)?;
+    let wanted = "0\ngenerated 700\nchosen 801\nnodes 701\nvisited 40501 exhausted 100\nplan ";
+    assert!(rt; found.as_str().starts_with(wanted), "{found}");
     Ok(())
 }

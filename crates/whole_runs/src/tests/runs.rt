@@ -250,8 +250,11 @@ $ cabal-plan plan plan
 $ cabal-plan generate
 $ cabal-plan --os=linux
 $ cabal-plan plan --index idx
-$ cabal-plan plan --json
+$ cabal-plan plan --json --json
 $ cabal-plan plan --number=3
+$ cabal-plan generate --number=0
+$ cabal-plan generate --number=2001
+$ cabal-plan generate --number=3 --json
 $ cabal-plan plan --max-backjumps=x
 ";
 
@@ -271,6 +274,46 @@ node installed a-1 lib a-1
 node local main-1 lib main-1-inplace needs a-1
 visited 2 exhausted 0
 ";
+
+// Runs of which the answer is printed as JSON.
+pub(crate) const JSON_RUNS: &str = "\
+$ cabal-plan plan --json
+main.cabal main 1
+=> 0
+{\"choices\":[{\"value\":\"1 local\",\"var\":\"main\"}],\"exhausted\":0,\"nodes\":[{\"component\":\"lib\",\"id\":\"main-1-inplace\",\"kind\":\"local\",\"needs\":[],\"package\":\"main-1\",\"unbuildable\":false}],\"skipped\":[],\"status\":\"plan\",\"visited\":1,\"warnings\":[]}
+
+$ cabal-plan --json plan
+main.cabal main 1 foo
+=> 1
+{\"conflict\":[\"main\",\"foo\"],\"exhausted\":2,\"skipped\":[],\"status\":\"no plan\",\"visited\":1,\"warnings\":[]}
+
+$ cabal-plan plan --json --max-backjumps=0
+main.cabal main 1 b
+index/b/1/b.cabal b 1
+index/b/2/b.cabal b 2 gone
+index/b/3/b.cabal b 2
+=> 2
+{\"exhausted\":0,\"skipped\":[\"index/b/3/b.cabal WrongPlace\"],\"status\":\"gave up\",\"visited\":2,\"warnings\":[]}
+
+$ cabal-plan plan --json
+=> 3
+refused . NoPackages";
+
+// Runs over a folder that is made of a number.
+pub(crate) const GENERATED_RUNS: &str = "\
+$ cabal-plan generate --number=7
+=> 0
+generated 7
+chosen 9
+nodes 8
+visited 10 exhausted 1
+plan 291b46b78a8a5ba0b33dc74c10d27eb4fadee64df13838f1bf6042cefc8e124a
+
+$ cabal-plan --max-backjumps=1 --number=14 generate
+main.cabal: name
+=> 2
+gave up
+visited 26 exhausted 1";
 
 // Runs with project files or options.
 pub(crate) const PROJECT_RUNS: &str = "\

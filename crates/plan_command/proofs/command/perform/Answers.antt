@@ -1,13 +1,14 @@
 use Rattle.std.proofs.Common.{Some}
 use Rattle.plan_command.specs.Output.{HasForm}
-use Rattle.plan_command.specs.Meaning.{Means}
+use Rattle.plan_command.specs.Form.{form_of}
+use Rattle.plan_command.specs.Meaning.{Means, MeansGenerated}
 use Rattle.plan_command.specs.Run.{IsOutputOfCommand}
 use Rattle.plan_command.proofs.Outputs.{prints-this}
 use Rattle.plan_command.proofs.command.perform.Goals as goal
 
 pub returns-in-Ok-clause-headline : goal.returns-in-Ok-clause-headline
 returns-in-Ok-clause-headline g c = λ options files asked t.
-    prints-this (Means options files) c.in-Ok.output (c.in-Ok.ensures.headline options files asked t) _ _ _ c.print.ensures.prints
+    prints-this (Means (form_of options) options files) c.in-Ok.output (c.in-Ok.ensures.headline options files asked t) _ _ _ c.print.ensures.prints
 
 pub returns-in-Ok-clause-told : goal.returns-in-Ok-clause-told
 returns-in-Ok-clause-told g c = λ files read.
@@ -15,3 +16,7 @@ returns-in-Ok-clause-told g c = λ files read.
 
 pub returns-in-Ok-clause-one_text : goal.returns-in-Ok-clause-one_text
 returns-in-Ok-clause-one_text g c = prints-this HasForm c.in-Ok.output c.in-Ok.ensures.form _ _ _ c.print.ensures.prints
+
+pub returns-in-Ok-clause-generated : goal.returns-in-Ok-clause-generated
+returns-in-Ok-clause-generated g c = λ number limit asked.
+    prints-this (MeansGenerated number limit) c.in-Ok.output (c.in-Ok.ensures.generated number limit asked) _ _ _ c.print.ensures.prints

@@ -21,3 +21,9 @@ returns-in-Ok-clause-in_order g c = in-order _ _ _ c.perform.ensures.one_text
 
 pub returns-in-Err-Usage-clause-in_order : goal.returns-in-Err-Usage-clause-in_order
 returns-in-Err-Usage-clause-in_order g c = usage-in-order _ _ _ c.print_usage.ensures.prints
+
+pub returns-in-Ok-clause-generated : goal.returns-in-Ok-clause-generated
+returns-in-Ok-clause-generated g c = λ number limit asked. c.perform.ensures.generated number limit (cc (sym c.in-Ok.ensures.command ∙ asked))
+
+pub returns-in-Ok-clause-unasked : goal.returns-in-Ok-clause-unasked
+returns-in-Ok-clause-unasked g c = λ number limit asked. c.perform.ensures.unasked number limit (cc (sym c.in-Ok.ensures.command ∙ asked))

@@ -9,26 +9,26 @@ use Rattle.plan_command.proofs.plan.output_of_plan.Goals as goal
 
 pub returns-in_ok-planned-in-Ok-clause-headline : goal.returns-in_ok-planned-in-Ok-clause-headline
 returns-in_ok-planned-in-Ok-clause-headline g c = λ files t.
-    planned-means c.args.options files c.in-Ok.task (some_at _ _ files t c.in-Ok.ensures.told) c.in_ok-planned-in-Ok.field-0 c.in_ok-planned-in-Ok.ensures.headline
+    planned-means c.args.form c.args.options files c.in-Ok.task (some_at _ _ files t c.in-Ok.ensures.told) c.in_ok-planned-in-Ok.field-0 c.in_ok-planned-in-Ok.ensures.headline
 
 pub returns-in_ok-planned-in-Ok-clause-told : goal.returns-in_ok-planned-in-Ok-clause-told
 returns-in_ok-planned-in-Ok-clause-told g c = λ files t.
-    planned-output c.args.options files c.in-Ok.task c.in_ok-planned-in-Ok.field-0 (some_at _ _ files t c.in-Ok.ensures.told) c.in_ok-planned-in-Ok.ensures.output
+    planned-output c.args.form c.args.options files c.in-Ok.task c.in_ok-planned-in-Ok.field-0 (some_at _ _ files t c.in-Ok.ensures.told) c.in_ok-planned-in-Ok.ensures.output
 
 pub returns-in_ok-planned-in-Ok-clause-form : goal.returns-in_ok-planned-in-Ok-clause-form
-returns-in_ok-planned-in-Ok-clause-form g c = formed-task c.in-Ok.task c.in_ok-planned-in-Ok.field-0 c.in_ok-planned-in-Ok.ensures.output
+returns-in_ok-planned-in-Ok-clause-form g c = formed-task c.args.form c.in-Ok.task c.in_ok-planned-in-Ok.field-0 c.in_ok-planned-in-Ok.ensures.output
 
 pub returns-in_ok-refused-in-Err-Refused-clause-headline : goal.returns-in_ok-refused-in-Err-Refused-clause-headline
 returns-in_ok-refused-in-Err-Refused-clause-headline g c = λ files t.
     let halted : Answers {A = Task} (IsTask c.args.options files) (Err c.in-Err-Refused.field-0) = some_at _ _ files t c.in-Err-Refused.ensures.told in
     let told = subst (λ (h : Halt). Answers {A = Task} (IsTask c.args.options files) (Err h)) c.in-Err-Refused.field-0-is halted in
-    refused-means c.args.options files c.in-Err-Refused.refusal c.in_ok-refused-in-Err-Refused.field-0 told c.in_ok-refused-in-Err-Refused.ensures.output
+    refused-means c.args.form c.args.options files c.in-Err-Refused.refusal c.in_ok-refused-in-Err-Refused.field-0 told (rw c.in-Err-Refused.field-0-is at c.in_ok-refused-in-Err-Refused.ensures.output)
 
 pub returns-in_ok-refused-in-Err-Refused-clause-told : goal.returns-in_ok-refused-in-Err-Refused-clause-told
 returns-in_ok-refused-in-Err-Refused-clause-told g c = λ files t.
     let halted : Answers {A = Task} (IsTask c.args.options files) (Err c.in-Err-Refused.field-0) = some_at _ _ files t c.in-Err-Refused.ensures.told in
     let told = subst (λ (h : Halt). Answers {A = Task} (IsTask c.args.options files) (Err h)) c.in-Err-Refused.field-0-is halted in
-    refused-output c.args.options files c.in-Err-Refused.refusal c.in_ok-refused-in-Err-Refused.field-0 told c.in_ok-refused-in-Err-Refused.ensures.output
+    refused-output c.args.form c.args.options files c.in-Err-Refused.refusal c.in_ok-refused-in-Err-Refused.field-0 told (rw c.in-Err-Refused.field-0-is at c.in_ok-refused-in-Err-Refused.ensures.output)
 
 pub returns-in_ok-refused-in-Err-Refused-clause-form : goal.returns-in_ok-refused-in-Err-Refused-clause-form
-returns-in_ok-refused-in-Err-Refused-clause-form g c = formed-refusal c.in-Err-Refused.refusal c.in_ok-refused-in-Err-Refused.field-0 c.in_ok-refused-in-Err-Refused.ensures.output
+returns-in_ok-refused-in-Err-Refused-clause-form g c = formed-refusal c.in-Err-Refused.refusal c.in_ok-refused-in-Err-Refused.field-0 (rw c.in-Err-Refused.field-0-is at c.in_ok-refused-in-Err-Refused.ensures.output)

@@ -1,0 +1,37 @@
+// The command `generate`: a plan of a folder that is made of a number.
+ghost use Rattle.std.specs.Prelude.{◌≡◌, ◌≢◌, ◌≤◌, IfOk};
+ghost use Rattle.plan_command.specs.Output.{HasForm, IsMade};
+ghost use Rattle.plan_command.specs.Meaning.{MeansGenerated};
+ghost use Rattle.plan_command.specs.Run.{IsOutputOfGenerate};
+
+use crate::Status;
+use crate::form::Form;
+use crate::output::Output;
+use crate::plan::output_of_plan;
+use command_line::default_options;
+use outside_folder::Trouble;
+use plan_generate::{SureFolder, generate};
+use plan_types::{Limit, NoMemory};
+use std::alloc::Global;
+
+/// The output of the command `generate`.
+pub(crate) fn output_of_generate(
+    alloc: Global,
+    number: u32,
+    limit: Limit,
+) -> Result<Output, NoMemory>
+    requires { (1 ≤ number) × (number ≤ 2000) }
+    ensures meaning { IfOk result (MeansGenerated number limit) }
+    ensures output { IfOk result (IsOutputOfGenerate number limit) }
+    ensures form { IfOk result HasForm }
+    ensures made { IfOk result (λ output. IsMade output.status) }
+    ensures read { IfOk result (λ output. output.status ≢ Status.Usage) }
+{
+    let options = default_options(alloc, limit)?;
+    let mut folder = SureFolder::new(generate(alloc, number)?);
+    match output_of_plan(alloc, Form::Summary(number), options, &mut folder) {
+        Ok(output) => Ok(output),
+        Err(Trouble::NoMemory) => Err(NoMemory),
+        Err(Trouble::Failed) => unreachable!(),
+    }
+}
