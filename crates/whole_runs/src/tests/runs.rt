@@ -309,6 +309,14 @@ nodes 8
 visited 10 exhausted 1
 plan 291b46b78a8a5ba0b33dc74c10d27eb4fadee64df13838f1bf6042cefc8e124a
 
+$ cabal-plan generate --number=100
+=> 0
+generated 100
+chosen 115
+nodes 101
+visited 885 exhausted 14
+plan f48feba42b503541bea06fa6c4ece3deab2adc2ef89a028e09977a53f44a5006
+
 $ cabal-plan --max-backjumps=1 --number=14 generate
 main.cabal: name
 => 2
