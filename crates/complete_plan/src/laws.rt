@@ -16,6 +16,12 @@ ghost use Rattle.node_lines.specs.Lines.{HaveLines};
 ghost use Rattle.elaborate.specs.Plan.{IsPlan};
 ghost use Rattle.elaborate.specs.Whole.{LacksNone};
 
+ghost use Rattle.command_line.specs.declared.reading.Options.{Options};
+ghost use Rattle.outside_folder.specs.Files.{Bytes, Files};
+ghost use Rattle.choice_problem.specs.Trail.{value_in};
+ghost use Rattle.plan_command.specs.declared.form.Form.{Form};
+ghost use Rattle.plan_command.specs.Meaning.{PlansFirst};
+
 use cabal_problem::{listed_as_whole, problem_is_lawful};
 use elaborate::no_node_is_lacking;
 
@@ -42,4 +48,13 @@ pub fn valid_plan_lacks_none()
 {
     every_node_has_a_line();
     no_node_is_lacking();
+}
+
+/// Nothing is lacking of a plan that a run prints: each node of what the first whole valid assignment makes has a line among those
+/// that are printed.
+pub fn printed_plan_lacks_none()
+    ensures { (form : Form) (options : Options) (files : Files) (text : Bytes) (plan : PlansFirst form options files text)
+        → LacksNone (selection_from plan.task.index plan.names plan.task.settings.env (value_in plan.trail)) plan.nodes }
+{
+    valid_plan_lacks_none();
 }

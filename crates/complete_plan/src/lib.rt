@@ -5,4 +5,4 @@
 
 mod laws;
 
-pub use laws::{every_node_has_a_line, valid_plan_lacks_none};
+pub use laws::{every_node_has_a_line, printed_plan_lacks_none, valid_plan_lacks_none};

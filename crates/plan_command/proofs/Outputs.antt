@@ -6,7 +6,7 @@ use Rattle.choice_problem.specs.declared.outcome.Outcome.{Outcome}
 use Rattle.choice_problem.specs.declared.outcome.Outcome.TheVariants as outcome
 use Rattle.outside_folder.specs.Files.{Bytes, Files}
 use Rattle.command_line.specs.declared.reading.Options.{Options}
-use Rattle.plan_task.specs.Task.{IsTask}
+use Rattle.plan_task.specs.Task.{IsReady, IsTask}
 use Rattle.plan_task.specs.declared.task.Task.{Task}
 use Rattle.plan_search.specs.Meaning.{MeansOutcome}
 use Rattle.plan_command.specs.declared.form.Form.{Form}
@@ -35,12 +35,12 @@ module _ (form : Form) (options : Options) (files : Files) where
   unfolding IsOutputOfPlan
   refused-output refusal output made is = (Err refusal, made, is)
 
-  module _ (task : Task) (made : IsTask options files (Ok task)) where
+  module _ (task : Task) (made : IsTask options files (Ok task)) (ready : IsReady task) where
     means-outcome : (names : NameTable) (found : Outcome) (output : Output) → MeansOutcome task.index task.settings names found
         → IsOutputOfOutcome form task.settings.env task.index names found output → Means form options files output
     means-outcome names (outcome.Found trail counts) output h (nodes, plan, is) =
         subst (Means form options files) (sym is)
-        (record { task = task; made = made; names = names; trail = trail; first = h; nodes = nodes; planned = plan; counts = counts; text_is = refl })
+        (record { task = task; made = made; ready = ready; names = names; trail = trail; first = h; nodes = nodes; planned = plan; counts = counts; text_is = refl })
     means-outcome names (outcome.NoPlan set counts) output h is =
         subst (Means form options files) (sym is) (record { task = task; made = made; names = names; set = set; to_blame = h; counts = counts; text_is = refl })
     means-outcome names (outcome.GaveUp counts) output h is =

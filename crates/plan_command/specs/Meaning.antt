@@ -11,7 +11,7 @@ use Rattle.plan_print.specs.Texts.{refusal_text}
 use Rattle.command_line.specs.Reading.{default_options}
 use Rattle.command_line.specs.declared.reading.Options.{Options}
 use Rattle.plan_generate.specs.Generated.{generated}
-use Rattle.plan_task.specs.Task.{IsTask}
+use Rattle.plan_task.specs.Task.{IsReady, IsTask}
 use Rattle.plan_task.specs.declared.task.Task.{Task}
 use Rattle.plan_search.specs.Meaning.{AreToBlame, IsFirstTrail, MeetsLimit, Means as MeansFinding}
 use Rattle.plan_search.specs.declared.search.Finding.{Finding}
@@ -29,6 +29,7 @@ use Rattle.plan_command.specs.Output.{ArePlanned, IsOutputOfOutcome}
 pub record PlansFirst (form : Form) (options : Options) (files : Files) (text : Bytes) : Type 0 where
   pub task : Task
   pub made : IsTask options files (Ok task)
+  pub ready : IsReady task
   pub names : NameTable
   pub trail : List Choice
   pub first : IsFirstTrail task.index task.settings names trail

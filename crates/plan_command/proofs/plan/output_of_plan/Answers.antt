@@ -9,7 +9,7 @@ use Rattle.plan_command.proofs.plan.output_of_plan.Goals as goal
 
 pub returns-in_ok-planned-in-Ok-clause-headline : goal.returns-in_ok-planned-in-Ok-clause-headline
 returns-in_ok-planned-in-Ok-clause-headline g c = λ files t.
-    planned-means c.args.form c.args.options files c.in-Ok.task (some_at _ _ files t c.in-Ok.ensures.told) c.in_ok-planned-in-Ok.field-0 c.in_ok-planned-in-Ok.ensures.headline
+    planned-means c.args.form c.args.options files c.in-Ok.task (some_at _ _ files t c.in-Ok.ensures.told) c.in-Ok.ensures.ready c.in_ok-planned-in-Ok.field-0 c.in_ok-planned-in-Ok.ensures.headline
 
 pub returns-in_ok-planned-in-Ok-clause-told : goal.returns-in_ok-planned-in-Ok-clause-told
 returns-in_ok-planned-in-Ok-clause-told g c = λ files t.
