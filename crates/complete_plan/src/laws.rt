@@ -15,7 +15,6 @@ ghost use Rattle.plan_nodes.specs.declared.node.PlanNode.{PlanNode};
 ghost use Rattle.node_lines.specs.Lines.{HaveLines};
 ghost use Rattle.elaborate.specs.Plan.{IsPlan};
 ghost use Rattle.elaborate.specs.Whole.{LacksNone};
-
 ghost use Rattle.command_line.specs.declared.reading.Options.{Options};
 ghost use Rattle.outside_folder.specs.Files.{Bytes, Files};
 ghost use Rattle.choice_problem.specs.Trail.{value_in};
