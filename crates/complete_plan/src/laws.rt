@@ -18,7 +18,7 @@ ghost use Rattle.elaborate.specs.Whole.{LacksNone};
 ghost use Rattle.command_line.specs.declared.reading.Options.{Options};
 ghost use Rattle.outside_folder.specs.Files.{Bytes, Files};
 ghost use Rattle.choice_problem.specs.Trail.{value_in};
-ghost use Rattle.plan_command.specs.declared.form.Form.{Form};
+ghost use Rattle.plan_command.specs.Form.{form_of};
 ghost use Rattle.plan_command.specs.Meaning.{PlansFirst};
 
 use cabal_problem::{listed_as_whole, problem_is_lawful};
@@ -52,7 +52,7 @@ pub fn valid_plan_lacks_none()
 /// Nothing is lacking of a plan that a run prints: each node of what the first whole valid assignment makes has a line among those
 /// that are printed.
 pub fn printed_plan_lacks_none()
-    ensures { (form : Form) (options : Options) (files : Files) (text : Bytes) (plan : PlansFirst form options files text)
+    ensures { (options : Options) (files : Files) (text : Bytes) (plan : PlansFirst (form_of options) options files text)
         → LacksNone (selection_from plan.task.index plan.names plan.task.settings.env (value_in plan.trail)) plan.nodes }
 {
     valid_plan_lacks_none();
