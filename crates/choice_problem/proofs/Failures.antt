@@ -5,22 +5,21 @@ use Rattle.std.proofs.lemmas.Bool.{false≢true, not-true, or_left, or_right, an
 use Rattle.std.proofs.lemmas.List.Elements.{All-contains, All-push}
 use Rattle.qualified_goals.specs.declared.variable.Var.{Var}
 use Rattle.choice_problem.specs.declared.problem.Choice.{Choice}
-use Rattle.choice_problem.specs.declared.outcome.Counts.{Counts}
 use Rattle.choice_problem.specs.Problem.{Problem, IsChoice, IsDemand, Lawful}
 use Rattle.choice_problem.specs.Assignment.{Assignment, is_one_of}
 use Rattle.choice_problem.specs.General.{Request, request_of, general}
 use Rattle.choice_problem.specs.Holds.{IsEdge, IsAsked, HoldsWithin}
 use Rattle.choice_problem.specs.Trail.{with_next, choice_of}
-use Rattle.choice_problem.specs.Active.{least_open, reason}
+use Rattle.choice_problem.specs.Active.{open_in, reason}
 use Rattle.choice_problem.specs.ConflictSet.{has, set_of, union}
 use Rattle.choice_problem.specs.Conflict.{conflict}
-use Rattle.choice_problem.specs.Answer.{Found, Failed, GaveUp, Answer, Manner, gives_up, exhausts, one_visited, one_exhausted, after_conflict, of_value, after_end, of_values, answer_from}
+use Rattle.choice_problem.specs.Answer.{Found, Failed, GaveUp, Past, Answer, Manner, gives_up, fails, exhausts, one_visited, one_exhausted, after_conflict, of_value, after_end, of_values, answer_from}
 use Rattle.choice_problem.specs.Sound.{MakesWithin, AdmitsNoneWith, FailuresAreSound}
 use Rattle.common_laws.specs.Lists.{contains-head, contains-tail, contains-none, contains-cases}
 use Rattle.choice_problem.proofs.Alike.{path-map}
 use Rattle.choice_problem.proofs.Sets.{contains-has, has-set_of, has-union}
 use Rattle.choice_problem.proofs.Trails.{demand-general, demand-plain, target-known, general-lawful}
-use Rattle.choice_problem.proofs.Active.{value_in-last, yes-from, active-yes, active-demand, IsOpen, least-open, IsReason, reason-of}
+use Rattle.choice_problem.proofs.Active.{value_in-last, yes-from, active-yes, active-demand, IsOpen, open-plain, IsReason, reason-of}
 use Rattle.choice_problem.proofs.Conflicts.{yes-within, conflicts-sound}
 
 -- an assignment within a set
@@ -123,8 +122,8 @@ module _ (p : Problem) (lawful : Lawful p) where
 
   -- a point whose values fail
 
-  module _ (Below : List Choice → Counts → Answer) (manner : Manner) (prefix : List Choice) (v : Var) (choices : All (IsChoice p) prefix) (o : IsOpen p lawful prefix v)
-      (below : (n : ℕ) (counts : Counts) (set : List Var) → IsChoice p (choice_of v n) → (Below (prefix ++ choice_of v n ∷ []) counts).ended ≡ Failed set
+  module _ (Below : List Choice → Past → Answer) (manner : Manner) (prefix : List Choice) (v : Var) (choices : All (IsChoice p) prefix) (o : IsOpen p lawful prefix v)
+      (below : (n : ℕ) (past : Past) (set : List Var) → IsChoice p (choice_of v n) → (Below (prefix ++ choice_of v n ∷ []) past).ended ≡ Failed set
       → AdmitsNoneWith p set (prefix ++ choice_of v n ∷ [])) where
     abbrev Refutes : List Var → ℕ → Type 0
     Refutes set n = AdmitsNoneWith p set (prefix ++ choice_of v n ∷ [])
@@ -132,24 +131,23 @@ module _ (p : Problem) (lawful : Lawful p) where
     is-choice : (n : ℕ) → n < p.domain v → IsChoice p (choice_of v n)
     is-choice n h = record { variable = open-known prefix v choices o; value = h }
 
-    pub value-sound : (n : ℕ) (counts : Counts) (set : List Var) → n < p.domain v → (of_value Below p prefix (choice_of v n) counts).ended ≡ Failed set → Refutes set n
-    value-sound n counts set is h =
+    pub value-sound : (n : ℕ) (past : Past) (set : List Var) → n < p.domain v → (of_value Below p prefix (choice_of v n) past).ended ≡ Failed set → Refutes set n
+    value-sound n past set is h =
         let c = choice_of v n in
-        elim (conflict p prefix c) as (λ x. conflict p prefix c ≡ x → (after_conflict x counts (Below (prefix ++ c ∷ []) counts)).ended ≡ Failed set → Refutes set n) [
-          | None ↦ λ e k. below n counts set (is-choice n is) k
+        elim (conflict p prefix c) as (λ x. conflict p prefix c ≡ x → (after_conflict x past (Below (prefix ++ c ∷ []) past)).ended ≡ Failed set → Refutes set n) [
+          | None ↦ λ e k. below n past set (is-choice n is) k
           | Some s ↦ λ e k. conflicts-sound p lawful prefix c set (All-push (IsChoice p) prefix c choices (is-choice n is)) o.unchosen (e ∙ ap Some (cc k))
         ] refl h
 
-    exhausted-sound : (failed : List Var) (counts : Counts) (set : List Var) → ((n : ℕ) → n < p.domain v → Refutes failed n)
-        → (exhausts manner p prefix v failed counts).ended ≡ Failed set → AdmitsNoneWith p set prefix
-    exhausted-sound failed counts set each h =
+    exhausted-sound : (failed : List Var) (past : Past) (set : List Var) → ((n : ℕ) → n < p.domain v → Refutes failed n)
+        → (exhausts manner p prefix v failed past).ended ≡ Failed set → AdmitsNoneWith p set prefix
+    exhausted-sound failed past set each h =
         let why = v ∷ reason p prefix v in
         let all = union failed (set_of why) in
         let of-failed = λ (u : Var) (k : has failed u ≡ true). has-union failed (set_of why) u ∙ or_left (has failed u) (has (set_of why) u) k in
         let of-why = λ (u : Var) (k : Contains why u). has-union failed (set_of why) u ∙ or_right (has failed u) (has (set_of why) u) (has-set_of why u ∙ contains-has why u k) in
-        let gave : Answer = record { ended = GaveUp; counts = counts } in
-        let fails : Answer = record { ended = Failed all; counts = one_exhausted counts } in
-        elim (gives_up manner.limit prefix counts.exhausted) as (λ b. (cond {A = Answer} b gave fails).ended ≡ Failed set → AdmitsNoneWith p set prefix) [
+        let gave : Answer = record { ended = GaveUp; past = past } in
+        elim (gives_up manner.limit prefix past.counts.exhausted) as (λ b. (cond {A = Answer} b gave (fails all (one_exhausted past))).ended ≡ Failed set → AdmitsNoneWith p set prefix) [
           | true ↦ λ k. absurd (cc k)
           | false ↦ λ k.
               let same : all ≡ set = cc k in
@@ -160,25 +158,25 @@ module _ (p : Problem) (lawful : Lawful p) where
         ] h
 
     -- each value is still to be tried, or has failed
-    pub values-sound : (values : List ℕ) (failed : List Var) (counts : Counts) (set : List Var) → ((n : ℕ) → Contains values n → n < p.domain v)
-        → ((n : ℕ) → n < p.domain v → Contains values n ⊎ Refutes failed n) → (of_values Below manner p prefix v values failed counts).ended ≡ Failed set → AdmitsNoneWith p set prefix
-    values-sound [] failed counts set are done h =
-        exhausted-sound failed counts set (λ n is. elim (done n is) [ inl none ↦ absurd (contains-none n none) | inr r ↦ r ]) h
-    values-sound (n ∷ values) failed counts set are done h =
-        let answer = of_value Below p prefix (choice_of v n) (one_visited counts) in
-        let rest = λ (s : List Var) (now : Counts). of_values Below manner p prefix v values (union failed s) now in
-        elim answer.ended as (λ e. answer.ended ≡ e → (after_end manner v e answer.counts rest).ended ≡ Failed set → AdmitsNoneWith p set prefix) [
+    pub values-sound : (values : List ℕ) (failed : List Var) (past : Past) (set : List Var) → ((n : ℕ) → Contains values n → n < p.domain v)
+        → ((n : ℕ) → n < p.domain v → Contains values n ⊎ Refutes failed n) → (of_values Below manner p prefix v values failed past).ended ≡ Failed set → AdmitsNoneWith p set prefix
+    values-sound [] failed past set are done h =
+        exhausted-sound failed past set (λ n is. elim (done n is) [ inl none ↦ absurd (contains-none n none) | inr r ↦ r ]) h
+    values-sound (n ∷ values) failed past set are done h =
+        let answer = of_value Below p prefix (choice_of v n) (one_visited past) in
+        let rest = λ (s : List Var) (now : Past). of_values Below manner p prefix v values (union failed s) now in
+        elim answer.ended as (λ e. answer.ended ≡ e → (after_end manner v e answer.past rest).ended ≡ Failed set → AdmitsNoneWith p set prefix) [
           | Found t ↦ λ e k. absurd (cc k)
           | GaveUp ↦ λ e k. absurd (cc k)
           | Failed s ↦ λ e k.
-              let refuted = value-sound n (one_visited counts) s (are n (contains-head n values)) e in
-              elim (manner.jumps && not (has s v)) as (λ b. manner.jumps && not (has s v) ≡ b → (cond {A = Answer} b (record { ended = Failed s; counts = answer.counts }) (rest s answer.counts)).ended ≡ Failed set
+              let refuted = value-sound n (one_visited past) s (are n (contains-head n values)) e in
+              elim (manner.jumps && not (has s v)) as (λ b. manner.jumps && not (has s v) ≡ b → (cond {A = Answer} b (record { ended = Failed s; past = answer.past }) (rest s answer.past)).ended ≡ Failed set
               → AdmitsNoneWith p set prefix) [
                 | true ↦ λ jump l.
                     let same : s ≡ set = cc l in
                     subst (λ x. AdmitsNoneWith p x prefix) same (admits-less p s prefix v n (not-true (has s v) ((and_parts manner.jumps (not (has s v)) jump).1)) refuted)
                 | false ↦ λ stay l.
-                    values-sound values (union failed s) answer.counts set (λ m i. are m (contains-tail n values m i))
+                    values-sound values (union failed s) answer.past set (λ m i. are m (contains-tail n values m i))
                     (λ m is. elim (done m is) [
                       | inl i ↦ elim (contains-cases n values m i) [
                         | inl same ↦ inr (subst (Refutes (union failed s)) same
@@ -192,18 +190,18 @@ module _ (p : Problem) (lawful : Lawful p) where
         ] refl h
 
   pub failures-sound : FailuresAreSound p
-  failures-sound zero manner prefix counts set choices h = absurd (cc h)
-  failures-sound (suc fuel) manner prefix counts set choices h =
-      elim (least_open p prefix) as (λ x. least_open p prefix ≡ x
-      → (with_next x (record { ended = Found prefix; counts = counts }) (λ v. of_values (answer_from fuel manner p) manner p prefix v (p.order v prefix) [] counts)).ended ≡ Failed set
+  failures-sound zero manner prefix past set guide choices h = absurd (cc h)
+  failures-sound (suc fuel) manner prefix past set guide choices h =
+      elim (manner.guide past.met (open_in p prefix)) as (λ x. manner.guide past.met (open_in p prefix) ≡ x
+      → (with_next x (record { ended = Found prefix; past = past }) (λ v. of_values (answer_from fuel manner p) manner p prefix v (p.order v prefix) [] past)).ended ≡ Failed set
       → AdmitsNoneWith p set prefix) [
         | None ↦ λ e k. absurd (cc k)
         | Some v ↦ λ e k.
-            let o = least-open p lawful prefix v choices e in
+            let o = open-plain p lawful prefix v choices (guide.picked past.met (open_in p prefix) v e) in
             let order = lawful.order v (open-known prefix v choices o) prefix choices in
             values-sound (answer_from fuel manner p) manner prefix v choices o
-            (λ n now s is failed. failures-sound fuel manner (prefix ++ choice_of v n ∷ []) now s (All-push (IsChoice p) prefix (choice_of v n) choices is) failed)
-            (p.order v prefix) [] counts set
+            (λ n now s is failed. failures-sound fuel manner (prefix ++ choice_of v n ∷ []) now s guide (All-push (IsChoice p) prefix (choice_of v n) choices is) failed)
+            (p.order v prefix) [] past set
             (λ n i. All-contains (λ x. x < p.domain v) (p.order v prefix) n order.below i)
             (λ n is. inl (order.each n is)) k
       ] refl h

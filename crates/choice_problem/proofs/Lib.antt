@@ -10,6 +10,7 @@ pub mod Active
 pub mod Pairs
 pub mod Conflicts
 pub mod Failures
+pub mod AnyOrder
 pub mod Ends
 pub mod First
 pub mod Limits

@@ -212,15 +212,15 @@ module _ (g : General) (lawful : LawfulGeneral g) where
   pub next-known : (trail : List Choice) (v : Var) → All (IsChoice g) trail → next_var g trail ≡ Some v → IsTrue (g.known v)
   next-known trail v choices h = open-known trail v choices (next-open g trail v h)
 
-  pub room-zero : (trail : List Choice) (v : Var) → All (IsChoice g) trail → next_var g trail ≡ Some v → Room zero trail → ⊥
+  pub room-zero : (trail : List Choice) (v : Var) → All (IsChoice g) trail → has (open_vars g trail) v ≡ true → Room zero trail → ⊥
   room-zero trail v choices h room =
-      let found = without room.unchosen v (room.each v (next-known trail v choices h) (next-unchosen g trail v h)) in
+      let found = without room.unchosen v (room.each v (open-known trail v choices h) (open-unchosen g trail v h)) in
       omega (arith, found.1, room.count)
 
-  pub room-next : (fuel : ℕ) (trail : List Choice) (v : Var) (n : ℕ) → All (IsChoice g) trail → next_var g trail ≡ Some v → Room (suc fuel) trail → Room fuel (trail ++ choice_of v n ∷ [])
+  pub room-next : (fuel : ℕ) (trail : List Choice) (v : Var) (n : ℕ) → All (IsChoice g) trail → has (open_vars g trail) v ≡ true → Room (suc fuel) trail → Room fuel (trail ++ choice_of v n ∷ [])
   room-next fuel trail v n choices h room =
-      let unchosen = next-unchosen g trail v h in
-      let found = without room.unchosen v (room.each v (next-known trail v choices h) unchosen) in
+      let unchosen = open-unchosen g trail v h in
+      let found = without room.unchosen v (room.each v (open-known trail v choices h) unchosen) in
       record {
         unchosen = found.0;
         count = omega (arith, found.1, room.count);

@@ -16,7 +16,8 @@ use Rattle.choice_problem.specs.Valid.{ComesBefore}
 use Rattle.choice_problem.specs.ConflictSet.{set_of, has}
 use Rattle.choice_problem.specs.Active.{made_active, active, reason}
 use Rattle.choice_problem.specs.Conflict.{circular, first_clash, conflict}
-use Rattle.choice_problem.specs.Answer.{Found, Failed, GaveUp, counts_of, answer_of, plain_count, outcome_of}
+use Rattle.choice_problem.specs.Guide.{most_met}
+use Rattle.choice_problem.specs.Answer.{counts_of, guided_answer, answer_of, plain_count, outcome_of}
 use Rattle.choice_problem.specs.Written.{problem_of}
 
 -- a package at top level, and one of its flags, by their numbers
@@ -133,8 +134,8 @@ better = record {
 }
 
 -- the search tries seven values: b's value 1 makes c's value 1 break a demand, and c's value 0 asks for what is gone
-pub late_found : answer_of late Unlimited ≡ record { ended = Found plan_trail; counts = counts_of 7 2 }
-unfolding answer_of open_vars reason conflict circular first_clash made_active active
+pub late_found : outcome_of (answer_of late Unlimited) ≡ outcome.Found plan_trail (counts_of 7 2)
+unfolding guided_answer open_vars reason conflict circular first_clash made_active active
 late_found = refl
 
 -- sets are in goal order, with each variable once
@@ -231,8 +232,8 @@ far = problem_of
     (asks (choice 3 0) 0 [] ∷ [])
 
 -- each value of 0 tries 1, 2 and 3 once: three exhausted points, of which the last is the first one
-pub far_failed : answer_of far Unlimited ≡ record { ended = Failed (package_var 0 ∷ package_var 3 ∷ []); counts = counts_of 8 3 }
-unfolding answer_of open_vars reason conflict circular first_clash made_active active
+pub far_failed : outcome_of (answer_of far Unlimited) ≡ outcome.NoPlan (package_var 0 ∷ package_var 3 ∷ []) (counts_of 8 3)
+unfolding guided_answer open_vars reason conflict circular first_clash made_active active
 far_failed = refl
 
 -- without leaving a point early there are more tries
@@ -241,11 +242,28 @@ unfolding plain_count open_vars reason conflict circular first_clash made_active
 far_plain = refl
 
 -- the limit 1 is met at the second exhausted point, which isn't counted
-pub far_limit : answer_of far (At 1) ≡ record { ended = GaveUp; counts = counts_of 8 1 }
-unfolding answer_of open_vars reason conflict circular first_clash made_active active
+pub far_limit : outcome_of (answer_of far (At 1)) ≡ outcome.GaveUp (counts_of 8 1)
+unfolding guided_answer open_vars reason conflict circular first_clash made_active active
 far_limit = refl
 
 -- the limit 2 is met at the first point alone, which never gives up
 pub first_point : outcome_of (answer_of far (At 2)) ≡ outcome.NoPlan (package_var 0 ∷ package_var 3 ∷ []) (counts_of 8 3)
-unfolding answer_of open_vars reason conflict circular first_clash made_active active
+unfolding guided_answer open_vars reason conflict circular first_clash made_active active
 first_point = refl
+
+-- By what was met. In the late goal c is in the set by which b's value 1 fails, and so it comes before a; there are as many tries.
+pub late_counted : outcome_of (guided_answer most_met late Unlimited) ≡ outcome.Found (choice main 0 ∷ choice b 0 ∷ choice c 1 ∷ choice a 1 ∷ []) (counts_of 7 2)
+unfolding guided_answer open_vars reason conflict circular first_clash made_active active
+late_counted = refl
+
+-- 0's first value fails by what 3 asks for, and with the second one 3 comes before 1 and 2
+pub far_counted : outcome_of (guided_answer most_met far Unlimited) ≡ outcome.NoPlan (package_var 0 ∷ package_var 3 ∷ []) (counts_of 6 3)
+unfolding guided_answer open_vars reason conflict circular first_clash made_active active
+far_counted = refl
+
+-- of two that were met as often the lesser is picked, and the one that was met more often before both
+pub least_of_equals : most_met ((package_var 1 ∷ package_var 2 ∷ []) ∷ []) (package_var 0 ∷ package_var 1 ∷ package_var 2 ∷ []) ≡ Some (package_var 1)
+least_of_equals = refl
+
+pub more_often : most_met ((package_var 1 ∷ package_var 2 ∷ []) ∷ (package_var 2 ∷ []) ∷ []) (package_var 0 ∷ package_var 1 ∷ package_var 2 ∷ []) ≡ Some (package_var 2)
+more_often = refl

@@ -10,6 +10,8 @@ pub mod Joined
 pub mod ConflictSet
 pub mod Active
 pub mod Conflict
+pub mod Guide
+pub mod Guides
 pub mod Answer
 pub mod Sound
 pub mod Written

@@ -1,17 +1,18 @@
 -- What conflict sets and answers mean.
-use Rattle.std.specs.Prelude.{◌≡◌, ℕ, true, List, [], ◌∷◌, ◌++◌, Some, None, All}
+use Rattle.std.specs.Prelude.{◌≡◌, ◌↔◌, ℕ, true, List, [], ◌∷◌, ◌++◌, Some, None, IsSome, All, Contains, map}
 use Rattle.qualified_goals.specs.declared.variable.Var.{Var}
 use Rattle.choice_problem.specs.declared.problem.Choice.{Choice}
-use Rattle.choice_problem.specs.declared.outcome.Counts.{Counts}
 use Rattle.choice_problem.specs.Assignment.{Assignment}
 use Rattle.choice_problem.specs.Problem.{Problem, IsChoice}
 use Rattle.choice_problem.specs.General.{general}
 use Rattle.choice_problem.specs.Holds.{HoldsWithin, AdmitsNone}
-use Rattle.choice_problem.specs.Trail.{value_in, trail_of}
+use Rattle.choice_problem.specs.Trail.{value_in, trail_of, AreNew}
+use Rattle.choice_problem.specs.Active.{open_in, is_open}
 use Rattle.choice_problem.specs.Valid.{IsWholeValid, IsFirst}
 use Rattle.choice_problem.specs.ConflictSet.{has}
 use Rattle.choice_problem.specs.Conflict.{conflict}
-use Rattle.choice_problem.specs.Answer.{Ended, Found, Failed, GaveUp, Manner, answer_from}
+use Rattle.choice_problem.specs.Guide.{IsGuide}
+use Rattle.choice_problem.specs.Answer.{Ended, Found, Failed, GaveUp, Past, Manner, answer_from}
 
 -- A makes the choices of a trail whose variables are in the set
 abbrev pub MakesWithin : List Var → List Choice → Assignment → Type 0
@@ -26,13 +27,33 @@ abbrev pub ConflictsAreSound : Problem → Type 0
 ConflictsAreSound p = (trail : List Choice) (c : Choice) (set : List Var)
     → All (IsChoice p) (trail ++ c ∷ []) → value_in trail c.var ≡ None → conflict p trail c ≡ Some set → AdmitsNoneWith p set (trail ++ c ∷ [])
 
--- the set with which a search fails after some choices admits none, with them
+-- the set with which a search fails after some choices admits none, with them, whoever picks the variables
 abbrev pub FailuresAreSound : Problem → Type 0
-FailuresAreSound p = (fuel : ℕ) (manner : Manner) (prefix : List Choice) (counts : Counts) (set : List Var)
-    → All (IsChoice p) prefix → (answer_from fuel manner p prefix counts).ended ≡ Failed set → AdmitsNoneWith p set prefix
+FailuresAreSound p = (fuel : ℕ) (manner : Manner) (prefix : List Choice) (past : Past) (set : List Var)
+    → IsGuide manner.guide → All (IsChoice p) prefix → (answer_from fuel manner p prefix past).ended ≡ Failed set → AdmitsNoneWith p set prefix
 
--- a trail is that of the first whole valid assignment, a set admits none, and so there is none at all
+-- a set admits none, and so there is no whole valid assignment at all
+abbrev pub AreNone : Problem → List Var → Type 0
+AreNone p set = AdmitsNone (general p) (has set) × ((A : Assignment) → IsWholeValid (general p) A → ⊥)
+
+-- a trail names each variable once, and is as a map whole and valid, or there is none
+abbrev pub IsValidEnd : Problem → Ended → Type 0
+IsValidEnd p (Found trail) = AreNew trail × IsWholeValid (general p) (value_in trail)
+IsValidEnd p (Failed set) = AreNone p set
+IsValidEnd p GaveUp = ⊥
+
+-- each choice is of a variable that the choices before it have opened
+pub data AreOpened (p : Problem) : List Choice → Type 0 where
+  none_opened : AreOpened p []
+  one_opened : {before : List Choice} {all : List Choice} → AreOpened p before → (c : Choice) → is_open p before c.var ≡ true → all ≡ before ++ c ∷ [] → AreOpened p all
+
+-- choices of open variables, in any order, after which none is open, name the variables of the trail that their assignment has
+abbrev pub AnyOrderNamesAlike : Problem → Type 0
+AnyOrderNamesAlike p = (trail : List Choice) → All (IsChoice p) trail → AreOpened p trail → open_in p trail ≡ []
+    → (v : Var) → IsSome (value_in trail v) ↔ Contains (map (λ c. c.var) (trail_of (general p) (value_in trail))) v
+
+-- a trail is that of the first whole valid assignment, or there is none
 abbrev pub IsRightEnd : Problem → Ended → Type 0
 IsRightEnd p (Found trail) = (A : Assignment) × IsFirst (general p) A × (trail ≡ trail_of (general p) A)
-IsRightEnd p (Failed set) = AdmitsNone (general p) (has set) × ((A : Assignment) → IsWholeValid (general p) A → ⊥)
+IsRightEnd p (Failed set) = AreNone p set
 IsRightEnd p GaveUp = ⊥

@@ -17,8 +17,8 @@ mod written;
 
 pub use conflict_set::ConflictSet;
 pub use laws::{
-    conflicts_are_sound, ends_right, failures_are_sound, general_is_lawful, limit_only_gives_up,
-    one_first, plain_count_is_most, valid_alike,
+    any_order_names_alike, conflicts_are_sound, ends_right, ends_valid, failures_are_sound,
+    general_is_lawful, limit_only_gives_up, one_first, plain_count_is_most, valid_alike,
 };
 pub use outcome::{Counts, Outcome};
 pub use plan_types::Limit;
