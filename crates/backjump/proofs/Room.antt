@@ -9,10 +9,10 @@ use Rattle.choice_problem.specs.declared.problem.Choice.{Choice}
 use Rattle.qualified_goals.specs.Variable.{same_var}
 use Rattle.choice_problem.specs.Problem.{Problem, IsChoice, Lawful}
 use Rattle.choice_problem.specs.Trail.{value_in, AreNew, before_any, one_more}
-use Rattle.choice_problem.specs.Active.{least_open}
+use Rattle.choice_problem.specs.Active.{is_open}
 use Rattle.common_laws.specs.Lists.{contains-head, contains-left, contains-right, without}
 use Rattle.qualified_goals.specs.SameVariable.{same_var-refl}
-use Rattle.validation.proofs.Views.{least-known}
+use Rattle.validation.proofs.Views.{known-open}
 use Rattle.choice_tree.specs.Tree.{choice_at}
 use Rattle.backjump.specs.Walk.{Point, IsChain}
 
@@ -68,12 +68,12 @@ module _ (p : Problem) (lawful : Lawful p) where
   choices-of trail h c k = All-contains (IsChoice p) trail c h k
 
   -- where a variable is open, one choice more may follow
-  pub fuel-left : (points : List Point) (trail : List Choice) (fuel : ℕ) (v : Var) → AreNew trail → All (IsChoice p) trail → IsChain p points trail fuel → least_open p trail ≡ Some v
+  pub fuel-left : (points : List Point) (trail : List Choice) (fuel : ℕ) (v : Var) → AreNew trail → All (IsChoice p) trail → IsChain p points trail fuel → is_open p trail v ≡ true
       → (less : ℕ) × (fuel ≡ suc less)
   fuel-left points trail fuel v new choices chain h =
-      let least = least-known p trail v lawful choices h in
+      let opened = known-open p trail v lawful choices h in
       let place = room new (choices-of trail choices) in
-      let found = without place.rest v (place.each v least.known least.free) in
+      let found = without place.rest v (place.each v opened.known opened.free) in
       let total = chain-fuel points trail fuel chain in
       elim fuel as (λ n. n + length trail ≡ p.bound → (less : ℕ) × (n ≡ suc less)) [
         | zero ↦ λ e. absurd (omega (arith, e, place.count, found.1))

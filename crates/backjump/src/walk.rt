@@ -3,11 +3,12 @@ ghost use Rattle.std.specs.Prelude.{◌≡◌, ◌≢◌, ◌+◌, ◌*◌, ◌<
 ghost use Rattle.qualified_goals.specs.declared.variable.Var.{Var};
 ghost use Rattle.choice_problem.specs.Problem.{Problem};
 ghost use Rattle.choice_problem.specs.Active.{reason};
-ghost use Rattle.choice_problem.specs.Answer.{answer_of, outcome_of, is_reached};
+ghost use Rattle.choice_problem.specs.Answer.{outcome_of, is_reached};
 ghost use Rattle.choice_problem.specs.ConflictSet.{union, set_of};
 ghost use Rattle.backjump.specs.declared.walk.Turn.TheVariants.{Look, Try, Back};
-ghost use Rattle.backjump.specs.Walk.{Point, IsHeld, AtLook, AtValue, AtExhausted, AtCut, AtBack, IsAt, IsEnd, IsNext, IsLighter, Goes, Looks, Tries, Cuts, Exhausts, Falls, AddsToLast, IsPointSet, Stops, SomeAt, SomeValue, SomePoint, load};
+ghost use Rattle.backjump.specs.Walk.{Point, Search, IsHeld, AtLook, AtValue, AtExhausted, AtCut, AtBack, IsAt, IsEnd, IsNext, IsLighter, Goes, Looks, Tries, Cuts, Exhausts, Falls, AddsToLast, IsPointSet, Stops, SomeAt, SomeValue, SomePoint, load, search_of, whole};
 
+use crate::Guide;
 use choice_problem::{Choice, Choices, ConflictSet, Counts, Limit, Outcome, Steps, Var};
 use choice_tree::Tree;
 use plan_types::{List, NoMemory};
@@ -41,13 +42,14 @@ pub enum Step {
 }
 
 /// A search on its way: a node for each choice, and one for the variable that is tried; for each node the sets of its
-/// failed values together; the choices; and the counts.
+/// failed values together; the choices; the counts; and who picks the variables.
 #[derive(Drop)]
-pub struct Walk {
+pub struct Walk<G> {
     tree: Tree,
     failed: List<ConflictSet>,
     state: State,
     counts: Counts,
+    guide: G,
 }
 
 fn reached(limit: Limit, exhausted: u64) -> bool
@@ -103,10 +105,11 @@ fn blamed(
     Ok(set)
 }
 
-impl Walk {
-    /// The start, before any choice.
-    pub fn start<C: Choices>(alloc: Global, choices: &C) -> Result<Walk, NoMemory>
-        ensures { IfOk result (λ walk. (limit : Limit) → AtLook (C.problem choices.now) limit walk 0) }
+impl<G: Guide + Drop> Walk<G> {
+    /// The start, before any choice, with a guide that was told of nothing.
+    pub fn start<C: Choices>(alloc: Global, choices: &C, guide: G) -> Result<Walk<G>, NoMemory>
+        requires { G.recalls guide [] [] }
+        ensures { IfOk result (λ walk. (limit : Limit) → AtLook G.recalls (search_of (C.problem choices.now) G.picks limit) walk 0) }
     {
         let state = State::new(alloc, choices)?;
         Ok(Walk {
@@ -117,18 +120,20 @@ impl Walk {
                 visited: 0,
                 exhausted: 0,
             },
+            guide,
         })
     }
 
     /// What a search that has ended hands out.
     pub fn outcome(self, end: End) -> Outcome
-        ensures { (p : Problem) (limit : Limit) (visited : ℕ) → IsEnd p limit self visited end → result ≡ outcome_of (answer_of p limit) }
+        ensures { (s : Search) (visited : ℕ) → IsEnd s self visited end → result ≡ outcome_of (whole s) }
     {
         let Walk {
             tree: _,
             failed: _,
             state,
             counts,
+            guide: _,
         } = self;
         match end {
             End::Whole => Outcome::Found {
@@ -140,17 +145,17 @@ impl Walk {
         }
     }
 
-    // The least open variable gets a node.
+    // The next variable gets a node.
     fn look<C: Choices>(
         &mut self,
         alloc: Global,
         choices: &C,
         limit: Limit,
     ) -> Result<Step, NoMemory>
-        requires { SomeAt (C.problem choices.now) limit self.old Look }
-        ensures { IfOk result (Looks (C.problem choices.now) limit self.old self.new) }
+        requires { SomeAt G.recalls (search_of (C.problem choices.now) G.picks limit) self.old Look }
+        ensures { IfOk result (Looks G.recalls (search_of (C.problem choices.now) G.picks limit) self.old self.new) }
     {
-        match self.state.least() {
+        match self.guide.pick(&self.state) {
             None => Ok(Step::Done(End::Whole)),
             Some(var) => {
                 let values = choices.order(alloc, var, self.state.trail())?;
@@ -170,39 +175,46 @@ impl Walk {
         steps: &mut Steps<L>,
         value: u64,
     ) -> Result<Step, NoMemory>
-        requires { SomeValue (C.problem choices.now) limit self.old value }
+        requires { SomeValue G.recalls (search_of (C.problem choices.now) G.picks limit) self.old value }
         ensures ticks { steps.new ≡ steps.old + 1 }
-        ensures step { IfOk result (Tries (C.problem choices.now) limit value self.old self.new) }
+        ensures step { IfOk result (Tries G.recalls (search_of (C.problem choices.now) G.picks limit) value self.old self.new) }
     {
         let choice = Choice {
             var: self.tree.top(),
             val: value,
         };
         self.counts.visited = self.counts.visited.saturating_add(1);
-        match self.state.choose(alloc, choices, choice, steps)? {
-            Verdict::Accepted => Ok(Step::On(Turn::Look)),
-            Verdict::Conflict(set) => Ok(Step::On(Turn::Back(set))),
+        match self.state.choose_open(alloc, choices, choice, steps)? {
+            Verdict::Accepted => {
+                self.guide.chosen(choice.var);
+                Ok(Step::On(Turn::Look))
+            }
+            Verdict::Conflict(set) => {
+                self.guide.learn(alloc, &set, self.state.trail())?;
+                Ok(Step::On(Turn::Back(set)))
+            }
         }
     }
 
     // Leaves the last node, and hands its set to the one below.
-    fn cut(&mut self, set: ConflictSet) -> Step
-        requires { SomePoint self.old }
-        ensures { Cuts set self.old self.new result }
+    fn cut(&mut self, set: ConflictSet) -> Result<Step, NoMemory>
+        requires { SomePoint G.recalls self.old }
+        ensures { IfOk result (Cuts G.recalls set self.old self.new) }
     {
         self.tree.back();
         self.failed.pop();
         if self.tree.depth() == 0 {
-            return Step::Done(End::NoPlan(set));
+            return Ok(Step::Done(End::NoPlan(set)));
         }
         self.state.undo();
-        Step::On(Turn::Back(set))
+        self.guide.taken_back(self.tree.top())?;
+        Ok(Step::On(Turn::Back(set)))
     }
 
     // The set of the last node, of which all values have failed.
     fn exhausted_set(&self, alloc: Global) -> Result<ConflictSet, NoMemory>
-        requires { SomePoint self.now }
-        ensures { IfOk result (IsPointSet self.now) }
+        requires { SomePoint G.recalls self.now }
+        ensures { IfOk result (IsPointSet G.recalls self.now) }
     {
         let var = self.tree.top();
         let reason = self.state.reason(alloc, var)?;
@@ -212,15 +224,16 @@ impl Walk {
 
     // Ends the last node, of which all values have failed.
     fn exhaust(&mut self, alloc: Global, limit: Limit) -> Result<Step, NoMemory>
-        requires { SomePoint self.old }
-        ensures { IfOk result (Exhausts limit self.old self.new) }
+        requires { SomePoint G.recalls self.old }
+        ensures { IfOk result (Exhausts G.recalls G.picks limit self.old self.new) }
     {
         if gives_up(limit, self.tree.depth(), self.counts.exhausted) {
             return Ok(Step::Done(End::Stopped));
         }
         let set = self.exhausted_set(alloc)?;
         self.counts.exhausted = self.counts.exhausted.saturating_add(1);
-        Ok(self.cut(set))
+        self.guide.learn(alloc, &set, self.state.trail())?;
+        self.cut(set)
     }
 
     // Tries the next value of the last node.
@@ -231,9 +244,9 @@ impl Walk {
         limit: Limit,
         steps: &mut Steps<L>,
     ) -> Result<Step, NoMemory>
-        requires { SomeAt (C.problem choices.now) limit self.old Try }
-        ensures ok { IfOk result (Goes (C.problem choices.now) limit self.old self.new Try steps.old steps.new) }
-        ensures err { OnErr result (Stops (C.problem choices.now) limit self.old Try steps.old steps.new) }
+        requires { SomeAt G.recalls (search_of (C.problem choices.now) G.picks limit) self.old Try }
+        ensures ok { IfOk result (Goes G.recalls (search_of (C.problem choices.now) G.picks limit) self.old self.new Try steps.old steps.new) }
+        ensures err { OnErr result (Stops G.recalls (search_of (C.problem choices.now) G.picks limit) self.old Try steps.old steps.new) }
     {
         match self.tree.next_value() {
             None => self.exhaust(alloc, limit),
@@ -243,14 +256,14 @@ impl Walk {
 
     // The value that the last node gave has failed: a set that names its variable is kept there.
     fn fall(&mut self, alloc: Global, set: ConflictSet) -> Result<Step, NoMemory>
-        requires { SomePoint self.old }
-        ensures { IfOk result (Falls set self.old self.new) }
+        requires { SomePoint G.recalls self.old }
+        ensures { IfOk result (Falls G.recalls set self.old self.new) }
     {
         if set.has(self.tree.top()) {
             add_failed(alloc, &mut self.failed, &set)?;
             return Ok(Step::On(Turn::Try));
         }
-        Ok(self.cut(set))
+        self.cut(set)
     }
 
     /// The next step of the search.
@@ -262,9 +275,9 @@ impl Walk {
         steps: &mut Steps<L>,
         turn: Turn,
     ) -> Result<Step, NoMemory>
-        requires { SomeAt (C.problem choices.now) limit self.old turn }
-        ensures ok { IfOk result (Goes (C.problem choices.now) limit self.old self.new turn steps.old steps.new) }
-        ensures err { OnErr result (Stops (C.problem choices.now) limit self.old turn steps.old steps.new) }
+        requires { SomeAt G.recalls (search_of (C.problem choices.now) G.picks limit) self.old turn }
+        ensures ok { IfOk result (Goes G.recalls (search_of (C.problem choices.now) G.picks limit) self.old self.new turn steps.old steps.new) }
+        ensures err { OnErr result (Stops G.recalls (search_of (C.problem choices.now) G.picks limit) self.old turn steps.old steps.new) }
     {
         match turn {
             Turn::Look => self.look(alloc, choices, limit),

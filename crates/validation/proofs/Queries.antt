@@ -64,7 +64,7 @@ refuses-only c d h = ap (λ b. b && not (is_one_of (Some c.val) d.allowed)) h
 
 -- the targets that are waited for
 
-waiting-has : (trail : List Choice) (listed : List Demand) (ms : List Mention) (v : Var) → AreTargets listed ms
+pub waiting-has : (trail : List Choice) (listed : List Demand) (ms : List Mention) (v : Var) → AreTargets listed ms
     → has (map (λ d. d.target) (filter (is_waited_for trail) (demands_at listed (places_of ms)))) v ≡ has (vars_at ms) v && is_none (value_in trail v)
 waiting-has trail listed [] v h = elim (is_none (value_in trail v)) as (λ b. false ≡ false && b) [ true ↦ refl | false ↦ refl ]
 waiting-has trail listed (m ∷ ms) v h =

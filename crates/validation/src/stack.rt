@@ -303,6 +303,13 @@ impl Stack {
         self.opens.after(v)
     }
 
+    /// Whether a variable has no value and is the target of an active demand.
+    pub(crate) fn is_open(&self, v: Var) -> bool
+        ensures { result ≡ has (waiting self.now.trail self.now.active) v }
+    {
+        is_open(&self.active, &self.trail, v)
+    }
+
     /// The set of the condition of the first active demand on a variable.
     pub(crate) fn reason(&self, alloc: Global, v: Var) -> Result<ConflictSet, NoMemory>
         ensures { IfOk result (λ set. set ≡ set_of (vars_of_first (find (asks_for v) self.now.active))) }

@@ -63,6 +63,12 @@ impl State {
         self.stack.open_after(v)
     }
 
+    pub fn is_open(&self, v: Var) -> bool
+        ensures { (p : Problem) → Lawful p → Represents p self.now → result ≡ is_open p self.now.trail v }
+    {
+        self.stack.is_open(v)
+    }
+
     /// Why an open variable is so: the variables of the condition of the first demand on it that became active.
     pub fn reason(&self, alloc: Global, v: Var) -> Result<ConflictSet, NoMemory>
         ensures { (p : Problem) → Represents p self.now → IfOk result (λ set. set ≡ set_of (reason p self.now.trail v)) }

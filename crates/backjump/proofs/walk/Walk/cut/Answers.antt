@@ -5,16 +5,17 @@ use Rattle.backjump.proofs.Moves.{chain-some, cut-done, cut-back}
 use Rattle.backjump.proofs.walk.Walk.cut.Goals as goal
 
 pub returns-then-depth-eq0 : goal.returns-then-depth-eq0
-returns-then-depth-eq0 c p limit visited at =
-    cut-done p limit c.args.self.now visited c.args.set c.back.new.self c.pop.new.self c.back.ensures (sym c.depth.ensures.count ∙ c.if-depth-eq0.true) at
+returns-then-depth-eq0 g c s visited at =
+    cut-done g.G.Guide.recalls s c.args.self.now visited c.args.set c.back.new.self c.pop.new.self c.back.ensures (sym c.depth.ensures.count ∙ c.if-depth-eq0.true) at
 
 pub undo-requires : goal.undo-requires
-undo-requires c e =
+undo-requires g c e =
     let at = c.requires in
     let tree_is = c.back.ensures (nodes_of at.outer) at.point.node at.held.nodes in
     chain-some at.p at.outer at.point.prefix (suc at.point.fuel) at.chain (λ none. c.if-depth-eq0.false (c.depth.ensures.count ∙ ap length tree_is ∙ none)) (sym at.prefix_is ∙ e)
 
 pub returns : goal.returns
-returns c p limit visited at =
-    cut-back p limit c.args.self.now visited c.args.set c.back.new.self c.pop.new.self c.undo.new.self c.pop.result c.back.ensures c.pop.ensures
-    (λ none. c.if-depth-eq0.false (c.depth.ensures.count ∙ none)) (c.undo.ensures.stands p) c.undo.ensures.trail at
+returns g c s visited at =
+    cut-back g.G.Guide.recalls s c.args.self.now visited c.args.set c.back.new.self c.pop.new.self c.undo.new.self c.taken_back.new.self c.pop.result c.back.ensures c.pop.ensures
+    (λ none. c.if-depth-eq0.false (c.depth.ensures.count ∙ none)) (c.undo.ensures.stands s.problem) c.undo.ensures.trail
+    (λ outer node e met front d same recalled. c.in_ok-taken_back.ensures met front d (same ∙ sym (c.top.ensures outer node e)) recalled) at

@@ -1,0 +1,67 @@
+// Who picks the variables of a search.
+ghost use Rattle.std.specs.Prelude.{◌≡◌, ◌∷◌, ◌++◌, [], List, OnOk};
+ghost use Rattle.qualified_goals.specs.declared.variable.Var.{Var};
+ghost use Rattle.choice_problem.specs.declared.problem.Choice.{Choice};
+ghost use Rattle.choice_problem.specs.Problem.{Problem, Lawful};
+ghost use Rattle.choice_problem.specs.Active.{open_in};
+ghost use Rattle.choice_problem.specs.Guide as spec;
+ghost use Rattle.choice_problem.specs.Guides.{least-is-guide};
+ghost use Rattle.validation.specs.View.{Represents};
+
+use choice_problem::{ConflictSet, Trail, Var};
+use plan_types::NoMemory;
+use std::alloc::Global;
+use validation::State;
+
+/// Picks the variables of a search. It is told of each conflict set that is met and of each choice that is made or taken back.
+pub trait Guide {
+    // which of the open variables it picks
+    ghost picks: { spec.Guide };
+
+    // it has been told of these sets, the last one first, and these choices stand
+    ghost recalls: { Self → List (List Var) → List Choice → Type 0 };
+
+    /// The variable that is tried next, or none where none is open.
+    fn pick(&self, state: &State) -> Option<Var>
+        ensures { (p : Problem) (met : List (List Var)) → Lawful p → Represents p state.now → recalls self.now met state.now.trail → result ≡ picks met (open_in p state.now.trail) };
+
+    /// A set was met after these choices.
+    fn learn(&mut self, alloc: Global, set: &ConflictSet, trail: &Trail) -> Result<(), NoMemory>
+        ensures { OnOk result ((met : List (List Var)) → recalls self.old met trail.now → recalls self.new (set.now ∷ met) trail.now) };
+
+    /// A choice of this variable was made.
+    fn chosen(&mut self, v: Var)
+        ensures { (met : List (List Var)) (trail : List Choice) (c : Choice) → c.var ≡ v → recalls self.old met trail → recalls self.new met (trail ++ c ∷ []) };
+
+    /// The last choice, which was one of this variable, was taken back.
+    fn taken_back(&mut self, v: Var) -> Result<(), NoMemory>
+        ensures { OnOk result ((met : List (List Var)) (front : List Choice) (c : Choice) → c.var ≡ v → recalls self.old met (front ++ c ∷ []) → recalls self.new met front) };
+
+    ghost is_guide: { spec.IsGuide picks };
+}
+
+/// Picks the least open variable, and remembers nothing.
+#[derive(Clone, Copy, Debug, Drop)]
+pub struct Least;
+
+impl Guide for Least {
+    ghost picks = { spec.least };
+
+    ghost recalls = { λ guide met trail. Unit {0} };
+
+    fn pick(&self, state: &State) -> Option<Var> {
+        state.least()
+    }
+
+    fn learn(&mut self, _: Global, _: &ConflictSet, _: &Trail) -> Result<(), NoMemory> {
+        Ok(())
+    }
+
+    fn chosen(&mut self, _: Var) {}
+
+    fn taken_back(&mut self, _: Var) -> Result<(), NoMemory> {
+        Ok(())
+    }
+
+    ghost is_guide = { least-is-guide };
+}
