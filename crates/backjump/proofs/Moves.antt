@@ -6,7 +6,8 @@ use Rattle.std.proofs.lemmas.List.Elements.{All-tail, All-head}
 use Rattle.qualified_goals.specs.declared.variable.Var.{Var}
 use Rattle.choice_problem.specs.declared.problem.Choice.{Choice}
 use Rattle.choice_problem.specs.Problem.{Problem, Lawful}
-use Rattle.choice_problem.specs.Trail.{choice_of}
+use Rattle.choice_problem.specs.General.{general}
+use Rattle.choice_problem.specs.Trail.{value_in, choice_of}
 use Rattle.choice_problem.specs.Active.{open_in, is_open, reason}
 use Rattle.choice_problem.specs.Guide.{Guide, IsGuide, cap}
 use Rattle.choice_problem.specs.Conflict.{conflict}
@@ -15,6 +16,7 @@ use Rattle.choice_problem.specs.Answer.{GaveUp, Past, Answer, counts_of, one_vis
 use Rattle.validation.specs.View.{View, Represents}
 use Rattle.choice_tree.specs.declared.tree.Node.{Node}
 use Rattle.choice_tree.specs.Tree.{fresh, stepped, values_left, choice_at, GivesNext}
+use Rattle.choice_problem.proofs.Trails.{open-unchosen}
 use Rattle.choice_problem.proofs.TrailEnds.{snoc-none, snoc-same}
 use Rattle.backjump.specs.declared.walk.Walk.{Walk}
 use Rattle.backjump.specs.declared.walk.Turn.TheVariants.{Look, Try, Back}
@@ -214,7 +216,7 @@ module _ {G : Type 0} (recalls : Recalls G) (s : Search) where
   -- what a guide recalls once the last choice, of a node's variable, was taken back
   abbrev pub TakesBack : G → G → List Node → Type 0
   TakesBack old new tree = (outer : List Node) (node : Node) → tree ≡ outer ++ node ∷ []
-      → (met : List (List Var)) (front : List Choice) (c : Choice) → c.var ≡ node.var → recalls old met (front ++ c ∷ []) → recalls new met front
+      → (met : List (List Var)) (front : List Choice) (c : Choice) → c.var ≡ node.var → value_in front node.var ≡ None → recalls old met (front ++ c ∷ []) → recalls new met front
 
   back-at : (w : Walk G) (visited : ℕ) (met : List (List Var)) (set : List Var) (tree : List Node) (failed : List (List Var)) (state : View) (guide : G) (prefix : List Choice) (fuel : ℕ) (outer : List Point)
       → tree ≡ nodes_of outer → failed ≡ sets_of outer → (length tree ≡ 0 → ⊥)
@@ -237,7 +239,7 @@ module _ {G : Type 0} (recalls : Recalls G) (s : Search) where
           sets = f;
           visited_is = v;
           recalled = subst (λ l. recalls guide met l) (sym front)
-              (b (nodes_of outer) point.node t met point.prefix (choice_at point.node) refl (subst (λ l. recalls w.guide met l) trail recalled));
+              (b (nodes_of outer) point.node t met point.prefix (choice_at point.node) refl (open-unchosen (general s.problem) point.prefix point.node.var chain.0.is.opened) (subst (λ l. recalls w.guide met l) trail recalled));
         };
         is = chain.0.is;
         prefix_is = front;

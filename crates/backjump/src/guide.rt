@@ -1,9 +1,10 @@
 // Who picks the variables of a search.
-ghost use Rattle.std.specs.Prelude.{◌≡◌, ◌∷◌, ◌++◌, [], List, OnOk};
+ghost use Rattle.std.specs.Prelude.{◌≡◌, ◌∷◌, ◌++◌, [], List, OnOk, None};
 ghost use Rattle.qualified_goals.specs.declared.variable.Var.{Var};
 ghost use Rattle.choice_problem.specs.declared.problem.Choice.{Choice};
 ghost use Rattle.choice_problem.specs.Problem.{Problem, Lawful};
 ghost use Rattle.choice_problem.specs.Active.{open_in};
+ghost use Rattle.choice_problem.specs.Trail.{value_in};
 ghost use Rattle.choice_problem.specs.Guide as spec;
 ghost use Rattle.choice_problem.specs.Guides.{least-is-guide};
 ghost use Rattle.validation.specs.View.{Represents};
@@ -35,7 +36,7 @@ pub trait Guide {
 
     /// The last choice, which was one of this variable, was taken back.
     fn taken_back(&mut self, v: Var) -> Result<(), NoMemory>
-        ensures { OnOk result ((met : List (List Var)) (front : List Choice) (c : Choice) → c.var ≡ v → recalls self.old met (front ++ c ∷ []) → recalls self.new met front) };
+        ensures { OnOk result ((met : List (List Var)) (front : List Choice) (c : Choice) → c.var ≡ v → value_in front v ≡ None → recalls self.old met (front ++ c ∷ []) → recalls self.new met front) };
 
     ghost is_guide: { spec.IsGuide picks };
 }

@@ -1,5 +1,6 @@
 -- the last node is cut off, and the one below is at its value
-use Rattle.std.proofs.Common.{suc, length, ap, sym, ◌∙◌}
+use Rattle.std.proofs.Common.{◌≡◌, None, suc, length, ap, sym, ◌∙◌, subst}
+use Rattle.choice_problem.specs.Trail.{value_in}
 use Rattle.backjump.specs.Walk.{nodes_of}
 use Rattle.backjump.proofs.Moves.{chain-some, cut-done, cut-back}
 use Rattle.backjump.proofs.walk.Walk.cut.Goals as goal
@@ -18,4 +19,6 @@ pub returns : goal.returns
 returns g c s visited at =
     cut-back g.G.Guide.recalls s c.args.self.now visited c.args.set c.back.new.self c.pop.new.self c.undo.new.self c.taken_back.new.self c.pop.result c.back.ensures c.pop.ensures
     (λ none. c.if-depth-eq0.false (c.depth.ensures.count ∙ none)) (c.undo.ensures.stands s.problem) c.undo.ensures.trail
-    (λ outer node e met front d same recalled. c.in_ok-taken_back.ensures met front d (same ∙ sym (c.top.ensures outer node e)) recalled) at
+    (λ outer node e met front d same new recalled.
+    let top = sym (c.top.ensures outer node e) in
+    c.in_ok-taken_back.ensures met front d (same ∙ top) (subst (λ v. value_in front v ≡ None) top new) recalled) at
