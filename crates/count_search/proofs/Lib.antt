@@ -1,0 +1,4 @@
+pub mod Orders
+pub mod Picks
+pub mod Scores
+pub mod Ends

@@ -1,0 +1,145 @@
+-- The order of ranks, and what a set of them in that order has.
+use Rattle.std.proofs.Common.{◌≡◌, ℕ, ◌<◌, Bool, true, false, cond, not, ◌||◌, ◌&&◌, List, [], ◌∷◌, Option, Some, None, refl, sym, ap, ◌∙◌, subst, inl, inr, ◌⊎◌, nat_lt, ltb-true, rules, ◌==◌, map, find}
+use Rattle.std.specs.List.{list_any, AllByRecursion}
+use Rattle.std.specs.List.Sorted.{IsStrictlySortedBy}
+use Rattle.std.specs.Ordering.{nat_cmp, ordering_then, is_eq, is_lt}
+use Rattle.std.specs.declared.cmp.Ordering.{Ordering}
+use Rattle.std.specs.declared.cmp.Ordering.TheVariants.{Less, Equal, Greater}
+use Rattle.std.proofs.lemmas.Bool.{false≢true, or_left, or_right}
+use Rattle.std.proofs.lemmas.Cmp.{nat_cmp_total, tied_itself}
+use Rattle.std.proofs.lemmas.Map.Lookups.{exact_unsigned}
+use Rattle.qualified_goals.specs.declared.variable.Var.{Var}
+use Rattle.qualified_goals.specs.Variable.{var_cmp, same_var}
+use Rattle.qualified_goals.specs.SameVariable.{same_var-is, same_var-refl}
+use Rattle.common_laws.specs.Small.{is-equal, second-equal}
+use Rattle.count_search.specs.declared.ranks.Rank.{Rank}
+use Rattle.count_search.specs.Ranks.{rank_cmp, same_rank, has_rank}
+use Rattle.count_search.specs.contracts.ranks.RankOrd.TheImpl.{cmp-value}
+
+-- two tests that hold together are one
+pub both-ways : (a b : Bool) → (a ≡ true → b ≡ true) → (b ≡ true → a ≡ true) → a ≡ b
+both-ways true b h k = sym (h refl)
+both-ways false true h k = k refl
+both-ways false false h k = refl
+
+pub either : (a b : Bool) → a || b ≡ true → (a ≡ true) ⊎ (b ≡ true)
+either true b h = inl refl
+either false b h = inr h
+
+pub derived : (r q : Rank) → cmp-value.it r q ≡ rank_cmp r q
+derived r q = search rules
+
+-- what the derived order finds
+abbrev pub found_in : List Rank → Rank → Bool
+found_in ranks r = list_any (λ q. is_eq (cmp-value.it r q)) ranks
+
+pub stored : (ranks : List Rank) (r : Rank) → found_in ranks r ≡ has_rank ranks r
+stored [] r = refl
+stored (q ∷ ranks) r = ap (λ o. is_eq o || list_any (λ x. is_eq (cmp-value.it r x)) ranks) (derived r q) ∙ ap (λ b. same_rank r q || b) (stored ranks r)
+
+-- ranks that compare alike are one
+
+then-first : (a b : Ordering) → ordering_then a b ≡ Equal → a ≡ Equal
+then-first Less b h = h
+then-first Equal b h = refl
+then-first Greater b h = h
+
+pub same-rank-is : (r q : Rank) → same_rank r q ≡ true → r ≡ q
+same-rank-is r q h =
+    let e = is-equal (rank_cmp r q) h in
+    let rest = exact_unsigned r.rest q.rest (then-first (nat_cmp r.rest q.rest) (var_cmp r.var q.var) e) in
+    let same = same_var-is r.var q.var (ap is_eq (second-equal (nat_cmp r.rest q.rest) (var_cmp r.var q.var) e)) in
+    ap (λ n. record { rest = n; var = r.var }) rest ∙ ap (λ v. record { rest = q.rest; var = v }) same
+
+pub same-rank-refl : (r : Rank) → same_rank r r ≡ true
+same-rank-refl r = ap (λ o. is_eq (ordering_then o (var_cmp r.var r.var))) (tied_itself nat_cmp_total r.rest) ∙ same_var-refl r.var
+
+-- the lesser of two ranks was met more often, or as often and has the lesser variable
+
+less-is : (m n : ℕ) → nat_cmp m n ≡ Less → m < n
+less-is m n h =
+    elim (nat_lt m n) as (λ b. nat_lt m n ≡ b → cond b Less (cond (m == n) Equal Greater) ≡ Less → m < n) [
+      | true ↦ λ e k. ltb-true m n e
+      | false ↦ λ e k. elim (m == n) as (λ b. cond b Equal Greater ≡ Less → m < n) [ true ↦ λ l. absurd (cc l) | false ↦ λ l. absurd (cc l) ] k
+    ] refl h
+
+then-less : (a b : Ordering) → ordering_then a b ≡ Less → (a ≡ Less) ⊎ ((a ≡ Equal) × (b ≡ Less))
+then-less Less b h = inl refl
+then-less Equal b h = inr (refl, h)
+then-less Greater b h = absurd (cc h)
+
+pub rank-less : (r q : Rank) → rank_cmp r q ≡ Less → (r.rest < q.rest) ⊎ ((r.rest ≡ q.rest) × (is_lt (var_cmp r.var q.var) ≡ true))
+rank-less r q h =
+    elim (then-less (nat_cmp r.rest q.rest) (var_cmp r.var q.var) h) [
+      | inl l ↦ inl (less-is r.rest q.rest l)
+      | inr e ↦ inr (exact_unsigned r.rest q.rest e.0, ap is_lt e.1)
+    ]
+
+-- the first of some ranks that passes a test
+
+less-as : (r : Rank) (ranks : List Rank) → AllByRecursion (λ y. cmp-value.it r y ≡ Less) ranks → AllByRecursion (λ y. rank_cmp r y ≡ Less) ranks
+less-as r [] h = h
+less-as r (q ∷ ranks) h = (sym (derived r q) ∙ h.0, less-as r ranks h.1)
+
+pub sorted-as : (ranks : List Rank) → IsStrictlySortedBy cmp-value.it ranks → IsStrictlySortedBy rank_cmp ranks
+unfolding IsStrictlySortedBy
+sorted-as [] h = h
+sorted-as (r ∷ ranks) h = (less-as r ranks h.0, sorted-as ranks h.1)
+
+less-than : (r : Rank) (ranks : List Rank) (q : Rank) → AllByRecursion (λ y. rank_cmp r y ≡ Less) ranks → has_rank ranks q ≡ true → rank_cmp r q ≡ Less
+less-than r [] q h k = absurd (false≢true k)
+less-than r (x ∷ ranks) q h k =
+    elim (either (same_rank q x) (has_rank ranks q) k) [
+      | inl same ↦ subst (λ y. rank_cmp r y ≡ Less) (sym (same-rank-is q x same)) h.0
+      | inr later ↦ less-than r ranks q h.1 later
+    ]
+
+-- a rank of these, with the variable that was found, before all others that pass
+pub record IsFirstRank (test : Var → Bool) (ranks : List Rank) (v : Var) : Type 0 where
+  pub rank : Rank
+  pub member : has_rank ranks rank ≡ true
+  pub var_is : rank.var ≡ v
+  pub passes : test v ≡ true
+  pub first : (q : Rank) → has_rank ranks q ≡ true → test q.var ≡ true → (rank ≡ q) ⊎ (rank_cmp rank q ≡ Less)
+
+pub first-rank : (test : Var → Bool) (ranks : List Rank) (v : Var) → IsStrictlySortedBy rank_cmp ranks → find test (map (λ r. r.var) ranks) ≡ Some v → IsFirstRank test ranks v
+unfolding IsStrictlySortedBy
+first-rank test [] v sorted h = absurd (cc h)
+first-rank test (r ∷ ranks) v sorted h =
+    elim (test r.var) as (λ b. test r.var ≡ b → cond b (Some r.var) (find test (map (λ q. q.var) ranks)) ≡ Some v → IsFirstRank test (r ∷ ranks) v) [
+      | true ↦ λ e k.
+          let same : r.var ≡ v = cc k in
+          record {
+            rank = r;
+            member = or_left (same_rank r r) (has_rank ranks r) (same-rank-refl r);
+            var_is = same;
+            passes = subst (λ w. test w ≡ true) same e;
+            first = λ q member pass. elim (either (same_rank q r) (has_rank ranks q) member) [
+              | inl equal ↦ inl (sym (same-rank-is q r equal))
+              | inr later ↦ inr (less-than r ranks q sorted.0 later)
+            ];
+          }
+      | false ↦ λ e k.
+          let more = first-rank test ranks v sorted.1 k in
+          record {
+            rank = more.rank;
+            member = or_right (same_rank more.rank r) (has_rank ranks more.rank) more.member;
+            var_is = more.var_is;
+            passes = more.passes;
+            first = λ q member pass. elim (either (same_rank q r) (has_rank ranks q) member) [
+              | inl equal ↦ absurd (false≢true (sym e ∙ ap (λ (x : Rank). test x.var) (sym (same-rank-is q r equal)) ∙ pass))
+              | inr later ↦ more.first q later pass
+            ];
+          }
+    ] refl h
+
+pub none-first : (test : Var → Bool) (ranks : List Rank) → find test (map (λ r. r.var) ranks) ≡ None → (q : Rank) → has_rank ranks q ≡ true → test q.var ≡ false
+none-first test [] h q member = absurd (false≢true member)
+none-first test (r ∷ ranks) h q member =
+    elim (test r.var) as (λ b. test r.var ≡ b → cond b (Some r.var) (find test (map (λ x. x.var) ranks)) ≡ None → test q.var ≡ false) [
+      | true ↦ λ e k. absurd (cc k)
+      | false ↦ λ e k. elim (either (same_rank q r) (has_rank ranks q) member) [
+        | inl equal ↦ ap (λ (x : Rank). test x.var) (same-rank-is q r equal) ∙ e
+        | inr later ↦ none-first test ranks k q later
+      ]
+    ] refl h

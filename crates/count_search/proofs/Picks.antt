@@ -1,0 +1,113 @@
+-- The variable that was met most often is the first of the ranked ones that is open, or where none is, the least.
+use Rattle.std.proofs.Common.{◌≡◌, ℕ, ◌-◌, ◌<◌, ◌≤◌, min, Bool, true, false, cond, ◌||◌, List, [], ◌∷◌, Option, Some, None, refl, sym, ap, ◌∙◌, subst, inl, inr, ◌⊎◌, arith, nat_lt, lt-ltb, ltb-true, ltb-false, map, find}
+use Rattle.std.specs.List.Sorted.{IsStrictlySortedBy}
+use Rattle.std.proofs.lemmas.Bool.{false≢true, or_left, or_right}
+use Rattle.qualified_goals.specs.declared.variable.Var.{Var}
+use Rattle.qualified_goals.specs.Variable.{same_var, is_before}
+use Rattle.qualified_goals.specs.SameVariable.{same_var-refl}
+use Rattle.qualified_goals.proofs.Order.{before-itself, before-back}
+use Rattle.choice_problem.specs.declared.problem.Choice.{Choice}
+use Rattle.choice_problem.specs.Problem.{Problem}
+use Rattle.choice_problem.specs.General.{general}
+use Rattle.choice_problem.specs.Active.{open_in, is_open}
+use Rattle.choice_problem.specs.Trail.{demands_after, open_vars}
+use Rattle.choice_problem.specs.ConflictSet.{has, is_rising, first_of}
+use Rattle.choice_problem.specs.Guide.{cap, score, better, most_met}
+use Rattle.choice_problem.specs.Guides.{most-met-is-guide}
+use Rattle.choice_problem.proofs.Trails.{open-unchosen, targets_open}
+use Rattle.choice_problem.proofs.Sets.{has-contains, rising-tail, rising-below, rising-set_of}
+use Rattle.count_search.specs.declared.ranks.Rank.{Rank}
+use Rattle.count_search.specs.Ranks.{rank_cmp, has_rank, rank_of, AreScored}
+use Rattle.count_search.proofs.Orders.{either, rank-less, IsFirstRank, first-rank, none-first}
+use Rattle.count_search.proofs.Scores.{Ranked, member-ranked, ranked-member, one-or-other, apart}
+
+-- a variable was met less often than another one, or as often and doesn't stand before it
+abbrev pub IsAtMost : List (List Var) → Var → Var → Type 0
+IsAtMost met u v = (score met u < score met v) ⊎ ((score met u ≡ score met v) × (is_before u v ≡ false))
+
+not-less : (m n : ℕ) → n ≤ m → nat_lt m n ≡ false
+not-less m n h = elim (nat_lt m n) as (λ b. nat_lt m n ≡ b → b ≡ false) [ true ↦ λ e. absurd (omega (arith, h, ltb-true m n e)) | false ↦ λ e. refl ] refl
+
+at-most-score : (met : List (List Var)) (u v : Var) → IsAtMost met u v → score met u ≤ score met v
+at-most-score met u v (inl less) = omega (arith, less)
+at-most-score met u v (inr same) = omega (arith, same.0)
+
+pub most-is : (met : List (List Var)) (vars : List Var) (v : Var) → is_rising vars ≡ true → has vars v ≡ true → ((u : Var) → has vars u ≡ true → IsAtMost met u v) → most_met met vars ≡ Some v
+most-is met [] v rising h most = absurd (false≢true h)
+most-is met (w ∷ vars) v rising h most =
+    elim (one-or-other w v) [
+      | inl e ↦
+          elim (most_met met vars) as (λ o. most_met met vars ≡ o → better met w o ≡ Some v) [
+            | None ↦ λ k. ap Some e
+            | Some x ↦ λ k.
+                let there = most-met-is-guide.picked met vars x k in
+                let less = at-most-score met x v (most x (or_right (same_var w x) (has vars x) there)) in
+                ap (λ b. Some (cond b x w)) (not-less (score met w) (score met x) (omega (arith, less, ap (score met) e))) ∙ ap Some e
+          ] refl
+      | inr other ↦
+          let there : has vars v ≡ true = elim (either (same_var w v) (has vars v) h) [ inl same ↦ absurd (false≢true (sym other ∙ same)) | inr k ↦ k ] in
+          let rest = most-is met vars v (rising-tail w vars rising) there (λ u k. most u (or_right (same_var w u) (has vars u) k)) in
+          let less : score met w < score met v = elim (most w (or_left (same_var w w) (has vars w) (same_var-refl w))) [
+            | inl l ↦ l
+            | inr same ↦ absurd (false≢true (sym same.1 ∙ rising-below w vars v rising (has-contains vars v there)))
+          ] in
+          ap (better met w) rest ∙ ap (λ b. Some (cond b v w)) (lt-ltb (score met w) (score met v) less)
+    ]
+
+pub most-none : (met : List (List Var)) (vars : List Var) → ((u : Var) → has vars u ≡ true → score met u ≡ 0) → most_met met vars ≡ first_of vars
+most-none met [] none = refl
+most-none met (w ∷ vars) none =
+    elim (most_met met vars) as (λ o. most_met met vars ≡ o → better met w o ≡ Some w) [
+      | None ↦ λ k. refl
+      | Some x ↦ λ k.
+          let zero = none x (or_right (same_var w x) (has vars x) (most-met-is-guide.picked met vars x k)) in
+          ap (λ b. Some (cond b x w)) (not-less (score met w) (score met x) (omega (arith, zero)))
+    ] refl
+
+module _ (p : Problem) (met : List (List Var)) (trail : List Choice) (table : List (Var × ℕ)) (ranks : List Rank) (are : AreScored table ranks (score met) trail) where
+  zero-of : (u : Var) → nat_lt 0 (score met u) ≡ false → score met u ≡ 0
+  zero-of u e = omega (arith, ltb-false 0 (score met u) e)
+
+  open-rising : is_rising (open_in p trail) ≡ true
+  unfolding open_vars
+  open-rising = rising-set_of (targets_open trail (demands_after (general p) trail))
+
+  -- an open variable that was met has its rank
+  open-ranked : (u : Var) → is_open p trail u ≡ true → 0 < score met u → has_rank ranks (rank_of (score met u) u) ≡ true
+  open-ranked u opens more =
+      ranked-member table ranks (score met) trail are (rank_of (score met u) u)
+      (record { met = more; rest = refl; free = open-unchosen (general p) trail u opens })
+
+  pub picked-ranked : (v : Var) → IsStrictlySortedBy rank_cmp ranks → find (is_open p trail) (map (λ r. r.var) ranks) ≡ Some v → most_met met (open_in p trail) ≡ Some v
+  picked-ranked v sorted h =
+      let first = first-rank (is_open p trail) ranks v sorted h in
+      let r = first.rank in
+      let ranked = member-ranked table ranks (score met) trail are r first.member in
+      let mine : r.rest ≡ cap - score met v = ranked.rest ∙ ap (λ w. cap - score met w) first.var_is in
+      let often : 0 < score met v = subst (λ w. 0 < score met w) first.var_is ranked.met in
+      most-is met (open_in p trail) v open-rising first.passes
+      (λ u opens. elim (nat_lt 0 (score met u)) as (λ b. nat_lt 0 (score met u) ≡ b → IsAtMost met u v) [
+        | false ↦ λ e. inl (omega (arith, often, zero-of u e))
+        | true ↦ λ e.
+            let q = rank_of (score met u) u in
+            elim (first.first q (open-ranked u opens (ltb-true 0 (score met u) e)) opens) [
+              | inl same ↦
+                  let one : v ≡ u = sym first.var_is ∙ ap (λ (x : Rank). x.var) same in
+                  inr (ap (score met) (sym one), ap (λ w. is_before u w) one ∙ before-itself u)
+              | inr less ↦ elim (rank-less r q less) [
+                | inl l ↦ inl (omega (arith, l, mine))
+                | inr l ↦ inr (
+                  omega (arith, l.0, mine),
+                  before-back v u (ap (λ w. is_before w u) (sym first.var_is) ∙ l.1),
+                )
+              ]
+            ]
+      ] refl)
+
+  pub picked-least : find (is_open p trail) (map (λ r. r.var) ranks) ≡ None → most_met met (open_in p trail) ≡ first_of (open_in p trail)
+  picked-least h =
+      most-none met (open_in p trail)
+      (λ u opens. elim (nat_lt 0 (score met u)) as (λ b. nat_lt 0 (score met u) ≡ b → score met u ≡ 0) [
+        | false ↦ λ e. zero-of u e
+        | true ↦ λ e. absurd (false≢true (sym (none-first (is_open p trail) ranks h (rank_of (score met u) u) (open-ranked u opens (ltb-true 0 (score met u) e))) ∙ opens))
+      ] refl)

@@ -1,0 +1,17 @@
+-- What the outcome of a search that counts conflicts means.
+use Rattle.std.specs.Prelude.{◌≡◌, ℕ}
+use Rattle.plan_types.specs.declared.limit.Limit.{Limit}
+use Rattle.plan_types.specs.declared.limit.Limit.TheVariants.{At}
+use Rattle.choice_problem.specs.declared.outcome.Outcome.{Outcome}
+use Rattle.choice_problem.specs.declared.outcome.Outcome.TheVariants.{Found, NoPlan, GaveUp}
+use Rattle.choice_problem.specs.Problem.{Problem}
+use Rattle.choice_problem.specs.General.{general}
+use Rattle.choice_problem.specs.Trail.{AreNew, value_in}
+use Rattle.choice_problem.specs.Valid.{IsWholeValid}
+use Rattle.choice_problem.specs.Sound.{AreNone}
+
+-- a trail names each variable once, and is as a map whole and valid; a set admits none, and there is none at all; or there is a limit
+abbrev pub MeansCounted : Problem → Limit → Outcome → Type 0
+MeansCounted p limit (Found trail counts) = AreNew trail × IsWholeValid (general p) (value_in trail)
+MeansCounted p limit (NoPlan set counts) = AreNone p set
+MeansCounted p limit (GaveUp counts) = (most : ℕ) × (limit ≡ At most)

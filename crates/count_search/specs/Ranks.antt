@@ -1,0 +1,55 @@
+-- Ranks of variables: what was met most often comes first, and of those that were met as often the least.
+use Rattle.std.specs.Prelude.{◌≡◌, ℕ, ◌+◌, ◌-◌, min, nat_lt, nat_eq, Bool, false, cond, ◌&&◌, List, [], ◌∷◌, Option, Some, None, is_none}
+use Rattle.std.specs.List.{list_any}
+use Rattle.std.specs.Ordering.{nat_cmp, ordering_then, is_eq}
+use Rattle.std.specs.declared.cmp.Ordering.{Ordering}
+use Rattle.qualified_goals.specs.declared.variable.Var.{Var}
+use Rattle.qualified_goals.specs.Variable.{var_cmp, same_var}
+use Rattle.choice_problem.specs.declared.problem.Choice.{Choice}
+use Rattle.choice_problem.specs.Trail.{value_in}
+use Rattle.choice_problem.specs.Table.{entry}
+use Rattle.choice_problem.specs.Guide.{cap}
+use Rattle.count_search.specs.declared.ranks.Rank.{Rank}
+
+-- the order of ranks
+abbrev pub rank_cmp : Rank → Rank → Ordering
+rank_cmp r q = ordering_then (nat_cmp r.rest q.rest) (var_cmp r.var q.var)
+
+-- whether two ranks are one
+abbrev pub same_rank : Rank → Rank → Bool
+same_rank r q = is_eq (rank_cmp r q)
+
+-- whether a rank is one of these
+abbrev pub has_rank : List Rank → Rank → Bool
+has_rank ranks r = list_any (λ q. is_eq (rank_cmp r q)) ranks
+
+-- the rank of a variable that was met so often
+abbrev pub rank_of : ℕ → Var → Rank
+rank_of score v = record { rest = cap - score; var = v }
+
+-- whether it is that of a variable that was met so often, where it was met
+abbrev pub is_rank_of : Option ℕ → Var → Rank → Bool
+is_rank_of None v r = false
+is_rank_of (Some score) v r = same_rank (rank_of score v) r
+
+-- a variable that was met has its rank as long as it isn't chosen
+abbrev pub is_ranked : (Var → ℕ) → List Choice → Rank → Bool
+is_ranked scores trail r = nat_lt 0 (scores r.var) && (nat_eq r.rest (cap - scores r.var) && is_none (value_in trail r.var))
+
+-- a count, where there is one
+abbrev pub noted : ℕ → Option ℕ
+noted score = cond (nat_eq score 0) None (Some score)
+
+-- a table and ranks say how often each variable was met
+pub record AreScored (table : List (Var × ℕ)) (ranks : List Rank) (scores : Var → ℕ) (trail : List Choice) : Type 0 where
+  pub counted : (v : Var) → entry table v ≡ noted (scores v)
+  pub ranked : (r : Rank) → has_rank ranks r ≡ is_ranked scores trail r
+
+-- a variable was met once more
+abbrev pub raised : Var → (Var → ℕ) → Var → ℕ
+raised v scores u = cond (same_var v u) (min (scores u + 1) cap) (scores u)
+
+-- each of some variables, one after another
+abbrev pub raised_all : List Var → (Var → ℕ) → Var → ℕ
+raised_all [] scores = scores
+raised_all (v ∷ vars) scores = raised_all vars (raised v scores)
