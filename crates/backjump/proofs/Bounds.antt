@@ -1,10 +1,6 @@
 -- A search makes no more tries than its answer counts.
 use Rattle.std.proofs.Common.{◌≡◌, ℕ, ◌+◌, ◌-◌, ◌*◌, ◌<◌, ◌≤◌, List, [], ◌∷◌, ◌++◌, length, sym, ap, subst, arith, length-append}
-use Rattle.std.specs.Prelude.{IfOk, OnErr}
-use Rattle.std.specs.declared.result.Result.{Result}
-use Rattle.std.specs.declared.result.Result.TheVariants.{Ok, Err}
 use Rattle.choice_problem.specs.Trail.{choice_of}
-use Rattle.qualified_goals.specs.declared.variable.Var.{Var}
 use Rattle.choice_problem.specs.Answer.{Answer, one_visited, of_value}
 use Rattle.choice_problem.proofs.Limits.{of_value-tries, answer-tries}
 use Rattle.choice_tree.specs.declared.tree.Node.{Node}

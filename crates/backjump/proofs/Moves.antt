@@ -8,11 +8,11 @@ use Rattle.choice_problem.specs.declared.problem.Choice.{Choice}
 use Rattle.choice_problem.specs.Problem.{Problem, Lawful}
 use Rattle.choice_problem.specs.General.{general}
 use Rattle.choice_problem.specs.Trail.{value_in, choice_of}
-use Rattle.choice_problem.specs.Active.{open_in, is_open, reason}
-use Rattle.choice_problem.specs.Guide.{Guide, IsGuide, cap}
+use Rattle.choice_problem.specs.Active.{open_in, reason}
+use Rattle.choice_problem.specs.Guide.{IsGuide, cap}
 use Rattle.choice_problem.specs.Conflict.{conflict}
 use Rattle.choice_problem.specs.ConflictSet.{has, set_of, union}
-use Rattle.choice_problem.specs.Answer.{GaveUp, Past, Answer, counts_of, one_visited, one_exhausted, one_met, fails, is_reached, gives_up, of_values, nothing_yet, guided_answer}
+use Rattle.choice_problem.specs.Answer.{GaveUp, Past, Answer, counts_of, one_visited, one_exhausted, fails, is_reached, gives_up, of_values, nothing_yet, guided_answer}
 use Rattle.validation.specs.View.{View, Represents}
 use Rattle.choice_tree.specs.declared.tree.Node.{Node}
 use Rattle.choice_tree.specs.Tree.{fresh, stepped, values_left, choice_at, GivesNext}

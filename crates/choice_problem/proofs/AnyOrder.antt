@@ -1,5 +1,5 @@
 -- Choices of open variables in any order, after which none is open, name the variables of the trail that their assignment has.
-use Rattle.std.proofs.Common.{◌≡◌, ◌↔◌, ℕ, zero, suc, Bool, true, false, List, [], ◌∷◌, ◌++◌, map, get_or, Option, Some, None, refl, sym, ap, ◌∙◌, subst, inl, inr, ◌⊎◌, append_assoc}
+use Rattle.std.proofs.Common.{◌≡◌, ◌↔◌, ℕ, zero, suc, true, false, List, [], ◌∷◌, ◌++◌, map, get_or, Some, None, refl, sym, ap, ◌∙◌, subst, inl, inr, ◌⊎◌, append_assoc}
 use Rattle.std.specs.Prelude.{is_none, is_some, IsSome}
 use Rattle.std.specs.List.{Contains, All}
 use Rattle.std.proofs.lemmas.Bool.{false≢true, and_parts}
@@ -15,7 +15,7 @@ use Rattle.choice_problem.specs.Active.{open_in}
 use Rattle.choice_problem.specs.ConflictSet.{first_of}
 use Rattle.choice_problem.specs.Sound.{AreOpened, none_opened, one_opened, AnyOrderNamesAlike}
 use Rattle.common_laws.specs.Lists.{contains-none, contains-left, contains-map, map-contains}
-use Rattle.choice_problem.proofs.Trails.{value_in-made, value_in-new, value_in-some, Passes, passes-push, passes-trail, open-is, open-unchosen, next-open, next-none, demand-after, yes-after, Room, room-start, room-zero, room-next, choice-general, passes-yes-general, general-lawful}
+use Rattle.choice_problem.proofs.Trails.{value_in-made, value_in-new, Passes, passes-push, passes-trail, open-is, open-unchosen, next-open, next-none, demand-after, yes-after, Room, room-start, room-zero, room-next, choice-general, passes-yes-general, general-lawful}
 use Rattle.choice_problem.proofs.Conflicts.{and-false}
 
 -- how the trail of an assignment ends

@@ -1,6 +1,6 @@
 -- How a search ends: with the first whole valid assignment, or where there is none, and without a limit in no other way.
-use Rattle.std.proofs.Common.{◌≡◌, ◌≢◌, ℕ, zero, suc, ◌<◌, Bool, true, false, cond, not, ◌&&◌, List, [], ◌∷◌, ◌++◌, length, map, Some, None, refl, sym, ap, ◌∙◌, subst, inl, inr, ◌⊎◌, append_assoc}
-use Rattle.std.specs.Prelude.{is_none, is_some}
+use Rattle.std.proofs.Common.{◌≡◌, ◌≢◌, ℕ, zero, suc, ◌<◌, Bool, true, false, cond, not, ◌&&◌, List, [], ◌∷◌, ◌++◌, length, Some, None, refl, sym, ap, ◌∙◌, subst, inl, inr, ◌⊎◌, append_assoc}
+use Rattle.std.specs.Prelude.{is_none}
 use Rattle.std.specs.List.{Contains, All, AllPairs, list_any}
 use Rattle.std.proofs.lemmas.Bool.{false≢true, and_right}
 use Rattle.std.proofs.lemmas.List.{append-nil}
@@ -23,8 +23,8 @@ use Rattle.choice_problem.specs.ConflictSet.{has, first_of, set_of, union}
 use Rattle.choice_problem.specs.Conflict.{Edge, edges_from, edges_by, edges_of, leads, lies_on_cycle, disagree, lasting_set, conflict}
 use Rattle.choice_problem.specs.Answer.{Found, Failed, GaveUp, Past, Answer, Manner, gives_up, fails, one_visited, one_exhausted, after_conflict, of_value, after_end, of_values, answer_from, nothing_yet, guided_answer, answer_of}
 use Rattle.choice_problem.specs.Sound.{AdmitsNoneWith, IsRightEnd, IsValidEnd, AreNone, AreOpened, none_opened, one_opened}
-use Rattle.common_laws.specs.Lists.{contains-head, contains-tail, contains-none, contains-cases, contains-append, contains-right, contains-map, map-contains, flat_map-contains, cancel-front, earlier-in-front, any-from}
-use Rattle.choice_problem.proofs.Trails.{value_in-made, value_in-kept, value_in-new, value_in-some, Passes, passes-value, passes-push, passes-front, next-none, next-open, next-unchosen, open-unchosen, target-known, yes-after, Room, room-start, room-zero, room-next, trail-step, trail-end, passes-trail, passes-choices, choices-general, choice-general, choices-plain, demand-plain, general-lawful}
+use Rattle.common_laws.specs.Lists.{contains-head, contains-tail, contains-none, contains-cases, contains-append, contains-right, flat_map-contains, cancel-front, earlier-in-front, any-from}
+use Rattle.choice_problem.proofs.Trails.{value_in-made, value_in-kept, value_in-new, Passes, passes-value, passes-push, passes-front, next-none, next-open, next-unchosen, open-unchosen, target-known, yes-after, Room, room-start, room-zero, room-next, trail-step, trail-end, passes-trail, passes-choices, choices-general, choice-general, choices-plain, demand-plain, general-lawful}
 use Rattle.choice_problem.proofs.Paths.{Way, start, step, way-leads}
 use Rattle.choice_problem.proofs.Active.{value_in-last, yes-active, yes-made, IsOpen, open-plain}
 use Rattle.choice_problem.specs.Guides.{least-is-guide}

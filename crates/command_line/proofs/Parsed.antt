@@ -22,7 +22,7 @@ use Rattle.command_line.specs.declared.option_name.OptionName.TheVariants.{Numbe
 use Rattle.command_line.specs.Words.{asked, asks_for, given, is_command, is_given, is_known, is_well_given, options}
 use Rattle.command_line.specs.Parser.{found_in, parser}
 use Rattle.command_line.proofs.Table.{Given, each_option, rules, spelled, word_of}
-use Rattle.command_line.proofs.Walk.{Once, words_around, rows_around, with_flag, words_taken, values_found, counts_alike, finished_rows, walks}
+use Rattle.command_line.proofs.Walk.{Once, words_around, rows_around, with_flags, words_taken, values_found, counts_alike, finished_rows, walks}
 
 is_given_word : (option : OptionName) (word : Text) → gives option word ≡ true → word ≡ word_of (option, value_in option word)
 is_given_word option word = by (kind_of option)
@@ -152,7 +152,7 @@ parses_around command before after once =
     let end = (walk rules [] nothing_held (words_around command before after)).held in
     record {
       takes_them = words_taken command before after once;
-      values = λ option. ap (first_of (name_of option)) (finished_rows end ∙ ap with_flag (walks command before after once).ends.rows_are) ∙ values_found command before after option;
+      values = λ option. ap (first_of (name_of option)) (finished_rows end ∙ ap with_flags (walks command before after once).ends.rows_are) ∙ values_found command before after option;
     }
 
 pub parses : (words : List Text) → is_some (asked words) ≡ true → Parses words

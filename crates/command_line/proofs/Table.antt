@@ -14,7 +14,7 @@ use Rattle.clap.specs.Walk.{Rule, Text, arg_by_long, is_empty}
 use Rattle.command_line.specs.declared.option_name.OptionKind.{OptionKind}
 use Rattle.command_line.specs.declared.option_name.OptionKind.TheVariants.{Valued, Flag}
 use Rattle.command_line.specs.declared.option_name.OptionName.{OptionName}
-use Rattle.command_line.specs.declared.option_name.OptionName.TheVariants.{Index, Installed, Os, Arch, Compiler, MaxBackjumps, Number, Json}
+use Rattle.command_line.specs.declared.option_name.OptionName.TheVariants.{Index, Installed, Os, Arch, Compiler, MaxBackjumps, Number, Json, CountConflicts}
 use Rattle.command_line.specs.OptionName.{gives, gives_as, kind_of, name_of, prefix_of, sign_of, value_in}
 use Rattle.command_line.specs.Words.{options}
 use Rattle.command_line.specs.Parser.{parser, rule_as}
@@ -31,6 +31,7 @@ place_of Compiler = 4
 place_of MaxBackjumps = 5
 place_of Number = 6
 place_of Json = 7
+place_of CountConflicts = 8
 
 stands : (option : OptionName) → slice_get options (place_of option) ≡ Some option
 stands Index = refl
@@ -41,6 +42,7 @@ stands Compiler = refl
 stands MaxBackjumps = refl
 stands Number = refl
 stands Json = refl
+stands CountConflicts = refl
 
 all-at : {A : Type 0} (test : A → Bool) (xs : List A) (i : ℕ) (x : A) → slice_get xs i ≡ Some x → list_all test xs ≡ true → test x ≡ true
 all-at test [] i x at all = absurd (cc at)
@@ -100,6 +102,7 @@ its_own Compiler = refl
 its_own MaxBackjumps = refl
 its_own Number = refl
 its_own Json = refl
+its_own CountConflicts = refl
 
 -- options of one name are one
 pub one_option : (option other : OptionName) → bytes_eq (name_of other) (name_of option) ≡ true → other ≡ option
@@ -226,6 +229,7 @@ rule_is Compiler = refl
 rule_is MaxBackjumps = refl
 rule_is Number = refl
 rule_is Json = refl
+rule_is CountConflicts = refl
 
 -- ---- which option a word gives
 
@@ -266,7 +270,7 @@ shorter (x ∷ a) [] none = refl
 shorter (x ∷ a) (y ∷ b) none =
     false-and (x == y) (bytes_eq (a ++ codes "=") (take (length (a ++ codes "=")) (b ++ []))) (shorter a b (or_parts (y == 61) (has_byte 61 b) none).1)
 
-abbrev alike : OptionKind → OptionKind → Bool
+abbrev pub alike : OptionKind → OptionKind → Bool
 alike Valued Valued = true
 alike Valued Flag = false
 alike Flag Valued = false
@@ -278,20 +282,32 @@ two_names option other =
     each_option (λ p. alike (kind_of option) (kind_of p) || not (bytes_eq (name_of p) (name_of option)))
     (each_option (λ o. list_all (λ p. alike (kind_of o) (kind_of p) || not (bytes_eq (name_of p) (name_of o))) options) refl option) other
 
--- the one flag
-pub only_flag : (option : OptionName) → kind_of option ≡ Flag → option ≡ Json
-only_flag Index e = absurd (cc e)
-only_flag Installed e = absurd (cc e)
-only_flag Os e = absurd (cc e)
-only_flag Arch e = absurd (cc e)
-only_flag Compiler e = absurd (cc e)
-only_flag MaxBackjumps e = absurd (cc e)
-only_flag Number e = absurd (cc e)
-only_flag Json e = refl
+-- the flags, which stand last in the table
+abbrev pub flags : List OptionName
+flags = Json ∷ CountConflicts ∷ []
 
--- it has a name of its own
-pub not_flag : (option : OptionName) → kind_of option ≡ Valued → bytes_eq (name_of Json) (name_of option) ≡ false
-not_flag option e = not-true (bytes_eq (name_of Json) (name_of option)) (ap (λ k. alike k Flag || not (bytes_eq (name_of Json) (name_of option))) (sym e) ∙ two_names option Json)
+pub each_flag : list_all (λ flag. alike (kind_of flag) Flag) flags ≡ true
+each_flag = refl
+
+-- each option of their kind is one of them
+pub a_flag : (option : OptionName) → kind_of option ≡ Flag → list_any (λ flag. bytes_eq (name_of flag) (name_of option)) flags ≡ true
+a_flag Index e = absurd (cc e)
+a_flag Installed e = absurd (cc e)
+a_flag Os e = absurd (cc e)
+a_flag Arch e = absurd (cc e)
+a_flag Compiler e = absurd (cc e)
+a_flag MaxBackjumps e = absurd (cc e)
+a_flag Number e = absurd (cc e)
+a_flag Json e = refl
+a_flag CountConflicts e = refl
+
+-- a flag has a name of its own
+pub not_flag : (flag option : OptionName) → alike (kind_of flag) Flag ≡ true → kind_of option ≡ Valued → bytes_eq (name_of flag) (name_of option) ≡ false
+not_flag flag option is e = not-true (bytes_eq (name_of flag) (name_of option)) (by (kind_of flag) is (ap (λ k. alike k (kind_of flag) || not (bytes_eq (name_of flag) (name_of option))) (sym e) ∙ two_names option flag))
+  where
+    by : (kind : OptionKind) → alike kind Flag ≡ true → (alike Valued kind || not (bytes_eq (name_of flag) (name_of option))) ≡ true → not (bytes_eq (name_of flag) (name_of option)) ≡ true
+    by Valued is apart = absurd (false≢true is)
+    by Flag is apart = apart
 
 -- a word gives an option where the names are one
 pub same_test : (option : OptionName) (g : Given) → gives option (word_of g) ≡ bytes_eq (name_of g.0) (name_of option)

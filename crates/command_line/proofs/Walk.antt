@@ -22,11 +22,11 @@ use Rattle.command_line.specs.declared.command_name.CommandName.TheVariants.{Pla
 use Rattle.command_line.specs.declared.option_name.OptionKind.{OptionKind}
 use Rattle.command_line.specs.declared.option_name.OptionKind.TheVariants.{Valued, Flag}
 use Rattle.command_line.specs.declared.option_name.OptionName.{OptionName}
-use Rattle.command_line.specs.declared.option_name.OptionName.TheVariants.{Index, Installed, Os, Arch, Compiler, MaxBackjumps, Number, Json}
+use Rattle.command_line.specs.declared.option_name.OptionName.TheVariants.{Index, Installed, Os, Arch, Compiler, MaxBackjumps, Number, Json, CountConflicts}
 use Rattle.command_line.specs.OptionName.{gives, gives_as, kind_of, name_of, sign_of, value_in}
 use Rattle.command_line.specs.Words.{given}
 use Rattle.command_line.specs.Parser.{command_rule, found_as, found_in, parser, truth_text}
-use Rattle.command_line.proofs.Table.{Given, attached, built_as, command_not, held_as, held_found, held_of, long_is, not_command, not_dashes, not_flag, only_flag, rule_is, rules, same_name, same_test, shape, word_of}
+use Rattle.command_line.proofs.Table.{Given, attached, built_as, command_not, held_as, a_flag, alike, each_flag, flags, held_found, held_of, long_is, not_command, not_dashes, not_flag, one_option, rule_is, rules, same_name, same_test, shape, word_of}
 
 -- ---- rows
 
@@ -282,36 +282,50 @@ plain_all (a ∷ others) rows all =
     let parts = both (is_empty a.defaults) (list_all (λ r. is_empty r.defaults) others) all in
     ap (λ rs. fold with_default rs others) (plain rows a (is_nil a.defaults parts.0)) ∙ plain_all others rows parts.1
 
--- the row of the flag where no word gives it
-abbrev absent : Row
-absent = record { id = name_of Json; values = codes "false" ∷ []; count = None; source = Some DefaultValue; reading = reading_by (built_as Flag (name_of Json)) }
+-- the row of a flag where no word gives it
+abbrev absent : OptionName → Row
+absent flag = record { id = name_of flag; values = codes "false" ∷ []; count = None; source = Some DefaultValue; reading = reading_by (built_as Flag (name_of flag)) }
 
 -- the rows with it
-abbrev pub with_flag : List Row → List Row
-with_flag rows = cond (has_row (name_of Json) rows) rows (rows ++ absent ∷ [])
+abbrev with_flag : OptionName → List Row → List Row
+with_flag flag rows = cond (has_row (name_of flag) rows) rows (rows ++ absent flag ∷ [])
 
-flag_default : (rows : List Row) → with_default rows (built_as Flag (name_of Json)) ≡ with_flag rows
-flag_default rows = go (has_row (name_of Json) rows) refl
+-- the rows with those of some flags
+abbrev with_each : List OptionName → List Row → List Row
+with_each [] rows = rows
+with_each (flag ∷ others) rows = with_each others (with_flag flag rows)
+
+-- the rows with those of all flags
+abbrev pub with_flags : List Row → List Row
+with_flags rows = with_each flags rows
+
+flag_default : (flag : OptionName) (rows : List Row) → with_default rows (built_as Flag (name_of flag)) ≡ with_flag flag rows
+flag_default flag rows = go (has_row (name_of flag) rows) refl
   where
     given_or : List Row
-    given_or = with_values (name_of Json) (reading_by (built_as Flag (name_of Json))) DefaultValue (codes "false" ∷ []) rows
+    given_or = with_values (name_of flag) (reading_by (built_as Flag (name_of flag))) DefaultValue (codes "false" ∷ []) rows
 
-    go : (b : Bool) → has_row (name_of Json) rows ≡ b → cond b rows given_or ≡ cond b rows (rows ++ absent ∷ [])
+    go : (b : Bool) → has_row (name_of flag) rows ≡ b → cond b rows given_or ≡ cond b rows (rows ++ absent flag ∷ [])
     go true e = refl
-    go false e = at_fresh (name_of Json) (more_values DefaultValue (codes "false" ∷ [])) (absent ∷ []) rows e
+    go false e = at_fresh (name_of flag) (more_values DefaultValue (codes "false" ∷ [])) (absent flag ∷ []) rows e
 
--- the rules before that of the flag
+each_default : (others : List OptionName) (rows : List Row) → fold with_default rows (map (λ flag. built_as Flag (name_of flag)) others) ≡ with_each others rows
+each_default [] rows = refl
+each_default (flag ∷ others) rows =
+    ap (λ rs. fold with_default rs (map (λ o. built_as Flag (name_of o)) others)) (flag_default flag rows) ∙ each_default others (with_flag flag rows)
+
+-- the rules before those of the flags
 abbrev front : List Rule
 front = with_index 1 (filled command_rule) ∷ map (λ option. built_as Valued (name_of option)) (Index ∷ Installed ∷ Os ∷ Arch ∷ Compiler ∷ MaxBackjumps ∷ Number ∷ [])
 
-rules_are : rules ≡ front ++ built_as Flag (name_of Json) ∷ []
+rules_are : rules ≡ front ++ map (λ flag. built_as Flag (name_of flag)) flags
 rules_are = refl
 
-pub finished_rows : (h : Held) → finished rules h ≡ with_flag (settled rules h).rows
+pub finished_rows : (h : Held) → finished rules h ≡ with_flags (settled rules h).rows
 finished_rows h =
     let rows : List Row = (settled rules h).rows in
-    ap (fold with_default rows) rules_are ∙ fold-append with_default rows front (built_as Flag (name_of Json) ∷ [])
-    ∙ ap (λ rs. with_default rs (built_as Flag (name_of Json))) (plain_all front rows refl) ∙ flag_default rows
+    ap (fold with_default rows) rules_are ∙ fold-append with_default rows front (map (λ flag. built_as Flag (name_of flag)) flags)
+    ∙ ap (λ rs. fold with_default rs (map (λ flag. built_as Flag (name_of flag)) flags)) (plain_all front rows refl) ∙ each_default flags rows
 
 find_more : {X : Type 0} (p : X → Bool) (xs : List X) (x : X) → p x ≡ false → find p (xs ++ x ∷ []) ≡ find p xs
 find_more p [] x e = ap (λ b. cond b (Some x) None) e
@@ -329,17 +343,61 @@ command_found : (command : CommandName) (before after : List Given) → is_given
 command_found command before after =
     ap (λ found. option_map_or (λ r. explicit_source r.source) found false) (find_past (λ r. bytes_eq r.id (codes "command")) (map row_of before) (command_row command ∷ map row_of after) (no_command_row before))
 
-command_given : (command : CommandName) (before after : List Given) → is_given (codes "command") (with_flag (rows_around command before after)) ≡ true
-command_given command before after = go (has_row (name_of Json) (rows_around command before after))
+-- what is found stays when rows of flags follow
+find_kept : {X : Type 0} (p : X → Bool) (xs ys : List X) → list_any p xs ≡ true → find p (xs ++ ys) ≡ find p xs
+find_kept p [] ys some = absurd (false≢true some)
+find_kept p (x ∷ xs) ys some = go (p x) some (find_kept p xs ys)
   where
-    rows : List Row
-    rows = rows_around command before after
+    go : (b : Bool) → (b || list_any p xs) ≡ true → (list_any p xs ≡ true → find p (xs ++ ys) ≡ find p xs) → cond b (Some x) (find p (xs ++ ys)) ≡ cond b (Some x) (find p xs)
+    go true e more = refl
+    go false e more = more e
 
-    go : (b : Bool) → is_given (codes "command") (cond b rows (rows ++ absent ∷ [])) ≡ true
-    go true = command_found command before after
-    go false =
-        ap (λ found. option_map_or (λ r. explicit_source r.source) found false) (find_more (λ r. bytes_eq r.id (codes "command")) rows absent refl)
-        ∙ command_found command before after
+any_kept : {X : Type 0} (p : X → Bool) (xs ys : List X) → list_any p xs ≡ true → list_any p (xs ++ ys) ≡ true
+any_kept p [] ys some = absurd (false≢true some)
+any_kept p (x ∷ xs) ys some = go (p x) some (any_kept p xs ys)
+  where
+    go : (b : Bool) → (b || list_any p xs) ≡ true → (list_any p xs ≡ true → list_any p (xs ++ ys) ≡ true) → (b || list_any p (xs ++ ys)) ≡ true
+    go true e more = refl
+    go false e more = more e
+
+flags_kept : (p : Row → Bool) (others : List OptionName) (rows : List Row) → list_any p rows ≡ true → find p (with_each others rows) ≡ find p rows
+flags_kept p [] rows some = refl
+flags_kept p (flag ∷ others) rows some = go (has_row (name_of flag) rows)
+  where
+    go : (b : Bool) → find p (with_each others (cond b rows (rows ++ absent flag ∷ []))) ≡ find p rows
+    go true = flags_kept p others rows some
+    go false = flags_kept p others (rows ++ absent flag ∷ []) (any_kept p rows (absent flag ∷ []) some) ∙ find_kept p rows (absent flag ∷ []) some
+
+some_found : {X : Type 0} (p test : X → Bool) (xs : List X) → option_map_or test (find p xs) false ≡ true → list_any p xs ≡ true
+some_found p test [] h = h
+some_found p test (x ∷ xs) h = go (p x) h (some_found p test xs)
+  where
+    go : (b : Bool) → option_map_or test (cond b (Some x) (find p xs)) false ≡ true → (option_map_or test (find p xs) false ≡ true → list_any p xs ≡ true) → (b || list_any p xs) ≡ true
+    go true e more = refl
+    go false e more = more e
+
+any_past : {X : Type 0} (p : X → Bool) (xs : List X) (x : X) → list_any p xs ≡ false → p x ≡ true → list_any p (xs ++ x ∷ []) ≡ true
+any_past p [] x none is = ap (λ b. b || false) is
+any_past p (y ∷ xs) x none is = go (p y) none (any_past p xs x)
+  where
+    go : (b : Bool) → (b || list_any p xs) ≡ false → (list_any p xs ≡ false → p x ≡ true → list_any p (xs ++ x ∷ []) ≡ true) → (b || list_any p (xs ++ x ∷ [])) ≡ true
+    go true e more = refl
+    go false e more = more e is
+
+none_more : {X : Type 0} (p : X → Bool) (xs : List X) (x : X) → list_any p xs ≡ false → p x ≡ false → list_any p (xs ++ x ∷ []) ≡ false
+none_more p [] x none is = ap (λ b. b || false) is
+none_more p (y ∷ xs) x none is = go (p y) none (none_more p xs x)
+  where
+    go : (b : Bool) → (b || list_any p xs) ≡ false → (list_any p xs ≡ false → p x ≡ false → list_any p (xs ++ x ∷ []) ≡ false) → (b || list_any p (xs ++ x ∷ [])) ≡ false
+    go true e more = e
+    go false e more = more e is
+
+command_given : (command : CommandName) (before after : List Given) → is_given (codes "command") (with_flags (rows_around command before after)) ≡ true
+command_given command before after =
+    let rows = rows_around command before after in
+    let p = λ (r : Row). bytes_eq r.id (codes "command") in
+    let found = command_found command before after in
+    ap (λ f. option_map_or (λ r. explicit_source r.source) f false) (flags_kept p flags rows (some_found p (λ r. explicit_source r.source) rows found)) ∙ found
 
 valid : (rows : List Row) → is_given (codes "command") rows ≡ true → is_valid shape rows false ≡ true
 valid rows given = rw given refl
@@ -348,7 +406,7 @@ pub words_taken : (command : CommandName) (before after : List Given) → Once (
 words_taken command before after once =
     let whole = walks command before after once in
     let end = (walk rules [] nothing_held (words_around command before after)).held in
-    let is_valid_here : is_valid shape (finished rules end) false ≡ true = valid (finished rules end) (ap (is_given (codes "command")) (finished_rows end ∙ ap with_flag whole.ends.rows_are) ∙ command_given command before after) in
+    let is_valid_here : is_valid shape (finished rules end) false ≡ true = valid (finished rules end) (ap (is_given (codes "command")) (finished_rows end ∙ ap with_flags whole.ends.rows_are) ∙ command_given command before after) in
     leaf_takes (built parser) nothing_held (words_around command before after) refl (rw (whole.passes, whole.ends.passes, is_valid_here) refl)
 
 -- ---- the values
@@ -417,38 +475,73 @@ module _ (command : CommandName) (before after : List Given) where
   abbrev all_words : List Text
   all_words = words_around command before after
 
-  valued_found : (option : OptionName) → kind_of option ≡ Valued → first_of (name_of option) (with_flag held_rows) ≡ given option all_words
-  valued_found option valued = go (has_row (name_of Json) held_rows)
+  valued_each : (option : OptionName) → kind_of option ≡ Valued → (others : List OptionName) (rows : List Row) → list_all (λ flag. alike (kind_of flag) Flag) others ≡ true
+      → find (λ r. bytes_eq r.id (name_of option)) (with_each others rows) ≡ find (λ r. bytes_eq r.id (name_of option)) rows
+  valued_each option valued [] rows all = refl
+  valued_each option valued (flag ∷ others) rows all = go (has_row (name_of flag) rows)
     where
-      held : first_of (name_of option) held_rows ≡ given option all_words
-      held = values_given command option before after ∙ ap (λ kind. held_as kind (given option all_words)) valued
+      p : Row → Bool
+      p r = bytes_eq r.id (name_of option)
 
-      go : (b : Bool) → first_of (name_of option) (cond b held_rows (held_rows ++ absent ∷ [])) ≡ given option all_words
-      go true = held
-      go false = ap (option_and_then (λ r. slice_get r.values 0)) (find_more (λ r. bytes_eq r.id (name_of option)) held_rows absent (not_flag option valued)) ∙ held
+      parts : (alike (kind_of flag) Flag ≡ true) × (list_all (λ f. alike (kind_of f) Flag) others ≡ true)
+      parts = both (alike (kind_of flag) Flag) (list_all (λ f. alike (kind_of f) Flag) others) all
 
-  flag_found : first_of (name_of Json) (with_flag held_rows) ≡ Some (truth_text (is_some (given Json all_words)))
-  flag_found = go (has_row (name_of Json) held_rows) refl
+      go : (b : Bool) → find (λ r. bytes_eq r.id (name_of option)) (with_each others (cond b rows (rows ++ absent flag ∷ []))) ≡ find (λ r. bytes_eq r.id (name_of option)) rows
+      go true = valued_each option valued others rows parts.1
+      go false =
+          valued_each option valued others (rows ++ absent flag ∷ []) parts.1
+          ∙ find_more (λ r. bytes_eq r.id (name_of option)) rows (absent flag) (not_flag flag option parts.0 valued)
+
+  valued_found : (option : OptionName) → kind_of option ≡ Valued → first_of (name_of option) (with_flags held_rows) ≡ given option all_words
+  valued_found option valued =
+      ap (option_and_then (λ r. slice_get r.values 0)) (valued_each option valued flags held_rows each_flag)
+      ∙ values_given command option before after ∙ ap (λ kind. held_as kind (given option all_words)) valued
+
+  -- a flag that no word gives has its own row
+  absent_found : (option : OptionName) (others : List OptionName) (rows : List Row) → list_any (λ flag. bytes_eq (name_of flag) (name_of option)) others ≡ true
+      → has_row (name_of option) rows ≡ false → first_of (name_of option) (with_each others rows) ≡ Some (codes "false")
+  absent_found option [] rows some none = absurd (false≢true some)
+  absent_found option (flag ∷ others) rows some none = by (bytes_eq (name_of flag) (name_of option)) refl some
     where
-      there : has_row (name_of Json) held_rows ≡ is_some (given Json all_words)
-      there = there_alike command Json before after
+      by : (b : Bool) → bytes_eq (name_of flag) (name_of option) ≡ b → (b || list_any (λ f. bytes_eq (name_of f) (name_of option)) others) ≡ true
+          → first_of (name_of option) (with_each (flag ∷ others) rows) ≡ Some (codes "false")
+      by true e some =
+          let fresh : has_row (name_of flag) rows ≡ false = ap (λ o. has_row (name_of o) rows) (one_option option flag e) ∙ none in
+          let p = λ (r : Row). bytes_eq r.id (name_of option) in
+          ap (λ b. first_of (name_of option) (with_each others (cond b rows (rows ++ absent flag ∷ [])))) fresh
+          ∙ ap (option_and_then (λ r. slice_get r.values 0)) (flags_kept p others (rows ++ absent flag ∷ []) (any_past p rows (absent flag) none e) ∙ find_past p rows (absent flag ∷ []) none)
+          ∙ ap (λ b. option_and_then (λ r. slice_get r.values 0) (cond b (Some (absent flag)) None)) e
+      by false e some = go (has_row (name_of flag) rows)
+        where
+          p : Row → Bool
+          p r = bytes_eq r.id (name_of option)
+
+          go : (b : Bool) → first_of (name_of option) (with_each others (cond b rows (rows ++ absent flag ∷ []))) ≡ Some (codes "false")
+          go true = absent_found option others rows some none
+          go false = absent_found option others (rows ++ absent flag ∷ []) some (none_more (λ r. bytes_eq r.id (name_of option)) rows (absent flag) none e)
+
+  flag_found : (option : OptionName) → kind_of option ≡ Flag → first_of (name_of option) (with_flags held_rows) ≡ Some (truth_text (is_some (given option all_words)))
+  flag_found option flag = go (has_row (name_of option) held_rows) refl
+    where
+      there : has_row (name_of option) held_rows ≡ is_some (given option all_words)
+      there = there_alike command option before after
 
       set : (value : Option Text) → is_some value ≡ true → held_as Flag value ≡ Some (truth_text (is_some value))
       set None e = absurd (false≢true e)
       set (Some v) e = refl
 
-      go : (b : Bool) → has_row (name_of Json) held_rows ≡ b → first_of (name_of Json) (cond b held_rows (held_rows ++ absent ∷ [])) ≡ Some (truth_text (is_some (given Json all_words)))
-      go true e = values_given command Json before after ∙ set (given Json all_words) (sym there ∙ e)
-      go false e =
-          ap (option_and_then (λ r. slice_get r.values 0)) (find_past (λ r. bytes_eq r.id (name_of Json)) held_rows (absent ∷ []) e)
-          ∙ ap (λ b. Some (truth_text b)) (sym e ∙ there)
+      go : (b : Bool) → has_row (name_of option) held_rows ≡ b → first_of (name_of option) (with_flags held_rows) ≡ Some (truth_text (is_some (given option all_words)))
+      go true e =
+          ap (option_and_then (λ r. slice_get r.values 0)) (flags_kept (λ r. bytes_eq r.id (name_of option)) flags held_rows e)
+          ∙ values_given command option before after ∙ ap (λ kind. held_as kind (given option all_words)) flag ∙ set (given option all_words) (sym there ∙ e)
+      go false e = absent_found option flags held_rows (a_flag option flag) e ∙ ap (λ b. Some (truth_text b)) (sym e ∙ there)
 
-  pub values_found : (option : OptionName) → first_of (name_of option) (with_flag held_rows) ≡ found_in option all_words
+  pub values_found : (option : OptionName) → first_of (name_of option) (with_flags held_rows) ≡ found_in option all_words
   values_found option = by (kind_of option) refl
     where
-      by : (kind : OptionKind) → kind_of option ≡ kind → first_of (name_of option) (with_flag held_rows) ≡ found_in option all_words
+      by : (kind : OptionKind) → kind_of option ≡ kind → first_of (name_of option) (with_flags held_rows) ≡ found_in option all_words
       by Valued e = valued_found option e ∙ ap (λ kind. found_as kind (given option all_words)) (sym e)
-      by Flag e = subst (λ o. first_of (name_of o) (with_flag held_rows) ≡ found_in o all_words) (sym (only_flag option e)) flag_found
+      by Flag e = flag_found option e ∙ ap (λ kind. found_as kind (given option all_words)) (sym e)
 
 -- each option has as many rows as words
 same_count : (option : OptionName) (gs : List Given) (rows : List Row) (words : List Text) → count_by (is_row option) rows ≡ count_by (gives option) words

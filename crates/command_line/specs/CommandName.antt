@@ -3,7 +3,7 @@ use Rattle.std.specs.Prelude.{ℕ, List, [], ◌∷◌, codes}
 use Rattle.command_line.specs.declared.command_name.CommandName.{CommandName}
 use Rattle.command_line.specs.declared.command_name.CommandName.TheVariants.{Plan, Generate}
 use Rattle.command_line.specs.declared.option_name.OptionName.{OptionName}
-use Rattle.command_line.specs.declared.option_name.OptionName.TheVariants.{Index, Installed, Os, Arch, Compiler, MaxBackjumps, Number, Json}
+use Rattle.command_line.specs.declared.option_name.OptionName.TheVariants.{Index, Installed, Os, Arch, Compiler, MaxBackjumps, Number, Json, CountConflicts}
 
 -- every command
 abbrev pub commands : List CommandName
@@ -16,7 +16,7 @@ command_word Generate = codes "generate"
 
 -- the options that a command takes
 abbrev pub taken_by : CommandName → List OptionName
-taken_by Plan = Index ∷ Installed ∷ Os ∷ Arch ∷ Compiler ∷ MaxBackjumps ∷ Json ∷ []
+taken_by Plan = Index ∷ Installed ∷ Os ∷ Arch ∷ Compiler ∷ MaxBackjumps ∷ Json ∷ CountConflicts ∷ []
 taken_by Generate = MaxBackjumps ∷ Number ∷ []
 
 -- the options that a command needs

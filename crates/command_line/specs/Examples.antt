@@ -13,6 +13,7 @@ plain : reading (codes "plan" ∷ []) ≡ Some (Plan (record {
   env = record { os = codes "linux"; arch = codes "x86_64"; compiler = codes "ghc"; compiler_version = record { parts = 9 ∷ 4 ∷ 7 ∷ [] } };
   limit = None;
   json = false;
+  count_conflicts = false;
 }))
 plain = refl
 
@@ -21,6 +22,7 @@ told : reading (codes "--os=Win32" ∷ codes "plan" ∷ codes "--compiler=GHC-8.
   env = record { os = codes "windows"; arch = codes "x86_64"; compiler = codes "ghc"; compiler_version = record { parts = 8 ∷ 10 ∷ [] } };
   limit = Some (At 7);
   json = false;
+  count_conflicts = false;
 }))
 told = refl
 

@@ -10,7 +10,7 @@ use Rattle.version_range.specs.Number.{is_count, limit_of}
 use Rattle.version_range.specs.Version.{number_after}
 use Rattle.condition_text.specs.Grammar.{is_compiler_name}
 use Rattle.command_line.specs.declared.option_name.OptionName.{OptionName}
-use Rattle.command_line.specs.declared.option_name.OptionName.TheVariants.{Index, Installed, Os, Arch, Compiler, MaxBackjumps, Number, Json}
+use Rattle.command_line.specs.declared.option_name.OptionName.TheVariants.{Index, Installed, Os, Arch, Compiler, MaxBackjumps, Number, Json, CountConflicts}
 
 -- a name of a directory in a path, which leads down
 abbrev pub is_directory : List ℕ → Bool
@@ -72,3 +72,4 @@ has_form Compiler value = is_compiler value
 has_form MaxBackjumps value = is_signed value
 has_form Number value = is_number value
 has_form Json value = length value == 0
+has_form CountConflicts value = length value == 0

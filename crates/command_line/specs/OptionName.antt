@@ -5,7 +5,7 @@ use Rattle.std.specs.Str.{bytes_eq}
 use Rattle.command_line.specs.declared.option_name.OptionKind.{OptionKind}
 use Rattle.command_line.specs.declared.option_name.OptionKind.TheVariants.{Valued, Flag}
 use Rattle.command_line.specs.declared.option_name.OptionName.{OptionName}
-use Rattle.command_line.specs.declared.option_name.OptionName.TheVariants.{Index, Installed, Os, Arch, Compiler, MaxBackjumps, Number, Json}
+use Rattle.command_line.specs.declared.option_name.OptionName.TheVariants.{Index, Installed, Os, Arch, Compiler, MaxBackjumps, Number, Json, CountConflicts}
 
 -- whether a value stands in the word of an option
 abbrev pub kind_of : OptionName → OptionKind
@@ -17,6 +17,7 @@ kind_of Compiler = Valued
 kind_of MaxBackjumps = Valued
 kind_of Number = Valued
 kind_of Json = Flag
+kind_of CountConflicts = Flag
 
 -- the name of an option
 abbrev pub name_of : OptionName → List ℕ
@@ -28,6 +29,7 @@ name_of Compiler = codes "compiler"
 name_of MaxBackjumps = codes "max-backjumps"
 name_of Number = codes "number"
 name_of Json = codes "json"
+name_of CountConflicts = codes "count-conflicts"
 
 -- what stands behind the name
 abbrev pub sign_of : OptionKind → List ℕ

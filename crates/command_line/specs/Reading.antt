@@ -7,7 +7,7 @@ use Rattle.plan_types.specs.declared.limit.Limit.{Limit}
 use Rattle.plan_types.specs.declared.limit.Limit.TheVariants.{At}
 use Rattle.command_line.specs.declared.command_name.CommandName.{CommandName}
 use Rattle.command_line.specs.declared.command_name.CommandName.TheVariants as command
-use Rattle.command_line.specs.declared.option_name.OptionName.TheVariants.{Index, Installed, Os, Arch, Compiler, MaxBackjumps, Number, Json}
+use Rattle.command_line.specs.declared.option_name.OptionName.TheVariants.{Index, Installed, Os, Arch, Compiler, MaxBackjumps, Number, Json, CountConflicts}
 use Rattle.command_line.specs.declared.reading.Command.{Command}
 use Rattle.command_line.specs.declared.reading.Command.TheVariants.{Plan, Generate}
 use Rattle.command_line.specs.declared.reading.Options.{Options}
@@ -41,11 +41,12 @@ options_of words = record {
   env = env_of (given Os words) (given Arch words) (given Compiler words);
   limit = option_and_then limit_of (given MaxBackjumps words);
   json = is_some (given Json words);
+  count_conflicts = is_some (given CountConflicts words);
 }
 
 -- the options where words give none, but with this limit
 abbrev pub default_options : Limit → Options
-default_options limit = record { places = places_of None None; env = env_of None None None; limit = Some limit; json = false }
+default_options limit = record { places = places_of None None; env = env_of None None None; limit = Some limit; json = false; count_conflicts = false }
 
 -- whether what is found of a flag says that it is there
 abbrev pub is_true : Option (List ℕ) → Bool

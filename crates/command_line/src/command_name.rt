@@ -41,6 +41,7 @@ pub fn taken_by(command: CommandName) -> &'static [OptionName]
             OptionName::Compiler,
             OptionName::MaxBackjumps,
             OptionName::Json,
+            OptionName::CountConflicts,
         ],
         CommandName::Generate => &[OptionName::MaxBackjumps, OptionName::Number],
     }

@@ -23,6 +23,7 @@ pub fn has_form(option: OptionName, value: &[u8]) -> bool
         OptionName::MaxBackjumps => is_signed(value),
         OptionName::Number => is_number(value),
         OptionName::Json => value.is_empty(),
+        OptionName::CountConflicts => value.is_empty(),
     }
 }
 

@@ -13,6 +13,7 @@ pub enum OptionName {
     MaxBackjumps,
     Number,
     Json,
+    CountConflicts,
 }
 
 /// What stands in the word of an option.
@@ -37,6 +38,7 @@ pub fn kind_of(option: OptionName) -> OptionKind
         OptionName::MaxBackjumps => OptionKind::Valued,
         OptionName::Number => OptionKind::Valued,
         OptionName::Json => OptionKind::Flag,
+        OptionName::CountConflicts => OptionKind::Flag,
     }
 }
 
@@ -53,6 +55,7 @@ pub fn name_of<'a>(option: OptionName) -> &'a str
         OptionName::MaxBackjumps => "max-backjumps",
         OptionName::Number => "number",
         OptionName::Json => "json",
+        OptionName::CountConflicts => "count-conflicts",
     }
 }
 
@@ -87,6 +90,7 @@ fn prefix_of(option: OptionName) -> &'static str
         OptionName::MaxBackjumps => "--max-backjumps=",
         OptionName::Number => "--number=",
         OptionName::Json => "--json",
+        OptionName::CountConflicts => "--count-conflicts",
     }
 }
 

@@ -31,6 +31,8 @@ pub struct Options {
     pub limit: Option<Limit>,
     /// Whether an answer is printed as JSON.
     pub json: bool,
+    /// Whether the search tries first what was in the most conflict sets.
+    pub count_conflicts: bool,
 }
 
 /// What is to be done.
@@ -117,6 +119,7 @@ pub fn default_options(alloc: Global, limit: Limit) -> Result<Options, NoMemory>
         env,
         limit: Some(limit),
         json: false,
+        count_conflicts: false,
     })
 }
 
@@ -138,11 +141,13 @@ fn options_of(alloc: Global, words: &[Text]) -> Result<Options, NoMemory>
     let env = env_of(alloc, os, arch, compiler)?;
     let limit = limit_in(limit);
     let json = is_set(value_of(&matches, OptionName::Json));
+    let count_conflicts = is_set(value_of(&matches, OptionName::CountConflicts));
     Ok(Options {
         places,
         env,
         limit,
         json,
+        count_conflicts,
     })
 }
 

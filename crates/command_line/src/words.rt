@@ -64,7 +64,7 @@ fn is_one_command(words: &[Text], command: CommandName) -> bool
 }
 
 /// Every option of the command line.
-pub fn options() -> [OptionName; 8]
+pub fn options() -> [OptionName; 9]
     ensures { result ≡ options }
 {
     [
@@ -76,6 +76,7 @@ pub fn options() -> [OptionName; 8]
         OptionName::MaxBackjumps,
         OptionName::Number,
         OptionName::Json,
+        OptionName::CountConflicts,
     ]
 }
 

@@ -19,7 +19,8 @@ ghost use Rattle.command_line.specs.declared.reading.Options.{Options};
 ghost use Rattle.outside_folder.specs.Files.{Bytes, Files};
 ghost use Rattle.choice_problem.specs.Trail.{value_in};
 ghost use Rattle.plan_command.specs.Form.{form_of};
-ghost use Rattle.plan_command.specs.Meaning.{PlansFirst};
+ghost use Rattle.plan_command.specs.Meaning.{PlansValid};
+ghost use Rattle.plan_search.specs.declared.search.Picking.{Picking};
 
 use cabal_problem::{listed_as_whole, problem_is_lawful};
 use elaborate::no_node_is_lacking;
@@ -49,10 +50,10 @@ pub fn valid_plan_lacks_none()
     no_node_is_lacking();
 }
 
-/// Nothing is lacking of a plan that a run prints: each node of what the first whole valid assignment makes has a line among those
-/// that are printed.
+/// Nothing is lacking of a plan that a run prints: each node of what its whole valid assignment makes has a line among those that
+/// are printed.
 pub fn printed_plan_lacks_none()
-    ensures { (options : Options) (files : Files) (text : Bytes) (plan : PlansFirst (form_of options) options files text)
+    ensures { (picking : Picking) (options : Options) (files : Files) (text : Bytes) (plan : PlansValid picking (form_of options) options files text)
         → LacksNone (selection_from plan.task.index plan.names plan.task.settings.env (value_in plan.trail)) plan.nodes }
 {
     valid_plan_lacks_none();

@@ -1,5 +1,5 @@
 -- What the outcome of a search that counts conflicts means.
-use Rattle.std.proofs.Common.{◌≡◌, ◌≢◌, ℕ, List, refl, sym, ap, ◌∙◌, subst}
+use Rattle.std.proofs.Common.{◌≡◌, ℕ, refl, sym, ap, ◌∙◌, subst}
 use Rattle.plan_types.specs.declared.limit.Limit.{Limit}
 use Rattle.plan_types.specs.declared.limit.Limit.TheVariants.{Unlimited, At}
 use Rattle.choice_problem.specs.declared.outcome.Counts.{Counts}

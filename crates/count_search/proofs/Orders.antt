@@ -1,5 +1,5 @@
 -- The order of ranks, and what a set of them in that order has.
-use Rattle.std.proofs.Common.{◌≡◌, ℕ, ◌<◌, Bool, true, false, cond, not, ◌||◌, ◌&&◌, List, [], ◌∷◌, Option, Some, None, refl, sym, ap, ◌∙◌, subst, inl, inr, ◌⊎◌, nat_lt, ltb-true, rules, ◌==◌, map, find}
+use Rattle.std.proofs.Common.{◌≡◌, ℕ, ◌<◌, Bool, true, false, cond, ◌||◌, List, [], ◌∷◌, Some, None, refl, sym, ap, ◌∙◌, subst, inl, inr, ◌⊎◌, nat_lt, ltb-true, rules, ◌==◌, map, find}
 use Rattle.std.specs.List.{list_any, AllByRecursion}
 use Rattle.std.specs.List.Sorted.{IsStrictlySortedBy}
 use Rattle.std.specs.Ordering.{nat_cmp, ordering_then, is_eq, is_lt}
@@ -9,7 +9,7 @@ use Rattle.std.proofs.lemmas.Bool.{false≢true, or_left, or_right}
 use Rattle.std.proofs.lemmas.Cmp.{nat_cmp_total, tied_itself}
 use Rattle.std.proofs.lemmas.Map.Lookups.{exact_unsigned}
 use Rattle.qualified_goals.specs.declared.variable.Var.{Var}
-use Rattle.qualified_goals.specs.Variable.{var_cmp, same_var}
+use Rattle.qualified_goals.specs.Variable.{var_cmp}
 use Rattle.qualified_goals.specs.SameVariable.{same_var-is, same_var-refl}
 use Rattle.common_laws.specs.Small.{is-equal, second-equal}
 use Rattle.count_search.specs.declared.ranks.Rank.{Rank}

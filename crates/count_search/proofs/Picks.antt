@@ -1,5 +1,5 @@
 -- The variable that was met most often is the first of the ranked ones that is open, or where none is, the least.
-use Rattle.std.proofs.Common.{◌≡◌, ℕ, ◌-◌, ◌<◌, ◌≤◌, min, Bool, true, false, cond, ◌||◌, List, [], ◌∷◌, Option, Some, None, refl, sym, ap, ◌∙◌, subst, inl, inr, ◌⊎◌, arith, nat_lt, lt-ltb, ltb-true, ltb-false, map, find}
+use Rattle.std.proofs.Common.{◌≡◌, ℕ, ◌-◌, ◌<◌, ◌≤◌, true, false, cond, List, [], ◌∷◌, Some, None, refl, sym, ap, ◌∙◌, subst, inl, inr, ◌⊎◌, arith, nat_lt, lt-ltb, ltb-true, ltb-false, map, find}
 use Rattle.std.specs.List.Sorted.{IsStrictlySortedBy}
 use Rattle.std.proofs.lemmas.Bool.{false≢true, or_left, or_right}
 use Rattle.qualified_goals.specs.declared.variable.Var.{Var}
@@ -18,8 +18,8 @@ use Rattle.choice_problem.proofs.Trails.{open-unchosen, targets_open}
 use Rattle.choice_problem.proofs.Sets.{has-contains, rising-tail, rising-below, rising-set_of}
 use Rattle.count_search.specs.declared.ranks.Rank.{Rank}
 use Rattle.count_search.specs.Ranks.{rank_cmp, has_rank, rank_of, AreScored}
-use Rattle.count_search.proofs.Orders.{either, rank-less, IsFirstRank, first-rank, none-first}
-use Rattle.count_search.proofs.Scores.{Ranked, member-ranked, ranked-member, one-or-other, apart}
+use Rattle.count_search.proofs.Orders.{either, rank-less, first-rank, none-first}
+use Rattle.count_search.proofs.Scores.{member-ranked, ranked-member, one-or-other}
 
 -- a variable was met less often than another one, or as often and doesn't stand before it
 abbrev pub IsAtMost : List (List Var) → Var → Var → Type 0

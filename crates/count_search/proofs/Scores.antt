@@ -1,5 +1,5 @@
 -- How often each variable was met, by what is put into the ranks and taken out of them.
-use Rattle.std.proofs.Common.{◌≡◌, ◌↔◌, ℕ, ◌+◌, ◌-◌, ◌<◌, ◌≤◌, min, length, take, get_or, suc, filter, Bool, true, false, cond, not, ◌||◌, ◌&&◌, List, [], ◌∷◌, ◌++◌, Option, Some, None, is_none, is_some, refl, sym, ap, ◌∙◌, subst, inl, inr, ◌⊎◌, arith, nat_lt, nat_eq, lt-ltb, ltb-true, ltb-false, eq-eqb, eqb-true}
+use Rattle.std.proofs.Common.{◌≡◌, ℕ, ◌+◌, ◌-◌, ◌<◌, min, length, take, get_or, suc, filter, true, false, cond, not, ◌||◌, ◌&&◌, List, [], ◌∷◌, ◌++◌, Option, Some, None, is_none, is_some, refl, sym, ap, ◌∙◌, subst, inl, inr, ◌⊎◌, arith, nat_lt, nat_eq, lt-ltb, ltb-true, ltb-false, eq-eqb, eqb-true}
 use Rattle.std.specs.Option.{unwrap_or}
 use Rattle.std.proofs.Math.Seq.{take-suc}
 use Rattle.std.proofs.lemmas.Bool.{false≢true, not-true, and_parts, and_from, or_left, or_right}
@@ -133,8 +133,7 @@ module _ (table : List (Var × ℕ)) (ranks : List Rank) (scores : Var → ℕ) 
     pub left-is : (r : Rank) → has_rank new r ≡ true → Ranked scores trail r × (r.var ≡ v → ⊥)
     left-is r h =
         let parts = and_parts (not (is_rank_of (entry table v) v r)) (has_rank ranks r) (sym (dropped r) ∙ h) in
-        let ranked = member-ranked r parts.1 in
-        (
+        let ranked = member-ranked r parts.1 in (
           ranked,
           λ e.
               let its = its-rank scores trail r v ranked e in
@@ -201,8 +200,7 @@ module _ (table : List (Var × ℕ)) (ranks : List Rank) (scores : Var → ℕ) 
         | None ↦ λ k l. l ∙ sym (noted-none (scores v) (sym k))
         | Some m ↦ λ k l. l ∙ sym (noted-some (scores v) m (sym k)).0
       ] was n in
-      let after_is : after ≡ raised v scores v = a ∙ ap (λ m. min (m + 1) cap) count_is ∙ sym (raised-at v scores) in
-      (
+      let after_is : after ≡ raised v scores v = a ∙ ap (λ m. min (m + 1) cap) count_is ∙ sym (raised-at v scores) in (
         λ u. set u ∙ elim (one-or-other v u) [
           | inl e ↦
               ap (λ b. cond b (Some after) (entry table u)) (ap (same_var v) (sym e) ∙ same_var-refl v) ∙ ap Some (after_is ∙ ap (raised v scores) e)

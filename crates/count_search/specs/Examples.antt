@@ -1,11 +1,11 @@
 -- Ranks of some variables, computed.
-use Rattle.std.specs.Prelude.{◌≡◌, ℕ, true, false, [], ◌∷◌, cond, refl}
+use Rattle.std.specs.Prelude.{◌≡◌, ℕ, true, false, [], ◌∷◌, refl}
 use Rattle.qualified_goals.specs.declared.variable.Qual.TheVariants.{Top}
 use Rattle.qualified_goals.specs.declared.variable.Part.TheVariants.{Package}
 use Rattle.qualified_goals.specs.declared.variable.Var.{Var}
 use Rattle.choice_problem.specs.Trail.{choice_of}
 use Rattle.choice_problem.specs.Guide.{score}
-use Rattle.count_search.specs.Ranks.{rank_of, same_rank, is_ranked, raised_all}
+use Rattle.count_search.specs.Ranks.{rank_of, is_ranked, raised_all}
 
 abbrev var : ℕ → Var
 var n = record { qual = Top; «package» = n; part = Package }

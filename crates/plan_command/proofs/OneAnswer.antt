@@ -23,6 +23,8 @@ use Rattle.plan_task.specs.Task.{IsTask, IsTaskOf, task_or_refusal}
 use Rattle.plan_task.specs.declared.task.Task.{Task}
 use Rattle.plan_search.specs.Finding.{IsFindingOf}
 use Rattle.plan_search.specs.declared.search.Finding.{Finding}
+use Rattle.plan_search.specs.declared.search.Picking.{Picking}
+use Rattle.plan_command.specs.Asked.{picking_of}
 use Rattle.choice_problem.specs.declared.outcome.Outcome.{Outcome}
 use Rattle.choice_problem.specs.declared.outcome.Outcome.TheVariants as outcome
 use Rattle.choice_problem.specs.Trail.{value_in}
@@ -41,7 +43,7 @@ OneIndex = (env : Env) (places : Places) (extra : List Named) (paths : List Byte
     → IsFolderIndex env places extra paths files a → IsFolderIndex env places extra paths files b → a ≡ b
 
 abbrev pub OneFinding : Type 0
-OneFinding = (index : Index) (settings : Settings) (a b : Finding) → IsFindingOf index settings a → IsFindingOf index settings b → a ≡ b
+OneFinding = (picking : Picking) (index : Index) (settings : Settings) (a b : Finding) → IsFindingOf picking index settings a → IsFindingOf picking index settings b → a ≡ b
 
 abbrev pub OnePlan : Type 0
 OnePlan = (selection : Selection) (a b : List PlanNode) → IsPlan selection a → IsPlan selection b → a ≡ b
@@ -55,15 +57,15 @@ module _ (project : OneProject) (one : OneIndex) (alike : OneFinding) (plan : On
   of_outcome form env index names (outcome.NoPlan set counts) a b is also = is ∙ sym also
   of_outcome form env index names (outcome.GaveUp counts) a b is also = is ∙ sym also
 
-  of_task : (form : Form) (task : Task) (a b : Output) → IsOutputOfTask form task a → IsOutputOfTask form task b → a ≡ b
-  of_task form task a b h k =
-      let same = alike task.index task.settings h.finding k.finding h.found k.found in
+  of_task : (picking : Picking) (form : Form) (task : Task) (a b : Output) → IsOutputOfTask picking form task a → IsOutputOfTask picking form task b → a ≡ b
+  of_task picking form task a b h k =
+      let same = alike picking task.index task.settings h.finding k.finding h.found k.found in
       of_outcome form task.settings.env task.index k.finding.names k.finding.outcome a b
       (subst (λ (f : Finding). IsOutputOfOutcome form task.settings.env task.index f.names f.outcome a) same h.output_is) k.output_is
 
-  of_read : (form : Form) (read : Result Task Refusal) (a b : Output) → IsOutputOfRead form read a → IsOutputOfRead form read b → a ≡ b
-  of_read form (Ok task) a b h k = of_task form task a b h k
-  of_read form (Err refusal) a b h k = h ∙ sym k
+  of_read : (picking : Picking) (form : Form) (read : Result Task Refusal) (a b : Output) → IsOutputOfRead picking form read a → IsOutputOfRead picking form read b → a ≡ b
+  of_read picking form (Ok task) a b h k = of_task picking form task a b h k
+  of_read picking form (Err refusal) a b h k = h ∙ sym k
 
   module _ (options : Options) (files : Files) where
     one_task_of : (found : Result FolderProject Refusal) (a b : Result Task Refusal) → IsTaskOf options files found a → IsTaskOf options files found b → a ≡ b
@@ -80,7 +82,7 @@ module _ (project : OneProject) (one : OneIndex) (alike : OneFinding) (plan : On
     unfolding IsOutputOfPlan
     of_plan form a b h k =
         let same = one_task h.0 k.0 h.1 k.1 in
-        of_read form k.0 a b (subst (λ (r : Result Task Refusal). IsOutputOfRead form r a) same h.2) k.2
+        of_read (picking_of options) form k.0 a b (subst (λ (r : Result Task Refusal). IsOutputOfRead (picking_of options) form r a) same h.2) k.2
 
   of_command : (files : Files) (command : Option Command) (a b : Output) → IsOutputOfCommand command files a → IsOutputOfCommand command files b → a ≡ b
   of_command files None a b h k = h ∙ sym k

@@ -9,6 +9,8 @@ use Rattle.command_line.specs.declared.reading.Options.{Options}
 use Rattle.plan_task.specs.Task.{IsReady, IsTask}
 use Rattle.plan_task.specs.declared.task.Task.{Task}
 use Rattle.plan_search.specs.Meaning.{MeansOutcome}
+use Rattle.plan_search.specs.declared.search.Picking.{Picking}
+use Rattle.plan_command.specs.Asked.{picking_of}
 use Rattle.plan_command.specs.declared.form.Form.{Form}
 use Rattle.plan_command.specs.declared.output.Output.{Output}
 use Rattle.plan_command.specs.declared.status.Status.{Status}
@@ -19,15 +21,15 @@ use Rattle.plan_command.specs.Run.{IsOutputOfPlan, IsOutputOfTask, Prints}
 
 -- an output has the form of one
 
-pub formed-task : (form : Form) (task : Task) (output : Output) → IsOutputOfTask form task output → HasForm output
-formed-task form task output is = of_outcome form task.settings.env task.index is.finding.names is.finding.outcome output is.output_is
+pub formed-task : (picking : Picking) (form : Form) (task : Task) (output : Output) → IsOutputOfTask picking form task output → HasForm output
+formed-task picking form task output is = of_outcome form task.settings.env task.index is.finding.names is.finding.outcome output is.output_is
 
 pub formed-refusal : (refusal : Refusal) (output : Output) → output ≡ refused refusal → HasForm output
 formed-refusal refusal output is = subst HasForm (sym is) (of_refusal refusal)
 
 -- the output of what a folder comes to is that of the options over its files, and means what it says of them
 module _ (form : Form) (options : Options) (files : Files) where
-  pub planned-output : (task : Task) (output : Output) → IsTask options files (Ok task) → IsOutputOfTask form task output → IsOutputOfPlan form options files output
+  pub planned-output : (task : Task) (output : Output) → IsTask options files (Ok task) → IsOutputOfTask (picking_of options) form task output → IsOutputOfPlan form options files output
   unfolding IsOutputOfPlan
   planned-output task output made is = (Ok task, made, is)
 
@@ -35,22 +37,22 @@ module _ (form : Form) (options : Options) (files : Files) where
   unfolding IsOutputOfPlan
   refused-output refusal output made is = (Err refusal, made, is)
 
-  module _ (task : Task) (made : IsTask options files (Ok task)) (ready : IsReady task) where
-    means-outcome : (names : NameTable) (found : Outcome) (output : Output) → MeansOutcome task.index task.settings names found
-        → IsOutputOfOutcome form task.settings.env task.index names found output → Means form options files output
+  module _ (picking : Picking) (task : Task) (made : IsTask options files (Ok task)) (ready : IsReady task) where
+    means-outcome : (names : NameTable) (found : Outcome) (output : Output) → MeansOutcome picking task.index task.settings names found
+        → IsOutputOfOutcome form task.settings.env task.index names found output → Means picking form options files output
     means-outcome names (outcome.Found trail counts) output h (nodes, plan, is) =
-        subst (Means form options files) (sym is)
-        (record { task = task; made = made; ready = ready; names = names; trail = trail; first = h; nodes = nodes; planned = plan; counts = counts; text_is = refl })
+        subst (Means picking form options files) (sym is)
+        (record { task = task; made = made; ready = ready; names = names; trail = trail; means = h; nodes = nodes; planned = plan; counts = counts; text_is = refl })
     means-outcome names (outcome.NoPlan set counts) output h is =
-        subst (Means form options files) (sym is) (record { task = task; made = made; names = names; set = set; to_blame = h; counts = counts; text_is = refl })
+        subst (Means picking form options files) (sym is) (record { task = task; made = made; names = names; set = set; to_blame = h; counts = counts; text_is = refl })
     means-outcome names (outcome.GaveUp counts) output h is =
-        subst (Means form options files) (sym is) (record { task = task; made = made; names = names; met = h; counts = counts; text_is = refl })
+        subst (Means picking form options files) (sym is) (record { task = task; made = made; names = names; met = h; counts = counts; text_is = refl })
 
-    pub planned-means : (output : Output) → MeansTask form task output → Means form options files output
+    pub planned-means : (output : Output) → MeansTask picking form task output → Means picking form options files output
     planned-means output h = means-outcome h.finding.names h.finding.outcome output h.means h.output_is
 
-  pub refused-means : (refusal : Refusal) (output : Output) → IsTask options files (Err refusal) → output ≡ refused refusal → Means form options files output
-  refused-means refusal output made is = subst (Means form options files) (sym is) (record { refusal = refusal; made = made; text_is = refl })
+  pub refused-means : (picking : Picking) (refusal : Refusal) (output : Output) → IsTask options files (Err refusal) → output ≡ refused refusal → Means picking form options files output
+  refused-means picking refusal output made is = subst (Means picking form options files) (sym is) (record { refusal = refusal; made = made; text_is = refl })
 
 -- what is printed by one relation is printed by a wider one
 pub prints-wider : (P Q : Output → Type 0) → ((o : Output) → P o → Q o) → (old new : Option Bytes) (result : Status) → Prints P old new result → Prints Q old new result

@@ -1,5 +1,10 @@
 -- What is printed for words, by what is printed for the command that they mean.
 use Rattle.std.proofs.Common.{◌≡◌, List, Option, sym, subst}
+use Rattle.command_line.specs.declared.reading.Options.{Options}
+use Rattle.plan_search.specs.declared.search.Picking.{Picking}
+use Rattle.plan_command.specs.Asked.{picking_of}
+use Rattle.plan_command.specs.Form.{form_of}
+use Rattle.plan_command.specs.Meaning.{Means}
 use Rattle.outside_folder.specs.Files.{Bytes, Files}
 use Rattle.command_line.specs.Reading.{reading}
 use Rattle.command_line.specs.declared.reading.Command.{Command}
@@ -19,3 +24,8 @@ module _ (words : List Bytes) (command : Option Command) (read : reading words �
 
 pub formed-usage : (old new : Option Bytes) (result : Status) → Prints (λ output. output ≡ usage) old new result → Prints HasForm old new result
 formed-usage old new result h = prints-this HasForm usage of_usage old new result h
+
+-- what is printed means what a search means that picks as the options ask
+pub picked-so : (options : Options) (picking : Picking) → picking_of options ≡ picking → (files : Files) (old new : Option Bytes) (result : Status)
+    → Prints (Means (picking_of options) (form_of options) options files) old new result → Prints (Means picking (form_of options) options files) old new result
+picked-so options picking e files old new result h = subst (λ (p : Picking). Prints (Means p (form_of options) options files) old new result) e h

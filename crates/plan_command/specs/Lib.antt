@@ -1,4 +1,5 @@
 pub mod Form
+pub mod Asked
 pub mod Output
 pub mod Run
 pub mod Meaning

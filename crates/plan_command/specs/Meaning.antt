@@ -13,7 +13,9 @@ use Rattle.command_line.specs.declared.reading.Options.{Options}
 use Rattle.plan_generate.specs.Generated.{generated}
 use Rattle.plan_task.specs.Task.{IsReady, IsTask}
 use Rattle.plan_task.specs.declared.task.Task.{Task}
-use Rattle.plan_search.specs.Meaning.{AreToBlame, IsFirstTrail, MeetsLimit, Means as MeansFinding}
+use Rattle.plan_search.specs.Meaning.{AreToBlame, MeansTrail, MeetsLimit, Means as MeansFinding}
+use Rattle.plan_search.specs.declared.search.Picking.{Picking}
+use Rattle.plan_search.specs.declared.search.Picking.TheVariants.{Least}
 use Rattle.plan_search.specs.declared.search.Finding.{Finding}
 use Rattle.plan_command.specs.declared.output.Output.{Output}
 use Rattle.plan_command.specs.declared.status.Status.{Status}
@@ -24,19 +26,23 @@ use Rattle.plan_command.specs.declared.form.Form.TheVariants.{Summary}
 use Rattle.plan_command.specs.Form.{plan_text_in, conflict_text_in, gave_up_text_in}
 use Rattle.plan_command.specs.Output.{ArePlanned, IsOutputOfOutcome}
 
--- What is printed of the first of all whole valid assignments of the problem that the files make and of the nodes of its plan, with
--- some counts.
-pub record PlansFirst (form : Form) (options : Options) (files : Files) (text : Bytes) : Type 0 where
+-- What is printed of a whole valid assignment of the problem that the files make and of the nodes of its plan, with some counts: of the
+-- first of all of them, unless conflicts are counted.
+pub record PlansValid (picking : Picking) (form : Form) (options : Options) (files : Files) (text : Bytes) : Type 0 where
   pub task : Task
   pub made : IsTask options files (Ok task)
   pub ready : IsReady task
   pub names : NameTable
   pub trail : List Choice
-  pub first : IsFirstTrail task.index task.settings names trail
+  pub means : MeansTrail picking task.index task.settings names trail
   pub nodes : List PlanNode
   pub planned : ArePlanned task.settings.env task.index names trail nodes
   pub counts : Counts
   pub text_is : text ≡ plan_text_in form task.index names trail nodes counts
+
+-- what is printed of the first of all whole valid assignments
+abbrev pub PlansFirst : Form → Options → Files → Bytes → Type 0
+PlansFirst form options files text = PlansValid Least form options files text
 
 -- The problem that the files make has no whole valid assignment, and the variables that are printed admit none by
 -- themselves.
@@ -50,11 +56,11 @@ pub record HasNone (form : Form) (options : Options) (files : Files) (text : Byt
   pub text_is : text ≡ conflict_text_in form task.index names set counts
 
 -- A search over the problem that the files make meets its limit, so there is one.
-pub record GivesUp (form : Form) (options : Options) (files : Files) (text : Bytes) : Type 0 where
+pub record GivesUp (picking : Picking) (form : Form) (options : Options) (files : Files) (text : Bytes) : Type 0 where
   pub task : Task
   pub made : IsTask options files (Ok task)
   pub names : NameTable
-  pub met : MeetsLimit task.index task.settings names
+  pub met : MeetsLimit picking task.index task.settings names
   pub counts : Counts
   pub text_is : text ≡ gave_up_text_in form task.index counts
 
@@ -65,26 +71,26 @@ pub record IsRefused (options : Options) (files : Files) (text : Bytes) : Type 0
   pub text_is : text ≡ refusal_text refusal
 
 -- what a text in this form that a plan was asked for means, by its status
-abbrev pub MeansWith : Status → Form → Options → Files → Bytes → Type 0
-MeansWith status.Planned form options files text = PlansFirst form options files text
-MeansWith status.NoPlan form options files text = HasNone form options files text
-MeansWith status.GaveUp form options files text = GivesUp form options files text
-MeansWith status.Refused form options files text = IsRefused options files text
-MeansWith status.Usage form options files text = ⊥
-MeansWith status.ReadFault form options files text = ⊥
-MeansWith status.WriteFault form options files text = ⊥
-MeansWith status.NoMemory form options files text = ⊥
+abbrev pub MeansWith : Status → Picking → Form → Options → Files → Bytes → Type 0
+MeansWith status.Planned picking form options files text = PlansValid picking form options files text
+MeansWith status.NoPlan picking form options files text = HasNone form options files text
+MeansWith status.GaveUp picking form options files text = GivesUp picking form options files text
+MeansWith status.Refused picking form options files text = IsRefused options files text
+MeansWith status.Usage picking form options files text = ⊥
+MeansWith status.ReadFault picking form options files text = ⊥
+MeansWith status.WriteFault picking form options files text = ⊥
+MeansWith status.NoMemory picking form options files text = ⊥
 
 -- what an output in this form means for which these options asked, over these files
-abbrev pub Means : Form → Options → Files → Output → Type 0
-Means form options files output = MeansWith output.status form options files output.text
+abbrev pub Means : Picking → Form → Options → Files → Output → Type 0
+Means picking form options files output = MeansWith output.status picking form options files output.text
 
 -- what an output means for which the command `generate` asked
 abbrev pub MeansGenerated : ℕ → Limit → Output → Type 0
-MeansGenerated number limit output = Means (Summary number) (default_options limit) (generated number) output
+MeansGenerated number limit output = Means Least (Summary number) (default_options limit) (generated number) output
 
 -- what the output of a search over a task means
-pub record MeansTask (form : Form) (task : Task) (output : Output) : Type 0 where
+pub record MeansTask (picking : Picking) (form : Form) (task : Task) (output : Output) : Type 0 where
   pub finding : Finding
-  pub means : MeansFinding task.index task.settings finding
+  pub means : MeansFinding picking task.index task.settings finding
   pub output_is : IsOutputOfOutcome form task.settings.env task.index finding.names finding.outcome output

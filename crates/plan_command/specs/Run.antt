@@ -13,30 +13,32 @@ use Rattle.plan_task.specs.Task.{IsTask}
 use Rattle.plan_task.specs.declared.task.Task.{Task}
 use Rattle.plan_search.specs.Finding.{IsFindingOf}
 use Rattle.plan_search.specs.declared.search.Finding.{Finding}
+use Rattle.plan_search.specs.declared.search.Picking.{Picking}
 use Rattle.plan_command.specs.declared.status.Status.{Status}
 use Rattle.plan_command.specs.declared.status.Status.TheVariants as status
 use Rattle.plan_command.specs.declared.output.Output.{Output}
 use Rattle.plan_command.specs.declared.form.Form.{Form}
 use Rattle.plan_command.specs.declared.form.Form.TheVariants.{Summary}
 use Rattle.plan_command.specs.Form.{form_of}
+use Rattle.plan_command.specs.Asked.{picking_of}
 use Rattle.plan_command.specs.Output.{IsOutputOfOutcome, refused, usage}
 
 -- ---- the output of words over a folder
 
 -- what a search over a task finds, as it is printed
-pub record IsOutputOfTask (form : Form) (task : Task) (output : Output) : Type 0 where
+pub record IsOutputOfTask (picking : Picking) (form : Form) (task : Task) (output : Output) : Type 0 where
   pub finding : Finding
-  pub found : IsFindingOf task.index task.settings finding
+  pub found : IsFindingOf picking task.index task.settings finding
   pub output_is : IsOutputOfOutcome form task.settings.env task.index finding.names finding.outcome output
 
 -- the output of a task, or of the refusal that came instead
-abbrev pub IsOutputOfRead : Form → Result Task Refusal → Output → Type 0
-IsOutputOfRead form (Ok task) output = IsOutputOfTask form task output
-IsOutputOfRead form (Err refusal) output = output ≡ refused refusal
+abbrev pub IsOutputOfRead : Picking → Form → Result Task Refusal → Output → Type 0
+IsOutputOfRead picking form (Ok task) output = IsOutputOfTask picking form task output
+IsOutputOfRead picking form (Err refusal) output = output ≡ refused refusal
 
 -- what is printed of a plan of these files, in this form
 unfoldable pub IsOutputOfPlan : Form → Options → Files → Output → Type 0
-IsOutputOfPlan form options files output = (task : Result Task Refusal) × IsTask options files task × IsOutputOfRead form task output
+IsOutputOfPlan form options files output = (task : Result Task Refusal) × IsTask options files task × IsOutputOfRead (picking_of options) form task output
 
 -- what is printed for the command `generate`: of a plan of the folder that the number makes, with the options where words give
 -- none but for the limit, the summary

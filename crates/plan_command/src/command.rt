@@ -1,5 +1,5 @@
 // The top call: the words are read, and what the command gives is written.
-ghost use Rattle.std.specs.Prelude.{◌≡◌, ◌≢◌, ◌≤◌, ℕ, IfOk, IsErrOf, Some, None};
+ghost use Rattle.std.specs.Prelude.{◌≡◌, ◌≢◌, ◌≤◌, ℕ, IfOk, IsErrOf, Some, None, true, false};
 ghost use Rattle.outside_folder.specs.Calls.{Leaves};
 ghost use Rattle.outside_folder.specs.Faults.{Rose};
 ghost use Rattle.outside_folder.specs.Files.{Files};
@@ -9,6 +9,8 @@ ghost use Rattle.command_line.specs.declared.reading.Command.TheVariants.{Genera
 ghost use Rattle.command_line.specs.declared.reading.Options.{Options as PlanOptions};
 ghost use Rattle.plan_command.specs.Output.{BuildsInOrder, HasForm, IsMade, IsUsage, usage};
 ghost use Rattle.plan_command.specs.Form.{form_of};
+ghost use Rattle.plan_command.specs.Asked.{picking_of};
+ghost use Rattle.plan_search.specs.declared.search.Picking.TheVariants.{Least, MostMet};
 ghost use Rattle.plan_command.specs.Meaning.{Means, MeansGenerated};
 ghost use Rattle.plan_command.specs.Run.{IsOutputOf, IsOutputOfCommand, Prints, Reads};
 
@@ -32,8 +34,13 @@ pub fn run<F: Folder, S: Sink>(alloc: Global, words: &[Text], folder: &mut F, ou
     // assignments of the problem that they make, there is no plan exactly where there is no such assignment, and without a
     // limit the search never gives up.
     ensures headline { (options : PlanOptions) (files : Files)
-        → reading words.now ≡ Some (Plan options) → F.tells folder.old ≡ Some files
-        → Prints (Means (form_of options) options files) (S.bytes out.old) (S.bytes out.new) result }
+        → reading words.now ≡ Some (Plan options) → options.count_conflicts ≡ false → F.tells folder.old ≡ Some files
+        → Prints (Means Least (form_of options) options files) (S.bytes out.old) (S.bytes out.new) result }
+
+    // Where they ask that conflicts are counted besides: the plan is that of some whole valid assignment, and all else as above.
+    ensures counting { (options : PlanOptions) (files : Files)
+        → reading words.now ≡ Some (Plan options) → options.count_conflicts ≡ true → F.tells folder.old ≡ Some files
+        → Prints (Means MostMet (form_of options) options files) (S.bytes out.old) (S.bytes out.new) result }
 
     // What is printed is that of the words and of the files that are read for them, whether or not a count rose.
     ensures told { (files : Files) → Reads (reading words.now) (F.tells folder.old) files
@@ -85,7 +92,7 @@ fn perform<F: Folder, S: Sink>(
 ) -> Status
     requires { IsBounded command }
     ensures headline { (options : PlanOptions) (files : Files) → command ≡ Plan options → F.tells folder.old ≡ Some files
-        → Prints (Means (form_of options) options files) (S.bytes out.old) (S.bytes out.new) result }
+        → Prints (Means (picking_of options) (form_of options) options files) (S.bytes out.old) (S.bytes out.new) result }
     ensures told { (files : Files) → Reads (Some command) (F.tells folder.old) files
         → Prints (IsOutputOfCommand (Some command) files) (S.bytes out.old) (S.bytes out.new) result }
     ensures generated { (number : ℕ) (limit : TheLimit) → command ≡ Generate number limit
@@ -109,7 +116,7 @@ fn perform<F: Folder, S: Sink>(
 fn output_of<F: Folder>(alloc: Global, command: Command, folder: &mut F) -> Result<Output, Trouble>
     requires { IsBounded command }
     ensures headline { (options : PlanOptions) (files : Files) → command ≡ Plan options → F.tells folder.old ≡ Some files
-        → IfOk result (Means (form_of options) options files) }
+        → IfOk result (Means (picking_of options) (form_of options) options files) }
     ensures told { (files : Files) → Reads (Some command) (F.tells folder.old) files
         → IfOk result (IsOutputOfCommand (Some command) files) }
     ensures generated { (number : ℕ) (limit : TheLimit) → command ≡ Generate number limit → IfOk result (MeansGenerated number limit) }

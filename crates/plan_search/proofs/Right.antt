@@ -21,25 +21,32 @@ use Rattle.choice_problem.specs.Trail.{AreNew, choice_of, next_var, trail_from, 
 use Rattle.choice_problem.specs.Trail.AreNew.{before_any, one_more}
 use Rattle.choice_problem.specs.Valid.{IsFirst, IsWholeValid}
 use Rattle.choice_problem.specs.ConflictSet.{has}
-use Rattle.choice_problem.specs.Answer.{Ended, Found, Failed, GaveUp, answer_of, outcome_by, outcome_of, printed}
-use Rattle.choice_problem.specs.Sound.{IsRightEnd}
+use Rattle.choice_problem.specs.Guide.{Guide, IsGuide, least, most_met}
+use Rattle.choice_problem.specs.Guides.{least-is-guide, most-met-is-guide}
+use Rattle.choice_problem.specs.Answer.{Ended, Found, Failed, GaveUp, guided_answer, answer_of, outcome_by, outcome_of, printed}
+use Rattle.choice_problem.specs.Sound.{AreNone, IsRightEnd, IsValidEnd}
 use Rattle.choice_problem.proofs.First.{passes-all}
 use Rattle.choice_problem.proofs.Trails.{Passes, next-unchosen, passes-trail}
 use Rattle.common_laws.specs.Lists.{contains-none}
 use Rattle.cabal_problem.specs.Problem.{IsProblemOf, problem_of}
 use Rattle.cabal_problem.specs.WholeDemands.{whole_problem}
 use Rattle.solver_index.specs.Orders.{AreOrders}
-use Rattle.plan_search.specs.Finding.{IsFindingOf}
-use Rattle.plan_search.specs.Meaning.{AreToBlame, IsFirstTrail, IsWholeProblem, Means, MeansOutcome, MeetsLimit}
+use Rattle.plan_search.specs.Finding.{IsFindingOf, guide_of}
+use Rattle.plan_search.specs.Meaning.{AreToBlame, IsFirstTrail, IsValidTrail, IsWholeProblem, Means, MeansOutcome, MeansTrail, MeetsLimit}
 use Rattle.plan_search.specs.declared.search.Finding.{Finding}
+use Rattle.plan_search.specs.declared.search.Picking.{Picking}
+use Rattle.plan_search.specs.declared.search.Picking.TheVariants.{Least, MostMet}
 
 -- what the laws of problems say of a search, and of whole conditions
 
 abbrev pub EndsRight : Type 0
 EndsRight = (p : Problem) → Lawful p → IsRightEnd p (answer_of p Unlimited).ended
 
+abbrev pub EndsValid : Type 0
+EndsValid = (p : Problem) (guide : Guide) → Lawful p → IsGuide guide → IsValidEnd p (guided_answer guide p Unlimited).ended
+
 abbrev pub LimitGivesUp : Type 0
-LimitGivesUp = (p : Problem) (l : Limit) → (answer_of p l).ended ≢ GaveUp → answer_of p l ≡ answer_of p Unlimited
+LimitGivesUp = (guide : Guide) (p : Problem) (l : Limit) → (guided_answer guide p l).ended ≢ GaveUp → guided_answer guide p l ≡ guided_answer guide p Unlimited
 
 abbrev pub ValidAsWhole : Type 0
 ValidAsWhole = (env : Env) (index : Index) (project : Project) (names : NameTable) (orders : List (List ℕ))
@@ -75,7 +82,11 @@ module _ (g : General) (A : Assignment) (trail : List Choice) (valid : IsWholeVa
   as-map : A ≡ value_in trail
   as-map = passes-all A trail passes (λ v some. subst (λ (t : List Choice). Contains (map (λ (c : Choice). c.var) t) v) (sym is) ((valid.reached v).0 some))
 
-module _ (right : EndsRight) (alike : LimitGivesUp) (valid : ValidAsWhole) (keeps : IsLawful) (index : Index) (settings : Settings) (sound : IsSound settings.env index)
+is-guide : (picking : Picking) → IsGuide (guide_of picking)
+is-guide Least = least-is-guide
+is-guide MostMet = most-met-is-guide
+
+module _ (right : EndsRight) (valid_ends : EndsValid) (alike : LimitGivesUp) (valid : ValidAsWhole) (keeps : IsLawful) (index : Index) (settings : Settings) (sound : IsSound settings.env index)
     (there : list_all (λ named. has_package index named.name) settings.project.extra ≡ true) (names : NameTable) (p : Problem)
     (is : IsProblemOf index settings.project names p) where
   abbrev whole : General
@@ -97,14 +108,18 @@ module _ (right : EndsRight) (alike : LimitGivesUp) (valid : ValidAsWhole) (keep
       subst (λ q. AreOne whole (general q)) (sym is.problem_is)
       (valid settings.env index settings.project names is.orders sound is.numbers is.orders_are there)
 
-  right-end : (e : Ended) → (answer_of p settings.limit).ended ≡ e → (e ≡ GaveUp → ⊥) → IsRightEnd p e
-  right-end e ended other =
-      let same = alike p settings.limit (λ gave. other (sym ended ∙ gave)) in
-      subst (IsRightEnd p) (ap (λ a. a.ended) (sym same) ∙ ended) (right p lawful)
+  -- a search that hasn't given up ends as one without a limit
+  unlimited-end : (picking : Picking) (e : Ended) → (guided_answer (guide_of picking) p settings.limit).ended ≡ e → (e ≡ GaveUp → ⊥) → (guided_answer (guide_of picking) p Unlimited).ended ≡ e
+  unlimited-end picking e ended other =
+      let same = alike (guide_of picking) p settings.limit (λ gave. other (sym ended ∙ gave)) in
+      ap (λ a. a.ended) (sym same) ∙ ended
+
+  valid-end : (picking : Picking) (e : Ended) → (guided_answer (guide_of picking) p settings.limit).ended ≡ e → (e ≡ GaveUp → ⊥) → IsValidEnd p e
+  valid-end picking e ended other = subst (IsValidEnd p) (unlimited-end picking e ended other) (valid_ends p (guide_of picking) lawful (is-guide picking))
 
   first-found : (trail : List Choice) → (answer_of p settings.limit).ended ≡ Found trail → IsFirstTrail index settings names trail
   first-found trail ended =
-      let end = right-end (Found trail) ended (λ gave. cc gave) in
+      let end = subst (IsRightEnd p) (unlimited-end Least (Found trail) ended (λ gave. cc gave)) (right p lawful) in
       let first : IsFirst whole end.0 = (one.first end.0).1 end.1 in
       let of : trail ≡ trail_of whole end.0 = end.2 ∙ sym (one.trails end.0 first.whole_valid.holds.assignment) in
       let same : end.0 ≡ value_in trail = as-map whole end.0 trail first.whole_valid of in
@@ -116,9 +131,18 @@ module _ (right : EndsRight) (alike : LimitGivesUp) (valid : ValidAsWhole) (keep
         trail_is = subst (λ (B : Assignment). trail ≡ trail_of whole B) same of;
       }
 
-  none-found : (set : List Var) → (answer_of p settings.limit).ended ≡ Failed set → AreToBlame index settings names set
-  none-found set ended =
-      let end = right-end (Failed set) ended (λ gave. cc gave) in
+  valid-found : (trail : List Choice) → (guided_answer most_met p settings.limit).ended ≡ Found trail → IsValidTrail index settings names trail
+  valid-found trail ended =
+      let end = valid-end MostMet (Found trail) ended (λ gave. cc gave) in
+      record { problem = whole; problem_is = whole-is; new = end.0; whole_valid = (one.valid (value_in trail)).1 end.1 }
+
+  trail-found : (picking : Picking) (trail : List Choice) → (guided_answer (guide_of picking) p settings.limit).ended ≡ Found trail → MeansTrail picking index settings names trail
+  trail-found Least trail ended = first-found trail ended
+  trail-found MostMet trail ended = valid-found trail ended
+
+  none-found : (picking : Picking) (set : List Var) → (guided_answer (guide_of picking) p settings.limit).ended ≡ Failed set → AreToBlame index settings names set
+  none-found picking set ended =
+      let end : AreNone p set = valid-end picking (Failed set) ended (λ gave. cc gave) in
       record {
         problem = whole;
         problem_is = whole-is;
@@ -127,15 +151,15 @@ module _ (right : EndsRight) (alike : LimitGivesUp) (valid : ValidAsWhole) (keep
       }
 
   -- it gives up at a limit alone
-  at-limit : (l : Limit) → (answer_of p l).ended ≡ GaveUp → (most : ℕ) × (l ≡ At most)
-  at-limit Unlimited ended =
-      let none : IsRightEnd p GaveUp = subst (IsRightEnd p) ended (right p lawful) in
+  at-limit : (picking : Picking) (l : Limit) → (guided_answer (guide_of picking) p l).ended ≡ GaveUp → (most : ℕ) × (l ≡ At most)
+  at-limit picking Unlimited ended =
+      let none : IsValidEnd p GaveUp = subst (IsValidEnd p) ended (valid_ends p (guide_of picking) lawful (is-guide picking)) in
       absurd none
-  at-limit (At most) ended = (most, refl)
+  at-limit picking (At most) ended = (most, refl)
 
-  gave-up : (answer_of p settings.limit).ended ≡ GaveUp → MeetsLimit index settings names
-  gave-up ended =
-      let limited = at-limit settings.limit ended in
+  gave-up : (picking : Picking) → (guided_answer (guide_of picking) p settings.limit).ended ≡ GaveUp → MeetsLimit picking index settings names
+  gave-up picking ended =
+      let limited = at-limit picking settings.limit ended in
       record {
         problem = p;
         problem_is = is;
@@ -144,28 +168,28 @@ module _ (right : EndsRight) (alike : LimitGivesUp) (valid : ValidAsWhole) (keep
         ended = ended;
       }
 
-  right-by : (e : Ended) (counts : Counts) → (answer_of p settings.limit).ended ≡ e → MeansOutcome index settings names (outcome_by e counts)
-  right-by (Found trail) counts ended = first-found trail ended
-  right-by (Failed set) counts ended = none-found set ended
-  right-by GaveUp counts ended = gave-up ended
+  right-by : (picking : Picking) (e : Ended) (counts : Counts) → (guided_answer (guide_of picking) p settings.limit).ended ≡ e → MeansOutcome picking index settings names (outcome_by e counts)
+  right-by picking (Found trail) counts ended = trail-found picking trail ended
+  right-by picking (Failed set) counts ended = none-found picking set ended
+  right-by picking GaveUp counts ended = gave-up picking ended
 
-  pub right-outcome : MeansOutcome index settings names (outcome_of (answer_of p settings.limit))
-  right-outcome = let answer = answer_of p settings.limit in right-by answer.ended (printed answer.counts) refl
+  pub right-outcome : (picking : Picking) → MeansOutcome picking index settings names (outcome_of (guided_answer (guide_of picking) p settings.limit))
+  right-outcome picking = let answer = guided_answer (guide_of picking) p settings.limit in right-by picking answer.ended (printed answer.past.counts) refl
 
-pub found-right : EndsRight → LimitGivesUp → ValidAsWhole → IsLawful → (index : Index) (settings : Settings) (finding : Finding) → IsSound settings.env index
-    → list_all (λ named. has_package index named.name) settings.project.extra ≡ true → IsFindingOf index settings finding → Means index settings finding
-found-right right alike valid keeps index settings finding sound there h =
-    subst (MeansOutcome index settings finding.names) (sym h.outcome_is) (right-outcome right alike valid keeps index settings sound there finding.names h.problem h.problem_is)
+pub found-right : EndsRight → EndsValid → LimitGivesUp → ValidAsWhole → IsLawful → (picking : Picking) (index : Index) (settings : Settings) (finding : Finding) → IsSound settings.env index
+    → list_all (λ named. has_package index named.name) settings.project.extra ≡ true → IsFindingOf picking index settings finding → Means picking index settings finding
+found-right right ends alike valid keeps picking index settings finding sound there h =
+    subst (MeansOutcome picking index settings finding.names) (sym h.outcome_is) (right-outcome right ends alike valid keeps index settings sound there finding.names h.problem h.problem_is picking)
 
-pub found-one : OneProblem → (index : Index) (settings : Settings) (a b : Finding) → IsFindingOf index settings a → IsFindingOf index settings b → a ≡ b
-found-one alike index settings a b h k =
+pub found-one : OneProblem → (picking : Picking) (index : Index) (settings : Settings) (a b : Finding) → IsFindingOf picking index settings a → IsFindingOf picking index settings b → a ≡ b
+found-one alike picking index settings a b h k =
     let same = alike index settings.project a.names b.names h.problem k.problem h.problem_is k.problem_is in
-    let outcome = h.outcome_is ∙ ap (λ (p : Problem). outcome_of (answer_of p settings.limit)) same.1 ∙ sym k.outcome_is in
+    let outcome = h.outcome_is ∙ ap (λ (p : Problem). outcome_of (guided_answer (guide_of picking) p settings.limit)) same.1 ∙ sym k.outcome_is in
     λ i. record { names = same.0 i; outcome = outcome i }
 
-pub finding-is : (index : Index) (settings : Settings) (p : Problem) (names table : NameTable) (outcome : Outcome) → IsProblemOf index settings.project names p → table ≡ names
-    → outcome ≡ outcome_of (answer_of p settings.limit) → IsFindingOf index settings (record { names = table; outcome = outcome })
-finding-is index settings p names table outcome is same found = record {
+pub finding-is : (picking : Picking) (index : Index) (settings : Settings) (p : Problem) (names table : NameTable) (outcome : Outcome) → IsProblemOf index settings.project names p → table ≡ names
+    → outcome ≡ outcome_of (guided_answer (guide_of picking) p settings.limit) → IsFindingOf picking index settings (record { names = table; outcome = outcome })
+finding-is picking index settings p names table outcome is same found = record {
   problem = p;
   problem_is = subst (λ (t : NameTable). IsProblemOf index settings.project t p) (sym same) is;
   outcome_is = found;

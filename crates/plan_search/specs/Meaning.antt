@@ -15,11 +15,14 @@ use Rattle.choice_problem.specs.Problem.{Problem}
 use Rattle.choice_problem.specs.Trail.{AreNew, trail_of, value_in}
 use Rattle.choice_problem.specs.Valid.{IsFirst, IsWholeValid}
 use Rattle.choice_problem.specs.ConflictSet.{has}
-use Rattle.choice_problem.specs.Answer.{GaveUp, answer_of}
+use Rattle.choice_problem.specs.Answer.{GaveUp, guided_answer}
 use Rattle.cabal_problem.specs.Problem.{IsProblemOf}
 use Rattle.cabal_problem.specs.WholeDemands.{whole_problem}
 use Rattle.solver_index.specs.Orders.{AreOrders}
 use Rattle.plan_search.specs.declared.search.Finding.{Finding}
+use Rattle.plan_search.specs.declared.search.Picking.{Picking}
+use Rattle.plan_search.specs.declared.search.Picking.TheVariants.{Least, MostMet}
+use Rattle.plan_search.specs.Finding.{guide_of}
 
 -- the problem of packages with whole conditions, by the numbers of their names
 pub record IsWholeProblem (index : Index) (settings : Settings) (names : NameTable) (problem : General) : Type 0 where
@@ -36,6 +39,18 @@ pub record IsFirstTrail (index : Index) (settings : Settings) (names : NameTable
   pub first : IsFirst problem (value_in trail)
   pub trail_is : trail ≡ trail_of problem (value_in trail)
 
+-- A trail names each variable once, and is as a map whole and valid; it needn't be the first.
+pub record IsValidTrail (index : Index) (settings : Settings) (names : NameTable) (trail : List Choice) : Type 0 where
+  pub problem : General
+  pub problem_is : IsWholeProblem index settings names problem
+  pub new : AreNew trail
+  pub whole_valid : IsWholeValid problem (value_in trail)
+
+-- what a trail means that was found so
+abbrev pub MeansTrail : Picking → Index → Settings → NameTable → List Choice → Type 0
+MeansTrail Least index settings names trail = IsFirstTrail index settings names trail
+MeansTrail MostMet index settings names trail = IsValidTrail index settings names trail
+
 -- There is no whole valid assignment, and these variables admit none by themselves.
 pub record AreToBlame (index : Index) (settings : Settings) (names : NameTable) (set : List Var) : Type 0 where
   pub problem : General
@@ -44,19 +59,19 @@ pub record AreToBlame (index : Index) (settings : Settings) (names : NameTable) 
   pub admits_none : AdmitsNone problem (has set)
 
 -- A search over the problem meets the limit, so there is one.
-pub record MeetsLimit (index : Index) (settings : Settings) (names : NameTable) : Type 0 where
+pub record MeetsLimit (picking : Picking) (index : Index) (settings : Settings) (names : NameTable) : Type 0 where
   pub problem : Problem
   pub problem_is : IsProblemOf index settings.project names problem
   pub most : ℕ
   pub limit : settings.limit ≡ At most
-  pub ended : (answer_of problem settings.limit).ended ≡ GaveUp
+  pub ended : (guided_answer (guide_of picking) problem settings.limit).ended ≡ GaveUp
 
 -- what an outcome means
-abbrev pub MeansOutcome : Index → Settings → NameTable → Outcome → Type 0
-MeansOutcome index settings names (outcome.Found trail counts) = IsFirstTrail index settings names trail
-MeansOutcome index settings names (outcome.NoPlan set counts) = AreToBlame index settings names set
-MeansOutcome index settings names (outcome.GaveUp counts) = MeetsLimit index settings names
+abbrev pub MeansOutcome : Picking → Index → Settings → NameTable → Outcome → Type 0
+MeansOutcome picking index settings names (outcome.Found trail counts) = MeansTrail picking index settings names trail
+MeansOutcome picking index settings names (outcome.NoPlan set counts) = AreToBlame index settings names set
+MeansOutcome picking index settings names (outcome.GaveUp counts) = MeetsLimit picking index settings names
 
 -- what a finding means
-abbrev pub Means : Index → Settings → Finding → Type 0
-Means index settings finding = MeansOutcome index settings finding.names finding.outcome
+abbrev pub Means : Picking → Index → Settings → Finding → Type 0
+Means picking index settings finding = MeansOutcome picking index settings finding.names finding.outcome

@@ -7,18 +7,20 @@ ghost use Rattle.plan_types.specs.declared.project.Settings.{Settings};
 ghost use Rattle.plan_search.specs.Finding.{IsFindingOf};
 ghost use Rattle.plan_search.specs.Meaning.{Means};
 ghost use Rattle.plan_search.specs.declared.search.Finding.{Finding};
+ghost use Rattle.plan_search.specs.declared.search.Picking.{Picking};
 
 use cabal_problem::{one_problem, problem_is_lawful, valid_as_whole};
-use choice_problem::{ends_right, limit_only_gives_up};
+use choice_problem::{ends_right, ends_valid, limit_only_gives_up};
 
-/// By the problem with whole conditions: a trail that is found is the first whole valid assignment, a set admits none where
-/// there is no such assignment at all, and a search gives up at a limit alone.
+/// By the problem with whole conditions: a trail that is found is the first whole valid assignment, or where conflicts are counted a
+/// whole valid assignment; a set admits none where there is no such assignment at all; and a search gives up at a limit alone.
 pub fn what_is_found_is_right()
-    ensures { (index : Index) (settings : Settings) (finding : Finding)
+    ensures { (picking : Picking) (index : Index) (settings : Settings) (finding : Finding)
         → IsSound settings.env index → list_all (λ named. has_package index named.name) settings.project.extra ≡ true
-        → IsFindingOf index settings finding → Means index settings finding }
+        → IsFindingOf picking index settings finding → Means picking index settings finding }
 {
     ends_right();
+    ends_valid();
     limit_only_gives_up();
     valid_as_whole();
     problem_is_lawful();
@@ -26,8 +28,8 @@ pub fn what_is_found_is_right()
 
 /// A search over an index finds one thing, by one table of names.
 pub fn one_finding()
-    ensures { (index : Index) (settings : Settings) (a b : Finding)
-        → IsFindingOf index settings a → IsFindingOf index settings b → a ≡ b }
+    ensures { (picking : Picking) (index : Index) (settings : Settings) (a b : Finding)
+        → IsFindingOf picking index settings a → IsFindingOf picking index settings b → a ≡ b }
 {
     one_problem();
 }

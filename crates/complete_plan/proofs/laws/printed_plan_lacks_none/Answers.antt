@@ -1,12 +1,30 @@
-use Rattle.std.proofs.Common.{subst}
+use Rattle.std.proofs.Common.{List, subst}
+use Rattle.plan_types.specs.declared.index.Index.{Index}
+use Rattle.plan_types.specs.declared.project.Settings.{Settings}
+use Rattle.qualified_goals.specs.Names.{NameTable}
+use Rattle.choice_problem.specs.declared.problem.Choice.{Choice}
 use Rattle.choice_problem.specs.General.{General}
 use Rattle.choice_problem.specs.Trail.{value_in}
 use Rattle.choice_problem.specs.Valid.{IsWholeValid}
+use Rattle.plan_search.specs.Meaning.{IsWholeProblem, MeansTrail}
+use Rattle.plan_search.specs.declared.search.Picking.{Picking}
+use Rattle.plan_search.specs.declared.search.Picking.TheVariants.{Least, MostMet}
 use Rattle.complete_plan.proofs.laws.printed_plan_lacks_none.Goals as goal
 
+-- a problem with whole conditions, and that a trail is as a map whole and valid for it
+record IsValidFor (index : Index) (settings : Settings) (names : NameTable) (trail : List Choice) : Type 0 where
+  problem : General
+  problem_is : IsWholeProblem index settings names problem
+  whole_valid : IsWholeValid problem (value_in trail)
+
+valid-for : (picking : Picking) (index : Index) (settings : Settings) (names : NameTable) (trail : List Choice) → MeansTrail picking index settings names trail → IsValidFor index settings names trail
+valid-for Least index settings names trail h = record { problem = h.problem; problem_is = h.problem_is; whole_valid = h.first.whole_valid }
+valid-for MostMet index settings names trail h = record { problem = h.problem; problem_is = h.problem_is; whole_valid = h.whole_valid }
+
 pub returns : goal.returns
-returns c options files text plan =
-    let is = plan.first.problem_is in
-    let valid = subst (λ (g : General). IsWholeValid g (value_in plan.trail)) is.problem_is plan.first.first.whole_valid in
+returns c picking options files text plan =
+    let for = valid-for picking plan.task.index plan.task.settings plan.names plan.trail plan.means in
+    let is = for.problem_is in
+    let valid = subst (λ (g : General). IsWholeValid g (value_in plan.trail)) is.problem_is for.whole_valid in
     c.valid_plan_lacks_none.ensures plan.task.settings.env plan.task.index plan.task.settings.project plan.names is.orders (value_in plan.trail) plan.nodes
     plan.ready.sound is.numbers is.orders_are plan.ready.there valid plan.planned

@@ -1,10 +1,16 @@
-use Rattle.std.proofs.Common.{Some, sym, ◌∙◌}
+use Rattle.std.proofs.Common.{Some, sym, ap, ◌∙◌, if◌then◌else◌}
+use Rattle.plan_search.specs.declared.search.Picking.TheVariants.{Least, MostMet}
 use Rattle.plan_command.proofs.Buildable.{in-order, usage-in-order}
-use Rattle.plan_command.proofs.Words.{formed-usage, read-for, told-for}
+use Rattle.plan_command.proofs.Words.{formed-usage, picked-so, read-for, told-for}
 use Rattle.plan_command.proofs.command.run.Goals as goal
 
 pub returns-in-Ok-clause-headline : goal.returns-in-Ok-clause-headline
-returns-in-Ok-clause-headline g c = λ options files asked t. c.perform.ensures.headline options files (cc (sym c.in-Ok.ensures.command ∙ asked)) t
+returns-in-Ok-clause-headline g c = λ options files asked least t.
+    picked-so options Least (ap (λ b. if b then MostMet else Least) least) files _ _ _ (c.perform.ensures.headline options files (cc (sym c.in-Ok.ensures.command ∙ asked)) t)
+
+pub returns-in-Ok-clause-counting : goal.returns-in-Ok-clause-counting
+returns-in-Ok-clause-counting g c = λ options files asked counting t.
+    picked-so options MostMet (ap (λ b. if b then MostMet else Least) counting) files _ _ _ (c.perform.ensures.headline options files (cc (sym c.in-Ok.ensures.command ∙ asked)) t)
 
 pub returns-in-Ok-clause-told : goal.returns-in-Ok-clause-told
 returns-in-Ok-clause-told g c = λ files read.

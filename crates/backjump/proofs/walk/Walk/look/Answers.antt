@@ -1,5 +1,5 @@
 -- the variable that the guide picks gets a node, or none is open and the trail is whole
-use Rattle.std.proofs.Common.{◌≡◌, Some, ◌++◌, ◌∷◌, [], ap, sym, ◌∙◌}
+use Rattle.std.proofs.Common.{◌++◌, ◌∷◌, [], ap, sym, ◌∙◌}
 use Rattle.choice_problem.specs.Active.{open_in}
 use Rattle.validation.proofs.Views.{known-open}
 use Rattle.backjump.specs.Walk.{search_of}

@@ -1,9 +1,8 @@
 -- the variable has its new count, and its new rank unless it is chosen
-use Rattle.std.proofs.Common.{◌≡◌, ◌||◌, not, ◌&&◌, Some, None, is_some, sym, ap, ◌∙◌}
+use Rattle.std.proofs.Common.{◌||◌, not, ◌&&◌, is_some, sym, ap, ◌∙◌}
 use Rattle.std.proofs.lemmas.Bool.{false≢true}
 use Rattle.std.proofs.lemmas.Result.{on_ok_weaker}
-use Rattle.choice_problem.specs.Trail.{value_in}
-use Rattle.count_search.specs.Ranks.{has_rank, same_rank, rank_of, is_rank_of, raised}
+use Rattle.count_search.specs.Ranks.{has_rank, same_rank, rank_of, is_rank_of}
 use Rattle.count_search.proofs.Scores.{is-free, counted-raised, scored-raised, scored-chosen-raised}
 use Rattle.count_search.proofs.counting.Counting.raise.Goals as goal
 

@@ -1,5 +1,5 @@
 -- each variable of the set is met once more
-use Rattle.std.proofs.Common.{◌≡◌, true, ◌∷◌, ◌∙◌, take, length, sym, ap, subst, arith}
+use Rattle.std.proofs.Common.{◌≡◌, true, ◌∷◌, take, length, sym, ap, subst, arith}
 use Rattle.std.proofs.lemmas.List.{take_all}
 use Rattle.choice_problem.specs.ConflictSet.{is_rising}
 use Rattle.choice_problem.specs.Guide.{score}

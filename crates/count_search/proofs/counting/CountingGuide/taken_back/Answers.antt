@@ -1,12 +1,10 @@
 -- the variable has its rank again
-use Rattle.std.proofs.Common.{◌≡◌, ◌++◌, ◌∷◌, [], ◌||◌, Some, None, List, sym, ap, ◌∙◌, subst}
+use Rattle.std.proofs.Common.{◌||◌, sym, ap, ◌∙◌}
 use Rattle.std.proofs.lemmas.Result.{on_ok_weaker}
-use Rattle.qualified_goals.specs.declared.variable.Var.{Var}
-use Rattle.choice_problem.specs.declared.problem.Choice.{Choice}
 use Rattle.choice_problem.specs.Trail.{value_in}
 use Rattle.choice_problem.specs.Table.{entry}
 use Rattle.choice_problem.specs.Guide.{score}
-use Rattle.count_search.specs.Ranks.{AreScored, has_rank, same_rank, rank_of}
+use Rattle.count_search.specs.Ranks.{has_rank, same_rank, rank_of}
 use Rattle.count_search.proofs.Scores.{scored-back, scored-still}
 use Rattle.count_search.proofs.counting.CountingGuide.taken_back.Goals as goal
 
