@@ -362,11 +362,11 @@ any_kept p (x ∷ xs) ys some = go (p x) some (any_kept p xs ys)
 
 flags_kept : (p : Row → Bool) (others : List OptionName) (rows : List Row) → list_any p rows ≡ true → find p (with_each others rows) ≡ find p rows
 flags_kept p [] rows some = refl
-flags_kept p (flag ∷ others) rows some = go (has_row (name_of flag) rows)
-  where
-    go : (b : Bool) → find p (with_each others (cond b rows (rows ++ absent flag ∷ []))) ≡ find p rows
-    go true = flags_kept p others rows some
-    go false = flags_kept p others (rows ++ absent flag ∷ []) (any_kept p rows (absent flag ∷ []) some) ∙ find_kept p rows (absent flag ∷ []) some
+flags_kept p (flag ∷ others) rows some =
+    elim (has_row (name_of flag) rows) as (λ b. find p (with_each others (cond b rows (rows ++ absent flag ∷ []))) ≡ find p rows) [
+      | true ↦ flags_kept p others rows some
+      | false ↦ flags_kept p others (rows ++ absent flag ∷ []) (any_kept p rows (absent flag ∷ []) some) ∙ find_kept p rows (absent flag ∷ []) some
+    ]
 
 some_found : {X : Type 0} (p test : X → Bool) (xs : List X) → option_map_or test (find p xs) false ≡ true → list_any p xs ≡ true
 some_found p test [] h = h
@@ -478,19 +478,14 @@ module _ (command : CommandName) (before after : List Given) where
   valued_each : (option : OptionName) → kind_of option ≡ Valued → (others : List OptionName) (rows : List Row) → list_all (λ flag. alike (kind_of flag) Flag) others ≡ true
       → find (λ r. bytes_eq r.id (name_of option)) (with_each others rows) ≡ find (λ r. bytes_eq r.id (name_of option)) rows
   valued_each option valued [] rows all = refl
-  valued_each option valued (flag ∷ others) rows all = go (has_row (name_of flag) rows)
-    where
-      p : Row → Bool
-      p r = bytes_eq r.id (name_of option)
-
-      parts : (alike (kind_of flag) Flag ≡ true) × (list_all (λ f. alike (kind_of f) Flag) others ≡ true)
-      parts = both (alike (kind_of flag) Flag) (list_all (λ f. alike (kind_of f) Flag) others) all
-
-      go : (b : Bool) → find (λ r. bytes_eq r.id (name_of option)) (with_each others (cond b rows (rows ++ absent flag ∷ []))) ≡ find (λ r. bytes_eq r.id (name_of option)) rows
-      go true = valued_each option valued others rows parts.1
-      go false =
-          valued_each option valued others (rows ++ absent flag ∷ []) parts.1
-          ∙ find_more (λ r. bytes_eq r.id (name_of option)) rows (absent flag) (not_flag flag option parts.0 valued)
+  valued_each option valued (flag ∷ others) rows all =
+      let parts = both (alike (kind_of flag) Flag) (list_all (λ f. alike (kind_of f) Flag) others) all in
+      let p = λ (r : Row). bytes_eq r.id (name_of option) in
+      elim (has_row (name_of flag) rows) as (λ b. find p (with_each others (cond b rows (rows ++ absent flag ∷ []))) ≡ find p rows) [
+        | true ↦ valued_each option valued others rows parts.1
+        | false ↦
+            valued_each option valued others (rows ++ absent flag ∷ []) parts.1 ∙ find_more p rows (absent flag) (not_flag flag option parts.0 valued)
+      ]
 
   valued_found : (option : OptionName) → kind_of option ≡ Valued → first_of (name_of option) (with_flags held_rows) ≡ given option all_words
   valued_found option valued =
@@ -501,24 +496,23 @@ module _ (command : CommandName) (before after : List Given) where
   absent_found : (option : OptionName) (others : List OptionName) (rows : List Row) → list_any (λ flag. bytes_eq (name_of flag) (name_of option)) others ≡ true
       → has_row (name_of option) rows ≡ false → first_of (name_of option) (with_each others rows) ≡ Some (codes "false")
   absent_found option [] rows some none = absurd (false≢true some)
-  absent_found option (flag ∷ others) rows some none = by (bytes_eq (name_of flag) (name_of option)) refl some
-    where
-      by : (b : Bool) → bytes_eq (name_of flag) (name_of option) ≡ b → (b || list_any (λ f. bytes_eq (name_of f) (name_of option)) others) ≡ true
-          → first_of (name_of option) (with_each (flag ∷ others) rows) ≡ Some (codes "false")
-      by true e some =
-          let fresh : has_row (name_of flag) rows ≡ false = ap (λ o. has_row (name_of o) rows) (one_option option flag e) ∙ none in
-          let p = λ (r : Row). bytes_eq r.id (name_of option) in
-          ap (λ b. first_of (name_of option) (with_each others (cond b rows (rows ++ absent flag ∷ [])))) fresh
-          ∙ ap (option_and_then (λ r. slice_get r.values 0)) (flags_kept p others (rows ++ absent flag ∷ []) (any_past p rows (absent flag) none e) ∙ find_past p rows (absent flag ∷ []) none)
-          ∙ ap (λ b. option_and_then (λ r. slice_get r.values 0) (cond b (Some (absent flag)) None)) e
-      by false e some = go (has_row (name_of flag) rows)
-        where
-          p : Row → Bool
-          p r = bytes_eq r.id (name_of option)
-
-          go : (b : Bool) → first_of (name_of option) (with_each others (cond b rows (rows ++ absent flag ∷ []))) ≡ Some (codes "false")
-          go true = absent_found option others rows some none
-          go false = absent_found option others (rows ++ absent flag ∷ []) some (none_more (λ r. bytes_eq r.id (name_of option)) rows (absent flag) none e)
+  absent_found option (flag ∷ others) rows some none =
+      let p = λ (r : Row). bytes_eq r.id (name_of option) in
+      elim (bytes_eq (name_of flag) (name_of option))
+      as (λ c. bytes_eq (name_of flag) (name_of option) ≡ c → (c || list_any (λ f. bytes_eq (name_of f) (name_of option)) others) ≡ true
+      → first_of (name_of option) (with_each (flag ∷ others) rows) ≡ Some (codes "false")) [
+        | true ↦ λ e some_now.
+            let fresh : has_row (name_of flag) rows ≡ false = ap (λ o. has_row (name_of o) rows) (one_option option flag e) ∙ none in
+            ap (λ b. first_of (name_of option) (with_each others (cond b rows (rows ++ absent flag ∷ [])))) fresh
+            ∙ ap (option_and_then (λ r. slice_get r.values 0))
+            (flags_kept p others (rows ++ absent flag ∷ []) (any_past p rows (absent flag) none e) ∙ find_past p rows (absent flag ∷ []) none)
+            ∙ ap (λ b. option_and_then (λ r. slice_get r.values 0) (cond b (Some (absent flag)) None)) e
+        | false ↦ λ e some_now.
+            elim (has_row (name_of flag) rows) as (λ b. first_of (name_of option) (with_each others (cond b rows (rows ++ absent flag ∷ []))) ≡ Some (codes "false")) [
+              | true ↦ absent_found option others rows some_now none
+              | false ↦ absent_found option others (rows ++ absent flag ∷ []) some_now (none_more p rows (absent flag) none e)
+            ]
+      ] refl some
 
   flag_found : (option : OptionName) → kind_of option ≡ Flag → first_of (name_of option) (with_flags held_rows) ≡ Some (truth_text (is_some (given option all_words)))
   flag_found option flag = go (has_row (name_of option) held_rows) refl

@@ -53,12 +53,7 @@ fn picking_of(options: &Options) -> Picking
 }
 
 // The output of a search over a task.
-fn planned(
-    alloc: Global,
-    picking: Picking,
-    form: Form,
-    task: &Task,
-) -> Result<Output, NoMemory>
+fn planned(alloc: Global, picking: Picking, form: Form, task: &Task) -> Result<Output, NoMemory>
     requires { IsReady task.now }
     ensures headline { IfOk result (MeansTask picking form task.now) }
     ensures output { IfOk result (IsOutputOfTask picking form task.now) }
