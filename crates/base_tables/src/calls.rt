@@ -1,5 +1,4 @@
 // Calls on folders as they are written, `list` or `read` and a path behind `./`, with what is answered.
-
 use outside_folder::{Folder, Name};
 use std::alloc::Global;
 use std::test::Fail;

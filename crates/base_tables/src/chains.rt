@@ -1,5 +1,4 @@
 // Chains as deep as a file is long: calls of themselves for the left side would run out of stack.
-
 use plan_types::{Boxed, Cond, List, NoMemory, Range, Shared, Text, Version};
 use std::alloc::Global;
 use std::test::Fail;

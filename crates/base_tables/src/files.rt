@@ -1,5 +1,4 @@
 // Files of a folder in memory.
-
 use outside_folder::MemFile;
 use plan_types::{List, Text};
 use std::alloc::Global;

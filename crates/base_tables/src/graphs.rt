@@ -1,7 +1,5 @@
-// Graphs as they are written: the nodes that each node needs, with a bar between two nodes; `-` needs none. A graph that begins
-// with `chain` has 100,000 nodes, each of which needs the next one; behind bars stand those that need others, and a colon
-// before these.
-
+// Graphs as they are written: what each node needs, with a bar between two nodes; `-` needs none. With `chain` one of 100,000 nodes
+// begins that each need the next; behind bars stand those that need others, and a colon before these.
 use plan_types::{List, NoMemory};
 use std::alloc::Global;
 use std::test::Fail;

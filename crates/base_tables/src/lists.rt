@@ -1,6 +1,5 @@
-// Numbers, and of their list: the items, how many there are and whether there are none; whether it equals the list that is made of all
-// at once and the empty one; its last item, and the list without it. Or a number in a box: what it holds, and what comes out of it.
-// Or a list behind which others are moved: both lists afterwards.
+// Numbers, and of their list: the items, their count and whether there are none; whether it equals the list made of all at once and the
+// empty one; its last item, and the list without it. Or a number in a box; or a list behind which others are moved, and both afterwards.
 use plan_types::{Boxed, List};
 use std::alloc::Global;
 use std::test::Fail;

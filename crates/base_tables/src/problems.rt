@@ -1,12 +1,10 @@
 // Problems as lines of words, with a space between two words; a problem without words is `-`.
-//
 // A name is the number of a package, with an `f` behind it where it is that of the package's flag, and an `s` before it in the setup
 // script of the package 9. Values are digits.
 // NAME:VALUES            a variable, with its values in order
 // NAME:VALUES/VALUES     the same, with the values that may not be chosen
 // CHOICES>>NAME:VALUES   a root: where the choices are made, the variable has to have one of the values
 // CHOICES>NAME:VALUES    a demand, likewise; the choices are written NAME.VALUE, with a comma between two
-
 use choice_problem::{Choice, Demand, Part, Qual, Var, Written, WrittenVar};
 use plan_types::{List, NoMemory};
 use std::alloc::Global;

@@ -1,6 +1,5 @@
 // A problem, the limit, and the outcome. `ends` and the numbers of packages: whether the search of the five ends with their set.
 // `asked`: the outcome of the five, where it asks at most 17 questions for orders and 20 for demands.
-//
 // In the third the packages are, in goal order, a, b, c, main, and one without values. The package main asks for b and c;
 // b's value 1 asks for c's value 0, which asks for the fifth; b's value 0 asks for a. The next is a problem to which those
 // behind it add a word that breaks a law: a variable that is listed twice, an order that is no permutation, a root of what
