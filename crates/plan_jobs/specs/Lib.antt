@@ -1,2 +1,4 @@
 pub mod Marks
 pub mod Events
+pub mod Board
+pub mod Building

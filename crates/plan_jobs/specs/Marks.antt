@@ -1,5 +1,5 @@
 -- Marks on places, and the tree that they are the leaves of.
-use Rattle.std.specs.Prelude.{◌≡◌, ◌<◌, ◌≤◌, ◌+◌, ◌*◌, ◌^◌, ◌||◌, ℕ, Bool, false, List, length, slice_index_or}
+use Rattle.std.specs.Prelude.{◌≡◌, ◌<◌, ◌≤◌, ◌+◌, ◌*◌, ◌^◌, ◌||◌, ℕ, Bool, false, List, Option, MatchOption, length, slice_index_or, slice_set}
 use Rattle.common_laws.specs.Graphs.{IsMarked}
 
 -- no place has a mark
@@ -25,3 +25,7 @@ pub record IsTree (width : ℕ) (tree : List Bool) : Type 0 where
   pub count : length tree ≡ 2 * width
   pub small : 2 * width < 2 ^ 64
   pub joined : (at : ℕ) → 1 ≤ at → at < width → IsJoined tree at
+
+-- the least mark is taken away, if there is one
+abbrev pub TakesLeast : List Bool → List Bool → Option ℕ → Type 0
+TakesLeast old new taken = MatchOption taken (NoneMarked old × (new ≡ old)) (λ place. IsLeastMarked old place × (new ≡ slice_set old place false))

@@ -3,7 +3,12 @@
 //! needs is completed, nothing twice, never more at once than there are slots, and nothing that needs a failed node.
 #![tactic(auto)]
 
+mod holding;
 mod job;
+mod jobs;
 mod marks;
+mod meeting;
+mod needs;
 
 pub use job::{JobFault, JobState};
+pub use jobs::Jobs;
