@@ -1,3 +1,5 @@
 pub mod Tree
 pub mod Spread
 pub mod Counts
+pub mod Changes
+pub mod Told
