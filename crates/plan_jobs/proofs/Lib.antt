@@ -3,3 +3,4 @@ pub mod Spread
 pub mod Counts
 pub mod Changes
 pub mod Told
+pub mod Replies
