@@ -1,7 +1,7 @@
 -- What is kept when one node becomes something else.
 use Rattle.std.proofs.Common.{◌≡◌, ◌≢◌, ◌<◌, ◌≤◌, ◌+◌, ◌-◌, ◌⊎◌, inl, inr, ⊎_elim, ℕ, zero, suc, Bool, true, false, cond, List, [], ◌∷◌, length, get_or, set, refl, sym, subst, ap, ◌∙◌, arith}
 use Rattle.std.specs.Prelude.{◌↔◌, count_by, slice_index}
-use Rattle.std.proofs.lemmas.Bool.{cases_eq}
+use Rattle.std.proofs.lemmas.Bool.{cases_eq, cases_lt}
 use Rattle.std.proofs.lemmas.List.{get_or-set_same, get_or-set_other, get_or_past, length-set}
 use Rattle.std.proofs.lemmas.List.Sums.{sum_by-set, count_by-le-length}
 use Rattle.common_laws.specs.Graphs.{IsMarked, IsPath, last, more, marked_within}
@@ -11,7 +11,7 @@ use Rattle.plan_jobs.specs.Marks.{NoneMarked, IsLeastMarked}
 use Rattle.plan_jobs.specs.Events.{is_running}
 use Rattle.plan_jobs.specs.Board.{AreBegun, AreCounts, AreHeld, AreReady, HasFailed, HoldsMore, IsHeldBack, IsUser, Keeps, Leads, is_begun, is_completed, open_needs, state_at, times}
 use Rattle.plan_jobs.proofs.Spread.{held_more, held_same, marked-unset}
-use Rattle.plan_jobs.proofs.Counts.{none_open, open_less, open_same}
+use Rattle.plan_jobs.proofs.Counts.{none_open, open_less, open_same, times_none}
 
 pub completed_is : (state : JobState) → is_completed state ≡ true → state ≡ Completed
 completed_is Waiting e = absurd (cc)
@@ -232,11 +232,14 @@ module _ (users : List (List ℕ)) (states : List JobState) (unmet : List ℕ) (
           few = let f = k.few in omega (arith, f);
         }
 
-    pub less_open : (user : ℕ) → user < length states → times user (get_or users place []) ≤ slice_index unmet user
-    less_open user lt =
+    pub less_open : (user : ℕ) → times user (get_or users place []) ≤ slice_index unmet user
+    less_open user = ⊎_elim
+        (λ lt.
         let e = open_less users states place user Completed here (ap is_completed runs) refl in
         let c = k.counts.each user lt in
-        omega (arith, e, c)
+        omega (arith, e, c))
+        (λ ge. let none = times_none (get_or users place []) user (λ i. let lt = k.begun.within user place i in omega (arith, ge, lt)) in omega (arith, none))
+        (cases_lt user (length states))
 
     pub ready_now : AreReady (set states place Completed) unmet ready
     ready_now = ready_stays states unmet ready place Completed (λ e. let wrong : Running ≡ Waiting = sym runs ∙ e in cc) (λ e. cc) here k.first
