@@ -4,3 +4,5 @@ pub mod Counts
 pub mod Changes
 pub mod Told
 pub mod Replies
+pub mod Reading
+pub mod Begin
