@@ -6,3 +6,4 @@ pub mod Told
 pub mod Replies
 pub mod Reading
 pub mod Begin
+pub mod Histories

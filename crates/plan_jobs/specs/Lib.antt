@@ -2,3 +2,4 @@ pub mod Marks
 pub mod Events
 pub mod Board
 pub mod Building
+pub mod Laws
