@@ -1,18 +1,17 @@
 -- The nodes before all events.
-use Rattle.std.proofs.Common.{◌≡◌, ◌<◌, ◌≤◌, ◌+◌, ◌||◌, ◌&&◌, ◌++◌, cond, ⊎_elim, ℕ, zero, suc, Bool, true, false, not, List, [], ◌∷◌, length, map, get_or, refl, sym, subst, ap, ◌∙◌, arith}
-use Rattle.std.specs.Prelude.{◌↔◌, count_by}
-use Rattle.std.specs.List.{list_any, range_with_len}
+use Rattle.std.proofs.Common.{◌≡◌, ◌<◌, ◌≤◌, ◌+◌, ◌||◌, ◌++◌, cond, ℕ, Bool, true, false, not, List, [], ◌∷◌, length, map, refl, sym, subst, ap, ◌∙◌, arith}
+use Rattle.std.specs.Prelude.{count_by}
+use Rattle.std.specs.List.{list_any}
 use Rattle.plan_types.specs.Bytes.{same_text}
 use Rattle.std.proofs.lemmas.Bool.{and_parts}
 use Rattle.std.proofs.lemmas.List.{get_or-map, ext_get_or, length-map}
 use Rattle.std.proofs.lemmas.List.Sums.{sum_by-cons}
 use Rattle.plan_nodes.specs.Line.{no_line}
 use Rattle.plan_nodes.specs.declared.node.PlanNode.{PlanNode}
-use Rattle.plan_jobs.specs.declared.job.JobState.{JobState}
-use Rattle.plan_jobs.specs.declared.job.JobState.TheVariants.{Waiting, Running, Completed, Failed}
+use Rattle.plan_jobs.specs.declared.job.JobState.TheVariants.{Waiting}
 use Rattle.plan_jobs.specs.declared.needs.Needs.{Needs}
 use Rattle.plan_jobs.specs.Marks.{NoneMarked}
-use Rattle.plan_jobs.specs.Events.{Event, NeedsNode, is_installed, is_running, node_at, state_after, state_by, states_after, wants}
+use Rattle.plan_jobs.specs.Events.{is_installed, is_running, node_at, state_after, state_by, states_after, wants}
 use Rattle.plan_jobs.specs.Board.{AreAfter, AreBegun, AreHeld, AreReady, HasFailed, Keeps, is_begun, state_at}
 use Rattle.plan_jobs.specs.Building.{AreOf, first_state}
 use Rattle.plan_jobs.proofs.Told.{history_begins, state_in, states_count}

@@ -1,15 +1,15 @@
 -- What is kept when one node becomes something else.
-use Rattle.std.proofs.Common.{◌≡◌, ◌≢◌, ◌<◌, ◌≤◌, ◌+◌, ◌-◌, ◌⊎◌, inl, inr, ⊎_elim, ℕ, zero, suc, Bool, true, false, cond, List, [], ◌∷◌, length, get_or, set, refl, sym, subst, ap, ◌∙◌, arith}
-use Rattle.std.specs.Prelude.{◌↔◌, count_by, slice_index}
+use Rattle.std.proofs.Common.{◌≡◌, ◌<◌, ◌≤◌, ◌+◌, ◌-◌, inl, inr, ⊎_elim, ℕ, zero, suc, Bool, true, false, cond, List, [], ◌∷◌, length, get_or, set, refl, sym, subst, ap, ◌∙◌, arith}
+use Rattle.std.specs.Prelude.{count_by, slice_index}
 use Rattle.std.proofs.lemmas.Bool.{cases_eq, cases_lt}
-use Rattle.std.proofs.lemmas.List.{get_or-set_same, get_or-set_other, get_or_past, length-set}
-use Rattle.std.proofs.lemmas.List.Sums.{sum_by-set, count_by-le-length}
-use Rattle.common_laws.specs.Graphs.{IsMarked, IsPath, last, more, marked_within}
+use Rattle.std.proofs.lemmas.List.{get_or-set_same, get_or-set_other, length-set}
+use Rattle.std.proofs.lemmas.List.Sums.{sum_by-set}
+use Rattle.common_laws.specs.Graphs.{IsMarked, last, more, marked_within}
 use Rattle.plan_jobs.specs.declared.job.JobState.{JobState}
 use Rattle.plan_jobs.specs.declared.job.JobState.TheVariants.{Waiting, Running, Completed, Failed}
-use Rattle.plan_jobs.specs.Marks.{NoneMarked, IsLeastMarked}
+use Rattle.plan_jobs.specs.Marks.{NoneMarked}
 use Rattle.plan_jobs.specs.Events.{is_running}
-use Rattle.plan_jobs.specs.Board.{AreBegun, AreCounts, AreHeld, AreReady, HasFailed, HoldsMore, IsHeldBack, IsUser, Keeps, Leads, is_begun, is_completed, open_needs, state_at, times}
+use Rattle.plan_jobs.specs.Board.{AreBegun, AreCounts, AreHeld, AreReady, HasFailed, HoldsMore, IsUser, Keeps, Leads, is_begun, is_completed, state_at, times}
 use Rattle.plan_jobs.proofs.Spread.{held_more, held_same, marked-unset}
 use Rattle.plan_jobs.proofs.Counts.{none_open, open_less, open_same, times_none}
 
@@ -50,7 +50,7 @@ module _ (users : List (List ℕ)) (states : List JobState) (b : AreBegun users 
       → AreBegun users (set states place state)
   begun_set place state n met =
       let done = λ (need : ℕ) (e : state_at states need ≡ Completed).
-          state_there states place need state (λ s. n (sym (ap (state_at states) s) ∙ e)) ∙ e in
+      state_there states place need state (λ s. n (sym (ap (state_at states) s) ∙ e)) ∙ e in
       record {
         count = b.count ∙ sym (length-set states place state);
         within = λ u p i. subst (λ n. u < n) (sym (length-set states place state)) (b.within u p i);
@@ -104,9 +104,9 @@ module _ (users : List (List ℕ)) (states : List JobState) (b : AreBegun users 
         (λ need. (
           (λ e. state_there states place need state (λ s. was (sym (ap (state_at states) s) ∙ e)) ∙ e),
           λ e. ⊎_elim
-          (λ s. absurd (f (sym (state_here states place state lt) ∙ subst (λ k. state_at (set states place state) k ≡ Failed) s e)))
-          (λ d. sym (state_there states place need state d) ∙ e)
-          (cases_eq need place),
+              (λ s. absurd (f (sym (state_here states place state lt) ∙ subst (λ k. state_at (set states place state) k ≡ Failed) s e)))
+              (λ d. sym (state_there states place need state d) ∙ e)
+              (cases_eq need place),
         ))
 
     pub held_grows : (place : ℕ) (new : List Bool) → (IsMarked held place → ⊥) → place < length states → HoldsMore users (set states place Failed) place held new

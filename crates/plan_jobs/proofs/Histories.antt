@@ -1,9 +1,9 @@
 -- What holds after every list of events, each with the reply that is due.
-use Rattle.std.proofs.Common.{◌≡◌, ◌≢◌, ◌<◌, ◌≤◌, ◌+◌, ◌||◌, ◌⊎◌, inl, inr, ⊎_elim, ℕ, zero, suc, Bool, true, false, cond, List, [], ◌∷◌, ◌++◌, Result, Ok, Err, length, get_or, set, take, refl, sym, subst, ap, ◌∙◌, arith, append_assoc}
-use Rattle.std.specs.Prelude.{◌↔◌, ⊤, Contains, count_by}
-use Rattle.std.specs.List.{list_any, sum_by}
-use Rattle.std.proofs.lemmas.Bool.{cases_eq, cases_lt, or_right}
-use Rattle.std.proofs.lemmas.List.Folds.{list_any-append, list_any_at}
+use Rattle.std.proofs.Common.{◌≡◌, ◌<◌, ◌≤◌, ◌+◌, ◌||◌, ◌⊎◌, inl, inr, ⊎_elim, ℕ, zero, suc, Bool, true, false, cond, List, [], ◌∷◌, ◌++◌, Result, Ok, Err, length, refl, sym, subst, ap, ◌∙◌, arith, append_assoc}
+use Rattle.std.specs.Prelude.{⊤, count_by}
+use Rattle.std.specs.List.{list_any}
+use Rattle.std.proofs.lemmas.Bool.{cases_eq, cases_lt}
+use Rattle.std.proofs.lemmas.List.Folds.{list_any_at}
 use Rattle.std.proofs.lemmas.List.Sums.{sum_by_more_le}
 use Rattle.common_laws.specs.Graphs.{IsPath, last, more}
 use Rattle.plan_nodes.specs.declared.node.PlanNode.{PlanNode}
@@ -12,10 +12,10 @@ use Rattle.plan_jobs.specs.declared.job.JobFault.TheVariants.{NoneReady, NoSlot,
 use Rattle.plan_jobs.specs.declared.job.JobState.{JobState}
 use Rattle.plan_jobs.specs.declared.job.JobState.TheVariants.{Waiting, Running, Completed, Failed}
 use Rattle.plan_jobs.specs.Events.{Event, IsEnd, IsHeld, IsHistory, IsReady, IsRight, IsStart, NeedsNode, Runs, completes, fails, starts, is_completion_of, is_failure_of, is_installed, is_running, is_start_of, node_at, running_after, state_after, state_by, states_after, wants}
-use Rattle.plan_jobs.specs.Board.{is_begun, is_completed, state_at}
-use Rattle.plan_jobs.specs.Laws.{HasEnded, IsAtRest, KeepsHeld, StartsAfterNeeds, StartsBehind, StartsNoneHeld, StartsOnce}
+use Rattle.plan_jobs.specs.Board.{is_begun, state_at}
+use Rattle.plan_jobs.specs.Laws.{HasEnded, IsAtRest, KeepsHeld, StartsAfterNeeds, StartsNoneHeld, StartsOnce}
 use Rattle.plan_jobs.proofs.Counts.{other_place, same_place}
-use Rattle.plan_jobs.proofs.Changes.{completed_is, runs_more}
+use Rattle.plan_jobs.proofs.Changes.{runs_more}
 use Rattle.plan_jobs.proofs.Begin.{first_states, none_run, wants_none}
 use Rattle.plan_jobs.proofs.Told.{all_stay, completes_now, fails_now, one_changes, starts_now, state_in, states_count, stays_so}
 

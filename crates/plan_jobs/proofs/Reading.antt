@@ -1,23 +1,21 @@
 -- Who needs each node, as one node after another is read.
 use Rattle.std.proofs.Common.{◌≡◌, ◌<◌, ◌≤◌, ◌+◌, ◌||◌, ◌&&◌, ◌⊎◌, inl, inr, ⊎_elim, ℕ, zero, suc, Bool, true, false, not, cond, List, [], ◌∷◌, ◌++◌, length, map, take, get_or, set, refl, sym, subst, ap, ◌∙◌, arith, length-append, take_all}
 use Rattle.std.specs.Prelude.{◌↔◌, ◌==◌, Contains, All, count_by, flat_map}
-use Rattle.std.specs.List.{list_any, range_with_len}
-use Rattle.std.proofs.lemmas.Bool.{cases_eq, cases_lt, or_cases, or_left, or_right, and_parts, and_from}
-use Rattle.std.proofs.lemmas.List.{get_or-set_same, get_or-set_other, get_or_default, get_or-map, get_or_past, length-set, map-append, take_more, ext_get_or}
+use Rattle.std.specs.List.{list_any}
+use Rattle.std.proofs.lemmas.Bool.{cases_eq, cases_lt, or_cases, or_left, or_right}
+use Rattle.std.proofs.lemmas.List.{get_or-set_same, get_or-set_other, length-set, map-append, take_more}
 use Rattle.std.proofs.lemmas.List.Folds.{list_any-append}
 use Rattle.std.proofs.lemmas.List.Elements.{Contains-append_left, Contains-get_or, Contains-push, Contains-push_cases}
 use Rattle.std.proofs.lemmas.List.Sums.{sum_by-append, sum_by-cons}
-use Rattle.indexmap.specs.IndexMap.{IndexMap}
 use Rattle.keyed_lists.specs.Lists.{items_at}
 use Rattle.plan_types.specs.Bytes.{same_text}
 use Rattle.common_laws.specs.Lists.{contains-none, contains-cases, contains-head, contains-tail, contains-append, contains-left, contains-right}
 use Rattle.plan_nodes.specs.Line.{no_line}
 use Rattle.plan_nodes.specs.declared.node.PlanNode.{PlanNode}
 use Rattle.plan_jobs.specs.declared.job.JobState.{JobState}
-use Rattle.plan_jobs.specs.declared.job.JobState.TheVariants.{Waiting, Running, Completed, Failed}
 use Rattle.plan_jobs.specs.declared.needs.Needs.{Needs}
 use Rattle.plan_jobs.specs.Events.{NeedsNode, is_installed, node_at, wants}
-use Rattle.plan_jobs.specs.Board.{IsUser, is_completed, is_open, open_needs, state_at, times, with_user}
+use Rattle.plan_jobs.specs.Board.{IsUser, is_completed, is_open, open_needs, times, with_user}
 use Rattle.plan_jobs.specs.Building.{AddsPlace, AreOf, first_state, wanted}
 use Rattle.plan_jobs.proofs.Counts.{other_place, same_place, some_open}
 use Rattle.plan_jobs.proofs.Replies.{needs_within}
@@ -62,8 +60,8 @@ user_more users user place lt a b =
     let was : get_or users b [] ≡ get_or users place [] = ap (λ k. get_or users k []) e in (
       (λ c. ⊎_elim (λ o. inl (subst (λ l. Contains l a) (sym was) o)) (λ s. inr (sym s, e)) (Contains-push_cases (get_or users place []) user a (subst (λ l. Contains l a) here c))),
       λ c. subst (λ l. Contains l a) (sym here) (⊎_elim
-      (λ o. Contains-append_left (get_or users place []) (user ∷ []) a (subst (λ l. Contains l a) was o))
-      (λ s. subst (λ k. Contains list k) (sym s.0) (Contains-push (get_or users place []) user)) c),
+          (λ o. Contains-append_left (get_or users place []) (user ∷ []) a (subst (λ l. Contains l a) was o))
+          (λ s. subst (λ k. Contains list k) (sym s.0) (Contains-push (get_or users place []) user)) c),
     ))
     (λ n.
     let stays = get_or-set_other users place b list [] n in (
@@ -91,13 +89,13 @@ with_users user (p ∷ places) users all a b =
     let rest = with_users user places next (subst (λ n. All (λ q. q < n) places) (sym same) (tail_within (length users) p places all)) a b in
     let one = user_more users user p (head_within (length users) p places all) a b in (
       (λ c. ⊎_elim
-      (λ o. ⊎_elim (λ u. inl u) (λ s. inr (s.0, subst (λ k. Contains (p ∷ places) k) (sym s.1) (contains-head p places))) (one.0 o))
-      (λ s. inr (s.0, contains-tail p places b s.1))
-      (rest.0 c)),
+          (λ o. ⊎_elim (λ u. inl u) (λ s. inr (s.0, subst (λ k. Contains (p ∷ places) k) (sym s.1) (contains-head p places))) (one.0 o))
+          (λ s. inr (s.0, contains-tail p places b s.1))
+          (rest.0 c)),
       λ c. rest.1 (⊎_elim
-      (λ o. inl (one.1 (inl o)))
-      (λ s. ⊎_elim (λ e. inl (one.1 (inr (s.0, sym e)))) (λ i. inr (s.0, i)) (contains-cases p places b s.1))
-      c),
+          (λ o. inl (one.1 (inl o)))
+          (λ s. ⊎_elim (λ e. inl (one.1 (inr (s.0, sym e)))) (λ i. inr (s.0, i)) (contains-cases p places b s.1))
+          c),
     )
 
 -- counts once one more list of needs was read
@@ -161,13 +159,13 @@ module _ (nodes : List PlanNode) (k : ℕ) (needs : Needs) (r : IsRead nodes k n
       let rest = found ids place in
       let test = same_text (node_at nodes place).id in (
         (λ c. ⊎_elim
-        (λ l. let p = here.0 l in (p.0, or_left (test id) (list_any test ids) p.1))
-        (λ l. let p = rest.0 l in (p.0, or_right (test id) (list_any test ids) p.1))
-        (contains-append (items_at same_text needs.places id) (flat_map (items_at same_text needs.places) ids) place c)),
+            (λ l. let p = here.0 l in (p.0, or_left (test id) (list_any test ids) p.1))
+            (λ l. let p = rest.0 l in (p.0, or_right (test id) (list_any test ids) p.1))
+            (contains-append (items_at same_text needs.places id) (flat_map (items_at same_text needs.places) ids) place c)),
         λ c. ⊎_elim
-        (λ e. contains-left (items_at same_text needs.places id) (flat_map (items_at same_text needs.places) ids) place (here.1 (c.0, e)))
-        (λ e. contains-right (items_at same_text needs.places id) (flat_map (items_at same_text needs.places) ids) place (rest.1 (c.0, e)))
-        (or_cases (test id) (list_any test ids) c.1),
+            (λ e. contains-left (items_at same_text needs.places id) (flat_map (items_at same_text needs.places) ids) place (here.1 (c.0, e)))
+            (λ e. contains-right (items_at same_text needs.places id) (flat_map (items_at same_text needs.places) ids) place (rest.1 (c.0, e)))
+            (or_cases (test id) (list_any test ids) c.1),
       )
 
   module _ (node : PlanNode) where
@@ -189,25 +187,25 @@ module _ (nodes : List PlanNode) (k : ℕ) (needs : Needs) (r : IsRead nodes k n
         let e : list_any test (node.libs ++ node.tools ++ node.setups) ≡ (a || b) || d =
         list_any-append test (node.libs ++ node.tools) node.setups ∙ ap (λ x. x || d) (list_any-append test node.libs node.tools) in (
           (λ c. ⊎_elim
-          (λ l. ⊎_elim
-          (λ l. let p = (found node.libs place).0 l in (p.0, e ∙ or_left (a || b) d (or_left a b p.1)))
-          (λ l. let p = (found node.tools place).0 l in (p.0, e ∙ or_left (a || b) d (or_right a b p.1)))
-          (contains-append libs tools place l))
-          (λ l. let p = (found node.setups place).0 l in (p.0, e ∙ or_right (a || b) d p.1))
-          (contains-append (libs ++ tools) setups place c)),
+              (λ l. ⊎_elim
+              (λ l. let p = (found node.libs place).0 l in (p.0, e ∙ or_left (a || b) d (or_left a b p.1)))
+              (λ l. let p = (found node.tools place).0 l in (p.0, e ∙ or_left (a || b) d (or_right a b p.1)))
+              (contains-append libs tools place l))
+              (λ l. let p = (found node.setups place).0 l in (p.0, e ∙ or_right (a || b) d p.1))
+              (contains-append (libs ++ tools) setups place c)),
           λ c. ⊎_elim
-          (λ t. contains-left (libs ++ tools) setups place (⊎_elim
-          (λ t. contains-left libs tools place ((found node.libs place).1 (c.0, t)))
-          (λ t. contains-right libs tools place ((found node.tools place).1 (c.0, t)))
-          (or_cases a b t)))
-          (λ t. contains-right (libs ++ tools) setups place ((found node.setups place).1 (c.0, t)))
-          (or_cases (a || b) d (sym e ∙ c.1)),
+              (λ t. contains-left (libs ++ tools) setups place (⊎_elim
+              (λ t. contains-left libs tools place ((found node.libs place).1 (c.0, t)))
+              (λ t. contains-right libs tools place ((found node.tools place).1 (c.0, t)))
+              (or_cases a b t)))
+              (λ t. contains-right (libs ++ tools) setups place ((found node.setups place).1 (c.0, t)))
+              (or_cases (a || b) d (sym e ∙ c.1)),
         )
 
     pub wanted_in : (place : ℕ) → Contains (wanted needs.places node) place ↔ (place < k) × (wants node (node_at nodes place).id ≡ true)
     wanted_in place =
         elim (is_installed node.kind) as (λ b. Contains (cond b [] (libs ++ tools ++ setups)) place
-            ↔ (place < k) × (not b && list_any (same_text (node_at nodes place).id) (node.libs ++ node.tools ++ node.setups) ≡ true)) [
+        ↔ (place < k) × (not b && list_any (same_text (node_at nodes place).id) (node.libs ++ node.tools ++ node.setups) ≡ true)) [
           | true ↦ ((λ c. absurd (contains-none place c)), λ c. absurd (let e = c.1 in cc))
           | false ↦ in_lists place
         ]
@@ -239,14 +237,14 @@ module _ (nodes : List PlanNode) (k : ℕ) (needs : Needs) (r : IsRead nodes k n
       users_now : (a b : ℕ) → IsUser new.users.items a b ↔ NeedsNode nodes a b × (a < k + 1)
       users_now a b = (
         (λ c. ⊎_elim
-        (λ o. let p = (r.users a b).0 o in let l = p.1 in (p.0, omega (arith, l)))
-        (λ s. let e = s.0 in let w = (wanted_in node b).0 s.1 in
-        (subst (λ u. NeedsNode nodes u b) (sym e) (w.0, w.1), omega (arith, e)))
-        ((user_in a b).0 c)),
+            (λ o. let p = (r.users a b).0 o in let l = p.1 in (p.0, omega (arith, l)))
+            (λ s. let e = s.0 in let w = (wanted_in node b).0 s.1 in
+            (subst (λ u. NeedsNode nodes u b) (sym e) (w.0, w.1), omega (arith, e)))
+            ((user_in a b).0 c)),
         λ c. let l = c.1 in (user_in a b).1 (⊎_elim
-        (λ less. inl ((r.users a b).1 (c.0, less)))
-        (λ more. let e : a ≡ k = omega (arith, l, more) in inr (e, (wanted_in node b).1 (subst (λ u. NeedsNode nodes u b) e c.0)))
-        (cases_lt a k)),
+            (λ less. inl ((r.users a b).1 (c.0, less)))
+            (λ more. let e : a ≡ k = omega (arith, l, more) in inr (e, (wanted_in node b).1 (subst (λ u. NeedsNode nodes u b) e c.0)))
+            (cases_lt a k)),
       )
 
       open_now : (place : ℕ) → open_needs new.users.items new.states place ≡ open_needs (with_user k needs.users.items list) needs.states place
@@ -280,13 +278,13 @@ module _ (nodes : List PlanNode) (k : ℕ) (needs : Needs) (r : IsRead nodes k n
           let old = items_at same_text needs.places id in
           let o = r.places id place in (
             (λ c. ⊎_elim
-            (λ l. let p = o.0 l in let lt = p.0 in (omega (arith, lt), p.1))
-            (λ s. (omega (arith, s), subst (λ n. same_text (node_at nodes n).id id ≡ true) s e))
-            (Contains-push_cases old k place (subst (λ l. Contains l place) is c))),
+                (λ l. let p = o.0 l in let lt = p.0 in (omega (arith, lt), p.1))
+                (λ s. (omega (arith, s), subst (λ n. same_text (node_at nodes n).id id ≡ true) s e))
+                (Contains-push_cases old k place (subst (λ l. Contains l place) is c))),
             λ c. let l = c.0 in subst (λ l. Contains l place) (sym is) (⊎_elim
-            (λ less. Contains-append_left old (k ∷ []) place (o.1 (less, c.1)))
-            (λ more. let s : k ≡ place = omega (arith, l, more) in subst (λ n. Contains (old ++ k ∷ []) n) s (Contains-push old k))
-            (cases_lt place k)),
+                (λ less. Contains-append_left old (k ∷ []) place (o.1 (less, c.1)))
+                (λ more. let s : k ≡ place = omega (arith, l, more) in subst (λ n. Contains (old ++ k ∷ []) n) s (Contains-push old k))
+                (cases_lt place k)),
           )
       place_case id place false e is =
           let old = items_at same_text needs.places id in
@@ -294,10 +292,10 @@ module _ (nodes : List PlanNode) (k : ℕ) (needs : Needs) (r : IsRead nodes k n
           let is' : items_at same_text new.places id ≡ old = is ∙ append-nil old in (
             (λ c. let p = o.0 (subst (λ l. Contains l place) is' c) in let lt = p.0 in (omega (arith, lt), p.1)),
             λ c. let l = c.0 in subst (λ l. Contains l place) (sym is') (⊎_elim
-            (λ less. o.1 (less, c.1))
-            (λ more. let s : place ≡ k = omega (arith, l, more) in
-            absurd (let wrong : false ≡ true = sym e ∙ subst (λ n. same_text (node_at nodes n).id id ≡ true) s c.1 in cc))
-            (cases_lt place k)),
+                (λ less. o.1 (less, c.1))
+                (λ more. let s : place ≡ k = omega (arith, l, more) in
+                absurd (let wrong : false ≡ true = sym e ∙ subst (λ n. same_text (node_at nodes n).id id ≡ true) s c.1 in cc))
+                (cases_lt place k)),
           )
 
       places_now : (id : List ℕ) (place : ℕ) → Contains (items_at same_text new.places id) place ↔ (place < k + 1) × (same_text (node_at nodes place).id id ≡ true)

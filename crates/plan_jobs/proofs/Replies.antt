@@ -1,16 +1,14 @@
 -- What the marks say of the nodes after a list of events.
-use Rattle.std.proofs.Common.{◌≡◌, ◌≢◌, ◌<◌, ◌≤◌, ◌⊎◌, inl, inr, ⊎_elim, ℕ, Bool, true, false, List, [], ◌∷◌, ◌++◌, Result, Ok, Err, length, get_or, set, refl, sym, subst, ap, ◌∙◌, arith}
-use Rattle.std.specs.Prelude.{◌↔◌, ⊤, count_by}
+use Rattle.std.proofs.Common.{◌≡◌, ◌<◌, ⊎_elim, ℕ, Bool, true, List, length, sym, subst, ap, ◌∙◌, arith}
 use Rattle.std.proofs.lemmas.Bool.{cases_lt}
 use Rattle.std.proofs.lemmas.List.{get_or_past}
 use Rattle.common_laws.specs.Graphs.{IsMarked, IsPath, last, more}
 use Rattle.plan_nodes.specs.Line.{no_line}
 use Rattle.plan_nodes.specs.declared.node.PlanNode.{PlanNode}
 use Rattle.plan_jobs.specs.declared.job.JobState.{JobState}
-use Rattle.plan_jobs.specs.declared.job.JobState.TheVariants.{Waiting, Running, Completed, Failed}
 use Rattle.plan_jobs.specs.Marks.{IsLeastMarked, NoneMarked}
-use Rattle.plan_jobs.specs.Events.{Event, IsHeld, IsLeastReady, IsReady, NeedsNode, is_running, node_at, running_after, state_after, wants}
-use Rattle.plan_jobs.specs.Board.{AreAfter, HasFailed, IsUser, Keeps, Leads, is_completed, open_needs, state_at}
+use Rattle.plan_jobs.specs.Events.{Event, IsHeld, IsLeastReady, IsReady, NeedsNode, node_at, running_after, state_after, wants}
+use Rattle.plan_jobs.specs.Board.{AreAfter, IsUser, Keeps, is_completed, state_at}
 use Rattle.plan_jobs.proofs.Counts.{some_open}
 use Rattle.plan_jobs.proofs.Changes.{held_by_way, ready_met}
 use Rattle.plan_jobs.proofs.Told.{after_count, after_running, after_state}
@@ -63,7 +61,7 @@ module _ (users : List (List ℕ)) (states : List JobState) (unmet : List ℕ) (
   ready_out place r =
       let lt = in_states place r.node in
       let none = some_open users states place
-          (λ need i. let n = (a.users place need).0 i in ap is_completed (so need (need_in place need n) ∙ r.met need n)) in
+      (λ need i. let n = (a.users place need).0 i in ap is_completed (so need (need_in place need n) ∙ r.met need n)) in
       (k.first place).1 (lt, so place r.node ∙ r.waits, k.counts.each place lt ∙ none)
 
   pub least_in : (place : ℕ) → IsLeastMarked ready place → IsLeastReady nodes events place

@@ -1,16 +1,16 @@
 -- Who is marked as held, while the marks are carried on from users to their users.
-use Rattle.std.proofs.Common.{◌≡◌, ◌<◌, ◌≤◌, ◌+◌, ◌*◌, ◌⊎◌, inl, inr, ⊎_elim, ℕ, zero, suc, Bool, true, false, not, cond, List, [], ◌∷◌, ◌++◌, length, get_or, set, take, replicate, refl, sym, subst, ap, ◌∙◌, arith}
+use Rattle.std.proofs.Common.{◌≡◌, ◌<◌, ◌≤◌, ◌+◌, ◌*◌, ◌⊎◌, inl, inr, ⊎_elim, ℕ, zero, suc, Bool, true, false, not, cond, List, [], ◌∷◌, ◌++◌, length, get_or, set, replicate, refl, sym, subst, ◌∙◌, arith}
 use Rattle.std.specs.Prelude.{◌↔◌, Contains, All, count_by}
-use Rattle.std.proofs.lemmas.Bool.{cases_eq, false_from_ne_true}
-use Rattle.std.proofs.lemmas.List.{get_or-set_same, get_or-set_other, length-set, length-replicate, get_or_default}
+use Rattle.std.proofs.lemmas.Bool.{cases_eq}
+use Rattle.std.proofs.lemmas.List.{get_or-set_same, get_or-set_other, length-set, length-replicate}
 use Rattle.std.proofs.lemmas.List.Sums.{sum_by-set}
 use Rattle.std.proofs.lemmas.List.Elements.{Contains-get_or}
 use Rattle.common_laws.specs.Lists.{contains-none, contains-cases, contains-head, contains-left, contains-right, contains-append}
-use Rattle.common_laws.specs.Graphs.{IsMarked, IsPath, last, more, marked_within}
+use Rattle.common_laws.specs.Graphs.{IsMarked, last, more}
 use Rattle.plan_jobs.specs.declared.job.JobState.{JobState}
-use Rattle.plan_jobs.specs.declared.job.JobState.TheVariants.{Waiting, Running, Completed, Failed}
-use Rattle.plan_jobs.specs.Marks.{NoneMarked, IsLeastMarked}
-use Rattle.plan_jobs.specs.Board.{AreBegun, AreHeld, HasFailed, HoldsMore, HoldsUsers, IsHeldBack, IsUser, Leads, state_at}
+use Rattle.plan_jobs.specs.declared.job.JobState.TheVariants.{Waiting}
+use Rattle.plan_jobs.specs.Marks.{NoneMarked}
+use Rattle.plan_jobs.specs.Board.{AreBegun, AreHeld, HoldsMore, HoldsUsers, IsUser, Leads, state_at}
 
 -- a mark is there or not
 pub marked_or : (marks : List Bool) (place : ℕ) → IsMarked marks place ⊎ (IsMarked marks place → ⊥)
@@ -69,16 +69,16 @@ holds_both xs ys states a b c wa wb wc h k =
       closed = λ u i w. ⊎_elim (λ l. k.stays u (h.closed u l w)) (λ r. k.closed u r w) (contains-append xs ys u i);
       work = λ u. (
         (λ m. ⊎_elim
-        (λ o. ⊎_elim (λ p. inl p) (λ p. inr (k.stays u p.0, p.1)) ((h.work u).0 o))
-        (λ p. inr (p.0, λ q. p.1 (h.stays u q)))
-        ((k.work u).0 m)),
+            (λ o. ⊎_elim (λ p. inl p) (λ p. inr (k.stays u p.0, p.1)) ((h.work u).0 o))
+            (λ p. inr (p.0, λ q. p.1 (h.stays u q)))
+            ((k.work u).0 m)),
         λ m. ⊎_elim
-        (λ o. (k.work u).1 (inl ((h.work u).1 (inl o))))
-        (λ p. ⊎_elim
-        (λ q. (k.work u).1 (inl ((h.work u).1 (inr (q, p.1)))))
-        (λ q. (k.work u).1 (inr (p.0, q)))
-        (marked_or b u))
-        m,
+            (λ o. (k.work u).1 (inl ((h.work u).1 (inl o))))
+            (λ p. ⊎_elim
+            (λ q. (k.work u).1 (inl ((h.work u).1 (inr (q, p.1)))))
+            (λ q. (k.work u).1 (inr (p.0, q)))
+            (marked_or b u))
+            m,
       );
       fewer = let f = h.fewer in let g = k.fewer in omega (arith, f, g);
     }
@@ -108,8 +108,8 @@ holds_one states held work user lt count room waits free =
       work = λ u. (
         (λ m. ⊎_elim (λ o. inl o) (λ e. inr ((marked-set held user u in_held).1 (inr e), λ q. fresh (subst (λ k. IsMarked held k) e q))) ((marked-set work user u in_work).0 m)),
         λ m. ⊎_elim (λ o. (marked-set work user u in_work).1 (inl o))
-        (λ p. (marked-set work user u in_work).1 (inr (⊎_elim (λ o. absurd (p.1 o)) (λ e. e) ((marked-set held user u in_held).0 p.0))))
-        m,
+            (λ p. (marked-set work user u in_work).1 (inr (⊎_elim (λ o. absurd (p.1 o)) (λ e. e) ((marked-set held user u in_held).0 p.0))))
+            m,
       );
       fewer = omega (arith, cn', cw);
     }
@@ -166,12 +166,12 @@ module _ (users : List (List ℕ)) (states : List JobState) (place : ℕ) (b : A
         found = λ u k. ⊎_elim (s.found u) (λ p. inr (p.0, more p.1 (s.ways next m))) (h.found u k);
         closed = λ u n i w e.
             let go = λ (c : IsMarked held u ⊎ IsMarked work n). ⊎_elim
-                (λ o. inl (h.stays u o))
-                (λ k. ⊎_elim
-                (λ q. inl (h.closed u (subst (λ k. IsUser users u k) q i) w))
-                (λ q. inr ((h.work n).1 (inl ((left n).1 (k, q)))))
-                (cases_eq n next))
-                c in
+            (λ o. inl (h.stays u o))
+            (λ k. ⊎_elim
+            (λ q. inl (h.closed u (subst (λ k. IsUser users u k) q i) w))
+            (λ q. inr ((h.work n).1 (inl ((left n).1 (k, q)))))
+            (cases_eq n next))
+            c in
             ⊎_elim
             (λ q. go (s.closed u n i w (inl q)))
             (λ q. ⊎_elim

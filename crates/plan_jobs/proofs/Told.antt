@@ -1,22 +1,19 @@
 -- What one more event makes of what the nodes are.
-use Rattle.std.proofs.Common.{◌≡◌, ◌≢◌, ◌<◌, ◌≤◌, ◌+◌, ◌||◌, ◌⊎◌, inl, inr, ⊎_elim, ℕ, zero, suc, Bool, true, false, cond, not, List, [], ◌∷◌, ◌++◌, Result, Ok, Err, length, map, get_or, set, refl, sym, subst, ap, ◌∙◌, arith, length-append}
-use Rattle.std.specs.Prelude.{◌↔◌, ◌==◌, ⊤, count_by}
-use Rattle.std.specs.List.{list_any, range_with_len}
-use Rattle.std.proofs.lemmas.Bool.{cases_eq, and_parts}
-use Rattle.std.proofs.lemmas.List.{get_or-set_same, get_or-set_other, get_or_past, length-set, same_lists, ext_get_or}
+use Rattle.std.proofs.Common.{◌≡◌, ◌<◌, ◌||◌, ◌⊎◌, inl, inr, ⊎_elim, ℕ, Bool, true, false, List, [], ◌∷◌, ◌++◌, Ok, Err, length, get_or, set, refl, sym, subst, ap, ◌∙◌, arith, length-append}
+use Rattle.std.specs.Prelude.{⊤, count_by}
+use Rattle.std.specs.List.{list_any}
+use Rattle.std.proofs.lemmas.Bool.{cases_eq}
+use Rattle.std.proofs.lemmas.List.{length-set, ext_get_or}
 use Rattle.std.proofs.lemmas.List.FromFn.{length-map-range_with_len, get_or-map-range_with_len}
 use Rattle.std.proofs.lemmas.List.Folds.{list_any-append}
-use Rattle.common_laws.specs.Graphs.{IsMarked, IsPath, last, more}
-use Rattle.plan_nodes.specs.Line.{no_line}
 use Rattle.plan_nodes.specs.declared.node.PlanNode.{PlanNode}
 use Rattle.plan_jobs.specs.declared.job.JobFault.{JobFault}
-use Rattle.plan_jobs.specs.declared.job.JobFault.TheVariants.{NoneReady, NoSlot, NotRunning}
 use Rattle.plan_jobs.specs.declared.job.JobState.{JobState}
 use Rattle.plan_jobs.specs.declared.job.JobState.TheVariants.{Waiting, Running, Completed, Failed}
-use Rattle.plan_jobs.specs.Events.{Event, IsEnd, IsHeld, IsHistory, IsLeastReady, IsReady, IsRight, IsStart, NeedsNode, Runs, completes, fails, starts, is_completion_of, is_failure_of, is_installed, is_running, is_start_of, node_at, running_after, state_after, state_by, states_after, wants}
-use Rattle.plan_jobs.specs.Board.{AreAfter, AreHeld, AreReady, Board, HasFailed, IsUser, Keeps, Leads, is_completed, open_needs, state_at}
-use Rattle.plan_jobs.proofs.Counts.{none_open, other_place, same_place, some_open}
-use Rattle.plan_jobs.proofs.Changes.{completed_is, held_by_way, state_here, state_there, state_within}
+use Rattle.plan_jobs.specs.Events.{Event, IsEnd, IsHistory, IsRight, IsStart, Runs, completes, fails, starts, is_completion_of, is_failure_of, is_installed, is_running, is_start_of, node_at, running_after, state_after, state_by, states_after}
+use Rattle.plan_jobs.specs.Board.{AreAfter, Board, state_at}
+use Rattle.plan_jobs.proofs.Counts.{other_place, same_place}
+use Rattle.plan_jobs.proofs.Changes.{state_here, state_there}
 
 -- one more test
 or_none : (a b : Bool) → a || (b || (false || false)) ≡ a || b

@@ -1,10 +1,10 @@
 -- The tree above the marks: the way down to the least mark, and the way up from one that is set.
-use Rattle.std.proofs.Common.{◌≡◌, ◌<◌, ◌≤◌, ◌+◌, ◌-◌, ◌*◌, ◌/◌, ◌^◌, ◌||◌, ◌⊎◌, inl, inr, ⊎_elim, ℕ, zero, suc, Bool, true, false, List, length, get_or, set, drop, refl, sym, subst, ap, ◌∙◌, arith}
+use Rattle.std.proofs.Common.{◌≡◌, ◌<◌, ◌≤◌, ◌+◌, ◌-◌, ◌*◌, ◌/◌, ◌^◌, ◌||◌, ⊎_elim, ℕ, zero, suc, Bool, true, false, List, length, get_or, set, drop, refl, sym, subst, ap, ◌∙◌, arith}
 use Rattle.std.proofs.Math.Nat.{pow-succ', one-le-pow, mul-le-mul_left}
-use Rattle.std.proofs.lemmas.Bool.{cases_eq, cases_lt, or_left, or_right}
-use Rattle.std.proofs.lemmas.List.{get_or-drop, get_or_past, get_or-set_same, get_or-set_other, length-drop, length-set, drop-set-add, drop-set-lt}
+use Rattle.std.proofs.lemmas.Bool.{cases_eq, cases_lt}
+use Rattle.std.proofs.lemmas.List.{get_or-drop, get_or-set_same, get_or-set_other, length-drop, length-set, drop-set-add, drop-set-lt}
 use Rattle.common_laws.specs.Graphs.{IsMarked, marked_within}
-use Rattle.plan_jobs.specs.Marks.{IsPower, IsJoined, IsTree, IsLeastMarked, NoneMarked}
+use Rattle.plan_jobs.specs.Marks.{IsJoined, IsTree, IsLeastMarked, NoneMarked}
 
 false_or : (a b : Bool) → a || b ≡ false → (a ≡ false) × (b ≡ false)
 false_or true b e = absurd (cc)

@@ -1,5 +1,5 @@
 -- Who needs each node, as the nodes are read.
-use Rattle.std.specs.Prelude.{◌≡◌, ◌<◌, ◌++◌, ◌↔◌, ℕ, Bool, false, true, List, [], ◌∷◌, if◌then◌else◌, length, flat_map, map, slice_index}
+use Rattle.std.specs.Prelude.{◌≡◌, ◌<◌, ◌++◌, ◌↔◌, ℕ, false, List, [], ◌∷◌, if◌then◌else◌, length, flat_map, map, slice_index}
 use Rattle.indexmap.specs.IndexMap.{IndexMap}
 use Rattle.keyed_lists.specs.Lists.{items_at}
 use Rattle.plan_types.specs.Bytes.{same_text}

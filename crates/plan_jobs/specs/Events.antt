@@ -1,5 +1,5 @@
 -- Events of a build with their replies, and what each node is after a list of them.
-use Rattle.std.specs.Prelude.{◌≡◌, ◌≢◌, ◌<◌, ◌≤◌, ◌==◌, ◌||◌, ◌&&◌, ℕ, Bool, true, false, not, if◌then◌else◌, List, [], ◌∷◌, ◌++◌, Result, Ok, Err, ⊤, length, map, count_by, slice_index_or}
+use Rattle.std.specs.Prelude.{◌≡◌, ◌≢◌, ◌<◌, ◌≤◌, ◌==◌, ◌||◌, ◌&&◌, ℕ, Bool, true, false, not, if◌then◌else◌, List, ◌∷◌, ◌++◌, Result, Ok, Err, ⊤, length, map, count_by, slice_index_or}
 use Rattle.std.specs.List.{list_any, range_with_len}
 use Rattle.plan_types.specs.Bytes.{same_text}
 use Rattle.plan_nodes.specs.Line.{no_line}

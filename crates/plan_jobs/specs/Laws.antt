@@ -1,8 +1,8 @@
 -- What holds after every list of events, each with the reply that is due.
-use Rattle.std.specs.Prelude.{◌≡◌, ◌<◌, ◌≤◌, ◌⊎◌, ℕ, List, ◌∷◌, ◌++◌, Ok, length, Contains}
+use Rattle.std.specs.Prelude.{◌≡◌, ◌⊎◌, ℕ, List, ◌∷◌, ◌++◌, Ok, Contains}
 use Rattle.plan_nodes.specs.declared.node.PlanNode.{PlanNode}
 use Rattle.plan_jobs.specs.declared.job.JobState.TheVariants.{Completed, Failed}
-use Rattle.plan_jobs.specs.Events.{Event, IsHeld, IsHistory, IsReady, NeedsNode, running_after, starts, state_after}
+use Rattle.plan_jobs.specs.Events.{Event, IsHeld, IsReady, NeedsNode, running_after, starts, state_after}
 
 -- the node at a place is started behind these events
 abbrev pub StartsBehind : List Event → List Event → ℕ → Type 0

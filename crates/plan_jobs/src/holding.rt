@@ -19,7 +19,11 @@ pub(crate) struct Held {
 }
 
 /// Those that are held at first.
-pub(crate) fn held_at_first(alloc: Global, users: &[List<usize>], states: &[JobState]) -> Result<Held, NoMemory>
+pub(crate) fn held_at_first(
+    alloc: Global,
+    users: &[List<usize>],
+    states: &[JobState],
+) -> Result<Held, NoMemory>
     requires { AreBegun users.now states.now }
     ensures held { IfOk result (λ h. AreHeld users.now states.now (HasFailed states.now) h.held) }
     ensures room { IfOk result (λ h. length states.now ≤ length h.to_go) }
@@ -36,7 +40,13 @@ pub(crate) fn held_at_first(alloc: Global, users: &[List<usize>], states: &[JobS
 }
 
 /// Marks those that wait for a node, and those that wait for what is marked then.
-pub(crate) fn hold(users: &[List<usize>], states: &[JobState], held: &mut List<bool>, to_go: &mut Marks, place: usize)
+pub(crate) fn hold(
+    users: &[List<usize>],
+    states: &[JobState],
+    held: &mut List<bool>,
+    to_go: &mut Marks,
+    place: usize,
+)
     requires begun { AreBegun users.now states.now }
     requires count { length held.old ≡ length states.now }
     requires room { length states.now ≤ length to_go.old }

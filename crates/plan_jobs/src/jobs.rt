@@ -6,7 +6,7 @@ ghost use Rattle.plan_jobs.specs.declared.job.JobState.TheVariants.{Running};
 ghost use Rattle.plan_jobs.specs.Events.{Event, IsEnd, IsHeld, IsStart, completes, fails, starts, state_after};
 ghost use Rattle.plan_jobs.specs.Board.{AreAfter, state_at};
 
-use crate::holding::{hold, held_at_first};
+use crate::holding::{held_at_first, hold};
 use crate::job::{JobFault, JobState};
 use crate::marks::Marks;
 use crate::meeting::{meet, ready_at_first};
@@ -97,7 +97,12 @@ impl Jobs {
         let place = running_place(self.states.as_slice(), place)?;
         self.states.set(place, JobState::Completed);
         self.running -= 1;
-        meet(self.users[place].as_slice(), self.states.as_slice(), &mut self.unmet, &mut self.ready);
+        meet(
+            self.users[place].as_slice(),
+            self.states.as_slice(),
+            &mut self.unmet,
+            &mut self.ready,
+        );
         Ok(())
     }
 
@@ -111,7 +116,13 @@ impl Jobs {
         let place = running_place(self.states.as_slice(), place)?;
         self.states.set(place, JobState::Failed);
         self.running -= 1;
-        hold(self.users.as_slice(), self.states.as_slice(), &mut self.held, &mut self.to_hold, place);
+        hold(
+            self.users.as_slice(),
+            self.states.as_slice(),
+            &mut self.held,
+            &mut self.to_hold,
+            place,
+        );
         Ok(())
     }
 

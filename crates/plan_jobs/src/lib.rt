@@ -14,5 +14,6 @@ mod needs;
 pub use job::{JobFault, JobState};
 pub use jobs::Jobs;
 pub use laws::{
-    at_most_the_slots, ends_at_rest, one_reply, starts_after_needs, starts_none_held, starts_once, stays_held,
+    at_most_the_slots, ends_at_rest, one_reply, starts_after_needs, starts_none_held, starts_once,
+    stays_held,
 };

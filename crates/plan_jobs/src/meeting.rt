@@ -9,7 +9,11 @@ use plan_types::{List, NoMemory};
 use std::alloc::Global;
 
 /// Marks of those that can be started at first.
-pub(crate) fn ready_at_first(alloc: Global, states: &[JobState], unmet: &[usize]) -> Result<Marks, NoMemory>
+pub(crate) fn ready_at_first(
+    alloc: Global,
+    states: &[JobState],
+    unmet: &[usize],
+) -> Result<Marks, NoMemory>
     requires { length unmet.now ≡ length states.now }
     ensures room { IfOk result (λ ready. length states.now ≤ length ready) }
     ensures ready { IfOk result (AreReady states.now unmet.now) }

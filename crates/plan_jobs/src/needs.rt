@@ -59,7 +59,11 @@ impl Needs {
 }
 
 // The places of what a node wants.
-fn wanted(alloc: Global, places: &Lists<Text, usize>, node: &PlanNode) -> Result<List<usize>, NoMemory>
+fn wanted(
+    alloc: Global,
+    places: &Lists<Text, usize>,
+    node: &PlanNode,
+) -> Result<List<usize>, NoMemory>
     ensures { IfOk result (λ found. found ≡ wanted places.now node.now) }
 {
     let mut found = List::new(alloc);
@@ -71,7 +75,11 @@ fn wanted(alloc: Global, places: &Lists<Text, usize>, node: &PlanNode) -> Result
     Ok(found)
 }
 
-fn add_places(found: &mut List<usize>, places: &Lists<Text, usize>, ids: &[Text]) -> Result<(), NoMemory>
+fn add_places(
+    found: &mut List<usize>,
+    places: &Lists<Text, usize>,
+    ids: &[Text],
+) -> Result<(), NoMemory>
     ensures { OnOk result (found.new ≡ found.old ++ flat_map (items_at same_text places.now) ids.now) }
 {
     for id in ids {

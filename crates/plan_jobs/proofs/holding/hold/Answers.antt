@@ -1,8 +1,8 @@
-use Rattle.std.proofs.Common.{◌≡◌, ◌<◌, ◌*◌, ◌+◌, ℕ, List, [], length, get_or, not, true, false, set, sym, subst, ap, ◌∙◌, arith}
-use Rattle.std.specs.Prelude.{count_by, All}
-use Rattle.std.proofs.lemmas.List.{get_or_read, length-set}
+use Rattle.std.proofs.Common.{◌<◌, [], length, get_or, sym, subst, ◌∙◌, arith}
+use Rattle.std.specs.Prelude.{All}
+use Rattle.std.proofs.lemmas.List.{get_or_read}
 use Rattle.common_laws.specs.Graphs.{IsMarked, marked_within}
-use Rattle.plan_jobs.specs.Board.{AreBegun, HoldsUsers}
+use Rattle.plan_jobs.specs.Board.{HoldsUsers}
 use Rattle.plan_jobs.proofs.Spread.{users_within, holding_begins, holding_goes, holding_ends, fewer_left}
 use Rattle.plan_jobs.proofs.holding.hold.Goals as goal
 

@@ -1,4 +1,4 @@
-use Rattle.std.proofs.Common.{[], ◌∷◌, take, drop, refl, sym, subst}
+use Rattle.std.proofs.Common.{take, sym, subst}
 use Rattle.std.proofs.lemmas.List.{take_more}
 use Rattle.plan_jobs.specs.Board.{HoldsUsers}
 use Rattle.plan_jobs.proofs.Spread.{holds_both}

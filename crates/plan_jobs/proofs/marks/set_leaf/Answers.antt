@@ -1,4 +1,4 @@
-use Rattle.std.proofs.Common.{◌≡◌, ◌*◌, ◌+◌, ◌||◌, false, true, get_or, sym, ap, ◌∙◌, refl}
+use Rattle.std.proofs.Common.{◌*◌, ◌+◌, ◌||◌, false, get_or, sym, ap, ◌∙◌}
 use Rattle.plan_jobs.proofs.Tree.{up_from, up}
 use Rattle.plan_jobs.proofs.marks.set_leaf.Goals as goal
 use Rattle.plan_jobs.proofs.marks.set_leaf.Goals.{then-tree-at, else-tree-at}

@@ -1,4 +1,4 @@
-use Rattle.std.proofs.Common.{◌≡◌, ◌*◌, ◌^◌, suc, sym, ap, ◌∙◌, arith}
+use Rattle.std.proofs.Common.{◌*◌, suc, sym, ap, ◌∙◌, arith}
 use Rattle.std.proofs.Math.Nat.{pow-suc}
 use Rattle.plan_jobs.proofs.marks.width_for.Goals as goal
 

@@ -1,11 +1,11 @@
-use Rattle.std.proofs.Common.{◌≡◌, ◌<◌, ◌+◌, ◌-◌, ◌≤◌, ℕ, List, [], ◌∷◌, ◌++◌, Ok, Err, length, get_or, set, refl, sym, subst, ap, ◌∙◌, arith}
-use Rattle.std.specs.Prelude.{All, ⊤}
-use Rattle.std.proofs.lemmas.List.{get_or_default, get_or_read}
+use Rattle.std.proofs.Common.{◌≡◌, ◌<◌, ◌+◌, ◌-◌, ◌≤◌, ℕ, List, [], ◌∷◌, ◌++◌, Ok, Err, length, get_or, set, sym, subst, ap, ◌∙◌}
+use Rattle.std.specs.Prelude.{All}
+use Rattle.std.proofs.lemmas.List.{get_or_read}
 use Rattle.std.proofs.lemmas.Result.{err_from_is_err_and}
 use Rattle.plan_jobs.specs.declared.job.JobFault.TheVariants.{NotRunning}
 use Rattle.plan_jobs.specs.declared.job.JobState.{JobState}
 use Rattle.plan_jobs.specs.declared.job.JobState.TheVariants.{Running, Completed}
-use Rattle.plan_jobs.specs.Events.{IsEnd, Runs, completes}
+use Rattle.plan_jobs.specs.Events.{IsEnd, completes}
 use Rattle.plan_jobs.specs.Board.{AreAfter, AreReady, Keeps, state_at, times}
 use Rattle.plan_jobs.proofs.Changes.{complete_keeps, less_open, ready_now, begun_now, here}
 use Rattle.plan_jobs.proofs.Spread.{users_within}

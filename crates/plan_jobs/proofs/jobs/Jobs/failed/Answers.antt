@@ -1,11 +1,9 @@
-use Rattle.std.proofs.Common.{◌≡◌, ◌<◌, ◌+◌, ◌-◌, ◌≤◌, ℕ, List, [], ◌∷◌, ◌++◌, Ok, Err, length, get_or, set, refl, sym, subst, ap, ◌∙◌, arith}
-use Rattle.std.specs.Prelude.{All, ⊤}
-use Rattle.std.proofs.lemmas.List.{get_or_default, get_or_read}
+use Rattle.std.proofs.Common.{◌≡◌, ◌<◌, ◌-◌, List, [], ◌∷◌, ◌++◌, Ok, Err, length, set, sym, subst, ap, ◌∙◌}
 use Rattle.std.proofs.lemmas.Result.{err_from_is_err_and}
 use Rattle.plan_jobs.specs.declared.job.JobFault.TheVariants.{NotRunning}
 use Rattle.plan_jobs.specs.declared.job.JobState.{JobState}
 use Rattle.plan_jobs.specs.declared.job.JobState.TheVariants.{Running, Failed}
-use Rattle.plan_jobs.specs.Events.{IsEnd, Runs, fails}
+use Rattle.plan_jobs.specs.Events.{IsEnd, fails}
 use Rattle.plan_jobs.specs.Board.{AreAfter, AreBegun, HoldsMore, Keeps, state_at}
 use Rattle.plan_jobs.proofs.Changes.{fail_keeps, begun_now}
 use Rattle.plan_jobs.proofs.Told.{after_failure, after_no_failure, runs_from, runs_to}

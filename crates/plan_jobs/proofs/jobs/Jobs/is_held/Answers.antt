@@ -1,4 +1,4 @@
-use Rattle.std.proofs.Common.{◌≡◌, List, Bool, get_or, false, true, sym, subst, ap, ◌∙◌}
+use Rattle.std.proofs.Common.{◌≡◌, List, Bool, get_or, false, sym, subst, ap, ◌∙◌}
 use Rattle.plan_jobs.specs.Board.{AreAfter}
 use Rattle.plan_jobs.proofs.Replies.{held_in, held_out}
 use Rattle.plan_jobs.proofs.jobs.Jobs.is_held.Goals as goal

@@ -1,4 +1,4 @@
-use Rattle.std.proofs.Common.{◌≡◌, ◌≤◌, List, length, sym, subst, ◌∙◌}
+use Rattle.std.proofs.Common.{◌≤◌, List, length, sym, subst}
 use Rattle.plan_jobs.specs.declared.job.JobState.{JobState}
 use Rattle.plan_jobs.specs.Board.{AreBegun, AreHeld, AreReady, HasFailed}
 use Rattle.plan_jobs.proofs.Begin.{begun_at_first, keeps_at_first, after_none}

@@ -1,4 +1,4 @@
-use Rattle.std.proofs.Common.{◌≡◌, ◌+◌, List, [], ◌∷◌, ◌++◌, Ok, set, sym, subst, ◌∙◌}
+use Rattle.std.proofs.Common.{◌+◌, List, [], ◌∷◌, ◌++◌, Ok, set, sym, subst, ◌∙◌}
 use Rattle.plan_jobs.specs.declared.job.JobFault.TheVariants.{NoneReady, NoSlot}
 use Rattle.plan_jobs.specs.declared.job.JobState.{JobState}
 use Rattle.plan_jobs.specs.declared.job.JobState.TheVariants.{Running}
@@ -19,17 +19,19 @@ returns-then-self-clause-after c nodes slots events a =
 pub returns-in_default-clause-reply : goal.returns-in_default-clause-reply
 returns-in_default-clause-reply c nodes slots events a =
     let i = c.self.inside in
-    let a' = subst (λ board. AreAfter nodes slots events board) (sym c.self.view_is) a in
-    (slots_in i.users.items i.states i.unmet i.ready i.held i.to_hold i.running i.slots c.self.invariant nodes slots events a' c.if-self.false,
-    none_in i.users.items i.states i.unmet i.ready i.held i.to_hold i.running i.slots c.self.invariant nodes slots events a' c.in_default.ensures)
+    let a' = subst (λ board. AreAfter nodes slots events board) (sym c.self.view_is) a in (
+      slots_in i.users.items i.states i.unmet i.ready i.held i.to_hold i.running i.slots c.self.invariant nodes slots events a' c.if-self.false,
+      none_in i.users.items i.states i.unmet i.ready i.held i.to_hold i.running i.slots c.self.invariant nodes slots events a' c.in_default.ensures,
+    )
 
 pub returns-in_default-clause-after : goal.returns-in_default-clause-after
 returns-in_default-clause-after c nodes slots events a =
     let i = c.self.inside in
     let a' = subst (λ board. AreAfter nodes slots events board) (sym c.self.view_is) a in
-    after_no_start nodes slots events c.args.self.now a NoneReady
-    (slots_in i.users.items i.states i.unmet i.ready i.held i.to_hold i.running i.slots c.self.invariant nodes slots events a' c.if-self.false,
-    none_in i.users.items i.states i.unmet i.ready i.held i.to_hold i.running i.slots c.self.invariant nodes slots events a' c.in_default.ensures)
+    after_no_start nodes slots events c.args.self.now a NoneReady (
+      slots_in i.users.items i.states i.unmet i.ready i.held i.to_hold i.running i.slots c.self.invariant nodes slots events a' c.if-self.false,
+      none_in i.users.items i.states i.unmet i.ready i.held i.to_hold i.running i.slots c.self.invariant nodes slots events a' c.in_default.ensures,
+    )
 
 pub invariant_of-self : goal.invariant_of-self
 invariant_of-self c =
@@ -41,15 +43,18 @@ invariant_of-self c =
 pub returns-clause-reply : goal.returns-clause-reply
 returns-clause-reply c nodes slots events a =
     let i = c.self.inside in
-    let a' = subst (λ board. AreAfter nodes slots events board) (sym c.self.view_is) a in
-    (slots_in i.users.items i.states i.unmet i.ready i.held i.to_hold i.running i.slots c.self.invariant nodes slots events a' c.if-self.false,
-    least_in i.users.items i.states i.unmet i.ready i.held i.to_hold i.running i.slots c.self.invariant nodes slots events a' c.in-Some.place c.in-Some.ensures)
+    let a' = subst (λ board. AreAfter nodes slots events board) (sym c.self.view_is) a in (
+      slots_in i.users.items i.states i.unmet i.ready i.held i.to_hold i.running i.slots c.self.invariant nodes slots events a' c.if-self.false,
+      least_in i.users.items i.states i.unmet i.ready i.held i.to_hold i.running i.slots c.self.invariant nodes slots events a' c.in-Some.place c.in-Some.ensures,
+    )
 
 pub returns-clause-after : goal.returns-clause-after
 returns-clause-after c nodes slots events a =
     let i = c.self.inside in
     let a' = subst (λ board. AreAfter nodes slots events board) (sym c.self.view_is) a in
-    let r : IsStart nodes slots events (Ok c.in-Some.place) = (slots_in i.users.items i.states i.unmet i.ready i.held i.to_hold i.running i.slots c.self.invariant nodes slots events a' c.if-self.false,
-    least_in i.users.items i.states i.unmet i.ready i.held i.to_hold i.running i.slots c.self.invariant nodes slots events a' c.in-Some.place c.in-Some.ensures) in
+    let r : IsStart nodes slots events (Ok c.in-Some.place) = (
+      slots_in i.users.items i.states i.unmet i.ready i.held i.to_hold i.running i.slots c.self.invariant nodes slots events a' c.if-self.false,
+      least_in i.users.items i.states i.unmet i.ready i.held i.to_hold i.running i.slots c.self.invariant nodes slots events a' c.in-Some.place c.in-Some.ensures,
+    ) in
     subst (λ states. AreAfter nodes slots (events ++ starts (Ok c.in-Some.place) ∷ []) (record { users = i.users.items; states = states; slots = i.slots })) (sym c.set.ensures)
     (after_start nodes slots events _ a' c.in-Some.place r)
