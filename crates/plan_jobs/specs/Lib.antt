@@ -3,3 +3,4 @@ pub mod Events
 pub mod Board
 pub mod Building
 pub mod Laws
+pub mod Examples
