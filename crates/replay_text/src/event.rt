@@ -9,8 +9,8 @@ use plan_types::NoMemory;
 pub enum JobEvent {
     /// Which node it may start.
     Start,
-    Completed(u64),
-    Failed(u64),
+    Completed(u32),
+    Failed(u32),
 }
 
 /// Why events aren't read.

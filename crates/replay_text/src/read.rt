@@ -55,7 +55,7 @@ fn event_of(line: &[u8]) -> Option<JobEvent>
 }
 
 // The place that a number tells: one to nine digits, the first not 0.
-fn place_of(text: &[u8]) -> Option<u64>
+fn place_of(text: &[u8]) -> Option<u32>
     ensures { MatchOption result ((place : ℕ) → IsNumber (place + 1) → text.now ≡ decimal (place + 1) → ⊥)
         (λ place. IsNumber (place + 1) × (text.now ≡ decimal (place + 1))) }
 {
@@ -63,5 +63,5 @@ fn place_of(text: &[u8]) -> Option<u64>
     if number == 0 || !rest.is_empty() {
         return None;
     }
-    Some(u64::from(number) - 1)
+    Some(number - 1)
 }
