@@ -1,5 +1,5 @@
 -- Lines, one after another.
-use Rattle.std.proofs.Common.{◌≡◌, ◌+◌, ⊎_elim, inl, inr, ℕ, suc, zero, List, [], ◌∷◌, ◌++◌, refl, sym, subst, ap, ◌∙◌, arith, append_assoc}
+use Rattle.std.proofs.Common.{◌≡◌, ◌+◌, ⊎_elim, inl, inr, ℕ, suc, zero, List, [], ◌∷◌, ◌++◌, refl, sym, subst, ap, arith, append_assoc}
 use Rattle.replay_text.specs.declared.event.EventsFault.{EventsFault}
 use Rattle.replay_text.specs.declared.event.EventsFault.TheVariants.{NoMemory, Bad}
 use Rattle.replay_text.specs.declared.event.JobEvent.{JobEvent}

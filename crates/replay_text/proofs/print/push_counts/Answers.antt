@@ -1,4 +1,3 @@
-use Rattle.std.proofs.Common.{◌≡◌, List, ◌++◌, sym, ap, ◌∙◌, append_assoc}
 use Rattle.std.proofs.lemmas.Result.{on_ok_weaker}
 use Rattle.replay_text.proofs.Count.{counts_text}
 use Rattle.replay_text.proofs.print.push_counts.Goals as goal

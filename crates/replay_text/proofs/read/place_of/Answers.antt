@@ -1,4 +1,4 @@
-use Rattle.std.proofs.Common.{◌≡◌, true, false, [], length, refl, sym, ap, ◌∙◌, arith}
+use Rattle.std.proofs.Common.{sym, ◌∙◌, arith}
 use Rattle.replay_text.proofs.Numbers.{none_whole, not_empty, same_number}
 use Rattle.replay_text.proofs.read.place_of.Goals as goal
 use Rattle.replay_text.proofs.read.place_of.Goals.{then-number-eq0-via-then-number-eq0, then-number-eq0-via-else-number-eq0+then-not-is_empty}

@@ -1,10 +1,8 @@
-use Rattle.std.proofs.Common.{◌≡◌, ◌<◌, ◌≤◌, ◌+◌, ⊎_elim, inl, inr, ℕ, suc, zero, List, [], ◌∷◌, ◌++◌, Err, length, sym, subst, ap, ◌∙◌, arith, append_assoc}
+use Rattle.std.proofs.Common.{◌≡◌, [], Err, sym, subst, ap, ◌∙◌, arith}
 use Rattle.std.specs.Prelude.{MatchResult}
 use Rattle.std.specs.Str.Lines.{lines}
 use Rattle.std.proofs.lemmas.Result.{err_from_is_err_and}
-use Rattle.replay_text.specs.declared.event.EventsFault.{EventsFault}
-use Rattle.replay_text.specs.declared.event.JobEvent.{JobEvent}
-use Rattle.replay_text.specs.Reading.{AreEvents, FirstBad, IsFirstBad, none}
+use Rattle.replay_text.specs.Reading.{AreEvents, FirstBad, none}
 use Rattle.replay_text.proofs.Goes.{append-nil, bad_here, bad_later, goes_more}
 use Rattle.replay_text.proofs.read.read_events.Goals as goal
 

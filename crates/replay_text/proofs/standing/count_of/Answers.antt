@@ -1,5 +1,4 @@
-use Rattle.std.proofs.Common.{◌≡◌, ◌+◌, ◌≤◌, ℕ, true, false, refl, sym, subst, ap, ◌∙◌, arith}
-use Rattle.plan_nodes.specs.declared.node.PlanNode.{PlanNode}
+use Rattle.std.proofs.Common.{◌≡◌, ◌+◌, ℕ, true, false, sym, subst, ◌∙◌, arith}
 use Rattle.replay_text.specs.Replay.{IsCount, IsStanding, none}
 use Rattle.replay_text.proofs.Count.{one_more, no_more}
 use Rattle.replay_text.proofs.standing.count_of.Goals as goal
