@@ -64,7 +64,7 @@ fn node(alloc: Global, words: &str) -> Result<PlanNode, NoMemory> {
     })
 }
 
-fn nodes(alloc: Global, words: &str) -> Result<List<PlanNode>, NoMemory> {
+pub(crate) fn nodes(alloc: Global, words: &str) -> Result<List<PlanNode>, NoMemory> {
     let mut nodes = List::new(alloc);
     for word in words.split(',') {
         if !word.is_empty() {

@@ -5,3 +5,5 @@
 mod jobs;
 #[cfg(test)]
 mod nodes;
+#[cfg(test)]
+mod replays;
