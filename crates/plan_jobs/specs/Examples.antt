@@ -5,7 +5,7 @@ use Rattle.plan_nodes.specs.declared.node.NodeKind.TheVariants.{Installed, Store
 use Rattle.plan_nodes.specs.declared.node.PlanNode.{PlanNode}
 use Rattle.plan_jobs.specs.declared.job.JobFault.TheVariants.{NotRunning}
 use Rattle.plan_jobs.specs.declared.job.JobState.TheVariants.{Waiting, Running, Completed, Failed}
-use Rattle.plan_jobs.specs.Events.{Event, completes, fails, starts, running_after, states_after, wants}
+use Rattle.plan_jobs.specs.Events.{completes, fails, starts, running_after, states_after, wants}
 
 abbrev node : NodeKind → Bool → List ℕ → List (List ℕ) → PlanNode
 node kind unbuildable id needs = record {
