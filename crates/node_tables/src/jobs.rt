@@ -2,6 +2,8 @@
 // node is at the end. A node is its identifier, behind `=` where it is installed and behind `!` where it isn't buildable, and then
 // those that it needs: libraries, tools behind `+` and setups behind `*`. A reply is the place that starts, `.` or the fault. At the
 // end a node waits (`w`), is held (`h`), runs (`r`), is completed (`c`) or has failed (`f`).
+ghost use Rattle.std.specs.Prelude.{◌<◌, length};
+
 use plan_jobs::{JobFault, JobState, Jobs};
 use plan_nodes::{NodeKind, PlanNode};
 use plan_types::{List, NoMemory, Text, Version};
@@ -108,7 +110,9 @@ fn reply(alloc: Global, jobs: &mut Jobs, event: &str) -> Result<String, Fail> {
     Ok(String::from_str(alloc, told)?)
 }
 
-fn state(jobs: &Jobs, place: u64) -> &'static str {
+fn state(jobs: &Jobs, place: u64) -> &'static str
+    requires { place < length jobs.now.states }
+{
     match jobs.state_of(place) {
         JobState::Waiting => if jobs.is_held(place) { "h" } else { "w" },
         JobState::Running => "r",
@@ -126,7 +130,7 @@ fn answers(alloc: Global, case: &str) -> Result<String, Fail> {
         answers.push_str(reply(alloc, &mut jobs, event)?.as_str())?;
         answers.push_str(" ")?;
     }
-    for place in 0..nodes.len() {
+    for place in 0..jobs.node_count() {
         answers.push_str(state(&jobs, place as u64))?;
     }
     Ok(answers)

@@ -21,7 +21,7 @@ pub data Event : Type 0 where
   -- the node at this place has failed
   fails : ℕ → Result ⊤ JobFault → Event
 
--- a list of events began the node at a place
+-- the node at a place was started
 abbrev pub is_start_of : ℕ → Event → Bool
 is_start_of place (starts (Ok given)) = given == place
 is_start_of place (starts (Err fault)) = false

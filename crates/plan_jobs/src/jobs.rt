@@ -126,6 +126,13 @@ impl Jobs {
         Ok(())
     }
 
+    /// How many nodes there are.
+    pub fn node_count(&self) -> usize
+        ensures { result ≡ length self.now.states }
+    {
+        self.states.len()
+    }
+
     /// What a node is.
     pub fn state_of(&self, place: u64) -> JobState
         requires { place < length self.now.states }
