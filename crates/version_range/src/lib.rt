@@ -20,7 +20,7 @@ pub use bytes::byte_due;
 pub use cuts::Cuts;
 pub use laws::{one_fault, one_range, range_or_fault, reads_back, relaxed_twice};
 pub use limit::limit_of;
-pub use number::is_count;
+pub use number::{is_count, number_at};
 pub use print::print_range;
 pub use read::{range_at_front, read_range};
 pub use version::{print_version, read_version, version_of};

@@ -1,0 +1,107 @@
+// Marks of those that are held: they wait, and something failed that they need, at once or through others.
+ghost use Rattle.std.specs.Prelude.{◌≡◌, ◌<◌, ◌≤◌, ◌↔◌, [], ◌∷◌, length, All, IfOk, IsTrue};
+ghost use Rattle.plan_jobs.specs.declared.job.JobState.TheVariants.{Failed};
+ghost use Rattle.plan_jobs.specs.Board.{AreBegun, AreHeld, HasFailed, HoldsMore, HoldsUsers};
+ghost use Rattle.plan_jobs.specs.Marks.{NoneMarked, TakesLeast};
+
+use crate::job::JobState;
+use crate::marks::Marks;
+use crate::meeting::is_waiting;
+use plan_types::{List, NoMemory};
+use std::alloc::Global;
+
+/// Marks of those that are held, and room to find more of them.
+#[derive(Drop)]
+pub(crate) struct Held {
+    pub held: List<bool>,
+    /// Those whose users are still to be looked at. Between two events there are none.
+    pub to_go: Marks,
+}
+
+/// Those that are held at first.
+pub(crate) fn held_at_first(
+    alloc: Global,
+    users: &[List<usize>],
+    states: &[JobState],
+) -> Result<Held, NoMemory>
+    requires { AreBegun users.now states.now }
+    ensures held { IfOk result (λ h. AreHeld users.now states.now (HasFailed states.now) h.held) }
+    ensures room { IfOk result (λ h. length states.now ≤ length h.to_go) }
+    ensures idle { IfOk result (λ h. NoneMarked h.to_go) }
+{
+    let mut held = List::from_vec(vec![in alloc; false; states.len()]?);
+    let mut to_go = Marks::new(alloc, states.len())?;
+    for place in 0..states.len() {
+        if has_failed(states[place]) {
+            hold(users, states, &mut held, &mut to_go, place);
+        }
+    }
+    Ok(Held { held, to_go })
+}
+
+/// Marks those that wait for a node, and those that wait for what is marked then.
+pub(crate) fn hold(
+    users: &[List<usize>],
+    states: &[JobState],
+    held: &mut List<bool>,
+    to_go: &mut Marks,
+    place: usize,
+)
+    requires begun { AreBegun users.now states.now }
+    requires count { length held.old ≡ length states.now }
+    requires room { length states.now ≤ length to_go.old }
+    requires idle { NoneMarked to_go.old }
+    requires place { place < length states.now }
+    ensures more { HoldsMore users.now states.now place held.old held.new }
+    ensures room { length to_go.new ≡ length to_go.old }
+    ensures idle { NoneMarked to_go.new }
+{
+    hold_users(users[place].as_slice(), states, held, to_go);
+    while let Some(next) = take_first(to_go) {
+        hold_users(users[next].as_slice(), states, held, to_go);
+    }
+}
+
+// Takes the least one out.
+fn take_first(marks: &mut Marks) -> Option<usize>
+    ensures { TakesLeast marks.old marks.new result }
+{
+    let first = marks.first();
+    if let Some(place) = first {
+        marks.set(place, false);
+    }
+    first
+}
+
+// Marks those of a node's users that wait, and puts them to those to go on from.
+fn hold_users(users: &[usize], states: &[JobState], held: &mut List<bool>, to_go: &mut Marks)
+    requires within { All (λ user. user < length states.now) users.now }
+    requires count { length held.old ≡ length states.now }
+    requires room { length states.now ≤ length to_go.old }
+    ensures { HoldsUsers users.now states.now held.old held.new to_go.old to_go.new }
+{
+    for user in users {
+        hold_user(*user, states, held, to_go);
+    }
+}
+
+fn hold_user(user: usize, states: &[JobState], held: &mut List<bool>, to_go: &mut Marks)
+    requires within { user < length states.now }
+    requires count { length held.old ≡ length states.now }
+    requires room { length states.now ≤ length to_go.old }
+    ensures { HoldsUsers (user ∷ []) states.now held.old held.new to_go.old to_go.new }
+{
+    if is_waiting(states[user]) && !held.as_slice()[user] {
+        held.set(user, true);
+        to_go.set(user, true);
+    }
+}
+
+fn has_failed(state: JobState) -> bool
+    ensures { IsTrue result ↔ (state ≡ Failed) }
+{
+    match state {
+        JobState::Failed => true,
+        JobState::Waiting | JobState::Running | JobState::Completed => false,
+    }
+}

@@ -1,0 +1,72 @@
+// Counts of needs that aren't completed, and the marks of those that are ready.
+ghost use Rattle.std.specs.Prelude.{◌≡◌, ◌<◌, ◌≤◌, ◌+◌, ◌-◌, ◌↔◌, ℕ, length, slice_index, slice_set, All, IfOk, IsTrue};
+ghost use Rattle.plan_jobs.specs.Board.{AreReady, times};
+ghost use Rattle.plan_jobs.specs.declared.job.JobState.TheVariants.{Waiting};
+
+use crate::job::JobState;
+use crate::marks::Marks;
+use plan_types::{List, NoMemory};
+use std::alloc::Global;
+
+/// Marks of those that can be started at first.
+pub(crate) fn ready_at_first(
+    alloc: Global,
+    states: &[JobState],
+    unmet: &[usize],
+) -> Result<Marks, NoMemory>
+    requires { length unmet.now ≡ length states.now }
+    ensures room { IfOk result (λ ready. length states.now ≤ length ready) }
+    ensures ready { IfOk result (AreReady states.now unmet.now) }
+{
+    let mut ready = Marks::new(alloc, states.len())?;
+    for place in 0..states.len() {
+        if is_waiting(states[place]) && unmet[place] == 0 {
+            ready.set(place, true);
+        }
+    }
+    Ok(ready)
+}
+
+/// One need of each of these users is met now, and those that wait for no other are ready.
+pub(crate) fn meet(users: &[usize], states: &[JobState], unmet: &mut List<usize>, ready: &mut Marks)
+    requires within { All (λ user. user < length states.now) users.now }
+    requires count { length unmet.old ≡ length states.now }
+    requires open { (user : ℕ) → times user users.now ≤ slice_index unmet.old user }
+    requires room { length states.now ≤ length ready.old }
+    requires ready { AreReady states.now unmet.old ready.old }
+    ensures count { length unmet.new ≡ length unmet.old }
+    ensures room { length ready.new ≡ length ready.old }
+    ensures less { (user : ℕ) → slice_index unmet.new user + times user users.now ≡ slice_index unmet.old user }
+    ensures ready { AreReady states.now unmet.new ready.new }
+{
+    for user in users {
+        meet_one(*user, states, unmet, ready);
+    }
+}
+
+// One need of a user is met now.
+fn meet_one(user: usize, states: &[JobState], unmet: &mut List<usize>, ready: &mut Marks)
+    requires within { user < length states.now }
+    requires count { length unmet.old ≡ length states.now }
+    requires open { 0 < slice_index unmet.old user }
+    requires room { length states.now ≤ length ready.old }
+    requires ready { AreReady states.now unmet.old ready.old }
+    ensures room { length ready.new ≡ length ready.old }
+    ensures less { unmet.new ≡ slice_set unmet.old user (slice_index unmet.old user - 1) }
+    ensures ready { AreReady states.now unmet.new ready.new }
+{
+    let left = unmet.as_slice()[user] - 1;
+    unmet.set(user, left);
+    if left == 0 && is_waiting(states[user]) {
+        ready.set(user, true);
+    }
+}
+
+pub(crate) fn is_waiting(state: JobState) -> bool
+    ensures { IsTrue result ↔ (state ≡ Waiting) }
+{
+    match state {
+        JobState::Waiting => true,
+        JobState::Running | JobState::Completed | JobState::Failed => false,
+    }
+}

@@ -1,0 +1,4 @@
+pub mod Cut
+pub mod Numbers
+pub mod Goes
+pub mod Count
