@@ -1,1 +1,4 @@
 pub mod Restricts
+pub mod Searches
+pub mod Sets
+pub mod Tightens

@@ -1,23 +1,38 @@
 -- The definitions on a small problem, computed.
-use Rattle.std.specs.Prelude.{◌≡◌, List, [], ◌∷◌, refl}
+use Rattle.std.specs.Prelude.{◌≡◌, ℕ, List, [], ◌∷◌, refl}
 use Rattle.plan_types.specs.declared.limit.Limit.TheVariants.{Unlimited, At}
+use Rattle.qualified_goals.specs.declared.variable.Qual.TheVariants.{Top}
+use Rattle.qualified_goals.specs.declared.variable.Part.TheVariants.{Package}
 use Rattle.qualified_goals.specs.declared.variable.Var.{Var}
 use Rattle.choice_problem.specs.declared.problem.Choice.{Choice}
 use Rattle.choice_problem.specs.declared.problem.Demand.{Demand}
+use Rattle.choice_problem.specs.declared.written.WrittenVar.{WrittenVar}
 use Rattle.choice_problem.specs.Problem.{Problem}
 use Rattle.choice_problem.specs.Active.{made_active, active, reason}
-use Rattle.choice_problem.specs.Trail.{open_vars}
+use Rattle.choice_problem.specs.Trail.{open_vars, choice_of}
 use Rattle.choice_problem.specs.Conflict.{circular, first_clash, conflict}
 use Rattle.choice_problem.specs.Answer.{guided_answer}
 use Rattle.choice_problem.specs.Written.{problem_of}
-use Rattle.choice_problem.specs.Examples.{package_var, choice, values, root, asks}
-use Rattle.conflict_shrink.specs.declared.shrink.Shrunk.{Shrunk}
+use Rattle.conflict_shrink.specs.declared.shrinking.Shrunk.{Shrunk}
 use Rattle.conflict_shrink.specs.Restricted.{restricted}
-use Rattle.conflict_shrink.specs.Shrink.{Tight, OverBudget, shrinking}
+use Rattle.conflict_shrink.specs.Shrinking.{Tight, OverBudget, shrinking}
+
+-- a package at top level
+abbrev package_var : ℕ → Var
+package_var n = record { qual = Top; «package» = n; part = Package }
+
+abbrev choice : ℕ → ℕ → Choice
+choice n m = choice_of (package_var n) m
+
+abbrev values : ℕ → List ℕ → WrittenVar
+values n order = record { var = package_var n; order = order; barred = [] }
+
+abbrev asks : Choice → ℕ → List ℕ → Demand
+asks owner n allowed = record { when = owner ∷ []; target = package_var n; allowed = allowed }
 
 -- main, 0, asks for 1, for 2 and for 3. What 3 asks of 2 has no value; 1 asks for the worse value of 2, which does no harm.
 abbrev main : Demand
-main = root 0 (0 ∷ [])
+main = record { when = []; target = package_var 0; allowed = 0 ∷ [] }
 
 abbrev first : Demand
 first = asks (choice 0 0) 1 (0 ∷ [])

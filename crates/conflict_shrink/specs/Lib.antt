@@ -1,4 +1,4 @@
 pub mod Restricted
 pub mod RestrictedLaws
-pub mod Shrink
+pub mod Shrinking
 pub mod Examples

@@ -4,8 +4,8 @@
 
 mod laws;
 mod restricted;
-mod shrink;
+mod shrinking;
 
 pub use laws::admits_none_as_restricted;
 pub use restricted::Restricted;
-pub use shrink::{ShrinkFault, Shrunk, shrink};
+pub use shrinking::{ShrinkFault, Shrunk, shrink};

@@ -20,7 +20,8 @@ impl<C: Choices> Restricted<C> {
     /// The part of a problem that is of these variables.
     pub fn new(choices: C, set: ConflictSet) -> Restricted<C>
         requires { IsTrue (are_known (C.problem choices) set) }
-        ensures { ⟦<Restricted<C> as Choices>⟧.problem result ≡ restricted (C.problem choices) set }
+        ensures problem { ⟦<Restricted<C> as Choices>⟧.problem result ≡ restricted (C.problem choices) set }
+        ensures set { result.set ≡ set }
     {
         Restricted { choices, set }
     }
@@ -28,7 +29,7 @@ impl<C: Choices> Restricted<C> {
 
 impl<C: Choices + Drop> Restricted<C> {
     /// The set, where the problem isn't needed any more.
-    pub fn into_set(self) -> ConflictSet
+    pub(crate) fn into_set(self) -> ConflictSet
         ensures { result ≡ self.set }
     {
         self.set

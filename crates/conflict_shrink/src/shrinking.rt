@@ -4,9 +4,9 @@ ghost use Rattle.plan_types.specs.declared.limit.Limit.{Limit};
 ghost use Rattle.choice_problem.specs.General.{general};
 ghost use Rattle.choice_problem.specs.Holds.{AdmitsNone};
 ghost use Rattle.choice_problem.specs.ConflictSet.{has};
-ghost use Rattle.conflict_shrink.specs.declared.shrink.ShrinkFault.TheVariants.{NoMemory as shrink_no_memory};
+ghost use Rattle.conflict_shrink.specs.declared.shrinking.ShrinkFault.TheVariants.{NoMemory as shrink_no_memory};
 ghost use Rattle.conflict_shrink.specs.Restricted.{are_known};
-ghost use Rattle.conflict_shrink.specs.Shrink.{GoesOn, GivesUp, Tight, OverBudget, IsTight, answer_without, cut, limit_after, shrinking, shrunk_at, spent_with, tried, untried_stage};
+ghost use Rattle.conflict_shrink.specs.Shrinking.{GoesOn, GivesUp, Tight, OverBudget, IsTight, answer_without, cut, limit_after, shrinking, shrunk_at, spent_with, tried, untried_stage};
 
 use crate::Restricted;
 use backjump::search;

@@ -12,8 +12,8 @@ use Rattle.choice_problem.specs.Trail.{value_in, AreNew}
 use Rattle.choice_problem.specs.ConflictSet.{has, without}
 use Rattle.choice_problem.specs.Guide.{cap}
 use Rattle.choice_problem.specs.Answer.{Ended, Found, Failed, GaveUp, Answer, answer_of}
-use Rattle.conflict_shrink.specs.declared.shrink.Stage.{Stage}
-use Rattle.conflict_shrink.specs.declared.shrink.Shrunk.{Shrunk}
+use Rattle.conflict_shrink.specs.declared.shrinking.Stage.{Stage}
+use Rattle.conflict_shrink.specs.declared.shrinking.Shrunk.{Shrunk}
 use Rattle.conflict_shrink.specs.Restricted.{restricted}
 
 -- what is left of a budget of exhausted points
