@@ -1,8 +1,8 @@
 -- What is left of a conflict set admits none, and something holds without each of its variables.
-use Rattle.std.proofs.Common.{◌≡◌, ℕ, Bool, true, false, cond, not, List, [], ◌∷◌, ◌++◌, map, Some, None, refl, sym, ap, ◌∙◌, subst, inl, inr, append_assoc}
+use Rattle.std.proofs.Common.{◌≡◌, ◌<◌, ◌≤◌, ℕ, suc, length, drop, get_or, drop-cons, Bool, true, false, cond, not, List, [], ◌∷◌, ◌++◌, map, Some, None, refl, sym, ap, ◌∙◌, subst, inl, inr, append_assoc}
 use Rattle.std.specs.List.{Contains, AllZip, list_all}
 use Rattle.std.proofs.lemmas.Bool.{false≢true}
-use Rattle.std.proofs.lemmas.List.{append-nil}
+use Rattle.std.proofs.lemmas.List.{append-nil, at_drop_all}
 use Rattle.plan_types.specs.declared.limit.Limit.{Limit}
 use Rattle.plan_types.specs.declared.limit.Limit.TheVariants.{Unlimited}
 use Rattle.qualified_goals.specs.declared.variable.Var.{Var}
@@ -22,7 +22,7 @@ use Rattle.conflict_shrink.specs.declared.shrinking.Stage.{Stage}
 use Rattle.conflict_shrink.specs.declared.shrinking.Shrunk.{Shrunk}
 use Rattle.conflict_shrink.specs.Restricted.{restricted, are_known}
 use Rattle.conflict_shrink.specs.RestrictedLaws.{restricted_lawful}
-use Rattle.conflict_shrink.specs.Shrinking.{Tight, OverBudget, IsFreed, IsTight, answer_without, after_search, cut, go_on, limit_after, shrink_from, shrinking, shrunk_at, spent_with, untried_stage}
+use Rattle.conflict_shrink.specs.Shrinking.{GivesUp, ShrinkEnd, Tight, OverBudget, IsFreed, IsTight, answer_without, after_search, cut, go_on, limit_after, shrink_from, shrinking, shrunk_at, spent_with, tried, untried_stage}
 use Rattle.conflict_shrink.proofs.Restricts.{holds-in-whole, admits-by-part}
 use Rattle.conflict_shrink.proofs.Searches.{Says, says}
 use Rattle.conflict_shrink.proofs.Sets.{without-has, has-without, without-itself, without-part, without-middle, value_in-cut, cut-new, zip-push, zip-more, zip-mapped}
@@ -186,3 +186,13 @@ never-over p lawful (v ∷ untried) s known spent h =
       | Failed set ↦ λ is k. never-over p lawful untried (record { left = without v s.left; trails = s.trails; spent = now }) less spent k
       | GaveUp ↦ λ is k. is refl
     ] (says part Unlimited (restricted_lawful p (without v s.left) less lawful)) h
+
+-- at the end of the loop over the variables
+
+pub ended-at : (p : Problem) (budget : Limit) (vars : List Var) (n : ℕ) (s : Stage) (e : ShrinkEnd) → length vars ≤ n → (shrink_from p budget (drop n vars) s).ended ≡ e → e ≡ Tight (shrunk_at s)
+ended-at p budget vars n s e past h = sym h ∙ at_drop_all (λ l. (shrink_from p budget l s).ended) vars n past
+
+pub over-at : (p : Problem) (budget : Limit) (vars : List Var) (n : ℕ) (d : Var) (s : Stage) (e : ShrinkEnd) (spent : ℕ) → n < length vars → tried p budget (get_or vars n d) s ≡ GivesUp spent
+    → (shrink_from p budget (drop n vars) s).ended ≡ e → e ≡ OverBudget spent
+over-at p budget vars n d s e spent here gives h =
+    sym h ∙ ap (λ l. (shrink_from p budget l s).ended) (drop-cons vars n d here) ∙ ap (λ t. (go_on t (shrink_from p budget (drop (suc n) vars))).ended) gives
