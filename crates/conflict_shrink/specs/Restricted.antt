@@ -31,6 +31,11 @@ restricted p set = record {
 abbrev pub are_known : Problem → List Var → Bool
 are_known p set = list_all p.known set
 
+-- a set of known variables that admits none
+pub record CanBeShrunk (p : Problem) (set : List Var) : Type 0 where
+  pub known : IsTrue (are_known p set)
+  pub none : AdmitsNone (general p) (has set)
+
 -- no assignment is whole and valid
 abbrev pub HasNoPlan : Problem → Type 0
 HasNoPlan p = (A : Assignment) → IsWholeValid (general p) A → ⊥

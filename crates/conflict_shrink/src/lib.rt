@@ -3,9 +3,11 @@
 #![tactic(auto)]
 
 mod laws;
+#[cfg(test)]
+mod narrow;
 mod restricted;
 mod shrinking;
 
-pub use laws::admits_none_as_restricted;
+pub use laws::{admits_none_as_restricted, failed_sets_can_be_shrunk};
 pub use restricted::Restricted;
 pub use shrinking::{ShrinkFault, Shrunk, shrink};

@@ -1,11 +1,8 @@
 // A conflict set is shrunk: each of its variables is tried, and dropped where the others admit none either.
 ghost use Rattle.std.specs.Prelude.{◌≡◌, ◌≢◌, ◌+◌, ◌≤◌, ℕ, IfOk, IsTrue, OnOk, Err, map};
 ghost use Rattle.plan_types.specs.declared.limit.Limit.{Limit};
-ghost use Rattle.choice_problem.specs.General.{general};
-ghost use Rattle.choice_problem.specs.Holds.{AdmitsNone};
-ghost use Rattle.choice_problem.specs.ConflictSet.{has};
 ghost use Rattle.conflict_shrink.specs.declared.shrinking.ShrinkFault.TheVariants.{NoMemory as shrink_no_memory};
-ghost use Rattle.conflict_shrink.specs.Restricted.{are_known};
+ghost use Rattle.conflict_shrink.specs.Restricted.{are_known, CanBeShrunk};
 ghost use Rattle.conflict_shrink.specs.Shrinking.{GoesOn, GivesUp, Tight, OverBudget, IsTight, answer_without, cut, limit_after, shrinking, shrunk_at, spent_with, tried, untried_stage};
 
 use crate::Restricted;
@@ -151,8 +148,7 @@ pub fn shrink<C: Choices, L: Ledger>(
     budget: Limit,
     steps: &mut Steps<L>,
 ) -> Result<Shrunk, ShrinkFault>
-    requires known { IsTrue (are_known (C.problem choices.now) set.now) }
-    requires none { AdmitsNone (general (C.problem choices.now)) (has set.now) }
+    requires { CanBeShrunk (C.problem choices.now) set.now }
     ensures shrunk { IfOk result (λ shrunk. (shrinking (C.problem choices.now) set.now budget).ended ≡ Tight shrunk) }
     ensures tight { IfOk result (IsTight (C.problem choices.now) set.now) }
     ensures too_long { (spent : ℕ) → result ≡ Err (ShrinkFault.TooLong spent) → (shrinking (C.problem choices.now) set.now budget).ended ≡ OverBudget spent }
