@@ -1,5 +1,5 @@
 -- The set with which a search fails has known variables alone, and admits none.
-use Rattle.std.proofs.Common.{◌≡◌, ◌<◌, ℕ, zero, suc, Bool, true, false, cond, not, ◌&&◌, ◌||◌, List, [], ◌∷◌, ◌++◌, Option, Some, None, refl, sym, ap, ◌∙◌, subst, inl, inr}
+use Rattle.std.proofs.Common.{◌≡◌, ◌<◌, ℕ, zero, suc, true, false, cond, not, ◌&&◌, ◌||◌, List, [], ◌∷◌, ◌++◌, Option, Some, None, refl, sym, ap, ◌∙◌, subst, inl, inr}
 use Rattle.std.specs.Prelude.{find}
 use Rattle.std.specs.List.{Contains, All, flat_map}
 use Rattle.std.proofs.lemmas.List.Elements.{All-contains, All-push, All-nil}
@@ -12,14 +12,12 @@ use Rattle.choice_problem.specs.declared.outcome.Outcome.TheVariants as outcome
 use Rattle.choice_problem.specs.Problem.{Problem, IsChoice, IsDemand, Lawful}
 use Rattle.choice_problem.specs.Assignment.{is_made, is_yes}
 use Rattle.choice_problem.specs.General.{request_of, general}
-use Rattle.choice_problem.specs.Holds.{AdmitsNone}
 use Rattle.choice_problem.specs.Trail.{value_in, with_next, choice_of}
 use Rattle.choice_problem.specs.Active.{made_active, active, open_in, reason, vars_of}
 use Rattle.choice_problem.specs.ConflictSet.{has, set_of, union}
 use Rattle.choice_problem.specs.Conflict.{named_by, set_of_first, barred_set, refuses, refused_set, is_broken, broken_set, edges_of, lies_on_cycle, circular, set_of_all, cycle_set, first_clash, set_of_pair, agreement_set, value_sets, lasting_sets, conflict}
-use Rattle.choice_problem.specs.Guide.{IsGuide, least}
-use Rattle.choice_problem.specs.Guides.{least-is-guide}
-use Rattle.choice_problem.specs.Answer.{Ended, Found, Failed, GaveUp, Past, Answer, Manner, gives_up, fails, exhausts, one_visited, one_exhausted, after_conflict, of_value, after_end, of_values, answer_from, nothing_yet, guided_answer, answer_of, outcome_by, outcome_of}
+use Rattle.choice_problem.specs.Guide.{IsGuide}
+use Rattle.choice_problem.specs.Answer.{Found, Failed, GaveUp, Past, Answer, Manner, gives_up, fails, exhausts, one_visited, one_exhausted, after_conflict, of_value, after_end, of_values, answer_from, nothing_yet, guided_answer, outcome_by, outcome_of}
 use Rattle.choice_problem.proofs.Sets.{has-contains, contains-has, has-set_of, has-union}
 use Rattle.choice_problem.proofs.Rules.{first-member}
 use Rattle.choice_problem.proofs.Trails.{value_in-made, is_made-is, target-known, demand-general, general-lawful}
@@ -28,7 +26,7 @@ use Rattle.choice_problem.proofs.Pairs.{clash-is}
 use Rattle.choice_problem.proofs.Conflicts.{all-front}
 use Rattle.choice_problem.proofs.Failures.{open-known, failures-sound}
 use Rattle.common_laws.specs.Lists.{contains-head, contains-tail, contains-none, contains-cases, contains-right, contains-append, contains-flat_map, contains-map, contains-filter, all-at, all-from}
-use Rattle.conflict_shrink.specs.Restricted.{are_known, CanBeShrunk}
+use Rattle.conflict_shrink.specs.Restricted.{CanBeShrunk}
 
 circular-among : (ds : List Demand) (d : Demand) → Contains (circular ds) d → Contains ds d
 unfolding circular

@@ -1,7 +1,6 @@
 -- What holds within a set holds in the problem of its variables, and back.
-use Rattle.std.proofs.Common.{◌≡◌, ◌↔◌, Bool, true, ◌&&◌, List, [], ◌∷◌, Some, ap, sym, ◌∙◌, subst, inl, inr}
-use Rattle.std.specs.Prelude.{IsTrue}
-use Rattle.std.specs.List.{list_all, Contains, All}
+use Rattle.std.proofs.Common.{◌≡◌, true, List, Some, sym, subst, inl, inr}
+use Rattle.std.specs.List.{list_all, Contains}
 use Rattle.std.proofs.lemmas.Bool.{and_from}
 use Rattle.std.proofs.lemmas.List.Elements.{All-contains}
 use Rattle.plan_types.specs.declared.limit.Limit.TheVariants.{Unlimited}
@@ -9,13 +8,11 @@ use Rattle.qualified_goals.specs.declared.variable.Var.{Var}
 use Rattle.choice_problem.specs.declared.problem.Choice.{Choice}
 use Rattle.choice_problem.specs.declared.problem.Demand.{Demand}
 use Rattle.choice_problem.specs.Assignment.{Assignment, is_made, is_yes}
-use Rattle.choice_problem.specs.Problem.{Problem, IsChoice, IsDemand, IsOwned, Lawful}
-use Rattle.choice_problem.specs.General.{Request, request_of, general}
-use Rattle.choice_problem.specs.Holds.{IsEdge, IsAsked, HoldsWithin, AdmitsNone}
-use Rattle.choice_problem.specs.Valid.{IsWholeValid}
+use Rattle.choice_problem.specs.Problem.{Problem, IsDemand, IsOwned, Lawful}
+use Rattle.choice_problem.specs.General.{Request, general}
+use Rattle.choice_problem.specs.Holds.{IsEdge, HoldsWithin, AdmitsNone}
 use Rattle.choice_problem.specs.ConflictSet.{has}
-use Rattle.choice_problem.specs.Guides.{least-is-guide}
-use Rattle.choice_problem.specs.Answer.{Ended, Found, Failed, GaveUp, answer_of}
+use Rattle.choice_problem.specs.Answer.{Found, Failed, GaveUp, answer_of}
 use Rattle.choice_problem.specs.Sound.{IsRightEnd}
 use Rattle.choice_problem.proofs.Trails.{is_made-is, demand-general, demand-plain, general-lawful, target-known}
 use Rattle.choice_problem.proofs.Alike.{path-map}

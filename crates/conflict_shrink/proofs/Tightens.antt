@@ -1,6 +1,6 @@
 -- What is left of a conflict set admits none, and something holds without each of its variables.
-use Rattle.std.proofs.Common.{◌≡◌, ◌<◌, ◌≤◌, ℕ, suc, length, drop, get_or, drop-cons, Bool, true, false, cond, not, List, [], ◌∷◌, ◌++◌, map, Some, None, refl, sym, ap, ◌∙◌, subst, inl, inr, append_assoc}
-use Rattle.std.specs.List.{Contains, AllZip, list_all}
+use Rattle.std.proofs.Common.{◌≡◌, ◌<◌, ◌≤◌, ℕ, suc, length, drop, get_or, drop-cons, true, false, cond, not, List, [], ◌∷◌, ◌++◌, map, Some, None, refl, sym, ap, ◌∙◌, subst, inl, inr, append_assoc}
+use Rattle.std.specs.List.{Contains, AllZip}
 use Rattle.std.proofs.lemmas.Bool.{false≢true}
 use Rattle.std.proofs.lemmas.List.{append-nil, at_drop_all}
 use Rattle.plan_types.specs.declared.limit.Limit.{Limit}
@@ -14,7 +14,7 @@ use Rattle.choice_problem.specs.General.{general}
 use Rattle.choice_problem.specs.Holds.{HoldsWithin, AdmitsNone}
 use Rattle.choice_problem.specs.Trail.{value_in, AreNew}
 use Rattle.choice_problem.specs.ConflictSet.{has, without, is_rising}
-use Rattle.choice_problem.specs.Answer.{Ended, Found, Failed, GaveUp}
+use Rattle.choice_problem.specs.Answer.{Found, Failed, GaveUp}
 use Rattle.choice_problem.proofs.Failures.{within, restrict}
 use Rattle.choice_problem.proofs.Sets.{same-back, before-not-same, rising-tail, rising-below}
 use Rattle.common_laws.specs.Lists.{all-at, all-from, contains-head, contains-tail, contains-none, contains-cases, contains-append, contains-filter}

@@ -2,10 +2,9 @@
 use Rattle.std.specs.Prelude.{IsTrue, Bool, ◌&&◌, ◌↔◌, List, length, filter}
 use Rattle.std.specs.List.{list_all}
 use Rattle.qualified_goals.specs.declared.variable.Var.{Var}
-use Rattle.choice_problem.specs.declared.problem.Choice.{Choice}
 use Rattle.choice_problem.specs.declared.problem.Demand.{Demand}
 use Rattle.choice_problem.specs.Assignment.{Assignment}
-use Rattle.choice_problem.specs.Problem.{Problem, Lawful}
+use Rattle.choice_problem.specs.Problem.{Problem}
 use Rattle.choice_problem.specs.General.{general}
 use Rattle.choice_problem.specs.Holds.{AdmitsNone}
 use Rattle.choice_problem.specs.Valid.{IsWholeValid}

@@ -1,6 +1,5 @@
 -- A problem of the variables of a set keeps the laws.
-use Rattle.std.proofs.Common.{arith, ◌≡◌, ℕ, true, ◌&&◌, List, length, filter, subst, inl, inr}
-use Rattle.std.specs.Prelude.{IsTrue}
+use Rattle.std.proofs.Common.{arith, ◌≡◌, true, List, filter, subst}
 use Rattle.std.specs.List.{list_all, Contains, All}
 use Rattle.std.proofs.lemmas.Bool.{and_parts}
 use Rattle.std.proofs.lemmas.List.Elements.{All-contains}

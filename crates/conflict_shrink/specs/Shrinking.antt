@@ -1,5 +1,5 @@
 -- Conflict sets from which nothing can be dropped: which variables stay, and what becomes possible without each.
-use Rattle.std.specs.Prelude.{◌≡◌, ℕ, ◌+◌, ◌-◌, min, List, [], ◌∷◌, ◌++◌, filter, map, IsTrue}
+use Rattle.std.specs.Prelude.{ℕ, ◌+◌, ◌-◌, min, List, [], ◌∷◌, ◌++◌, filter, map, IsTrue}
 use Rattle.std.specs.List.{AllZip}
 use Rattle.plan_types.specs.declared.limit.Limit.{Limit}
 use Rattle.plan_types.specs.declared.limit.Limit.TheVariants.{Unlimited, At}
