@@ -1,5 +1,5 @@
 -- the others are known too, and what is left is they
-use Rattle.std.proofs.Common.{◌≡◌, true, sym, ◌∙◌, subst}
+use Rattle.std.proofs.Common.{◌≡◌, true, sym, subst, rules}
 use Rattle.conflict_shrink.specs.Restricted.{are_known}
 use Rattle.conflict_shrink.proofs.Tightens.{known-without}
 use Rattle.conflict_shrink.proofs.shrinking.Stage.try_without.Goals as goal
@@ -11,5 +11,5 @@ new-part-requires g c =
 
 pub returns-in-NoPlan-clause-known : goal.returns-in-NoPlan-clause-known
 returns-in-NoPlan-clause-known g c =
-    let p = g.C.Choices.problem c.args.choices.now in
-    subst (λ set. are_known p set ≡ true) (sym (c.into_set.ensures ∙ c.new-part.ensures.set ∙ c.in_ok-others.ensures)) (known-without p c.args.v c.args.self.now.left c.requires)
+    let known = known-without (g.C.Choices.problem c.args.choices.now) c.args.v c.args.self.now.left c.requires in
+    search rules
