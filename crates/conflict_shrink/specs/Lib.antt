@@ -1,0 +1,4 @@
+pub mod Restricted
+pub mod RestrictedLaws
+pub mod Shrinking
+pub mod Examples

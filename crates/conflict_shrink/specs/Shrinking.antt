@@ -1,0 +1,99 @@
+-- Conflict sets from which nothing can be dropped: which variables stay, and what becomes possible without each.
+use Rattle.std.specs.Prelude.{ℕ, ◌+◌, ◌-◌, min, List, [], ◌∷◌, ◌++◌, filter, map, IsTrue}
+use Rattle.std.specs.List.{AllZip}
+use Rattle.plan_types.specs.declared.limit.Limit.{Limit}
+use Rattle.plan_types.specs.declared.limit.Limit.TheVariants.{Unlimited, At}
+use Rattle.qualified_goals.specs.declared.variable.Var.{Var}
+use Rattle.choice_problem.specs.declared.problem.Choice.{Choice}
+use Rattle.choice_problem.specs.Problem.{Problem}
+use Rattle.choice_problem.specs.General.{general}
+use Rattle.choice_problem.specs.Holds.{HoldsWithin, AdmitsNone}
+use Rattle.choice_problem.specs.Trail.{value_in, AreNew}
+use Rattle.choice_problem.specs.ConflictSet.{has, without}
+use Rattle.choice_problem.specs.Guide.{cap}
+use Rattle.choice_problem.specs.Answer.{Ended, Found, Failed, GaveUp, Answer, answer_of}
+use Rattle.conflict_shrink.specs.declared.shrinking.Stage.{Stage}
+use Rattle.conflict_shrink.specs.declared.shrinking.Shrunk.{Shrunk}
+use Rattle.conflict_shrink.specs.Restricted.{restricted}
+
+-- what is left of a budget of exhausted points
+abbrev pub limit_after : Limit → ℕ → Limit
+limit_after Unlimited spent = Unlimited
+limit_after (At budget) spent = At (budget - spent)
+
+-- the search for what becomes possible without a variable
+abbrev pub answer_without : Problem → Limit → Var → Stage → Answer
+answer_without p budget v s = answer_of (restricted p (without v s.left)) (limit_after budget s.spent)
+
+-- exhausted points more
+abbrev pub spent_with : ℕ → Stage → ℕ
+spent_with exhausted s = min (s.spent + exhausted) cap
+
+-- what a search without a variable leads to: the next stage, or so many exhausted points in all, where it gave up
+pub data Tried : Type 0 where
+  GoesOn : Stage → Tried
+  GivesUp : ℕ → Tried
+
+-- the variable stays where something was found without it, and is dropped where there is nothing
+abbrev pub after_search : Var → Stage → Ended → ℕ → Tried
+after_search v s (Found trail) spent = GoesOn (record { left = s.left; trails = s.trails ++ trail ∷ []; spent = spent })
+after_search v s (Failed set) spent = GoesOn (record { left = without v s.left; trails = s.trails; spent = spent })
+after_search v s GaveUp spent = GivesUp spent
+
+-- one variable is tried
+abbrev pub tried : Problem → Limit → Var → Stage → Tried
+tried p budget v s =
+    let answer = answer_without p budget v s in
+    after_search v s answer.ended (spent_with answer.past.counts.exhausted s)
+
+-- the choices of the variables of a set
+abbrev pub cut : List Var → List Choice → List Choice
+cut set trail = filter (λ c. has set c.var) trail
+
+-- how a shrinking ends: with a set and a map for each of its variables, or with so many exhausted points over its budget
+pub data ShrinkEnd : Type 0 where
+  Tight : Shrunk → ShrinkEnd
+  OverBudget : ℕ → ShrinkEnd
+
+-- the end of a shrinking, and how many values its searches tried
+pub record Shrinking : Type 0 where
+  pub ended : ShrinkEnd
+  pub visited : ℕ
+
+-- the trails that were found, cut to the variables that are left
+abbrev pub shrunk_at : Stage → Shrunk
+shrunk_at s = record { set = s.left; maps = map (cut s.left) s.trails }
+
+-- after so many tries more
+abbrev pub after_tries : ℕ → Shrinking → Shrinking
+after_tries visited later = record { ended = later.ended; visited = visited + later.visited }
+
+-- what follows the search without a variable
+abbrev pub go_on : Tried → (Stage → Shrinking) → Shrinking
+go_on (GoesOn s) rest = rest s
+go_on (GivesUp spent) rest = record { ended = OverBudget spent; visited = 0 }
+
+-- some variables are still to be tried
+abbrev pub shrink_from : Problem → Limit → List Var → Stage → Shrinking
+shrink_from p budget [] s = record { ended = Tight (shrunk_at s); visited = 0 }
+shrink_from p budget (v ∷ untried) s =
+    after_tries (answer_without p budget v s).past.counts.visited (go_on (tried p budget v s) (shrink_from p budget untried))
+
+-- nothing was tried yet
+abbrev pub untried_stage : List Var → Stage
+untried_stage set = record { left = set; trails = []; spent = 0 }
+
+-- the variables of a set are tried in goal order
+abbrev pub shrinking : Problem → List Var → Limit → Shrinking
+shrinking p set budget = shrink_from p budget set (untried_stage set)
+
+-- choices, each of another variable, that hold within a set without a variable of it
+pub record IsFreed (p : Problem) (set : List Var) (v : Var) (choices : List Choice) : Type 0 where
+  pub once : AreNew choices
+  pub holds : HoldsWithin (general p) (has (without v set)) (value_in choices)
+
+-- a part of a set that admits none, while without each of its variables something holds
+pub record IsTight (p : Problem) (of : List Var) (shrunk : Shrunk) : Type 0 where
+  pub within : (v : Var) → IsTrue (has shrunk.set v) → IsTrue (has of v)
+  pub none : AdmitsNone (general p) (has shrunk.set)
+  pub freed : AllZip (IsFreed p shrunk.set) shrunk.set shrunk.maps

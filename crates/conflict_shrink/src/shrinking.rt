@@ -1,0 +1,164 @@
+// A conflict set is shrunk: each of its variables is tried, and dropped where the others admit none either.
+ghost use Rattle.std.specs.Prelude.{◌≡◌, ◌≢◌, ◌+◌, ◌≤◌, ℕ, IfOk, IsTrue, OnOk, Err, map};
+ghost use Rattle.plan_types.specs.declared.limit.Limit.{Limit};
+ghost use Rattle.conflict_shrink.specs.declared.shrinking.ShrinkFault.TheVariants.{NoMemory as shrink_no_memory};
+ghost use Rattle.conflict_shrink.specs.Restricted.{are_known, CanBeShrunk};
+ghost use Rattle.conflict_shrink.specs.Shrinking.{GoesOn, GivesUp, Tight, OverBudget, IsTight, answer_without, cut, limit_after, shrinking, shrunk_at, spent_with, tried, untried_stage};
+
+use crate::Restricted;
+use backjump::search;
+use choice_problem::{Choice, Choices, ConflictSet, Limit, Outcome, Steps, Var};
+use plan_types::{List, NoMemory};
+use std::alloc::Global;
+use std::sync::ledger::Ledger;
+
+/// A conflict set from which nothing can be dropped.
+#[derive(Debug, Drop)]
+pub struct Shrunk {
+    pub set: ConflictSet,
+    /// For each variable of the set, in goal order, choices that hold within the set without the variable.
+    pub maps: List<List<Choice>>,
+}
+
+/// Why a conflict set isn't shrunk.
+#[derive(Clone, Copy, Debug, PartialEq, Eq, Drop)]
+pub enum ShrinkFault {
+    NoMemory,
+    /// The searches exhausted so many points together, and the last one gave up. It stays at 2^64 - 1 once it has reached it.
+    TooLong { spent: u64 },
+}
+
+impl From<NoMemory> for ShrinkFault {
+    ghost from_gives = { λ _ fault. fault ≡ shrink_no_memory };
+
+    fn from(_: NoMemory) -> Self {
+        ShrinkFault::NoMemory
+    }
+}
+
+/// Where a shrinking is: the set that is left, what was found without each variable that stays, and how many points were
+/// exhausted.
+#[derive(Drop)]
+struct Stage {
+    left: ConflictSet,
+    trails: List<List<Choice>>,
+    spent: u64,
+}
+
+fn limit_after(budget: Limit, spent: u64) -> Limit
+    ensures { result ≡ limit_after budget spent }
+{
+    match budget {
+        Limit::Unlimited => Limit::Unlimited,
+        Limit::At(points) => Limit::At(points.saturating_sub(spent)),
+    }
+}
+
+// The choices of the variables of a set.
+fn cut(alloc: Global, set: &ConflictSet, trail: &[Choice]) -> Result<List<Choice>, NoMemory>
+    ensures { IfOk result (λ choices. choices ≡ cut set.now trail.now) }
+{
+    let mut choices = List::new(alloc);
+    for c in trail {
+        if set.has(c.var) {
+            choices.push(*c)?;
+        }
+    }
+    Ok(choices)
+}
+
+fn cut_all(
+    alloc: Global,
+    set: &ConflictSet,
+    trails: &[List<Choice>],
+) -> Result<List<List<Choice>>, NoMemory>
+    ensures { IfOk result (λ maps. maps ≡ map (cut set.now) trails.now) }
+{
+    let mut maps = List::new(alloc);
+    for trail in trails {
+        maps.push(cut(alloc, set, trail.as_slice())?)?;
+    }
+    Ok(maps)
+}
+
+impl Stage {
+    fn start(alloc: Global, set: &ConflictSet) -> Result<Stage, NoMemory>
+        ensures { IfOk result (λ stage. stage ≡ untried_stage set.now) }
+    {
+        Ok(Stage {
+            left: set.copy(alloc)?,
+            trails: List::new(alloc),
+            spent: 0,
+        })
+    }
+
+    // Searches for what becomes possible without a variable. It stays where there is something.
+    fn try_without<C: Choices, L: Ledger>(
+        &mut self,
+        alloc: Global,
+        choices: &C,
+        v: Var,
+        budget: Limit,
+        steps: &mut Steps<L>,
+    ) -> Result<(), ShrinkFault>
+        requires { IsTrue (are_known (C.problem choices.now) self.old.left) }
+        ensures ok { OnOk result (tried (C.problem choices.now) budget v self.old ≡ GoesOn self.new) }
+        ensures known { OnOk result (IsTrue (are_known (C.problem choices.now) self.new.left)) }
+        ensures too_long { (spent : ℕ) → result ≡ Err (ShrinkFault.TooLong spent) → tried (C.problem choices.now) budget v self.old ≡ GivesUp spent }
+        ensures ticks { result ≢ Err ShrinkFault.NoMemory → steps.new ≡ steps.old + (answer_without (C.problem choices.now) budget v self.old).past.counts.visited }
+        ensures most { steps.new ≤ steps.old + (answer_without (C.problem choices.now) budget v self.old).past.counts.visited }
+    {
+        let others = self.left.without(alloc, v)?;
+        let part = Restricted::new(choices, others);
+        let limit = limit_after(budget, self.spent);
+        match search(alloc, &part, limit, steps)? {
+            Outcome::Found { trail, counts } => {
+                self.spent = self.spent.saturating_add(counts.exhausted);
+                self.trails.push(trail)?;
+                Ok(())
+            }
+            Outcome::NoPlan { counts, .. } => {
+                self.spent = self.spent.saturating_add(counts.exhausted);
+                self.left = part.into_set();
+                Ok(())
+            }
+            Outcome::GaveUp { counts } => Err(ShrinkFault::TooLong {
+                spent: self.spent.saturating_add(counts.exhausted),
+            }),
+        }
+    }
+
+    fn shrunk(self, alloc: Global) -> Result<Shrunk, NoMemory>
+        ensures { IfOk result (λ shrunk. shrunk ≡ shrunk_at self) }
+    {
+        let maps = cut_all(alloc, &self.left, self.trails.as_slice())?;
+        Ok(Shrunk {
+            set: self.left,
+            maps,
+        })
+    }
+}
+
+/// The part of a conflict set that is left once each variable was tried in goal order, and dropped where the others that are left
+/// admit none either. The budget is of the exhausted points of all searches together.
+pub fn shrink<C: Choices, L: Ledger>(
+    alloc: Global,
+    choices: &C,
+    set: &ConflictSet,
+    budget: Limit,
+    steps: &mut Steps<L>,
+) -> Result<Shrunk, ShrinkFault>
+    requires { CanBeShrunk (C.problem choices.now) set.now }
+    ensures shrunk { IfOk result (λ shrunk. (shrinking (C.problem choices.now) set.now budget).ended ≡ Tight shrunk) }
+    ensures tight { IfOk result (IsTight (C.problem choices.now) set.now) }
+    ensures too_long { (spent : ℕ) → result ≡ Err (ShrinkFault.TooLong spent) → (shrinking (C.problem choices.now) set.now budget).ended ≡ OverBudget spent }
+    ensures unlimited { (spent : ℕ) → budget ≡ Limit.Unlimited → result ≢ Err (ShrinkFault.TooLong spent) }
+    ensures ticks { result ≢ Err ShrinkFault.NoMemory → steps.new ≡ steps.old + (shrinking (C.problem choices.now) set.now budget).visited }
+    ensures most { steps.new ≤ steps.old + (shrinking (C.problem choices.now) set.now budget).visited }
+{
+    let mut stage = Stage::start(alloc, set)?;
+    for v in set.vars() {
+        stage.try_without(alloc, choices, *v, budget, steps)?;
+    }
+    Ok(stage.shrunk(alloc)?)
+}
