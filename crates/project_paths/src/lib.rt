@@ -9,6 +9,7 @@ mod found;
 mod listings;
 mod pattern;
 mod places;
+mod spots;
 mod wildcard;
 
 pub use find::find_packages;
