@@ -22,7 +22,7 @@ use Rattle.project_paths.specs.Places.{below, is_matched, path_in, place_in}
 use Rattle.project_paths.specs.Spots.{directory, is_plain, plain_file, standing, unless_empty}
 use Rattle.project_paths.specs.Wildcards.{fits, fits_byte, matches, tails}
 use Rattle.project_paths.proofs.Listed.{AreAlike, is_named, of_name, of-names}
-use Rattle.project_paths.proofs.Paths.{file-named, named-file, named-under, under-is, under-named}
+use Rattle.project_paths.proofs.Paths.{file-named, named-file, named-under, plain-byte, under-is, under-named}
 
 -- ---- a plain name matches itself alone
 
@@ -31,7 +31,7 @@ fits-is [] [] h t = refl
 fits-is [] (b ∷ bs) h t = absurd (false≢true t)
 fits-is (p ∷ ps) other h t =
     let both = and_parts (is_plain p) (list_all is_plain ps) h in
-    let star : (p == 42) ≡ false = not-true (p == 42) (and_parts (not (p == 42)) (not (p == 47)) both.0).0 in
+    let star = (plain-byte p both.0).0 in
     by (λ bs. fits-is ps bs both.1) other (sym (ap (λ s. cond s (list_any (fits ps) (tails other)) (fits_byte p (fits ps) other)) star) ∙ t)
   where
     by : ((bs : Bytes) → fits ps bs ≡ true → ps ≡ bs) → (other : Bytes) → fits_byte p (fits ps) other ≡ true → p ∷ ps ≡ other
@@ -45,7 +45,7 @@ fits-self : (name : Bytes) → list_all is_plain name ≡ true → fits name nam
 fits-self [] h = refl
 fits-self (p ∷ ps) h =
     let both = and_parts (is_plain p) (list_all is_plain ps) h in
-    let star : (p == 42) ≡ false = not-true (p == 42) (and_parts (not (p == 42)) (not (p == 47)) both.0).0 in
+    let star = (plain-byte p both.0).0 in
     let one : (p == p) ≡ true = grind (arith, nat_tests) in
     ap (λ s. cond s (list_any (fits ps) (tails (p ∷ ps))) (p == p && fits ps ps)) star ∙ and_from (p == p) (fits ps ps) one (fits-self ps both.1)
 

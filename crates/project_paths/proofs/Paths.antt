@@ -1,6 +1,6 @@
 -- By which name a path goes on from a directory.
 use Rattle.std.proofs.Common.{◌≡◌, ℕ, ◌+◌, ◌<◌, ◌≤◌, Bool, true, false, cond, [], ◌∷◌, ◌++◌, length, take, drop, get_or, Option, Some, None, refl, sym, ap, ◌∙◌, arith, append_assoc, nat_lt, length-append, append-nil}
-use Rattle.std.specs.Prelude.{is_some, ◌==◌, not, option_and_then}
+use Rattle.std.specs.Prelude.{is_some, ◌==◌, not, ◌&&◌, option_and_then}
 use Rattle.std.specs.List.{list_all, position_or_len}
 use Rattle.std.specs.Option.{option_map}
 use Rattle.std.specs.Str.{bytes_eq}
@@ -17,6 +17,11 @@ use Rattle.project_paths.specs.Spots.{is_plain}
 abbrev is_slash : ℕ → Bool
 is_slash b = b == slash
 
+pub plain-byte : (b : ℕ) → is_plain b ≡ true → ((b == 42) ≡ false) × ((b == 47) ≡ false)
+plain-byte b h =
+    let two = and_parts (not (b == 42)) (not (b == 47)) (and_parts (not (b == 42) && not (b == 47)) (not (b == 0)) h).0 in
+    (not-true (b == 42) two.0, not-true (b == 47) two.1)
+
 -- ---- the first name of a path
 
 -- the first slash isn't in a plain name
@@ -24,7 +29,7 @@ slash-behind : (name rest : Bytes) → list_all is_plain name ≡ true → posit
 slash-behind [] rest h = omega arith
 slash-behind (b ∷ bs) rest h =
     let both = and_parts (is_plain b) (list_all is_plain bs) h in
-    let other : is_slash b ≡ false = not-true (b == 47) (and_parts (not (b == 42)) (not (b == 47)) both.0).1 in
+    let other = (plain-byte b both.0).1 in
     let more = slash-behind bs rest both.1 in
     ap (λ t. cond (not t) (1 + position_or_len is_slash (bs ++ rest)) 0) other ∙ omega (arith, more)
 

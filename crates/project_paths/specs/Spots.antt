@@ -43,9 +43,9 @@ abbrev pub seen : Files → Spot → List FolderPlace
 seen files (Listed place) = place ∷ []
 seen files (Literal path) = standing files path
 
--- a byte that stands for itself in a name
+-- a byte that stands for itself in a name of a file: no star, no slash and no NUL
 abbrev pub is_plain : ℕ → Bool
-is_plain b = not (b == 42) && not (b == 47)
+is_plain b = not (b == 42) && not (b == 47) && not (b == 0)
 
 -- whether a name of a pattern matches itself alone
 abbrev pub is_literal : Bytes → Bool

@@ -157,10 +157,11 @@ fn are_plain(bytes: &[u8]) -> bool
     bytes.iter().all(|byte| is_plain(*byte))
 }
 
+// No name in a directory has a slash, and the system takes no path with a NUL.
 fn is_plain(byte: u8) -> bool
     ensures { result ≡ is_plain byte }
 {
-    byte != b'*' && byte != b'/'
+    byte != b'*' && byte != b'/' && byte != 0
 }
 
 fn named(alloc: Global, dir: &Text, name: &Text) -> Result<List<Spot>, NoMemory>
