@@ -1,8 +1,8 @@
 // A folder's answers as the layers above take them: what is at a path, or that the run ends.
-ghost use Rattle.std.specs.Prelude.{◌≡◌, IfOk, IfSome, IsErrOf};
+ghost use Rattle.std.specs.Prelude.{◌≡◌, IfOk, IfSome, IsErrOf, IsTrue};
 ghost use Rattle.outside_folder.specs.declared.calls.Trouble.TheVariants.{NoMemory as trouble_no_memory};
 ghost use Rattle.outside_folder.specs.Calls.{IsWithin, Leaves, content_at, halt_of};
-ghost use Rattle.outside_folder.specs.Files.{listing};
+ghost use Rattle.outside_folder.specs.Files.{is_tree, listing};
 ghost use Rattle.outside_folder.specs.Folder.{IsInOrder};
 
 use crate::{Folder, FolderFault, Name};
@@ -54,6 +54,7 @@ pub fn list_names<F: Folder>(
 ) -> Result<Option<List<Name>>, Trouble>
     ensures told { IfSome (F.tells folder.old) (λ files. IfOk result (λ names. names ≡ listing files dir.now)) }
     ensures order { IfOk result (λ names. IfSome names IsInOrder) }
+    ensures tree { IfSome (F.tells folder.old) (λ files. IsTrue (is_tree files)) }
     ensures folder { Leaves F.tells F.faults folder.old folder.new (IsErrOf result Trouble.Failed) }
 {
     match folder.list(alloc, dir) {
@@ -72,6 +73,7 @@ pub fn read_content<F: Folder>(
 ) -> Result<Content, Trouble>
     ensures told { IfSome (F.tells folder.old) (λ files. IfOk result (λ content. content ≡ content_at files path.now)) }
     ensures within { IfOk result IsWithin }
+    ensures tree { IfSome (F.tells folder.old) (λ files. IsTrue (is_tree files)) }
     ensures folder { Leaves F.tells F.faults folder.old folder.new (IsErrOf result Trouble.Failed) }
 {
     match folder.read(alloc, path) {

@@ -26,6 +26,10 @@ x/y/p.cabal => x//y => Err(Refused(Refusal { path: e, line: 2, cause: NoMatch, d
 x/y/p.cabal => x/y// => Err(Refused(Refusal { path: e, line: 2, cause: NoMatch, detail: x/y// }))\n\
 x/y/p.cabal => ././x/./y/. => Ok([x/y/p.cabal])\n\
 x.cabal/p.cabal => *.cabal => Ok([x.cabal/p.cabal])\n\
+x.cabal/p.cabal => x.cabal => Ok([x.cabal/p.cabal])\n\
+x/p.cabal => x/p.cabal => Ok([x/p.cabal])\n\
+x/p.cabal => x/p => Err(Refused(Refusal { path: e, line: 2, cause: NoMatch, detail: x/p }))\n\
+x/p.cabal/q => x/p.cabal => Err(Refused(Refusal { path: e, line: 2, cause: NoMatch, detail: x/p.cabal }))\n\
 x.cabal => x.cabal/ => Err(Refused(Refusal { path: e, line: 2, cause: NoMatch, detail: x.cabal/ }))\n\
 x/p => x => Err(Refused(Refusal { path: e, line: 2, cause: NoMatch, detail: x }))\n\
 x/p y/p.cabal => x?,y => Ok([y/p.cabal])\n\

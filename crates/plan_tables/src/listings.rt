@@ -1,17 +1,24 @@
 // The files of a folder, the entries of a project as in the table of entries, and how many calls on the folder they take: the
-// call behind the last of them isn't made, so that it may fail.
+// call behind the last of them isn't made, so that it may fail. A name without a star takes no listing of its directory.
 use crate::entries::{folder, found};
 use plan_types::Halt;
 use std::alloc::Global;
 use std::test::Fail;
 
 pub const CASES: &str = "\
-x/p.cabal => x => 2\n\
-x/p.cabal y/p.cabal => x,y,x/*.cabal,./x,*/p.cabal => 3\n\
+x/p.cabal => x => 1\n\
+x/p.cabal y/p.cabal => x,y,x/*.cabal,./x => 2\n\
 main.cabal x/p.cabal => !,x,x => 2\n\
-x/y/p.cabal x/z/q.cabal => x/y,x/z => 4\n\
-x/p.cabal => x/p.cabal/*,x => 2\n\
+x/y/p.cabal x/z/q.cabal => x/y,x/z => 2\n\
+x/p.cabal => x/p.cabal => 1\n\
+x.cabal/p.cabal => x.cabal => 2\n\
+x/y/p.cabal => x/y/*.cabal => 1\n\
+x/p.cabal y/p.cabal => */p.cabal => 3\n\
+a.txt b/p.cabal => * => 2\n\
+x/p.cabal => x/p.cabal/*,x => 1\n\
 x/p.cabal => gone,x => 1\n\
+x/p.cabal => gone.cabal,x => 2\n\
+x/p.cabal => gone.txt?,x//p.cabal?,x => 2\n\
 x/p.cabal => /x,x => 0\n";
 
 fn is_made(alloc: Global, paths: &str, texts: &str, call: u64) -> Result<bool, Fail> {

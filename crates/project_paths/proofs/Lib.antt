@@ -2,3 +2,7 @@ pub mod Kept
 pub mod Rows
 pub mod Texts
 pub mod Answered
+pub mod Paths
+pub mod Listed
+pub mod Literal
+pub mod Seen

@@ -6,6 +6,7 @@ use Rattle.outside_folder.specs.Files.{Bytes, Files}
 use Rattle.project_paths.specs.Entries.{refusal_of}
 use Rattle.project_paths.specs.Local.{local_files, no_packages}
 use Rattle.project_paths.specs.Patterns.{pattern_of}
+use Rattle.project_paths.specs.Spots.{directory, is_literal, plain_file, standing}
 use Rattle.project_paths.specs.Wildcards.{matches}
 
 a_directory : pattern_of (codes "./a/b/") ≡ Some (record { names = codes "a" ∷ codes "b" ∷ []; folders = true })
@@ -37,3 +38,18 @@ no_match = refl
 
 nothing_at_all : local_files files (entry (codes "a/x") true ∷ []) ≡ Err no_packages
 nothing_at_all = refl
+
+a_literal : is_literal (codes "p.cabal") ≡ true
+a_literal = refl
+
+no_literal : is_literal (codes "p*") ≡ false
+no_literal = refl
+
+a_file_stands : standing files (codes "a/p.cabal") ≡ plain_file (codes "a/p.cabal") ∷ []
+a_file_stands = refl
+
+a_directory_stands : standing files (codes "a") ≡ directory (codes "a") ∷ []
+a_directory_stands = refl
+
+nothing_stands : standing files (codes "p.cabal") ≡ []
+nothing_stands = refl

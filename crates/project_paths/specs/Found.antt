@@ -1,12 +1,17 @@
 -- The local files at the places of a pattern.
-use Rattle.std.specs.Prelude.{Bool, ◌&&◌, not, if◌then◌else◌, nat_eq, List, [], ◌∷◌, codes, map, filter}
+use Rattle.std.specs.Prelude.{◌≡◌, Bool, true, false, ◌&&◌, ◌==◌, not, if◌then◌else◌, nat_eq, List, [], ◌∷◌, length, codes, map, filter, is_some, IsTrue}
 use Rattle.std.specs.List.{ends_with}
-use Rattle.outside_folder.specs.Files.{Bytes, Files}
+use Rattle.outside_folder.specs.Files.{Bytes, Files, file_at, is_tree}
+use Rattle.outside_folder.specs.declared.calls.Content.{Content}
+use Rattle.outside_folder.specs.declared.calls.Content.TheVariants.{Missing, TooLarge, Bytes as Holds}
 use Rattle.outside_folder.specs.declared.folder.Name.{Name}
 use Rattle.project_paths.specs.Places.{names_at, path_in, places}
 use Rattle.project_paths.specs.declared.found.FoundFiles.{FoundFiles}
 use Rattle.project_paths.specs.declared.pattern.Pattern.{Pattern}
 use Rattle.project_paths.specs.declared.places.FolderPlace.{FolderPlace}
+use Rattle.project_paths.specs.declared.spots.Spot.{Spot}
+use Rattle.project_paths.specs.declared.spots.Spot.TheVariants.{Listed, Literal}
+use Rattle.project_paths.specs.Spots.{seen}
 
 -- whether a name ends in `.cabal`
 abbrev pub is_cabal : Bytes → Bool
@@ -20,13 +25,13 @@ is_cabal_file name = not name.folder && is_cabal name.text
 abbrev pub cabal_in : Bytes → List Name → List Bytes
 cabal_in dir names = map (λ name. path_in dir name.text) (filter is_cabal_file names)
 
--- a `.cabal` file, unless directories alone are meant
-abbrev pub is_local : Bool → FolderPlace → Bool
-is_local folders place = not folders && is_cabal place.path
+-- whether a file at a path is a local one: it ends in `.cabal`, and not directories alone are meant
+abbrev pub is_local : Bool → Bytes → Bool
+is_local folders path = not folders && is_cabal path
 
 -- the local files at a place
 abbrev pub files_of : Bool → FolderPlace → List Name → List Bytes
-files_of folders place names = if place.folder then cabal_in place.path names else if is_local folders place then place.path ∷ [] else []
+files_of folders place names = if place.folder then cabal_in place.path names else if is_local folders place.path then place.path ∷ [] else []
 
 -- what is found at a place
 abbrev pub found_at : Files → Bool → FolderPlace → FoundFiles
@@ -35,3 +40,27 @@ found_at files folders place = record { path = place.path; files = files_of fold
 -- what is found by a pattern
 abbrev pub found_by : Files → Pattern → List FoundFiles
 found_by files pattern = map (found_at files pattern.folders) (places files pattern.names)
+
+-- whether anything was found at a place
+abbrev pub has_files : FoundFiles → Bool
+has_files found = not (length found.files == 0)
+
+-- these files at a path
+abbrev pub found_files : Bytes → List Bytes → FoundFiles
+found_files path files = record { path = path; files = files }
+
+-- Where the files make a tree, this is what is found at the places that a spot turns out to be. A place without a local file
+-- counts for nothing.
+abbrev pub Finds : Files → Bool → Spot → FoundFiles → Type 0
+Finds files folders spot found = IsTrue (is_tree files) → filter has_files (found ∷ []) ≡ filter has_files (map (found_at files folders) (seen files spot))
+
+-- whether a spot is a local file itself
+abbrev pub is_local_file : Files → Bool → Spot → Bool
+is_local_file files folders (Listed place) = not place.folder && is_local folders place.path
+is_local_file files folders (Literal path) = is_local folders path && is_some (file_at files path)
+
+-- whether a read found a file
+abbrev pub is_there : Content → Bool
+is_there Missing = false
+is_there TooLarge = true
+is_there (Holds bytes) = true

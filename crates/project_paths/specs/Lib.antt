@@ -3,6 +3,7 @@ pub mod Wildcards
 pub mod Rows
 pub mod Listings
 pub mod Places
+pub mod Spots
 pub mod Found
 pub mod Entries
 pub mod Local

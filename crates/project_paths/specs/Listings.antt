@@ -1,11 +1,10 @@
 -- The directories that were listed so far, each once, with their names.
-use Rattle.std.specs.Prelude.{◌≡◌, IfSome, List, [], Option, Some, if◌then◌else◌, unwrap_or}
+use Rattle.std.specs.Prelude.{◌≡◌, IfSome, IsTrue, List, [], Option, Some, if◌then◌else◌, unwrap_or}
 use Rattle.indexmap.specs.IndexMap.{get}
 use Rattle.plan_types.specs.Bytes.{same_text}
-use Rattle.outside_folder.specs.Files.{Bytes, Files, listing}
+use Rattle.outside_folder.specs.Files.{Bytes, Files, is_tree, listing}
 use Rattle.outside_folder.specs.declared.folder.Name.{Name}
 use Rattle.project_paths.specs.declared.listings.Listings.{Listings}
-use Rattle.project_paths.specs.declared.places.FolderPlace.{FolderPlace}
 
 -- the names in a directory, where it was listed
 abbrev pub listed : Listings → Bytes → Option (List Name)
@@ -15,17 +14,13 @@ listed listings dir = get same_text listings.by_dir dir
 abbrev pub kept : Listings → Bytes → List Name
 kept listings dir = unwrap_or (listed listings dir) []
 
--- the names that were listed at a place; a file has none
-abbrev pub kept_at : Listings → FolderPlace → List Name
-kept_at listings place = if place.folder then kept listings place.path else []
-
 -- the names in a directory of a folder; none where there is no such directory
 abbrev pub names_in : Files → Bytes → List Name
 names_in files dir = unwrap_or (listing files dir) []
 
--- what was listed is what these files give
+-- what was listed is what these files give, which make a tree
 abbrev pub AreListed : Files → Listings → Type 0
-AreListed files listings = (dir : Bytes) → IfSome (listed listings dir) (λ names. names ≡ names_in files dir)
+AreListed files listings = (dir : Bytes) → IfSome (listed listings dir) (λ names. (names ≡ names_in files dir) × IsTrue (is_tree files))
 
 -- the same, where a folder tells its files
 abbrev pub Agree : Option Files → Listings → Type 0

@@ -18,7 +18,7 @@ use std::collections::BTreeSet;
 /// The paths of the local files that the entries of a project give, in byte order, each once; or the first refusal.
 ///
 /// Where there is no `cabal.project`, the `.cabal` files in the root come in front, of which there may be none. No directory is
-/// listed twice.
+/// listed twice, and none for a name without a star that is looked for in it.
 pub fn find_packages<F: Folder>(
     alloc: Global,
     project: &Project,

@@ -1,13 +1,16 @@
-// The local files at the places of a pattern.
-ghost use Rattle.std.specs.Prelude.{◌≡◌, ◌++◌, ◌&&◌, map, filter, not, IfOk, IfSome, OnOk, IsErrOf};
+// The local files to which a pattern leads.
+ghost use Rattle.std.specs.Prelude.{◌≡◌, ◌∷◌, [], ◌++◌, ◌&&◌, map, filter, not, is_some, IfOk, IfSome, OnOk, IsErrOf, IsTrue};
 ghost use Rattle.outside_folder.specs.Calls.{Leaves};
-ghost use Rattle.project_paths.specs.Listings.{Agree};
-ghost use Rattle.project_paths.specs.Found.{cabal_in, files_of, found_at, found_by, is_cabal, is_cabal_file, is_local};
+ghost use Rattle.outside_folder.specs.Files.{file_at, is_tree};
+ghost use Rattle.project_paths.specs.Listings.{Agree, names_in};
+ghost use Rattle.project_paths.specs.Found.{Finds, cabal_in, found_by, found_files, has_files, is_cabal, is_cabal_file, is_local, is_local_file, is_there};
+ghost use Rattle.project_paths.specs.Spots.{is_open, path_of};
 
 use crate::listings::Listings;
 use crate::pattern::Pattern;
-use crate::places::{FolderPlace, path_in, places};
-use outside_folder::{Folder, Name, Trouble};
+use crate::places::path_in;
+use crate::spots::{Spot, spots};
+use outside_folder::{Content, Folder, Name, Trouble, read_content};
 use plan_types::{List, NoMemory, Text};
 use std::alloc::Global;
 
@@ -18,7 +21,7 @@ pub(crate) struct FoundFiles {
     pub files: List<Text>,
 }
 
-/// What is found by a pattern.
+/// What is found by a pattern. What gives no file counts for nothing in it.
 pub(crate) fn found_by<F: Folder>(
     alloc: Global,
     pattern: &Pattern,
@@ -27,14 +30,14 @@ pub(crate) fn found_by<F: Folder>(
 ) -> Result<List<FoundFiles>, Trouble>
     requires { Agree (F.tells folder.old) listings.old }
     ensures told { IfSome (F.tells folder.old)
-        (λ files. IfOk result (λ all. all ≡ found_by files pattern.now)) }
+        (λ files. IfOk result (λ all. filter has_files all ≡ filter has_files (found_by files pattern.now))) }
     ensures agree { OnOk result (Agree (F.tells folder.new) listings.new) }
     ensures folder { Leaves F.tells F.faults folder.old folder.new (IsErrOf result Trouble.Failed) }
 {
-    let places = places(alloc, pattern.names.as_slice(), listings, folder)?;
+    let spots = spots(alloc, pattern.names.as_slice(), listings, folder)?;
     let mut all = List::new(alloc);
-    for place in places.as_slice() {
-        let found = found_at(alloc, pattern.folders, place, listings, folder)?;
+    for spot in spots.as_slice() {
+        let found = found_at(alloc, pattern.folders, spot, listings, folder)?;
         all.push(found)?;
     }
     Ok(all)
@@ -43,44 +46,113 @@ pub(crate) fn found_by<F: Folder>(
 fn found_at<F: Folder>(
     alloc: Global,
     folders: bool,
-    place: &FolderPlace,
+    spot: &Spot,
     listings: &mut Listings,
     folder: &mut F,
 ) -> Result<FoundFiles, Trouble>
     requires { Agree (F.tells folder.old) listings.old }
-    ensures told { IfSome (F.tells folder.old)
-        (λ files. IfOk result (λ found. found ≡ found_at files folders place.now)) }
+    ensures told { IfSome (F.tells folder.old) (λ files. IfOk result (Finds files folders spot.now)) }
+    ensures tree { IfSome (F.tells folder.old) (λ files. OnOk result (IsTrue (is_open spot.now) → IsTrue (is_tree files))) }
     ensures agree { OnOk result (Agree (F.tells folder.new) listings.new) }
     ensures folder { Leaves F.tells F.faults folder.old folder.new (IsErrOf result Trouble.Failed) }
 {
-    listings.list_at(alloc, place, folder)?;
-    let files = files_of(alloc, folders, place, listings.names_at(place))?;
-    let path = place.path.copy()?;
+    let files = files_at(alloc, folders, spot, listings, folder)?;
+    let path = spot.path().copy()?;
     Ok(FoundFiles { path, files })
 }
 
-fn files_of(
+fn files_at<F: Folder>(
     alloc: Global,
     folders: bool,
-    place: &FolderPlace,
-    names: &[Name],
-) -> Result<List<Text>, NoMemory>
-    ensures { IfOk result (λ files. files ≡ files_of folders place.now names.now) }
+    spot: &Spot,
+    listings: &mut Listings,
+    folder: &mut F,
+) -> Result<List<Text>, Trouble>
+    requires { Agree (F.tells folder.old) listings.old }
+    ensures told { IfSome (F.tells folder.old)
+        (λ files. IfOk result (λ found. Finds files folders spot.now (found_files (path_of spot.now) found))) }
+    ensures tree { IfSome (F.tells folder.old) (λ files. OnOk result (IsTrue (is_open spot.now) → IsTrue (is_tree files))) }
+    ensures agree { OnOk result (Agree (F.tells folder.new) listings.new) }
+    ensures folder { Leaves F.tells F.faults folder.old folder.new (IsErrOf result Trouble.Failed) }
 {
-    if place.folder {
-        return cabal_in(alloc, &place.path, names);
+    if is_local_file(alloc, folders, spot, folder)? {
+        return Ok(only(alloc, spot.path())?);
     }
+    match spot.dir() {
+        None => Ok(List::new(alloc)),
+        Some(dir) => cabal_at(alloc, dir, listings, folder),
+    }
+}
+
+// Whether a spot is a local file itself. A path that was taken as it stands is read to find that out.
+fn is_local_file<F: Folder>(
+    alloc: Global,
+    folders: bool,
+    spot: &Spot,
+    folder: &mut F,
+) -> Result<bool, Trouble>
+    ensures told { IfSome (F.tells folder.old) (λ files. IfOk result (λ yes. yes ≡ is_local_file files folders spot.now)) }
+    ensures tree { IfSome (F.tells folder.old) (λ files. IfOk result (λ yes. IsTrue yes → IsTrue (is_open spot.now) → IsTrue (is_tree files))) }
+    ensures folder { Leaves F.tells F.faults folder.old folder.new (IsErrOf result Trouble.Failed) }
+{
+    match spot {
+        Spot::Listed(place) => Ok(!place.folder && is_local(folders, &place.path)),
+        Spot::Literal(path) => {
+            if !is_local(folders, path) {
+                return Ok(false);
+            }
+            is_file(alloc, path, folder)
+        }
+    }
+}
+
+fn is_file<F: Folder>(alloc: Global, path: &Text, folder: &mut F) -> Result<bool, Trouble>
+    ensures told { IfSome (F.tells folder.old) (λ files. IfOk result (λ yes. yes ≡ is_some (file_at files path.now))) }
+    ensures tree { IfSome (F.tells folder.old) (λ files. IsTrue (is_tree files)) }
+    ensures folder { Leaves F.tells F.faults folder.old folder.new (IsErrOf result Trouble.Failed) }
+{
+    let content = read_content(alloc, path.as_str(), folder)?;
+    Ok(is_there(&content))
+}
+
+fn is_there(content: &Content) -> bool
+    ensures { result ≡ is_there content.now }
+{
+    match content {
+        Content::Missing => false,
+        Content::TooLarge | Content::Bytes(_) => true,
+    }
+}
+
+fn is_local(folders: bool, path: &Text) -> bool
+    ensures { result ≡ is_local folders path.now }
+{
+    !folders && is_cabal(path)
+}
+
+fn only(alloc: Global, path: &Text) -> Result<List<Text>, NoMemory>
+    ensures { IfOk result (λ files. files ≡ path.now ∷ []) }
+{
     let mut files = List::new(alloc);
-    if is_local(folders, place) {
-        files.push(place.path.copy()?)?;
-    }
+    files.push(path.copy()?)?;
     Ok(files)
 }
 
-fn is_local(folders: bool, place: &FolderPlace) -> bool
-    ensures { result ≡ is_local folders place.now }
+fn cabal_at<F: Folder>(
+    alloc: Global,
+    dir: &Text,
+    listings: &mut Listings,
+    folder: &mut F,
+) -> Result<List<Text>, Trouble>
+    requires { Agree (F.tells folder.old) listings.old }
+    ensures told { IfSome (F.tells folder.old) (λ files. IfOk result (λ found. found ≡ cabal_in dir.now (names_in files dir.now))) }
+    ensures tree { IfSome (F.tells folder.old) (λ files. OnOk result (IsTrue (is_tree files))) }
+    ensures agree { OnOk result (Agree (F.tells folder.new) listings.new) }
+    ensures folder { Leaves F.tells F.faults folder.old folder.new (IsErrOf result Trouble.Failed) }
 {
-    !folders && is_cabal(&place.path)
+    listings.list(alloc, dir, folder)?;
+    let files = cabal_in(alloc, dir, listings.names(dir))?;
+    Ok(files)
 }
 
 fn cabal_in(alloc: Global, dir: &Text, names: &[Name]) -> Result<List<Text>, NoMemory>

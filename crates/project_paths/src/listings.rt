@@ -1,11 +1,9 @@
 // The names in the directories of a folder, each of which is listed once.
-ghost use Rattle.std.specs.Prelude.{◌≡◌, List, ℕ, Option, IfOk, IfSome, OnOk, IsErrOf};
+ghost use Rattle.std.specs.Prelude.{◌≡◌, List, ℕ, Option, IfOk, IfSome, OnOk, IsErrOf, IsTrue};
 ghost use Rattle.outside_folder.specs.Calls.{Leaves};
-ghost use Rattle.outside_folder.specs.Files.{Files};
-ghost use Rattle.project_paths.specs.Listings.{Agree, Puts, kept, kept_at, listed, names_in};
-ghost use Rattle.project_paths.specs.Places.{names_at};
+ghost use Rattle.outside_folder.specs.Files.{Files, is_tree};
+ghost use Rattle.project_paths.specs.Listings.{Agree, Puts, kept, listed, names_in};
 
-use crate::places::FolderPlace;
 use indexmap::IndexMap;
 use outside_folder::{Folder, Name, Trouble, list_names};
 use plan_types::{List, NoMemory, Text};
@@ -26,27 +24,16 @@ impl Listings {
         }
     }
 
-    /// Lists the directory at a place, unless it was listed before.
-    pub fn list_at<F: Folder>(
+    /// Lists a directory, unless it was listed before.
+    pub fn list<F: Folder>(
         &mut self,
         alloc: Global,
-        place: &FolderPlace,
+        dir: &Text,
         folder: &mut F,
     ) -> Result<(), Trouble>
         requires { Agree (F.tells folder.old) self.old }
-        ensures told { IfSome (F.tells folder.old) (λ files. OnOk result (kept_at self.new place.now ≡ names_at files place.now)) }
-        ensures agree { OnOk result (Agree (F.tells folder.new) self.new) }
-        ensures folder { Leaves F.tells F.faults folder.old folder.new (IsErrOf result Trouble.Failed) }
-    {
-        if !place.folder {
-            return Ok(());
-        }
-        self.list(alloc, &place.path, folder)
-    }
-
-    fn list<F: Folder>(&mut self, alloc: Global, dir: &Text, folder: &mut F) -> Result<(), Trouble>
-        requires { Agree (F.tells folder.old) self.old }
         ensures told { IfSome (F.tells folder.old) (λ files. OnOk result (kept self.new dir.now ≡ names_in files dir.now)) }
+        ensures tree { IfSome (F.tells folder.old) (λ files. OnOk result (IsTrue (is_tree files))) }
         ensures agree { OnOk result (Agree (F.tells folder.new) self.new) }
         ensures folder { Leaves F.tells F.faults folder.old folder.new (IsErrOf result Trouble.Failed) }
     {
@@ -66,18 +53,8 @@ impl Listings {
         Ok(())
     }
 
-    /// The names at a place that was listed; a file has none.
-    pub fn names_at(&self, place: &FolderPlace) -> &[Name]
-        ensures { result.now ≡ kept_at self.now place.now }
-    {
-        if place.folder {
-            self.names(&place.path)
-        } else {
-            &[]
-        }
-    }
-
-    fn names(&self, dir: &Text) -> &[Name]
+    /// The names in a directory that was listed.
+    pub fn names(&self, dir: &Text) -> &[Name]
         ensures { result.now ≡ kept self.now dir.now }
     {
         match self.by_dir.get(dir) {
@@ -89,6 +66,7 @@ impl Listings {
 
 fn names_in<F: Folder>(alloc: Global, dir: &Text, folder: &mut F) -> Result<List<Name>, Trouble>
     ensures told { IfSome (F.tells folder.old) (λ files. IfOk result (λ names. names ≡ names_in files dir.now)) }
+    ensures tree { IfSome (F.tells folder.old) (λ files. IsTrue (is_tree files)) }
     ensures folder { Leaves F.tells F.faults folder.old folder.new (IsErrOf result Trouble.Failed) }
 {
     let names = list_names(alloc, dir.as_str(), folder)?;

@@ -1,7 +1,0 @@
-use Rattle.std.proofs.Common.{◌≡◌, ◌++◌, map, take}
-use Rattle.std.specs.Prelude.{filter}
-use Rattle.project_paths.specs.Places.{is_matched, place_in}
-use Rattle.project_paths.proofs.places.push_matched.Given as goal
-
-abbrev pub invariant-loop-name : goal.invariant-loop-name
-invariant-loop-name l = l.found ≡ l.initial.found ++ map (place_in l.place.path) (filter (is_matched l.pattern) (take l.name-index l.names))

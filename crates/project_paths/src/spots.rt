@@ -1,0 +1,190 @@
+// Where the names of a pattern lead. A name without a star is taken as it stands, and its directory isn't listed for it.
+ghost use Rattle.std.specs.Prelude.{◌≡◌, ◌∷◌, [], map, filter, flat_map, IfOk, IfSome, OnOk, IsErrOf, IsTrue};
+ghost use Rattle.std.specs.List.{list_all};
+ghost use Rattle.std.specs.Option.{option_copied};
+ghost use Rattle.outside_folder.specs.Calls.{Leaves};
+ghost use Rattle.project_paths.specs.Listings.{Agree};
+ghost use Rattle.project_paths.specs.Places.{below, is_matched, path_in, place_in, places, root};
+ghost use Rattle.project_paths.specs.Spots.{Leads, Settled, dir_of, directory, is_literal, is_plain, path_of, seen};
+
+use crate::listings::Listings;
+use crate::places::{FolderPlace, path_in, place_in, root};
+use crate::wildcard::matches;
+use outside_folder::{Folder, Name, Trouble};
+use plan_types::{List, NoMemory, Text};
+use std::alloc::Global;
+
+/// Where the names of a pattern lead.
+#[derive(Debug, Drop)]
+pub(crate) enum Spot {
+    /// A listing told what stands there.
+    Listed(FolderPlace),
+    /// A path whose last name was taken as it stands: a file, a directory or nothing.
+    Literal(Text),
+}
+
+impl Spot {
+    pub fn path(&self) -> &Text
+        ensures { result.now ≡ path_of self.now }
+    {
+        match self {
+            Spot::Listed(place) => &place.path,
+            Spot::Literal(path) => path,
+        }
+    }
+
+    /// The path of the directory that stands there, or may.
+    pub fn dir(&self) -> Option<&Text>
+        ensures { option_copied result ≡ dir_of self.now }
+    {
+        match self {
+            Spot::Listed(place) => {
+                if place.folder {
+                    Some(&place.path)
+                } else {
+                    None
+                }
+            }
+            Spot::Literal(path) => Some(path),
+        }
+    }
+}
+
+/// The spots to which names lead from the root.
+pub(crate) fn spots<F: Folder>(
+    alloc: Global,
+    names: &[Text],
+    listings: &mut Listings,
+    folder: &mut F,
+) -> Result<List<Spot>, Trouble>
+    requires { Agree (F.tells folder.old) listings.old }
+    ensures told { IfSome (F.tells folder.old)
+        (λ files. IfOk result (λ found. Leads files found (places files names.now))) }
+    ensures settled { IfSome (F.tells folder.old) (λ files. IfOk result (Settled files)) }
+    ensures agree { OnOk result (Agree (F.tells folder.new) listings.new) }
+    ensures folder { Leaves F.tells F.faults folder.old folder.new (IsErrOf result Trouble.Failed) }
+{
+    let mut found = at_root(alloc)?;
+    for name in names {
+        found = all_below(alloc, name, found.as_slice(), listings, folder)?;
+    }
+    Ok(found)
+}
+
+fn at_root(alloc: Global) -> Result<List<Spot>, NoMemory>
+    ensures { IfOk result (λ found. found ≡ Spot.Listed root ∷ []) }
+{
+    let mut found = List::new(alloc);
+    found.push(Spot::Listed(root(alloc)))?;
+    Ok(found)
+}
+
+fn all_below<F: Folder>(
+    alloc: Global,
+    pattern: &Text,
+    spots: &[Spot],
+    listings: &mut Listings,
+    folder: &mut F,
+) -> Result<List<Spot>, Trouble>
+    requires { Agree (F.tells folder.old) listings.old }
+    ensures told { IfSome (F.tells folder.old)
+        (λ files. IfOk result (λ found. Leads files found (flat_map (below files pattern.now) (flat_map (seen files) spots.now)))) }
+    ensures settled { IfSome (F.tells folder.old) (λ files. IfOk result (λ found. Settled files spots.now → Settled files found)) }
+    ensures agree { OnOk result (Agree (F.tells folder.new) listings.new) }
+    ensures folder { Leaves F.tells F.faults folder.old folder.new (IsErrOf result Trouble.Failed) }
+{
+    let mut found = List::new(alloc);
+    for spot in spots {
+        let mut more = below(alloc, pattern, spot, listings, folder)?;
+        found.append(&mut more)?;
+    }
+    Ok(found)
+}
+
+fn below<F: Folder>(
+    alloc: Global,
+    pattern: &Text,
+    spot: &Spot,
+    listings: &mut Listings,
+    folder: &mut F,
+) -> Result<List<Spot>, Trouble>
+    requires { Agree (F.tells folder.old) listings.old }
+    ensures told { IfSome (F.tells folder.old)
+        (λ files. IfOk result (λ found. Leads files found (flat_map (below files pattern.now) (seen files spot.now)))) }
+    ensures settled { IfSome (F.tells folder.old) (λ files. IfOk result (λ found. Settled files (spot.now ∷ []) → Settled files found)) }
+    ensures agree { OnOk result (Agree (F.tells folder.new) listings.new) }
+    ensures folder { Leaves F.tells F.faults folder.old folder.new (IsErrOf result Trouble.Failed) }
+{
+    match spot.dir() {
+        None => Ok(List::new(alloc)),
+        Some(dir) => below_dir(alloc, pattern, dir, listings, folder),
+    }
+}
+
+fn below_dir<F: Folder>(
+    alloc: Global,
+    pattern: &Text,
+    dir: &Text,
+    listings: &mut Listings,
+    folder: &mut F,
+) -> Result<List<Spot>, Trouble>
+    requires { Agree (F.tells folder.old) listings.old }
+    ensures told { IfSome (F.tells folder.old)
+        (λ files. IfOk result (λ found. Leads files found (below files pattern.now (directory dir.now)))) }
+    ensures settled { IfSome (F.tells folder.old) (λ files. IfOk result (Settled files)) }
+    ensures agree { OnOk result (Agree (F.tells folder.new) listings.new) }
+    ensures folder { Leaves F.tells F.faults folder.old folder.new (IsErrOf result Trouble.Failed) }
+{
+    if is_literal(pattern) {
+        return Ok(named(alloc, dir, pattern)?);
+    }
+    listings.list(alloc, dir, folder)?;
+    let found = matched(alloc, pattern, dir, listings.names(dir))?;
+    Ok(found)
+}
+
+// A name that matches itself alone.
+fn is_literal(name: &Text) -> bool
+    ensures { result ≡ is_literal name.now }
+{
+    let bytes = name.as_bytes();
+    !bytes.is_empty() && are_plain(bytes)
+}
+
+fn are_plain(bytes: &[u8]) -> bool
+    ensures { result ≡ list_all is_plain bytes.now }
+{
+    bytes.iter().all(|byte| is_plain(*byte))
+}
+
+// No name in a directory has a slash, and the system takes no path with a NUL.
+fn is_plain(byte: u8) -> bool
+    ensures { result ≡ is_plain byte }
+{
+    byte != b'*' && byte != b'/' && byte != 0
+}
+
+fn named(alloc: Global, dir: &Text, name: &Text) -> Result<List<Spot>, NoMemory>
+    ensures { IfOk result (λ found. found ≡ Spot.Literal (path_in dir.now name.now) ∷ []) }
+{
+    let mut found = List::new(alloc);
+    found.push(Spot::Literal(path_in(dir, name)?))?;
+    Ok(found)
+}
+
+fn matched(
+    alloc: Global,
+    pattern: &Text,
+    dir: &Text,
+    names: &[Name],
+) -> Result<List<Spot>, NoMemory>
+    ensures { IfOk result (λ found. found ≡ map (λ name. Spot.Listed (place_in dir.now name)) (filter (is_matched pattern.now) names.now)) }
+{
+    let mut found = List::new(alloc);
+    for name in names {
+        if matches(alloc, pattern.as_bytes(), name.text.as_bytes())? {
+            found.push(Spot::Listed(place_in(dir, name)?))?;
+        }
+    }
+    Ok(found)
+}
