@@ -34,7 +34,6 @@ generate => Err(Usage)\n\
 plan --number=3 => Err(Usage)\n\
 plan --json --json => Err(Usage)\n\
 plan --count-conflicts --count-conflicts => Err(Usage)\n\
-plan --count-conflicts=1 => Err(Usage)\n\
 generate --number=3 --count-conflicts => Err(Usage)\n\
 plan --json= => Err(Usage)\n\
 plan --json=true => Err(Usage)\n\
