@@ -1,5 +1,4 @@
-//! Tests alone: tables of what the calls between a folder's texts and the search answer, of how often a folder is asked, of linked
-//! variables, and of the texts that are printed.
+//! Tests alone: tables of answers between a folder's texts and the search, of listings, of linked variables and of printed texts.
 #![tactic(auto)]
 
 #[cfg(test)]

@@ -1,5 +1,4 @@
-// The files of a folder, the entries of a project as in the table of entries, and how many calls on the folder they take: the
-// call behind the last of them isn't made, so that it may fail. A name without a star takes no listing of its directory.
+// A folder's files, entries as in their table, and how many calls these take, so that the next one may fail. No star, no listing.
 use crate::entries::{folder, found};
 use plan_types::Halt;
 use std::alloc::Global;

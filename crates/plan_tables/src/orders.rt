@@ -1,5 +1,4 @@
-// The policy, the preferred ranges (a least version each), the instances, and the places in order. An instance is the first letter of
-// its origin, its version, and a unit.
+// The policy, preferred ranges (a least version each), instances (first letter of the origin, version, unit), and places in order.
 use crate::packages::{instance, version};
 use crate::shared::shown;
 use plan_types::{Instance, List, Range, TextFault};
