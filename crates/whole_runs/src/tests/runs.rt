@@ -240,7 +240,27 @@ choose main 1 local
 choose a 0 source
 node store a-0 lib a-0-990a788c038319dbf78d570ca3ec1d486541cd83bbe15767323534db27a39b23
 node local main-1 lib main-1-inplace needs a-0-990a788c038319dbf78d570ca3ec1d486541cd83bbe15767323534db27a39b23
-visited 2 exhausted 0";
+visited 2 exhausted 0
+
+$ cabal-plan plan --count-conflicts
+main.cabal main 1 b, c
+index/b/2/b.cabal b 2 c ==1
+index/b/1/b.cabal b 1 a
+index/a/1/a.cabal a 1
+index/a/2/a.cabal a 2
+index/c/1/c.cabal c 1 missing
+index/c/2/c.cabal c 2
+=> 0
+plan
+choose main 1 local
+choose b 1 source
+choose c 2 source
+choose a 2 source
+node store a-2 lib a-2-e5cbed83b11365e2d1cd911ae685e40697ce01aa6ad1592b97725fdb0e88a3cd
+node store b-1 lib b-1-1812b140f077283c38d7c708cc6ea95dfbee2f31b6453ff8d6f8b872726f6c99 needs a-2-e5cbed83b11365e2d1cd911ae685e40697ce01aa6ad1592b97725fdb0e88a3cd
+node store c-2 lib c-2-8839e8057dd3a0028ae850def018b4e4f651ebe23df90b01566a73a9db4777c1
+node local main-1 lib main-1-inplace needs b-1-1812b140f077283c38d7c708cc6ea95dfbee2f31b6453ff8d6f8b872726f6c99 c-2-8839e8057dd3a0028ae850def018b4e4f651ebe23df90b01566a73a9db4777c1
+visited 7 exhausted 2";
 
 // Words without a reading.
 pub(crate) const NO_READING: &str = "\
