@@ -24,7 +24,8 @@ pub trait Guide {
 
     /// The variable that is tried next, or none where none is open.
     fn pick(&self, state: &State) -> Option<Var>
-        ensures { (p : Problem) (met : List (List Var)) → Lawful p → Represents p state.now → recalls self.now met state.now.trail → result ≡ picks met (open_in p state.now.trail) };
+        ensures { (p : Problem) (met : List (List Var)) → Lawful p → Represents p state.now → recalls self.now met state.now.trail
+            → result ≡ picks met (open_in p state.now.trail) };
 
     /// A set was met after these choices.
     fn learn(&mut self, alloc: Global, set: &ConflictSet, trail: &Trail) -> Result<(), NoMemory>
@@ -36,7 +37,8 @@ pub trait Guide {
 
     /// The last choice, which was one of this variable, was taken back.
     fn taken_back(&mut self, v: Var) -> Result<(), NoMemory>
-        ensures { OnOk result ((met : List (List Var)) (front : List Choice) (c : Choice) → c.var ≡ v → value_in front v ≡ None → recalls self.old met (front ++ c ∷ []) → recalls self.new met front) };
+        ensures { OnOk result ((met : List (List Var)) (front : List Choice) (c : Choice) → c.var ≡ v → value_in front v ≡ None
+            → recalls self.old met (front ++ c ∷ []) → recalls self.new met front) };
 
     ghost is_guide: { spec.IsGuide picks };
 }

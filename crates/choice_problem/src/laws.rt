@@ -39,7 +39,8 @@ pub fn any_order_names_alike()
 
 /// With a limit every answer but giving up is the one without, whoever picks the variables.
 pub fn limit_only_gives_up()
-    ensures { (guide : Guide) (p : Problem) (limit : Limit) → (guided_answer guide p limit).ended ≢ GaveUp → guided_answer guide p limit ≡ guided_answer guide p Limit.Unlimited }
+    ensures { (guide : Guide) (p : Problem) (limit : Limit) → (guided_answer guide p limit).ended ≢ GaveUp
+        → guided_answer guide p limit ≡ guided_answer guide p Limit.Unlimited }
 {}
 
 /// A search tries at most as many values as one that leaves no point early, with a limit too.

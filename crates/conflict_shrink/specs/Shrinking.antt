@@ -25,6 +25,10 @@ limit_after (At budget) spent = At (budget - spent)
 abbrev pub answer_without : Problem → Limit → Var → Stage → Answer
 answer_without p budget v s = answer_of (restricted p (without v s.left)) (limit_after budget s.spent)
 
+-- how many values that search tries
+abbrev pub tries_without : Problem → Limit → Var → Stage → ℕ
+tries_without p budget v s = (answer_without p budget v s).past.counts.visited
+
 -- exhausted points more
 abbrev pub spent_with : ℕ → Stage → ℕ
 spent_with exhausted s = min (s.spent + exhausted) cap
@@ -77,7 +81,7 @@ go_on (GivesUp spent) rest = record { ended = OverBudget spent; visited = 0 }
 abbrev pub shrink_from : Problem → Limit → List Var → Stage → Shrinking
 shrink_from p budget [] s = record { ended = Tight (shrunk_at s); visited = 0 }
 shrink_from p budget (v ∷ untried) s =
-    after_tries (answer_without p budget v s).past.counts.visited (go_on (tried p budget v s) (shrink_from p budget untried))
+    after_tries (tries_without p budget v s) (go_on (tried p budget v s) (shrink_from p budget untried))
 
 -- nothing was tried yet
 abbrev pub untried_stage : List Var → Stage

@@ -3,7 +3,7 @@ ghost use Rattle.std.specs.Prelude.{◌≡◌, ◌≢◌, ◌+◌, ◌≤◌, �
 ghost use Rattle.plan_types.specs.declared.limit.Limit.{Limit};
 ghost use Rattle.conflict_shrink.specs.declared.shrinking.ShrinkFault.TheVariants.{NoMemory as shrink_no_memory};
 ghost use Rattle.conflict_shrink.specs.Restricted.{are_known, CanBeShrunk};
-ghost use Rattle.conflict_shrink.specs.Shrinking.{GoesOn, GivesUp, Tight, OverBudget, IsTight, answer_without, cut, limit_after, shrinking, shrunk_at, spent_with, tried, untried_stage};
+ghost use Rattle.conflict_shrink.specs.Shrinking.{GoesOn, GivesUp, Tight, OverBudget, IsTight, cut, limit_after, shrinking, shrunk_at, spent_with, tried, tries_without, untried_stage};
 
 use crate::Restricted;
 use backjump::search;
@@ -105,8 +105,8 @@ impl Stage {
         ensures ok { OnOk result (tried (C.problem choices.now) budget v self.old ≡ GoesOn self.new) }
         ensures known { OnOk result (IsTrue (are_known (C.problem choices.now) self.new.left)) }
         ensures too_long { (spent : ℕ) → result ≡ Err (ShrinkFault.TooLong spent) → tried (C.problem choices.now) budget v self.old ≡ GivesUp spent }
-        ensures ticks { result ≢ Err ShrinkFault.NoMemory → steps.new ≡ steps.old + (answer_without (C.problem choices.now) budget v self.old).past.counts.visited }
-        ensures most { steps.new ≤ steps.old + (answer_without (C.problem choices.now) budget v self.old).past.counts.visited }
+        ensures ticks { result ≢ Err ShrinkFault.NoMemory → steps.new ≡ steps.old + tries_without (C.problem choices.now) budget v self.old }
+        ensures most { steps.new ≤ steps.old + tries_without (C.problem choices.now) budget v self.old }
     {
         let others = self.left.without(alloc, v)?;
         let part = Restricted::new(choices, others);

@@ -41,7 +41,8 @@ impl Counting {
 
     // A variable was in one set more.
     fn raise(&mut self, v: Var, chosen: bool) -> Result<(), NoMemory>
-        ensures { OnOk result ((scores : Var → ℕ) (trail : List Choice) → AreScored self.old.scores self.old.ranks.keys scores trail → is_some (value_in trail v) ≡ chosen → AreScored self.new.scores self.new.ranks.keys (raised v scores) trail) }
+        ensures { OnOk result ((scores : Var → ℕ) (trail : List Choice) → AreScored self.old.scores self.old.ranks.keys scores trail
+            → is_some (value_in trail v) ≡ chosen → AreScored self.new.scores self.new.ranks.keys (raised v scores) trail) }
     {
         let before = self.scores.get(v);
         let after = before.unwrap_or(0).saturating_add(1);
@@ -57,7 +58,8 @@ impl Counting {
 // The first of the ranked variables that is open.
 fn first_open(ranks: &BTreeSet<Rank>, state: &State) -> Option<Var>
     ensures sorted { IsStrictlySortedBy rank_cmp ranks.now.keys }
-    ensures first { (p : Problem) → Lawful p → Represents p state.now → result ≡ find (is_open p state.now.trail) (map (λ r. r.var) ranks.now.keys) }
+    ensures first { (p : Problem) → Lawful p → Represents p state.now
+        → result ≡ find (is_open p state.now.trail) (map (λ r. r.var) ranks.now.keys) }
 {
     for rank in ranks.iter() {
         if state.is_open(rank.var) {

@@ -1,12 +1,10 @@
 // Marks of those that are held: they wait, and something failed that they need, at once or through others.
-ghost use Rattle.std.specs.Prelude.{◌≡◌, ◌<◌, ◌≤◌, ◌↔◌, [], ◌∷◌, length, All, IfOk, IsTrue};
-ghost use Rattle.plan_jobs.specs.declared.job.JobState.TheVariants.{Failed};
+ghost use Rattle.std.specs.Prelude.{◌≡◌, ◌<◌, ◌≤◌, [], ◌∷◌, length, All, IfOk};
 ghost use Rattle.plan_jobs.specs.Board.{AreBegun, AreHeld, HasFailed, HoldsMore, HoldsUsers};
 ghost use Rattle.plan_jobs.specs.Marks.{NoneMarked, TakesLeast};
 
 use crate::job::JobState;
 use crate::marks::Marks;
-use crate::meeting::is_waiting;
 use plan_types::{List, NoMemory};
 use std::alloc::Global;
 
@@ -32,7 +30,7 @@ pub(crate) fn held_at_first(
     let mut held = List::from_vec(vec![in alloc; false; states.len()]?);
     let mut to_go = Marks::new(alloc, states.len())?;
     for place in 0..states.len() {
-        if has_failed(states[place]) {
+        if states[place] == JobState::Failed {
             hold(users, states, &mut held, &mut to_go, place);
         }
     }
@@ -91,17 +89,8 @@ fn hold_user(user: usize, states: &[JobState], held: &mut List<bool>, to_go: &mu
     requires room { length states.now ≤ length to_go.old }
     ensures { HoldsUsers (user ∷ []) states.now held.old held.new to_go.old to_go.new }
 {
-    if is_waiting(states[user]) && !held.as_slice()[user] {
+    if states[user] == JobState::Waiting && !held.as_slice()[user] {
         held.set(user, true);
         to_go.set(user, true);
-    }
-}
-
-fn has_failed(state: JobState) -> bool
-    ensures { IsTrue result ↔ (state ≡ Failed) }
-{
-    match state {
-        JobState::Failed => true,
-        JobState::Waiting | JobState::Running | JobState::Completed => false,
     }
 }

@@ -156,18 +156,9 @@ fn running_place(states: &[JobState], place: u64) -> Result<usize, JobFault>
         (λ fault. (fault ≡ NotRunning) × ((place < length states.now) × (state_at states.now place ≡ Running) → ⊥)) }
 {
     let place = place as usize;
-    if place < states.len() && is_running(states[place]) {
+    if place < states.len() && states[place] == JobState::Running {
         Ok(place)
     } else {
         Err(JobFault::NotRunning)
-    }
-}
-
-fn is_running(state: JobState) -> bool
-    ensures { IsTrue result ↔ (state ≡ Running) }
-{
-    match state {
-        JobState::Running => true,
-        JobState::Waiting | JobState::Completed | JobState::Failed => false,
     }
 }

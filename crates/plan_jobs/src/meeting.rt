@@ -1,7 +1,6 @@
 // Counts of needs that aren't completed, and the marks of those that are ready.
-ghost use Rattle.std.specs.Prelude.{◌≡◌, ◌<◌, ◌≤◌, ◌+◌, ◌-◌, ◌↔◌, ℕ, length, slice_index, slice_set, All, IfOk, IsTrue};
+ghost use Rattle.std.specs.Prelude.{◌≡◌, ◌<◌, ◌≤◌, ◌+◌, ◌-◌, ℕ, length, slice_index, slice_set, All, IfOk};
 ghost use Rattle.plan_jobs.specs.Board.{AreReady, times};
-ghost use Rattle.plan_jobs.specs.declared.job.JobState.TheVariants.{Waiting};
 
 use crate::job::JobState;
 use crate::marks::Marks;
@@ -20,7 +19,7 @@ pub(crate) fn ready_at_first(
 {
     let mut ready = Marks::new(alloc, states.len())?;
     for place in 0..states.len() {
-        if is_waiting(states[place]) && unmet[place] == 0 {
+        if states[place] == JobState::Waiting && unmet[place] == 0 {
             ready.set(place, true);
         }
     }
@@ -57,16 +56,7 @@ fn meet_one(user: usize, states: &[JobState], unmet: &mut List<usize>, ready: &m
 {
     let left = unmet.as_slice()[user] - 1;
     unmet.set(user, left);
-    if left == 0 && is_waiting(states[user]) {
+    if left == 0 && states[user] == JobState::Waiting {
         ready.set(user, true);
-    }
-}
-
-pub(crate) fn is_waiting(state: JobState) -> bool
-    ensures { IsTrue result ↔ (state ≡ Waiting) }
-{
-    match state {
-        JobState::Waiting => true,
-        JobState::Running | JobState::Completed | JobState::Failed => false,
     }
 }

@@ -1,7 +1,6 @@
 // What nodes are at the end, and how many are so.
-ghost use Rattle.std.specs.Prelude.{◌≡◌, ◌<◌, ◌≤◌, ◌↔◌, ℕ, List, length, IsTrue};
+ghost use Rattle.std.specs.Prelude.{◌<◌, ◌≤◌, ◌↔◌, ℕ, List, length, IsTrue};
 ghost use Rattle.plan_nodes.specs.declared.node.PlanNode.{PlanNode};
-ghost use Rattle.plan_jobs.specs.declared.job.JobState.TheVariants.{Waiting, Running, Completed, Failed};
 ghost use Rattle.plan_jobs.specs.Events.{Event};
 ghost use Rattle.plan_jobs.specs.Board.{AreAfter};
 ghost use Rattle.replay_text.specs.Replay.{IsCount, IsStanding};
@@ -40,46 +39,10 @@ fn stands(jobs: &Jobs, place: u64, standing: Standing) -> bool
 {
     let state = jobs.state_of(place);
     match standing {
-        Standing::Completed => is_completed(state),
-        Standing::Failed => has_failed(state),
-        Standing::Running => is_running(state),
-        Standing::Waiting => is_waiting(state) && !jobs.is_held(place),
+        Standing::Completed => state == JobState::Completed,
+        Standing::Failed => state == JobState::Failed,
+        Standing::Running => state == JobState::Running,
+        Standing::Waiting => state == JobState::Waiting && !jobs.is_held(place),
         Standing::Held => jobs.is_held(place),
-    }
-}
-
-fn is_completed(state: JobState) -> bool
-    ensures { IsTrue result ↔ (state ≡ Completed) }
-{
-    match state {
-        JobState::Completed => true,
-        JobState::Waiting | JobState::Running | JobState::Failed => false,
-    }
-}
-
-fn has_failed(state: JobState) -> bool
-    ensures { IsTrue result ↔ (state ≡ Failed) }
-{
-    match state {
-        JobState::Failed => true,
-        JobState::Waiting | JobState::Running | JobState::Completed => false,
-    }
-}
-
-fn is_running(state: JobState) -> bool
-    ensures { IsTrue result ↔ (state ≡ Running) }
-{
-    match state {
-        JobState::Running => true,
-        JobState::Waiting | JobState::Completed | JobState::Failed => false,
-    }
-}
-
-fn is_waiting(state: JobState) -> bool
-    ensures { IsTrue result ↔ (state ≡ Waiting) }
-{
-    match state {
-        JobState::Waiting => true,
-        JobState::Running | JobState::Completed | JobState::Failed => false,
     }
 }

@@ -13,4 +13,4 @@ returns-then-not-as_slice-user c =
     let free : get_or held user false ≡ false = ap (λ (l : List Bool). get_or l user false) (sym c.as_slice.ensures) ∙ c.if-not-as_slice-user.true in
     subst (λ h. HoldsUsers (user ∷ []) states held h work c.set-then-not-as_slice-user.new.self) (sym c.set.ensures)
     (subst (λ w. HoldsUsers (user ∷ []) states held (set held user true) work w) (sym c.set-then-not-as_slice-user.ensures)
-    (holds_one states held work user c.requires.within c.requires.count c.requires.room (c.if-is_waiting.ensures.0 (search rules)) free))
+    (holds_one states held work user c.requires.within c.requires.count c.requires.room (search rules) free))
