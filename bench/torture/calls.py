@@ -1,0 +1,98 @@
+"""Each call that lists or reads is refused in turn, and each write. A call that fails ends the run with nothing written; a write that fails ends
+it with what was written before."""
+
+import errno
+import os
+import subprocess
+
+from folders import fifty, project
+from running import CALL, WRITE, Others, is_failure, lay_out, name_of, room, shown, table
+
+READ_FAULT, WRITE_FAULT, WANTING = 4, 5, 6
+# What comes of each error where the call of the system has it, if only one thing may.
+ERRORS = {
+    errno.EIO: READ_FAULT,
+    errno.EACCES: READ_FAULT,
+    errno.EMFILE: READ_FAULT,
+    errno.ENOMEM: WANTING,
+    # Some other answer, or the same: what isn't there is missing, and a call that was interrupted may be made again.
+    errno.ENOENT: None,
+    errno.ENOTDIR: None,
+    errno.EINTR: None,
+}
+WRITE_ERRORS = errno.ENOSPC, errno.EIO, errno.EPIPE, errno.EINTR
+FOLDERS = {"a project": project, "some fifty files": fifty}
+SHORT = 7
+
+
+def is_answer(ended):
+    return ended.status in range(4) and not ended.err
+
+
+def refuse_calls(program, name, folder, words, error, others):
+    whole = program.run(folder, words)
+    found = {}
+    for number in range(1, whole.counts.calls + 1):
+        ended = program.run(folder, words, (CALL, number, number, error))
+        status = ERRORS[error]
+        fails = ended.status in (READ_FAULT, WANTING) and is_failure(ended, ended.status) and not ended.out
+        if not (fails and ended.status == status if status else fails or is_answer(ended)):
+            others.add(f"{name}, call {number} with {name_of(error)}: {shown(ended)}")
+        kind = "as without" if (ended.status, ended.out) == (whole.status, whole.out) else ended.status
+        found[kind] = found.get(kind, 0) + 1
+    return whole.counts.calls, ", ".join(f"{kind}: {count}" for kind, count in sorted(found.items(), key=str))
+
+
+def refuse_writes(program, name, folder, words, error, most, others):
+    """Each write fails in turn, where each takes so many bytes at most."""
+    whole = program.run(folder, words, most=most)
+    plain = program.run(folder, words)
+    if (whole.status, whole.out) != (plain.status, plain.out):
+        others.add(f"{name}, writes of {most} bytes: {shown(whole)}")
+    for number in range(1, whole.counts.writes + 1):
+        ended = program.run(folder, words, (WRITE, number, number, error), most)
+        wanted = whole.out[: (number - 1) * most] if most else b""
+        if not is_failure(ended, WRITE_FAULT) or ended.out != wanted:
+            others.add(f"{name}, write {number} with {name_of(error)}: {shown(ended)}")
+    return whole.counts.writes
+
+
+def closed_outputs(program, folder, others):
+    """What comes of outputs as a shell gives them: a full device, none, and a pipe that nobody reads."""
+    rows = []
+    read, write = os.pipe()
+    os.close(read)
+    with open("/dev/full", "wb") as full:
+        for name, words, how in (
+            ("a full device", "exec \"$0\" plan", {"stdout": full}),
+            ("no standard output", "exec \"$0\" plan >&-", {}),
+            ("a pipe that nobody reads", "exec \"$0\" plan", {"stdout": write}),
+            ("neither standard output nor standard error", "exec \"$0\" plan >&- 2>&-", {}),
+        ):
+            ran = subprocess.run(["sh", "-c", words, program.path], cwd=folder, stderr=subprocess.PIPE, check=False, **how)
+            if ran.returncode != WRITE_FAULT:
+                others.add(f"{name}: status {ran.returncode}")
+            rows.append((name, ran.returncode, ran.stderr.decode().strip() or "nothing"))
+    os.close(write)
+    return rows
+
+
+def run(program, _):
+    others, rows, writes = Others(), [], []
+    for name, files in FOLDERS.items():
+        with room() as folder:
+            lay_out(folder, files())
+            for error in ERRORS:
+                calls, ends = refuse_calls(program, name, folder, ["plan"], error, others)
+                rows.append((name, name_of(error), calls, ends))
+            for words in (["plan"], ["plan", "--json"]):
+                for error in WRITE_ERRORS:
+                    for most in (None, SHORT):
+                        before = others.count
+                        count = refuse_writes(program, name, folder, words, error, most, others)
+                        writes.append((f"{name}, `{' '.join(words)}`", name_of(error), most or "all", count, count - (others.count - before)))
+            outputs = closed_outputs(program, folder, others)
+    table(("Folder", "Error", "Calls", "How the runs end, with each call refused in turn"), rows)
+    table(("Run", "Error", "Bytes that a write takes", "Writes", "Runs that end with 5 and what was written before"), writes)
+    table(("Output", "Status", "On standard error"), outputs)
+    return others.count
