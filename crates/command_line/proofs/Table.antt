@@ -14,7 +14,7 @@ use Rattle.clap.specs.Walk.{Rule, Text, arg_by_long, is_empty}
 use Rattle.command_line.specs.declared.option_name.OptionKind.{OptionKind}
 use Rattle.command_line.specs.declared.option_name.OptionKind.TheVariants.{Valued, Flag}
 use Rattle.command_line.specs.declared.option_name.OptionName.{OptionName}
-use Rattle.command_line.specs.declared.option_name.OptionName.TheVariants.{Index, Installed, Os, Arch, Compiler, MaxBackjumps, Number, Json, CountConflicts}
+use Rattle.command_line.specs.declared.option_name.OptionName.TheVariants.{Index, Installed, Os, Arch, Compiler, MaxBackjumps, Number, Events, Slots, Json, CountConflicts, MinimizeConflictSet}
 use Rattle.command_line.specs.OptionName.{gives, gives_as, kind_of, name_of, prefix_of, sign_of, value_in}
 use Rattle.command_line.specs.Words.{options}
 use Rattle.command_line.specs.Parser.{parser, rule_as}
@@ -30,8 +30,11 @@ place_of Arch = 3
 place_of Compiler = 4
 place_of MaxBackjumps = 5
 place_of Number = 6
-place_of Json = 7
-place_of CountConflicts = 8
+place_of Events = 7
+place_of Slots = 8
+place_of Json = 9
+place_of CountConflicts = 10
+place_of MinimizeConflictSet = 11
 
 stands : (option : OptionName) → slice_get options (place_of option) ≡ Some option
 stands Index = refl
@@ -41,8 +44,11 @@ stands Arch = refl
 stands Compiler = refl
 stands MaxBackjumps = refl
 stands Number = refl
+stands Events = refl
+stands Slots = refl
 stands Json = refl
 stands CountConflicts = refl
+stands MinimizeConflictSet = refl
 
 all-at : {A : Type 0} (test : A → Bool) (xs : List A) (i : ℕ) (x : A) → slice_get xs i ≡ Some x → list_all test xs ≡ true → test x ≡ true
 all-at test [] i x at all = absurd (cc at)
@@ -101,8 +107,11 @@ its_own Arch = refl
 its_own Compiler = refl
 its_own MaxBackjumps = refl
 its_own Number = refl
+its_own Events = refl
+its_own Slots = refl
 its_own Json = refl
 its_own CountConflicts = refl
+its_own MinimizeConflictSet = refl
 
 -- options of one name are one
 pub one_option : (option other : OptionName) → bytes_eq (name_of other) (name_of option) ≡ true → other ≡ option
@@ -228,8 +237,11 @@ rule_is Arch = refl
 rule_is Compiler = refl
 rule_is MaxBackjumps = refl
 rule_is Number = refl
+rule_is Events = refl
+rule_is Slots = refl
 rule_is Json = refl
 rule_is CountConflicts = refl
+rule_is MinimizeConflictSet = refl
 
 -- ---- which option a word gives
 
@@ -284,7 +296,7 @@ two_names option other =
 
 -- the flags, which stand last in the table
 abbrev pub flags : List OptionName
-flags = Json ∷ CountConflicts ∷ []
+flags = Json ∷ CountConflicts ∷ MinimizeConflictSet ∷ []
 
 pub each_flag : list_all (λ flag. alike (kind_of flag) Flag) flags ≡ true
 each_flag = refl
@@ -298,8 +310,11 @@ a_flag Arch e = absurd (cc e)
 a_flag Compiler e = absurd (cc e)
 a_flag MaxBackjumps e = absurd (cc e)
 a_flag Number e = absurd (cc e)
+a_flag Events e = absurd (cc e)
+a_flag Slots e = absurd (cc e)
 a_flag Json e = refl
 a_flag CountConflicts e = refl
+a_flag MinimizeConflictSet e = refl
 
 -- a flag has a name of its own
 pub not_flag : (flag option : OptionName) → alike (kind_of flag) Flag ≡ true → kind_of option ≡ Valued → bytes_eq (name_of flag) (name_of option) ≡ false

@@ -18,11 +18,11 @@ use Rattle.clap.proofs.SimpleLemmas.{is_nil}
 use Rattle.clap.proofs.WalkLemmas.{both}
 use Rattle.command_line.specs.CommandName.{command_word}
 use Rattle.command_line.specs.declared.command_name.CommandName.{CommandName}
-use Rattle.command_line.specs.declared.command_name.CommandName.TheVariants.{Plan, Generate}
+use Rattle.command_line.specs.declared.command_name.CommandName.TheVariants.{Plan, Generate, Replay}
 use Rattle.command_line.specs.declared.option_name.OptionKind.{OptionKind}
 use Rattle.command_line.specs.declared.option_name.OptionKind.TheVariants.{Valued, Flag}
 use Rattle.command_line.specs.declared.option_name.OptionName.{OptionName}
-use Rattle.command_line.specs.declared.option_name.OptionName.TheVariants.{Index, Installed, Os, Arch, Compiler, MaxBackjumps, Number, Json, CountConflicts}
+use Rattle.command_line.specs.declared.option_name.OptionName.TheVariants.{Index, Installed, Os, Arch, Compiler, MaxBackjumps, Number, Events, Slots, Json, CountConflicts, MinimizeConflictSet}
 use Rattle.command_line.specs.OptionName.{gives, gives_as, kind_of, name_of, sign_of, value_in}
 use Rattle.command_line.specs.Words.{given}
 use Rattle.command_line.specs.Parser.{command_rule, found_as, found_in, parser, truth_text}
@@ -90,10 +90,12 @@ command_walked : (command : CommandName) (rows : List Row) → walked rules [] (
 unfolding walked
 command_walked Plan rows = refl
 command_walked Generate rows = refl
+command_walked Replay rows = refl
 
 command_passes : (command : CommandName) (rows : List Row) → turn_passes shape [] (between rows 1) (command_word command) ≡ true
 command_passes Plan rows = refl
 command_passes Generate rows = refl
+command_passes Replay rows = refl
 
 -- the rows with the command behind which a word stands
 abbrev with_command : CommandName → List Row → List Row
@@ -316,7 +318,7 @@ each_default (flag ∷ others) rows =
 
 -- the rules before those of the flags
 abbrev front : List Rule
-front = with_index 1 (filled command_rule) ∷ map (λ option. built_as Valued (name_of option)) (Index ∷ Installed ∷ Os ∷ Arch ∷ Compiler ∷ MaxBackjumps ∷ Number ∷ [])
+front = with_index 1 (filled command_rule) ∷ map (λ option. built_as Valued (name_of option)) (Index ∷ Installed ∷ Os ∷ Arch ∷ Compiler ∷ MaxBackjumps ∷ Number ∷ Events ∷ Slots ∷ [])
 
 rules_are : rules ≡ front ++ map (λ flag. built_as Flag (name_of flag)) flags
 rules_are = refl
@@ -430,6 +432,8 @@ no_word Plan Valued name = refl
 no_word Plan Flag name = refl
 no_word Generate Valued name = refl
 no_word Generate Flag name = refl
+no_word Replay Valued name = refl
+no_word Replay Flag name = refl
 
 command_gives_none : (command : CommandName) (option : OptionName) → gives option (command_word command) ≡ false
 command_gives_none command option = no_word command (kind_of option) (name_of option)

@@ -2,10 +2,10 @@
 use Rattle.std.specs.Prelude.{◌≡◌, refl, false, [], ◌∷◌, Some, None, codes}
 use Rattle.plan_types.specs.declared.limit.Limit.TheVariants.{Unlimited, At}
 use Rattle.command_line.specs.declared.option_name.OptionName.TheVariants.{Index, Json}
-use Rattle.command_line.specs.declared.reading.Command.TheVariants.{Plan, Generate}
+use Rattle.command_line.specs.declared.reading.Command.TheVariants.{Plan, Generate, Replay}
 use Rattle.command_line.specs.Form.{is_compiler, is_path, is_signed}
 use Rattle.command_line.specs.Words.{given}
-use Rattle.command_line.specs.Reading.{reading}
+use Rattle.command_line.specs.Reading.{plain_options, reading}
 use Rattle.version_range.specs.Number.{limit_of}
 
 plain : reading (codes "plan" ∷ []) ≡ Some (Plan (record {
@@ -14,6 +14,7 @@ plain : reading (codes "plan" ∷ []) ≡ Some (Plan (record {
   limit = None;
   json = false;
   count_conflicts = false;
+  minimize = false;
 }))
 plain = refl
 
@@ -23,11 +24,24 @@ told : reading (codes "--os=Win32" ∷ codes "plan" ∷ codes "--compiler=GHC-8.
   limit = Some (At 7);
   json = false;
   count_conflicts = false;
+  minimize = false;
 }))
 told = refl
 
 a-folder : reading (codes "--number=0100" ∷ codes "generate" ∷ []) ≡ Some (Generate 100 (At 4000))
 a-folder = refl
+
+a-build : reading (codes "replay" ∷ codes "--slots=08" ∷ codes "--events=a/b" ∷ []) ≡ Some (Replay (plain_options []) (codes "a/b") 8)
+a-build = refl
+
+one-slot : reading (codes "replay" ∷ []) ≡ Some (Replay (plain_options []) (codes "events") 1)
+one-slot = refl
+
+no-slots : reading (codes "replay" ∷ codes "--slots=0" ∷ []) ≡ None
+no-slots = refl
+
+a-build-as-json : reading (codes "replay" ∷ codes "--json" ∷ []) ≡ None
+a-build-as-json = refl
 
 no-number : reading (codes "generate" ∷ []) ≡ None
 no-number = refl

@@ -10,7 +10,7 @@ use Rattle.version_range.specs.Number.{is_count, limit_of}
 use Rattle.version_range.specs.Version.{number_after}
 use Rattle.condition_text.specs.Grammar.{is_compiler_name}
 use Rattle.command_line.specs.declared.option_name.OptionName.{OptionName}
-use Rattle.command_line.specs.declared.option_name.OptionName.TheVariants.{Index, Installed, Os, Arch, Compiler, MaxBackjumps, Number, Json, CountConflicts}
+use Rattle.command_line.specs.declared.option_name.OptionName.TheVariants.{Index, Installed, Os, Arch, Compiler, MaxBackjumps, Number, Events, Slots, Json, CountConflicts, MinimizeConflictSet}
 
 -- a name of a directory in a path, which leads down
 abbrev pub is_directory : List ℕ → Bool
@@ -62,6 +62,10 @@ number_in text = counted (limit_of text)
 abbrev pub is_number : List ℕ → Bool
 is_number text = nat_le (length text) 4 && (is_count text && (nat_le 1 (number_in text) && nat_le (number_in text) 2000))
 
+-- one to three digits, from 1 to 999
+abbrev pub is_slot_count : List ℕ → Bool
+is_slot_count text = nat_le (length text) 3 && (is_count text && (nat_le 1 (number_in text) && nat_le (number_in text) 999))
+
 -- whether a value has the form of its option; a flag has none
 abbrev pub has_form : OptionName → List ℕ → Bool
 has_form Index value = is_path value
@@ -71,5 +75,8 @@ has_form Arch value = is_component_name value
 has_form Compiler value = is_compiler value
 has_form MaxBackjumps value = is_signed value
 has_form Number value = is_number value
+has_form Events value = is_path value
+has_form Slots value = is_slot_count value
 has_form Json value = length value == 0
 has_form CountConflicts value = length value == 0
+has_form MinimizeConflictSet value = length value == 0

@@ -5,7 +5,7 @@ use Rattle.std.specs.Str.{bytes_eq}
 use Rattle.command_line.specs.declared.option_name.OptionKind.{OptionKind}
 use Rattle.command_line.specs.declared.option_name.OptionKind.TheVariants.{Valued, Flag}
 use Rattle.command_line.specs.declared.option_name.OptionName.{OptionName}
-use Rattle.command_line.specs.declared.option_name.OptionName.TheVariants.{Index, Installed, Os, Arch, Compiler, MaxBackjumps, Number, Json, CountConflicts}
+use Rattle.command_line.specs.declared.option_name.OptionName.TheVariants.{Index, Installed, Os, Arch, Compiler, MaxBackjumps, Number, Events, Slots, Json, CountConflicts, MinimizeConflictSet}
 
 -- whether a value stands in the word of an option
 abbrev pub kind_of : OptionName → OptionKind
@@ -16,8 +16,11 @@ kind_of Arch = Valued
 kind_of Compiler = Valued
 kind_of MaxBackjumps = Valued
 kind_of Number = Valued
+kind_of Events = Valued
+kind_of Slots = Valued
 kind_of Json = Flag
 kind_of CountConflicts = Flag
+kind_of MinimizeConflictSet = Flag
 
 -- the name of an option
 abbrev pub name_of : OptionName → List ℕ
@@ -28,8 +31,11 @@ name_of Arch = codes "arch"
 name_of Compiler = codes "compiler"
 name_of MaxBackjumps = codes "max-backjumps"
 name_of Number = codes "number"
+name_of Events = codes "events"
+name_of Slots = codes "slots"
 name_of Json = codes "json"
 name_of CountConflicts = codes "count-conflicts"
+name_of MinimizeConflictSet = codes "minimize-conflict-set"
 
 -- what stands behind the name
 abbrev pub sign_of : OptionKind → List ℕ

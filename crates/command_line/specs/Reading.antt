@@ -7,9 +7,9 @@ use Rattle.plan_types.specs.declared.limit.Limit.{Limit}
 use Rattle.plan_types.specs.declared.limit.Limit.TheVariants.{At}
 use Rattle.command_line.specs.declared.command_name.CommandName.{CommandName}
 use Rattle.command_line.specs.declared.command_name.CommandName.TheVariants as command
-use Rattle.command_line.specs.declared.option_name.OptionName.TheVariants.{Index, Installed, Os, Arch, Compiler, MaxBackjumps, Number, Json, CountConflicts}
+use Rattle.command_line.specs.declared.option_name.OptionName.TheVariants.{Index, Installed, Os, Arch, Compiler, MaxBackjumps, Number, Events, Slots, Json, CountConflicts, MinimizeConflictSet}
 use Rattle.command_line.specs.declared.reading.Command.{Command}
-use Rattle.command_line.specs.declared.reading.Command.TheVariants.{Plan, Generate}
+use Rattle.command_line.specs.declared.reading.Command.TheVariants.{Plan, Generate, Replay}
 use Rattle.command_line.specs.declared.reading.Options.{Options}
 use Rattle.command_line.specs.Form.{compiler_name, compiler_digits, number_in, parts_of}
 use Rattle.command_line.specs.Words.{asked, given}
@@ -34,19 +34,28 @@ env_of os arch compiler = record {
   compiler_version = record { parts = parts_of (compiler_digits (compiler_or compiler)) };
 }
 
--- what the options of words say
-abbrev pub options_of : List (List ℕ) → Options
-options_of words = record {
+-- what the options of words say for a command that takes no flags
+abbrev pub plain_options : List (List ℕ) → Options
+plain_options words = record {
   places = places_of (given Index words) (given Installed words);
   env = env_of (given Os words) (given Arch words) (given Compiler words);
   limit = option_and_then limit_of (given MaxBackjumps words);
+  json = false;
+  count_conflicts = false;
+  minimize = false;
+}
+
+-- what the options of words say
+abbrev pub options_of : List (List ℕ) → Options
+options_of words = record (plain_options words) {
   json = is_some (given Json words);
   count_conflicts = is_some (given CountConflicts words);
+  minimize = is_some (given MinimizeConflictSet words);
 }
 
 -- the options where words give none, but with this limit
 abbrev pub default_options : Limit → Options
-default_options limit = record { places = places_of None None; env = env_of None None None; limit = Some limit; json = false; count_conflicts = false }
+default_options limit = record { places = places_of None None; env = env_of None None None; limit = Some limit; json = false; count_conflicts = false; minimize = false }
 
 -- whether what is found of a flag says that it is there
 abbrev pub is_true : Option (List ℕ) → Bool
@@ -58,16 +67,27 @@ abbrev pub generate_of : List (List ℕ) → Command
 generate_of words =
     Generate (number_in (unwrap_or (given Number words) [])) (unwrap_or (option_and_then limit_of (given MaxBackjumps words)) (At 4000))
 
+-- how many nodes may run at once
+abbrev pub slots_or : Option (List ℕ) → ℕ
+slots_or None = 1
+slots_or (Some text) = number_in text
+
+-- the build that words ask for: of a plan, at the events of a file
+abbrev pub replay_of : List (List ℕ) → Command
+replay_of words = Replay (plain_options words) (unwrap_or (given Events words) (codes "events")) (slots_or (given Slots words))
+
 -- what a command means with the options of its words
 abbrev pub meant : List (List ℕ) → CommandName → Command
 meant words command.Plan = Plan (options_of words)
 meant words command.Generate = generate_of words
+meant words command.Replay = replay_of words
 
 -- the command that words mean
 abbrev pub reading : List (List ℕ) → Option Command
 reading words = option_map (meant words) (asked words)
 
--- a folder is made of 1 to 2,000 packages
+-- a folder is made of 1 to 2,000 packages, and a build has a slot
 abbrev pub IsBounded : Command → Type 0
 IsBounded (Plan options) = Unit {0}
 IsBounded (Generate number limit) = (1 ≤ number) × (number ≤ 2000)
+IsBounded (Replay options events slots) = 1 ≤ slots

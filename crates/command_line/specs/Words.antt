@@ -6,13 +6,13 @@ use Rattle.std.specs.Str.{bytes_eq}
 use Rattle.command_line.specs.CommandName.{command_word, commands, needed_by, taken_by}
 use Rattle.command_line.specs.declared.command_name.CommandName.{CommandName}
 use Rattle.command_line.specs.declared.option_name.OptionName.{OptionName}
-use Rattle.command_line.specs.declared.option_name.OptionName.TheVariants.{Index, Installed, Os, Arch, Compiler, MaxBackjumps, Number, Json, CountConflicts}
+use Rattle.command_line.specs.declared.option_name.OptionName.TheVariants.{Index, Installed, Os, Arch, Compiler, MaxBackjumps, Number, Events, Slots, Json, CountConflicts, MinimizeConflictSet}
 use Rattle.command_line.specs.OptionName.{gives, value_in}
 use Rattle.command_line.specs.Form.{has_form}
 
 -- every option
 abbrev pub options : List OptionName
-options = Index ∷ Installed ∷ Os ∷ Arch ∷ Compiler ∷ MaxBackjumps ∷ Number ∷ Json ∷ CountConflicts ∷ []
+options = Index ∷ Installed ∷ Os ∷ Arch ∷ Compiler ∷ MaxBackjumps ∷ Number ∷ Events ∷ Slots ∷ Json ∷ CountConflicts ∷ MinimizeConflictSet ∷ []
 
 -- whether a word is that of a command
 abbrev pub is_command : CommandName → List ℕ → Bool

@@ -9,13 +9,18 @@ use crate::option_name::OptionName;
 pub enum CommandName {
     Plan,
     Generate,
+    Replay,
 }
 
 /// Every command of the command line.
-pub fn commands() -> [CommandName; 2]
+pub fn commands() -> [CommandName; 3]
     ensures { result ≡ commands }
 {
-    [CommandName::Plan, CommandName::Generate]
+    [
+        CommandName::Plan,
+        CommandName::Generate,
+        CommandName::Replay,
+    ]
 }
 
 /// The word of a command.
@@ -25,6 +30,7 @@ pub fn command_word<'a>(command: CommandName) -> &'a str
     match command {
         CommandName::Plan => "plan",
         CommandName::Generate => "generate",
+        CommandName::Replay => "replay",
     }
 }
 
@@ -42,8 +48,19 @@ pub fn taken_by(command: CommandName) -> &'static [OptionName]
             OptionName::MaxBackjumps,
             OptionName::Json,
             OptionName::CountConflicts,
+            OptionName::MinimizeConflictSet,
         ],
         CommandName::Generate => &[OptionName::MaxBackjumps, OptionName::Number],
+        CommandName::Replay => &[
+            OptionName::Index,
+            OptionName::Installed,
+            OptionName::Os,
+            OptionName::Arch,
+            OptionName::Compiler,
+            OptionName::MaxBackjumps,
+            OptionName::Events,
+            OptionName::Slots,
+        ],
     }
 }
 
@@ -54,5 +71,6 @@ pub fn needed_by(command: CommandName) -> &'static [OptionName]
     match command {
         CommandName::Plan => &[],
         CommandName::Generate => &[OptionName::Number],
+        CommandName::Replay => &[],
     }
 }

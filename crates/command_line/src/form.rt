@@ -3,7 +3,7 @@ ghost use Rattle.std.specs.Prelude.{◌≡◌, ◌≤◌, ◌-◌, ◌==◌, ◌
 ghost use Rattle.std.specs.List.{list_all, suffix_len};
 ghost use Rattle.plan_types.specs.Name.{is_letter_or_digit};
 ghost use Rattle.condition_text.specs.Grammar.{is_compiler_name};
-ghost use Rattle.command_line.specs.Form.{compiler_digits, compiler_name, has_form, is_compiler, is_directory, is_number, is_part, is_path, is_signed, is_version_text, number_in};
+ghost use Rattle.command_line.specs.Form.{compiler_digits, compiler_name, has_form, is_compiler, is_directory, is_number, is_part, is_path, is_signed, is_slot_count, is_version_text, number_in};
 
 use crate::option_name::OptionName;
 use plan_types::{Limit, is_component_name};
@@ -22,8 +22,11 @@ pub fn has_form(option: OptionName, value: &[u8]) -> bool
         OptionName::Compiler => is_compiler(value),
         OptionName::MaxBackjumps => is_signed(value),
         OptionName::Number => is_number(value),
+        OptionName::Events => is_path(value),
+        OptionName::Slots => is_slot_count(value),
         OptionName::Json => value.is_empty(),
         OptionName::CountConflicts => value.is_empty(),
+        OptionName::MinimizeConflictSet => value.is_empty(),
     }
 }
 
@@ -94,17 +97,24 @@ fn is_signed(text: &[u8]) -> bool
     limit_of(text).is_some()
 }
 
+// One to three digits, from 1 to 999.
+fn is_slot_count(text: &[u8]) -> bool
+    ensures { result ≡ is_slot_count text.now }
+{
+    text.len() <= 3 && is_count(text) && is_within(number_in(text), 999)
+}
+
 // One to four digits, from 1 to 2,000.
 fn is_number(text: &[u8]) -> bool
     ensures { result ≡ is_number text.now }
 {
-    text.len() <= 4 && is_count(text) && is_within(number_in(text))
+    text.len() <= 4 && is_count(text) && is_within(number_in(text), 2000)
 }
 
-fn is_within(number: u64) -> bool
-    ensures { result ≡ (nat_le 1 number && nat_le number 2000) }
+fn is_within(number: u64, most: u64) -> bool
+    ensures { result ≡ (nat_le 1 number && nat_le number most) }
 {
-    1 <= number && number <= 2000
+    1 <= number && number <= most
 }
 
 /// The number that a text is.

@@ -12,8 +12,11 @@ pub enum OptionName {
     Compiler,
     MaxBackjumps,
     Number,
+    Events,
+    Slots,
     Json,
     CountConflicts,
+    MinimizeConflictSet,
 }
 
 /// What stands in the word of an option.
@@ -37,8 +40,11 @@ pub fn kind_of(option: OptionName) -> OptionKind
         OptionName::Compiler => OptionKind::Valued,
         OptionName::MaxBackjumps => OptionKind::Valued,
         OptionName::Number => OptionKind::Valued,
+        OptionName::Events => OptionKind::Valued,
+        OptionName::Slots => OptionKind::Valued,
         OptionName::Json => OptionKind::Flag,
         OptionName::CountConflicts => OptionKind::Flag,
+        OptionName::MinimizeConflictSet => OptionKind::Flag,
     }
 }
 
@@ -54,8 +60,11 @@ pub fn name_of<'a>(option: OptionName) -> &'a str
         OptionName::Compiler => "compiler",
         OptionName::MaxBackjumps => "max-backjumps",
         OptionName::Number => "number",
+        OptionName::Events => "events",
+        OptionName::Slots => "slots",
         OptionName::Json => "json",
         OptionName::CountConflicts => "count-conflicts",
+        OptionName::MinimizeConflictSet => "minimize-conflict-set",
     }
 }
 
@@ -89,8 +98,11 @@ fn prefix_of(option: OptionName) -> &'static str
         OptionName::Compiler => "--compiler=",
         OptionName::MaxBackjumps => "--max-backjumps=",
         OptionName::Number => "--number=",
+        OptionName::Events => "--events=",
+        OptionName::Slots => "--slots=",
         OptionName::Json => "--json",
         OptionName::CountConflicts => "--count-conflicts",
+        OptionName::MinimizeConflictSet => "--minimize-conflict-set",
     }
 }
 

@@ -1,14 +1,15 @@
 // What words come to: a command and its options.
-ghost use Rattle.std.specs.Prelude.{◌≡◌, ◌≤◌, IfOk, IfErr, IsErrOf, Some, None, [], true, false, is_some, unwrap_or};
+ghost use Rattle.std.specs.Prelude.{◌≡◌, ◌≤◌, ℕ, List, IfOk, IfErr, IsErrOf, Some, None, [], true, false, is_some, unwrap_or};
 ghost use Rattle.std.specs.Option.{option_and_then, option_copied, option_map_or};
 ghost use Rattle.std.specs.Str.{str_to_ascii_lowercase};
 ghost use Rattle.clap.specs.Words.{first_value, found_of};
 ghost use Rattle.command_line.specs.declared.reading.WordsFault.TheVariants.{Usage, NoMemory as words_no_memory};
 ghost use Rattle.command_line.specs.OptionName.{name_of};
-ghost use Rattle.command_line.specs.Form.{compiler_digits, compiler_name, is_compiler, is_number, is_version_text, number_in, parts_of};
+ghost use Rattle.command_line.specs.Form.{compiler_digits, compiler_name, is_compiler, is_number, is_slot_count, is_version_text, number_in, parts_of};
 ghost use Rattle.version_range.specs.Number.{limit_of};
+ghost use Rattle.command_line.specs.Parser.{Finds};
 ghost use Rattle.command_line.specs.Words.{asked};
-ghost use Rattle.command_line.specs.Reading.{IsBounded, compiler_or, default_options, env_of, generate_of, is_true, meant, options_of, places_of, reading};
+ghost use Rattle.command_line.specs.Reading.{IsBounded, compiler_or, default_options, env_of, generate_of, is_true, meant, options_of, places_of, plain_options, reading, replay_of, slots_or};
 
 use crate::command_name::CommandName;
 use crate::form::{cut_at_last_dash, number_in};
@@ -33,6 +34,8 @@ pub struct Options {
     pub json: bool,
     /// Whether the search tries first what was in the most conflict sets.
     pub count_conflicts: bool,
+    /// Whether a conflict set is shrunk until nothing can be dropped from it.
+    pub minimize: bool,
 }
 
 /// What is to be done.
@@ -40,7 +43,18 @@ pub struct Options {
 pub enum Command {
     Plan(Options),
     /// A folder of so many packages, from 1 to 2,000, is made and planned.
-    Generate { number: u32, limit: Limit },
+    Generate {
+        number: u32,
+        limit: Limit,
+    },
+    /// A build of the plan, with so many slots, is told what this file of events says.
+    Replay {
+        options: Options,
+        /// The path of the file, with names joined by `/`.
+        events: Text,
+        /// How many nodes may run at once, from 1 to 999.
+        slots: u32,
+    },
 }
 
 /// Why words give no command.
@@ -88,6 +102,7 @@ fn meant(alloc: Global, words: &[Text], command: CommandName) -> Result<Command,
             Ok(Command::Plan(options))
         }
         CommandName::Generate => generate_of(alloc, words),
+        CommandName::Replay => replay_of(alloc, words),
     }
 }
 
@@ -96,10 +111,7 @@ fn generate_of(alloc: Global, words: &[Text]) -> Result<Command, NoMemory>
     ensures meant { IfOk result (λ found. found ≡ generate_of words.now) }
     ensures bounded { IfOk result IsBounded }
 {
-    let matches = match parsed(alloc, words) {
-        Ok(matches) => matches,
-        Err(_) => return Err(NoMemory),
-    };
+    let matches = matches_of(alloc, words)?;
     let number = number_of(value_of(&matches, OptionName::Number));
     let limit = limit_in(value_of(&matches, OptionName::MaxBackjumps));
     Ok(Command::Generate {
@@ -120,34 +132,71 @@ pub fn default_options(alloc: Global, limit: Limit) -> Result<Options, NoMemory>
         limit: Some(limit),
         json: false,
         count_conflicts: false,
+        minimize: false,
     })
+}
+
+fn replay_of(alloc: Global, words: &[Text]) -> Result<Command, NoMemory>
+    requires { asked words.now ≡ Some CommandName.Replay }
+    ensures meant { IfOk result (λ found. found ≡ replay_of words.now) }
+    ensures bounded { IfOk result IsBounded }
+{
+    let matches = matches_of(alloc, words)?;
+    let options = plain_options(alloc, &matches)?;
+    let events = text_or(alloc, value_of(&matches, OptionName::Events), "events")?;
+    let slots = slots_of(value_of(&matches, OptionName::Slots));
+    Ok(Command::Replay {
+        options,
+        events,
+        slots,
+    })
+}
+
+// What the parser finds, which refuses for want of memory alone.
+fn matches_of<'a>(alloc: Global, words: &'a [Text]) -> Result<ArgMatches<'a>, NoMemory>
+    requires { is_some (asked words.now) ≡ true }
+    ensures { IfOk result (λ matches. Finds words.entry.now (found_of matches)) }
+{
+    match parsed(alloc, words) {
+        Ok(matches) => Ok(matches),
+        Err(_) => Err(NoMemory),
+    }
 }
 
 fn options_of(alloc: Global, words: &[Text]) -> Result<Options, NoMemory>
     requires { is_some (asked words.now) ≡ true }
     ensures { IfOk result (λ options. options ≡ options_of words.now) }
 {
-    let matches = match parsed(alloc, words) {
-        Ok(matches) => matches,
-        Err(_) => return Err(NoMemory),
-    };
-    let index = value_of(&matches, OptionName::Index);
-    let installed = value_of(&matches, OptionName::Installed);
-    let os = value_of(&matches, OptionName::Os);
-    let arch = value_of(&matches, OptionName::Arch);
-    let compiler = value_of(&matches, OptionName::Compiler);
-    let limit = value_of(&matches, OptionName::MaxBackjumps);
+    let matches = matches_of(alloc, words)?;
+    let plain = plain_options(alloc, &matches)?;
+    Ok(Options {
+        json: is_set(value_of(&matches, OptionName::Json)),
+        count_conflicts: is_set(value_of(&matches, OptionName::CountConflicts)),
+        minimize: is_set(value_of(&matches, OptionName::MinimizeConflictSet)),
+        ..plain
+    })
+}
+
+// The options of words, with no flag set.
+fn plain_options(alloc: Global, matches: &ArgMatches<'_>) -> Result<Options, NoMemory>
+    requires { is_compiler (compiler_or (first_value (found_of matches.now) (name_of OptionName.Compiler))) ≡ true }
+    ensures { (words : List (List ℕ)) → Finds words (found_of matches.now) → IfOk result (λ options. options ≡ plain_options words) }
+{
+    let index = value_of(matches, OptionName::Index);
+    let installed = value_of(matches, OptionName::Installed);
+    let os = value_of(matches, OptionName::Os);
+    let arch = value_of(matches, OptionName::Arch);
+    let compiler = value_of(matches, OptionName::Compiler);
     let places = places_of(alloc, index, installed)?;
     let env = env_of(alloc, os, arch, compiler)?;
-    let limit = limit_in(limit);
-    let json = is_set(value_of(&matches, OptionName::Json));
-    let count_conflicts = is_set(value_of(&matches, OptionName::CountConflicts));
+    let limit = limit_in(value_of(matches, OptionName::MaxBackjumps));
     Ok(Options {
         places,
         env,
         limit,
-        json,
-        count_conflicts,
+        json: false,
+        count_conflicts: false,
+        minimize: false,
     })
 }
 
@@ -175,6 +224,18 @@ fn number_of(value: Option<&str>) -> u32
     match value {
         Some(text) => number_in(text.as_bytes()) as u32,
         None => 0,
+    }
+}
+
+// How many nodes may run at once: one where no number is given.
+fn slots_of(value: Option<&str>) -> u32
+    requires { option_map_or is_slot_count (option_copied value) true ≡ true }
+    ensures slots { result ≡ slots_or (option_copied value.entry) }
+    ensures some { 1 ≤ result }
+{
+    match value {
+        Some(text) => number_in(text.as_bytes()) as u32,
+        None => 1,
     }
 }
 

@@ -64,7 +64,7 @@ fn is_one_command(words: &[Text], command: CommandName) -> bool
 }
 
 /// Every option of the command line.
-pub fn options() -> [OptionName; 9]
+pub fn options() -> [OptionName; 12]
     ensures { result ≡ options }
 {
     [
@@ -75,8 +75,11 @@ pub fn options() -> [OptionName; 9]
         OptionName::Compiler,
         OptionName::MaxBackjumps,
         OptionName::Number,
+        OptionName::Events,
+        OptionName::Slots,
         OptionName::Json,
         OptionName::CountConflicts,
+        OptionName::MinimizeConflictSet,
     ]
 }
 

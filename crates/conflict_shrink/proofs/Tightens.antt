@@ -57,7 +57,7 @@ module _ (p : Problem) where
         ] refl ∙ sym (value_in-cut left trail u)
       ] refl
 
-  freed : (left : List Var) (v : Var) (trail : List Choice) → WasFreed p left v trail → IsFreed p left v (cut left trail)
+  freed : (left : List Var) (v : Var) (trail : List Choice) → WasFreed p left v trail → IsFreed (general p) left v (cut left trail)
   freed left v trail was =
       let large = without v was.earlier in
       let small = without v left in
@@ -147,22 +147,22 @@ module _ (p : Problem) (lawful : Lawful p) (whole : List Var) (budget : Limit) w
           were_freed = zip-more (WasFreed p s.left) (WasFreed p (without v s.left)) (was-freed p s.left (without v s.left) sub) kept s.trails stands.were_freed;
         }
 
-  finished : (kept : List Var) (s : Stage) → Stands p whole kept [] s → IsTight p whole (shrunk_at s)
+  finished : (kept : List Var) (s : Stage) → Stands p whole kept [] s → IsTight (general p) whole (shrunk_at s)
   finished kept s stands =
       let all-kept : kept ≡ s.left = sym (stands.left_is ∙ append-nil kept) in
       record {
         within = stands.within_whole;
         none = stands.none;
-        freed = subst (λ l. AllZip (IsFreed p s.left) l (map (cut s.left) s.trails)) all-kept
-            (zip-mapped (WasFreed p s.left) (IsFreed p s.left) (cut s.left) (freed p s.left) kept s.trails stands.were_freed);
+        freed = subst (λ l. AllZip (IsFreed (general p) s.left) l (map (cut s.left) s.trails)) all-kept
+            (zip-mapped (WasFreed p s.left) (IsFreed (general p) s.left) (cut s.left) (freed p s.left) kept s.trails stands.were_freed);
       }
 
-  tightens : (kept untried : List Var) (s : Stage) → Stands p whole kept untried s → (shrunk : Shrunk) → (shrink_from p budget untried s).ended ≡ Tight shrunk → IsTight p whole shrunk
-  tightens kept [] s stands shrunk h = subst (IsTight p whole) (cc h) (finished kept s stands)
+  tightens : (kept untried : List Var) (s : Stage) → Stands p whole kept untried s → (shrunk : Shrunk) → (shrink_from p budget untried s).ended ≡ Tight shrunk → IsTight (general p) whole shrunk
+  tightens kept [] s stands shrunk h = subst (IsTight (general p) whole) (cc h) (finished kept s stands)
   tightens kept (v ∷ untried) s stands shrunk h =
       let answer = answer_without p budget v s in
       let spent = spent_with answer.past.counts.exhausted s in
-      elim answer.ended as (λ e. answer.ended ≡ e → (go_on (after_search v s e spent) (shrink_from p budget untried)).ended ≡ Tight shrunk → IsTight p whole shrunk) [
+      elim answer.ended as (λ e. answer.ended ≡ e → (go_on (after_search v s e spent) (shrink_from p budget untried)).ended ≡ Tight shrunk → IsTight (general p) whole shrunk) [
         | Found trail ↦ λ is k. tightens (kept ++ v ∷ []) untried (record { left = s.left; trails = s.trails ++ trail ∷ []; spent = spent }) (stays kept v untried s spent stands trail is) shrunk k
         | Failed set ↦ λ is k. tightens kept untried (record { left = without v s.left; trails = s.trails; spent = spent }) (drops kept v untried s spent stands set is) shrunk k
         | GaveUp ↦ λ is k. absurd (cc k)
@@ -170,7 +170,7 @@ module _ (p : Problem) (lawful : Lawful p) (whole : List Var) (budget : Limit) w
 
 -- a shrinking leaves a set from which nothing can be dropped
 pub shrinking-tight : (p : Problem) (set : List Var) (budget : Limit) → Lawful p → is_rising set ≡ true → are_known p set ≡ true → AdmitsNone (general p) (has set)
-    → (shrunk : Shrunk) → (shrinking p set budget).ended ≡ Tight shrunk → IsTight p set shrunk
+    → (shrunk : Shrunk) → (shrinking p set budget).ended ≡ Tight shrunk → IsTight (general p) set shrunk
 shrinking-tight p set budget lawful rising known none = tightens p lawful set budget [] set (untried_stage set) (at-start p lawful set budget set rising known none)
 
 -- without a budget no search gives up

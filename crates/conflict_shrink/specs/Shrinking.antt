@@ -6,7 +6,7 @@ use Rattle.plan_types.specs.declared.limit.Limit.TheVariants.{Unlimited, At}
 use Rattle.qualified_goals.specs.declared.variable.Var.{Var}
 use Rattle.choice_problem.specs.declared.problem.Choice.{Choice}
 use Rattle.choice_problem.specs.Problem.{Problem}
-use Rattle.choice_problem.specs.General.{general}
+use Rattle.choice_problem.specs.General.{General}
 use Rattle.choice_problem.specs.Holds.{HoldsWithin, AdmitsNone}
 use Rattle.choice_problem.specs.Trail.{value_in, AreNew}
 use Rattle.choice_problem.specs.ConflictSet.{has, without}
@@ -92,12 +92,12 @@ abbrev pub shrinking : Problem → List Var → Limit → Shrinking
 shrinking p set budget = shrink_from p budget set (untried_stage set)
 
 -- choices, each of another variable, that hold within a set without a variable of it
-pub record IsFreed (p : Problem) (set : List Var) (v : Var) (choices : List Choice) : Type 0 where
+pub record IsFreed (g : General) (set : List Var) (v : Var) (choices : List Choice) : Type 0 where
   pub once : AreNew choices
-  pub holds : HoldsWithin (general p) (has (without v set)) (value_in choices)
+  pub holds : HoldsWithin g (has (without v set)) (value_in choices)
 
 -- a part of a set that admits none, while without each of its variables something holds
-pub record IsTight (p : Problem) (of : List Var) (shrunk : Shrunk) : Type 0 where
+pub record IsTight (g : General) (of : List Var) (shrunk : Shrunk) : Type 0 where
   pub within : (v : Var) → IsTrue (has shrunk.set v) → IsTrue (has of v)
-  pub none : AdmitsNone (general p) (has shrunk.set)
-  pub freed : AllZip (IsFreed p shrunk.set) shrunk.set shrunk.maps
+  pub none : AdmitsNone g (has shrunk.set)
+  pub freed : AllZip (IsFreed g shrunk.set) shrunk.set shrunk.maps

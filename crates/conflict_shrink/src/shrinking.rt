@@ -1,6 +1,7 @@
 // A conflict set is shrunk: each of its variables is tried, and dropped where the others admit none either.
 ghost use Rattle.std.specs.Prelude.{◌≡◌, ◌≢◌, ◌+◌, ◌≤◌, ℕ, IfOk, IsTrue, OnOk, Err, map};
 ghost use Rattle.plan_types.specs.declared.limit.Limit.{Limit};
+ghost use Rattle.choice_problem.specs.General.{general};
 ghost use Rattle.conflict_shrink.specs.declared.shrinking.ShrinkFault.TheVariants.{NoMemory as shrink_no_memory};
 ghost use Rattle.conflict_shrink.specs.Restricted.{are_known, CanBeShrunk};
 ghost use Rattle.conflict_shrink.specs.Shrinking.{GoesOn, GivesUp, Tight, OverBudget, IsTight, cut, limit_after, shrinking, shrunk_at, spent_with, tried, tries_without, untried_stage};
@@ -150,7 +151,7 @@ pub fn shrink<C: Choices, L: Ledger>(
 ) -> Result<Shrunk, ShrinkFault>
     requires { CanBeShrunk (C.problem choices.now) set.now }
     ensures shrunk { IfOk result (λ shrunk. (shrinking (C.problem choices.now) set.now budget).ended ≡ Tight shrunk) }
-    ensures tight { IfOk result (IsTight (C.problem choices.now) set.now) }
+    ensures tight { IfOk result (IsTight (general (C.problem choices.now)) set.now) }
     ensures too_long { (spent : ℕ) → result ≡ Err (ShrinkFault.TooLong spent) → (shrinking (C.problem choices.now) set.now budget).ended ≡ OverBudget spent }
     ensures unlimited { (spent : ℕ) → budget ≡ Limit.Unlimited → result ≢ Err (ShrinkFault.TooLong spent) }
     ensures ticks { result ≢ Err ShrinkFault.NoMemory → steps.new ≡ steps.old + (shrinking (C.problem choices.now) set.now budget).visited }

@@ -9,6 +9,7 @@ use Rattle.choice_problem.specs.declared.outcome.Outcome.TheVariants as outcome
 use Rattle.outside_folder.specs.Files.{Bytes}
 use Rattle.plan_components.specs.Chosen.{selection_from}
 use Rattle.elaborate.proofs.Needed.{told_before}
+use Rattle.plan_search.specs.declared.blame.Blame.{Blame}
 use Rattle.plan_command.specs.declared.form.Form.{Form}
 use Rattle.plan_command.specs.declared.output.Output.{Output}
 use Rattle.plan_command.specs.declared.status.Status.{Status}
@@ -16,23 +17,24 @@ use Rattle.plan_command.specs.Output.{BuildsInOrder, HasForm, IsOutputOfOutcome,
 use Rattle.plan_command.specs.Run.{Prints}
 use Rattle.plan_command.proofs.Outputs.{prints-this, prints-wider}
 
-by-outcome : (form : Form) (env : Env) (index : Index) (names : NameTable) (found : Outcome) (output : Output) → IsOutputOfOutcome form env index names found output → BuildsInOrder output
-by-outcome form env index names (outcome.Found trail counts) output (nodes, plan, is) e = record {
+by-outcome : (form : Form) (env : Env) (index : Index) (names : NameTable) (blame : Blame) (found : Outcome) (output : Output) → IsOutputOfOutcome form env index names blame found output
+    → BuildsInOrder output
+by-outcome form env index names blame (outcome.Found trail counts) output (nodes, plan, is) e = record {
   form = form;
   index = index;
   names = names;
   trail = trail;
   nodes = nodes;
   counts = counts;
-  output_is = is;
+  planned = is;
   told_before = told_before (selection_from index names env (value_in trail)) nodes plan;
 }
-by-outcome form env index names (outcome.NoPlan set counts) output is e = let other = ap (λ (o : Output). o.status) (sym is) ∙ e in absurd (cc other)
-by-outcome form env index names (outcome.GaveUp counts) output is e = let other = ap (λ (o : Output). o.status) (sym is) ∙ e in absurd (cc other)
+by-outcome form env index names blame (outcome.NoPlan set counts) output is e = let other = ap (λ (o : Output). o.status) (sym is) ∙ e in absurd (cc other)
+by-outcome form env index names blame (outcome.GaveUp counts) output is e = let other = ap (λ (o : Output). o.status) (sym is) ∙ e in absurd (cc other)
 
 by-form : (output : Output) → HasForm output → BuildsInOrder output
 by-form o (of_refusal refusal) e = absurd (cc e)
-by-form o (of_outcome form env index names found output is) e = by-outcome form env index names found output is e
+by-form o (of_outcome form env index names blame found output is) e = by-outcome form env index names blame found output is e
 by-form o of_usage e = absurd (cc e)
 
 pub in-order : (old new : Option Bytes) (result : Status) → Prints HasForm old new result → Prints BuildsInOrder old new result

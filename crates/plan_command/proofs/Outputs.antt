@@ -1,5 +1,5 @@
 -- What an output is and means, and what is printed of it.
-use Rattle.std.proofs.Common.{◌≡◌, Ok, Err, Option, refl, sym, subst}
+use Rattle.std.proofs.Common.{◌≡◌, ℕ, Bool, false, List, Ok, Err, Option, refl, sym, ap, subst}
 use Rattle.plan_types.specs.declared.refusal.Refusal.{Refusal}
 use Rattle.qualified_goals.specs.Names.{NameTable}
 use Rattle.choice_problem.specs.declared.outcome.Outcome.{Outcome}
@@ -8,51 +8,91 @@ use Rattle.outside_folder.specs.Files.{Bytes, Files}
 use Rattle.command_line.specs.declared.reading.Options.{Options}
 use Rattle.plan_task.specs.Task.{IsReady, IsTask}
 use Rattle.plan_task.specs.declared.task.Task.{Task}
-use Rattle.plan_search.specs.Meaning.{MeansOutcome}
+use Rattle.event_file.specs.Events.{AreEventsAt}
+use Rattle.replay_text.specs.declared.event.JobEvent.{JobEvent}
+use Rattle.plan_search.specs.Meaning.{MeansFailure, MeansOutcome}
+use Rattle.plan_search.specs.declared.blame.Blame.{Blame}
 use Rattle.plan_search.specs.declared.search.Picking.{Picking}
+use Rattle.plan_search.specs.declared.search.Picking.TheVariants.{Least}
 use Rattle.plan_command.specs.Asked.{picking_of}
 use Rattle.plan_command.specs.declared.form.Form.{Form}
+use Rattle.plan_command.specs.declared.form.Form.TheVariants.{Replay}
 use Rattle.plan_command.specs.declared.output.Output.{Output}
 use Rattle.plan_command.specs.declared.status.Status.{Status}
 use Rattle.plan_command.specs.declared.status.Status.TheVariants as status
 use Rattle.plan_command.specs.Output.{HasForm, IsOutputOfOutcome, of_outcome, of_refusal, refused}
-use Rattle.plan_command.specs.Meaning.{Means, MeansTask}
-use Rattle.plan_command.specs.Run.{IsOutputOfPlan, IsOutputOfTask, Prints}
+use Rattle.plan_command.specs.Meaning.{Means, MeansReplay, MeansTask, MeansWith, at_events, of_events, of_files}
+use Rattle.plan_command.specs.Run.{IsOutputOfPlan, IsOutputOfReplay, IsOutputOfTask, Prints}
 
 -- an output has the form of one
 
-pub formed-task : (picking : Picking) (form : Form) (task : Task) (output : Output) → IsOutputOfTask picking form task output → HasForm output
-formed-task picking form task output is = of_outcome form task.settings.env task.index is.finding.names is.finding.outcome output is.output_is
+pub formed-task : (picking : Picking) (minimize : Bool) (form : Form) (task : Task) (output : Output) → IsOutputOfTask picking minimize form task output → HasForm output
+formed-task picking minimize form task output is =
+    of_outcome form task.settings.env task.index is.finding.names is.finding.blame is.finding.outcome output is.output_is
 
 pub formed-refusal : (refusal : Refusal) (output : Output) → output ≡ refused refusal → HasForm output
 formed-refusal refusal output is = subst HasForm (sym is) (of_refusal refusal)
 
 -- the output of what a folder comes to is that of the options over its files, and means what it says of them
-module _ (form : Form) (options : Options) (files : Files) where
-  pub planned-output : (task : Task) (output : Output) → IsTask options files (Ok task) → IsOutputOfTask (picking_of options) form task output → IsOutputOfPlan form options files output
-  unfolding IsOutputOfPlan
-  planned-output task output made is = (Ok task, made, is)
+module _ (options : Options) (files : Files) where
+  module _ (form : Form) where
+    pub planned-output : (task : Task) (output : Output) → IsTask options files (Ok task) → IsOutputOfTask (picking_of options) options.minimize form task output
+        → IsOutputOfPlan form options files output
+    unfolding IsOutputOfPlan
+    planned-output task output made is = (Ok task, made, is)
 
-  pub refused-output : (refusal : Refusal) (output : Output) → IsTask options files (Err refusal) → output ≡ refused refusal → IsOutputOfPlan form options files output
-  unfolding IsOutputOfPlan
-  refused-output refusal output made is = (Err refusal, made, is)
+    pub refused-output : (refusal : Refusal) (output : Output) → IsTask options files (Err refusal) → output ≡ refused refusal → IsOutputOfPlan form options files output
+    unfolding IsOutputOfPlan
+    refused-output refusal output made is = (Err refusal, made, is)
 
-  module _ (picking : Picking) (task : Task) (made : IsTask options files (Ok task)) (ready : IsReady task) where
-    means-outcome : (names : NameTable) (found : Outcome) (output : Output) → MeansOutcome picking task.index task.settings names found
-        → IsOutputOfOutcome form task.settings.env task.index names found output → Means picking form options files output
-    means-outcome names (outcome.Found trail counts) output h (nodes, plan, is) =
-        subst (Means picking form options files) (sym is)
-        (record { task = task; made = made; ready = ready; names = names; trail = trail; means = h; nodes = nodes; planned = plan; counts = counts; text_is = refl })
-    means-outcome names (outcome.NoPlan set counts) output h is =
-        subst (Means picking form options files) (sym is) (record { task = task; made = made; names = names; set = set; to_blame = h; counts = counts; text_is = refl })
-    means-outcome names (outcome.GaveUp counts) output h is =
-        subst (Means picking form options files) (sym is) (record { task = task; made = made; names = names; met = h; counts = counts; text_is = refl })
+    module _ (picking : Picking) (minimize : Bool) (task : Task) (made : IsTask options files (Ok task)) (ready : IsReady task) where
+      means-outcome : (names : NameTable) (blame : Blame) (found : Outcome) (output : Output) → MeansOutcome picking task.index task.settings names found
+          → MeansFailure minimize task.index task.settings names found blame
+          → IsOutputOfOutcome form task.settings.env task.index names blame found output → Means picking minimize form options files output
+      means-outcome names blame (outcome.Found trail counts) output h b (nodes, plan, is) =
+          subst (λ s. MeansWith s picking minimize form options files output.text) (sym is.status_is)
+          (record { task = task; made = made; ready = ready; names = names; trail = trail; means = h; nodes = nodes; planned = plan; counts = counts; text_is = is.text_is })
+      means-outcome names blame (outcome.NoPlan set counts) output h b is =
+          subst (Means picking minimize form options files) (sym is)
+          (record { task = task; made = made; names = names; set = set; to_blame = h; counts = counts; blame = blame; blamed = b; text_is = refl })
+      means-outcome names blame (outcome.GaveUp counts) output h b is =
+          subst (Means picking minimize form options files) (sym is) (record { task = task; made = made; names = names; met = h; counts = counts; text_is = refl })
 
-    pub planned-means : (output : Output) → MeansTask picking form task output → Means picking form options files output
-    planned-means output h = means-outcome h.finding.names h.finding.outcome output h.means h.output_is
+      pub planned-means : (output : Output) → MeansTask picking minimize form task output → Means picking minimize form options files output
+      planned-means output h = means-outcome h.finding.names h.finding.blame h.finding.outcome output h.means.outcome h.means.failure h.output_is
 
-  pub refused-means : (picking : Picking) (refusal : Refusal) (output : Output) → IsTask options files (Err refusal) → output ≡ refused refusal → Means picking form options files output
-  refused-means picking refusal output made is = subst (Means picking form options files) (sym is) (record { refusal = refusal; made = made; text_is = refl })
+    pub refused-means : (picking : Picking) (minimize : Bool) (refusal : Refusal) (output : Output) → IsTask options files (Err refusal) → output ≡ refused refusal
+        → Means picking minimize form options files output
+    refused-means picking minimize refusal output made is =
+        subst (Means picking minimize form options files) (sym is) (record { refusal = refusal; made = made; text_is = refl })
+
+  -- the same of a build of the plan
+  module _ (path : Bytes) (slots : ℕ) where
+    module _ (task : Task) (made : IsTask options files (Ok task)) where
+      pub built-output : (events : List JobEvent) (output : Output) → AreEventsAt path files (Ok events) → IsOutputOfTask Least false (Replay slots events) task output
+          → IsOutputOfReplay options path slots files output
+      unfolding IsOutputOfReplay
+      built-output events output told is = (Ok task, made, (Ok events, told, is))
+
+      pub built-means : IsReady task → (events : List JobEvent) (output : Output) → AreEventsAt path files (Ok events) → MeansTask Least false (Replay slots events) task output
+          → MeansReplay options path slots files output
+      built-means ready events output told h = at_events events told (planned-means (Replay slots events) Least false task made ready output h)
+
+      pub unread-output : (refusal : Refusal) (output : Output) → AreEventsAt path files (Err refusal) → output ≡ refused refusal → IsOutputOfReplay options path slots files output
+      unfolding IsOutputOfReplay
+      unread-output refusal output told is = (Ok task, made, (Err refusal, told, is))
+
+      pub unread-means : (refusal : Refusal) (output : Output) → AreEventsAt path files (Err refusal) → output ≡ refused refusal → MeansReplay options path slots files output
+      unread-means refusal output told is = of_events (record { task = task; made = made; refusal = refusal; events = told; output_is = is })
+
+    pub unplanned-output : (refusal : Refusal) (output : Output) → IsTask options files (Err refusal) → output ≡ refused refusal → IsOutputOfReplay options path slots files output
+    unfolding IsOutputOfReplay
+    unplanned-output refusal output made is = (Err refusal, made, is)
+
+    pub unplanned-means : (refusal : Refusal) (output : Output) → IsTask options files (Err refusal) → output ≡ refused refusal → MeansReplay options path slots files output
+    unplanned-means refusal output made is =
+        of_files (ap (λ (o : Output). o.status) is)
+        (record { refusal = refusal; made = made; text_is = ap (λ (o : Output). o.text) is })
 
 -- what is printed by one relation is printed by a wider one
 pub prints-wider : (P Q : Output → Type 0) → ((o : Output) → P o → Q o) → (old new : Option Bytes) (result : Status) → Prints P old new result → Prints Q old new result

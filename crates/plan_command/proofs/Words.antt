@@ -27,5 +27,5 @@ formed-usage old new result h = prints-this HasForm usage of_usage old new resul
 
 -- what is printed means what a search means that picks as the options ask
 pub picked-so : (options : Options) (picking : Picking) → picking_of options ≡ picking → (files : Files) (old new : Option Bytes) (result : Status)
-    → Prints (Means (picking_of options) (form_of options) options files) old new result → Prints (Means picking (form_of options) options files) old new result
-picked-so options picking e files old new result h = subst (λ (p : Picking). Prints (Means p (form_of options) options files) old new result) e h
+    → Prints (Means (picking_of options) options.minimize (form_of options) options files) old new result → Prints (Means picking options.minimize (form_of options) options files) old new result
+picked-so options picking e files old new result h = subst (λ (p : Picking). Prints (Means p options.minimize (form_of options) options files) old new result) e h

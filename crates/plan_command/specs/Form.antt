@@ -1,5 +1,5 @@
--- The form in which an answer is printed: lines, JSON, or the summary of a plan of a folder that was made of a number.
-use Rattle.std.specs.Prelude.{ℕ, List, length, if◌then◌else◌}
+-- The form in which an answer is printed.
+use Rattle.std.specs.Prelude.{◌≡◌, ℕ, Bool, true, false, List, length, if◌then◌else◌}
 use Rattle.hex.specs.Hex.{encode_lower}
 use Rattle.sha2.specs.Sha256.{sha256}
 use Rattle.plan_types.specs.declared.index.Index.{Index}
@@ -10,11 +10,14 @@ use Rattle.choice_problem.specs.declared.problem.Choice.{Choice}
 use Rattle.outside_folder.specs.Files.{Bytes}
 use Rattle.command_line.specs.declared.reading.Options.{Options}
 use Rattle.plan_nodes.specs.declared.node.PlanNode.{PlanNode}
-use Rattle.plan_print.specs.Texts.{plan_text, conflict_text, gave_up_text}
+use Rattle.replay_text.specs.Replay.{IsReplay}
+use Rattle.plan_search.specs.declared.blame.Blame.{Blame}
+use Rattle.plan_search.specs.declared.blame.Blame.TheVariants.{Unasked, Shrunk, TooLong}
+use Rattle.plan_print.specs.Texts.{plan_text, conflict_text, gave_up_text, not_shrunk_text, shrunk_text}
 use Rattle.plan_print.specs.Summary.{summary_text}
-use Rattle.plan_json.specs.Texts.{plan_json, conflict_json, gave_up_json}
+use Rattle.plan_json.specs.Texts.{plan_json, conflict_json, gave_up_json, not_shrunk_json, shrunk_json}
 use Rattle.plan_command.specs.declared.form.Form.{Form}
-use Rattle.plan_command.specs.declared.form.Form.TheVariants.{Lines, Json, Summary}
+use Rattle.plan_command.specs.declared.form.Form.TheVariants.{Lines, Json, Summary, Replay}
 
 -- the form that options ask for
 abbrev pub form_of : Options → Form
@@ -25,19 +28,27 @@ abbrev pub summary_of : ℕ → List Choice → List PlanNode → Counts → Byt
 summary_of number trail nodes counts text = summary_text number (length trail) (length nodes) counts (encode_lower (sha256 text))
 
 -- a plan
-abbrev pub plan_text_in : Form → Index → NameTable → List Choice → List PlanNode → Counts → Bytes
-plan_text_in Lines index names trail nodes counts = plan_text index names trail nodes counts
-plan_text_in Json index names trail nodes counts = plan_json index names trail nodes counts
-plan_text_in (Summary number) index names trail nodes counts = summary_of number trail nodes counts (plan_text index names trail nodes counts)
+abbrev pub IsPlanText : Form → Index → NameTable → List Choice → List PlanNode → Counts → Bytes → Type 0
+IsPlanText Lines index names trail nodes counts text = text ≡ plan_text index names trail nodes counts
+IsPlanText Json index names trail nodes counts text = text ≡ plan_json index names trail nodes counts
+IsPlanText (Summary number) index names trail nodes counts text = text ≡ summary_of number trail nodes counts (plan_text index names trail nodes counts)
+IsPlanText (Replay slots events) index names trail nodes counts text = IsReplay nodes slots events text
 
--- a conflict
-abbrev pub conflict_text_in : Form → Index → NameTable → List Var → Counts → Bytes
-conflict_text_in Lines index names set counts = conflict_text index names set counts
-conflict_text_in Json index names set counts = conflict_json index names set counts
-conflict_text_in (Summary number) index names set counts = conflict_text index names set counts
+-- what is no plan is printed as JSON where that is asked for, and else in lines
+abbrev pub is_json : Form → Bool
+is_json Lines = false
+is_json Json = true
+is_json (Summary number) = false
+is_json (Replay slots events) = false
+
+-- a conflict, with what is told of it besides its set
+abbrev pub conflict_text_in : Form → Index → NameTable → List Var → Blame → Counts → Bytes
+conflict_text_in form index names set Unasked counts = if is_json form then conflict_json index names set counts else conflict_text index names set counts
+conflict_text_in form index names set (Shrunk shrunk) counts =
+    if is_json form then shrunk_json index names shrunk.set shrunk.maps counts else shrunk_text index names shrunk.set shrunk.maps counts
+conflict_text_in form index names set (TooLong spent) counts =
+    if is_json form then not_shrunk_json index names set spent counts else not_shrunk_text index names set spent counts
 
 -- a search that gave up
 abbrev pub gave_up_text_in : Form → Index → Counts → Bytes
-gave_up_text_in Lines index counts = gave_up_text index counts
-gave_up_text_in Json index counts = gave_up_json index counts
-gave_up_text_in (Summary number) index counts = gave_up_text index counts
+gave_up_text_in form index counts = if is_json form then gave_up_json index counts else gave_up_text index counts

@@ -15,8 +15,9 @@ use Rattle.plan_nodes.specs.declared.node.PlanNode.{PlanNode}
 use Rattle.elaborate.specs.Before.{AreToldBefore}
 use Rattle.elaborate.specs.Plan.{IsPlan}
 use Rattle.plan_print.specs.Texts.{refusal_text}
+use Rattle.plan_search.specs.declared.blame.Blame.{Blame}
 use Rattle.plan_command.specs.declared.form.Form.{Form}
-use Rattle.plan_command.specs.Form.{plan_text_in, conflict_text_in, gave_up_text_in}
+use Rattle.plan_command.specs.Form.{IsPlanText, conflict_text_in, gave_up_text_in}
 use Rattle.plan_command.specs.declared.output.Output.{Output}
 use Rattle.plan_command.specs.declared.status.Status.{Status}
 use Rattle.plan_command.specs.declared.status.Status.TheVariants as status
@@ -30,16 +31,17 @@ abbrev pub ArePlanned : Env → Index → NameTable → List Choice → List Pla
 ArePlanned env index names trail nodes = IsPlan (selection_from index names env (value_in trail)) nodes
 
 -- the output of a plan
-abbrev pub planned : Form → Index → NameTable → List Choice → List PlanNode → Counts → Output
-planned form index names trail nodes counts = record { status = status.Planned; text = plan_text_in form index names trail nodes counts }
+pub record IsPlanned (form : Form) (index : Index) (names : NameTable) (trail : List Choice) (nodes : List PlanNode) (counts : Counts) (output : Output) : Type 0 where
+  pub status_is : output.status ≡ status.Planned
+  pub text_is : IsPlanText form index names trail nodes counts output.text
 
--- the output of what a search found
-abbrev pub IsOutputOfOutcome : Form → Env → Index → NameTable → Outcome → Output → Type 0
-IsOutputOfOutcome form env index names (outcome.Found trail counts) output =
-    (nodes : List PlanNode) × ArePlanned env index names trail nodes × (output ≡ planned form index names trail nodes counts)
-IsOutputOfOutcome form env index names (outcome.NoPlan set counts) output =
-    output ≡ record { status = status.NoPlan; text = conflict_text_in form index names set counts }
-IsOutputOfOutcome form env index names (outcome.GaveUp counts) output =
+-- the output of what a search found, with what is told of a failure
+abbrev pub IsOutputOfOutcome : Form → Env → Index → NameTable → Blame → Outcome → Output → Type 0
+IsOutputOfOutcome form env index names blame (outcome.Found trail counts) output =
+    (nodes : List PlanNode) × ArePlanned env index names trail nodes × IsPlanned form index names trail nodes counts output
+IsOutputOfOutcome form env index names blame (outcome.NoPlan set counts) output =
+    output ≡ record { status = status.NoPlan; text = conflict_text_in form index names set blame counts }
+IsOutputOfOutcome form env index names blame (outcome.GaveUp counts) output =
     output ≡ record { status = status.GaveUp; text = gave_up_text_in form index counts }
 
 -- the line for words without a reading
@@ -53,8 +55,8 @@ usage = record { status = status.Usage; text = usage_text }
 -- an output's form: the line of a refusal, what a search found in one of the forms in which it is printed, or the usage line
 pub data HasForm : Output → Type 0 where
   of_refusal : (refusal : Refusal) → HasForm (refused refusal)
-  of_outcome : (form : Form) (env : Env) (index : Index) (names : NameTable) (outcome : Outcome) (output : Output)
-      → IsOutputOfOutcome form env index names outcome output → HasForm output
+  of_outcome : (form : Form) (env : Env) (index : Index) (names : NameTable) (blame : Blame) (outcome : Outcome) (output : Output)
+      → IsOutputOfOutcome form env index names blame outcome output → HasForm output
   of_usage : HasForm usage
 
 -- the output of a plan in which each identifier that a node needs is told before it
@@ -65,7 +67,7 @@ pub record IsInOrder (output : Output) : Type 0 where
   pub trail : List Choice
   pub nodes : List PlanNode
   pub counts : Counts
-  pub output_is : output ≡ planned form index names trail nodes counts
+  pub planned : IsPlanned form index names trail nodes counts output
   pub told_before : AreToldBefore nodes
 
 -- where an output is a plan, it is one in order

@@ -1,24 +1,27 @@
 -- The output of words over a folder, and what a run leaves in the sink.
-use Rattle.std.specs.Prelude.{◌≡◌, ℕ, Result, Ok, Err, Option, Some, None, List}
+use Rattle.std.specs.Prelude.{◌≡◌, ℕ, Bool, false, Result, Ok, Err, Option, Some, None, List}
 use Rattle.plan_types.specs.declared.limit.Limit.{Limit}
 use Rattle.plan_types.specs.declared.refusal.Refusal.{Refusal}
 use Rattle.outside_folder.specs.Files.{Bytes, Files}
 use Rattle.outside_folder.specs.Sink.{Appends, AppendsPrefix}
 use Rattle.command_line.specs.Reading.{default_options, reading}
 use Rattle.command_line.specs.declared.reading.Command.{Command}
-use Rattle.command_line.specs.declared.reading.Command.TheVariants.{Plan, Generate}
+use Rattle.command_line.specs.declared.reading.Command.TheVariants.{Plan, Generate, Replay}
 use Rattle.command_line.specs.declared.reading.Options.{Options}
+use Rattle.event_file.specs.Events.{AreEventsAt}
+use Rattle.replay_text.specs.declared.event.JobEvent.{JobEvent}
 use Rattle.plan_generate.specs.Generated.{generated}
 use Rattle.plan_task.specs.Task.{IsTask}
 use Rattle.plan_task.specs.declared.task.Task.{Task}
 use Rattle.plan_search.specs.Finding.{IsFindingOf}
 use Rattle.plan_search.specs.declared.search.Finding.{Finding}
 use Rattle.plan_search.specs.declared.search.Picking.{Picking}
+use Rattle.plan_search.specs.declared.search.Picking.TheVariants.{Least}
 use Rattle.plan_command.specs.declared.status.Status.{Status}
 use Rattle.plan_command.specs.declared.status.Status.TheVariants as status
 use Rattle.plan_command.specs.declared.output.Output.{Output}
 use Rattle.plan_command.specs.declared.form.Form.{Form}
-use Rattle.plan_command.specs.declared.form.Form.TheVariants.{Summary}
+use Rattle.plan_command.specs.declared.form.Form.TheVariants.{Summary, Replay as at_events}
 use Rattle.plan_command.specs.Form.{form_of}
 use Rattle.plan_command.specs.Asked.{picking_of}
 use Rattle.plan_command.specs.Output.{IsOutputOfOutcome, refused, usage}
@@ -26,30 +29,46 @@ use Rattle.plan_command.specs.Output.{IsOutputOfOutcome, refused, usage}
 -- ---- the output of words over a folder
 
 -- what a search over a task finds, as it is printed
-pub record IsOutputOfTask (picking : Picking) (form : Form) (task : Task) (output : Output) : Type 0 where
+pub record IsOutputOfTask (picking : Picking) (minimize : Bool) (form : Form) (task : Task) (output : Output) : Type 0 where
   pub finding : Finding
-  pub found : IsFindingOf picking task.index task.settings finding
-  pub output_is : IsOutputOfOutcome form task.settings.env task.index finding.names finding.outcome output
+  pub found : IsFindingOf picking minimize task.index task.settings finding
+  pub output_is : IsOutputOfOutcome form task.settings.env task.index finding.names finding.blame finding.outcome output
 
 -- the output of a task, or of the refusal that came instead
-abbrev pub IsOutputOfRead : Picking → Form → Result Task Refusal → Output → Type 0
-IsOutputOfRead picking form (Ok task) output = IsOutputOfTask picking form task output
-IsOutputOfRead picking form (Err refusal) output = output ≡ refused refusal
+abbrev pub IsOutputOfRead : Picking → Bool → Form → Result Task Refusal → Output → Type 0
+IsOutputOfRead picking minimize form (Ok task) output = IsOutputOfTask picking minimize form task output
+IsOutputOfRead picking minimize form (Err refusal) output = output ≡ refused refusal
 
 -- what is printed of a plan of these files, in this form
 unfoldable pub IsOutputOfPlan : Form → Options → Files → Output → Type 0
-IsOutputOfPlan form options files output = (task : Result Task Refusal) × IsTask options files task × IsOutputOfRead (picking_of options) form task output
+IsOutputOfPlan form options files output = (task : Result Task Refusal) × IsTask options files task × IsOutputOfRead (picking_of options) options.minimize form task output
 
 -- what is printed for the command `generate`: of a plan of the folder that the number makes, with the options where words give
 -- none but for the limit, the summary
 abbrev pub IsOutputOfGenerate : ℕ → Limit → Output → Type 0
 IsOutputOfGenerate number limit output = IsOutputOfPlan (Summary number) (default_options limit) (generated number) output
 
+-- what is printed of a task at these events, or of the refusal that came instead
+abbrev pub IsOutputAtEvents : ℕ → Task → Result (List JobEvent) Refusal → Output → Type 0
+IsOutputAtEvents slots task (Ok events) output = IsOutputOfTask Least false (at_events slots events) task output
+IsOutputAtEvents slots task (Err refusal) output = output ≡ refused refusal
+
+-- the events are read where there is a task
+abbrev pub IsOutputAtTask : Bytes → ℕ → Files → Result Task Refusal → Output → Type 0
+IsOutputAtTask path slots files (Ok task) output =
+    (events : Result (List JobEvent) Refusal) × AreEventsAt path files events × IsOutputAtEvents slots task events output
+IsOutputAtTask path slots files (Err refusal) output = output ≡ refused refusal
+
+-- what is printed for the command `replay`: what a build of the plan with so many slots does at the events of a file
+unfoldable pub IsOutputOfReplay : Options → Bytes → ℕ → Files → Output → Type 0
+IsOutputOfReplay options path slots files output = (task : Result Task Refusal) × IsTask options files task × IsOutputAtTask path slots files task output
+
 -- the output of a command, or for words without a reading
 abbrev pub IsOutputOfCommand : Option Command → Files → Output → Type 0
 IsOutputOfCommand None files output = output ≡ usage
 IsOutputOfCommand (Some (Plan options)) files output = IsOutputOfPlan (form_of options) options files output
 IsOutputOfCommand (Some (Generate number limit)) files output = IsOutputOfGenerate number limit output
+IsOutputOfCommand (Some (Replay options events slots)) files output = IsOutputOfReplay options events slots files output
 
 -- what is printed for words over a folder
 abbrev pub IsOutputOf : List Bytes → Files → Output → Type 0
@@ -61,6 +80,7 @@ abbrev pub Reads : Option Command → Option Files → Files → Type 0
 Reads None tells files = Unit {0}
 Reads (Some (Plan options)) tells files = tells ≡ Some files
 Reads (Some (Generate number limit)) tells files = Unit {0}
+Reads (Some (Replay options events slots)) tells files = tells ≡ Some files
 
 -- ---- what is left in the sink
 

@@ -2,16 +2,16 @@
 ghost use Rattle.std.specs.Prelude.{◌≡◌, ◌≢◌, ◌≤◌, ℕ, IfOk, IsErrOf, Some, None, true, false};
 ghost use Rattle.outside_folder.specs.Calls.{Leaves};
 ghost use Rattle.outside_folder.specs.Faults.{Rose};
-ghost use Rattle.outside_folder.specs.Files.{Files};
+ghost use Rattle.outside_folder.specs.Files.{Bytes, Files};
 ghost use Rattle.plan_types.specs.declared.limit.Limit.{Limit as TheLimit};
 ghost use Rattle.command_line.specs.Reading.{IsBounded, reading};
-ghost use Rattle.command_line.specs.declared.reading.Command.TheVariants.{Generate, Plan};
+ghost use Rattle.command_line.specs.declared.reading.Command.TheVariants.{Generate, Plan, Replay};
 ghost use Rattle.command_line.specs.declared.reading.Options.{Options as PlanOptions};
 ghost use Rattle.plan_command.specs.Output.{BuildsInOrder, HasForm, IsMade, IsUsage, usage};
 ghost use Rattle.plan_command.specs.Form.{form_of};
 ghost use Rattle.plan_command.specs.Asked.{picking_of};
 ghost use Rattle.plan_search.specs.declared.search.Picking.TheVariants.{Least, MostMet};
-ghost use Rattle.plan_command.specs.Meaning.{Means, MeansGenerated};
+ghost use Rattle.plan_command.specs.Meaning.{Means, MeansGenerated, MeansReplay};
 ghost use Rattle.plan_command.specs.Run.{IsOutputOf, IsOutputOfCommand, Prints, Reads};
 
 use crate::Status;
@@ -19,6 +19,7 @@ use crate::form::form_of;
 use crate::generate::output_of_generate;
 use crate::output::Output;
 use crate::plan::output_of_plan;
+use crate::replay::output_of_replay;
 use command_line::{Command, WordsFault, read_words};
 use outside_folder::{Folder, Sink, Trouble, write_all};
 use plan_types::Text;
@@ -27,7 +28,7 @@ use std::alloc::Global;
 /// What is printed where the words have no reading.
 const USAGE: &str = "usage: cabal-plan plan or generate, with options\n";
 
-/// Does what the words ask for over a folder, and writes the plan, the conflict where there is none, that the search gave
+/// Does what the words ask for over a folder, and writes the plan or what a build of it does, the conflict where there is none, that the search gave
 /// up, the refusal, or the usage line for words without a reading.
 pub fn run<F: Folder, S: Sink>(alloc: Global, words: &[Text], folder: &mut F, out: &mut S) -> Status
     // Where the words ask for a plan and the folder tells its files: the plan is that of the first of all whole valid
@@ -35,12 +36,17 @@ pub fn run<F: Folder, S: Sink>(alloc: Global, words: &[Text], folder: &mut F, ou
     // limit the search never gives up.
     ensures headline { (options : PlanOptions) (files : Files)
         → reading words.now ≡ Some (Plan options) → options.count_conflicts ≡ false → F.tells folder.old ≡ Some files
-        → Prints (Means Least (form_of options) options files) (S.bytes out.old) (S.bytes out.new) result }
+        → Prints (Means Least options.minimize (form_of options) options files) (S.bytes out.old) (S.bytes out.new) result }
 
     // Where they ask that conflicts are counted besides: the plan is that of some whole valid assignment, and all else as above.
     ensures counting { (options : PlanOptions) (files : Files)
         → reading words.now ≡ Some (Plan options) → options.count_conflicts ≡ true → F.tells folder.old ≡ Some files
-        → Prints (Means MostMet (form_of options) options files) (S.bytes out.old) (S.bytes out.new) result }
+        → Prints (Means MostMet options.minimize (form_of options) options files) (S.bytes out.old) (S.bytes out.new) result }
+
+    // Where they ask for a build: it is that of the plan of the first of all whole valid assignments, at the events of the file.
+    ensures replayed { (options : PlanOptions) (events : Bytes) (slots : ℕ) (files : Files)
+        → reading words.now ≡ Some (Replay options events slots) → F.tells folder.old ≡ Some files
+        → Prints (MeansReplay options events slots files) (S.bytes out.old) (S.bytes out.new) result }
 
     // What is printed is that of the words and of the files that are read for them, whether or not a count rose.
     ensures told { (files : Files) → Reads (reading words.now) (F.tells folder.old) files
@@ -92,7 +98,10 @@ fn perform<F: Folder, S: Sink>(
 ) -> Status
     requires { IsBounded command }
     ensures headline { (options : PlanOptions) (files : Files) → command ≡ Plan options → F.tells folder.old ≡ Some files
-        → Prints (Means (picking_of options) (form_of options) options files) (S.bytes out.old) (S.bytes out.new) result }
+        → Prints (Means (picking_of options) options.minimize (form_of options) options files) (S.bytes out.old) (S.bytes out.new) result }
+    ensures replayed { (options : PlanOptions) (events : Bytes) (slots : ℕ) (files : Files)
+        → command ≡ Replay options events slots → F.tells folder.old ≡ Some files
+        → Prints (MeansReplay options events slots files) (S.bytes out.old) (S.bytes out.new) result }
     ensures told { (files : Files) → Reads (Some command) (F.tells folder.old) files
         → Prints (IsOutputOfCommand (Some command) files) (S.bytes out.old) (S.bytes out.new) result }
     ensures generated { (number : ℕ) (limit : TheLimit) → command ≡ Generate number limit
@@ -116,7 +125,9 @@ fn perform<F: Folder, S: Sink>(
 fn output_of<F: Folder>(alloc: Global, command: Command, folder: &mut F) -> Result<Output, Trouble>
     requires { IsBounded command }
     ensures headline { (options : PlanOptions) (files : Files) → command ≡ Plan options → F.tells folder.old ≡ Some files
-        → IfOk result (Means (picking_of options) (form_of options) options files) }
+        → IfOk result (Means (picking_of options) options.minimize (form_of options) options files) }
+    ensures replayed { (options : PlanOptions) (events : Bytes) (slots : ℕ) (files : Files)
+        → command ≡ Replay options events slots → F.tells folder.old ≡ Some files → IfOk result (MeansReplay options events slots files) }
     ensures told { (files : Files) → Reads (Some command) (F.tells folder.old) files
         → IfOk result (IsOutputOfCommand (Some command) files) }
     ensures generated { (number : ℕ) (limit : TheLimit) → command ≡ Generate number limit → IfOk result (MeansGenerated number limit) }
@@ -128,11 +139,19 @@ fn output_of<F: Folder>(alloc: Global, command: Command, folder: &mut F) -> Resu
     ensures folder { Leaves F.tells F.faults folder.old folder.new (IsErrOf result Trouble.Failed) }
 {
     match command {
-        Command::Plan(options) => output_of_plan(alloc, form_of(&options), options, folder),
+        Command::Plan(options) => {
+            let form = form_of(&options);
+            output_of_plan(alloc, &form, options, folder)
+        }
         Command::Generate { number, limit } => {
             let output = output_of_generate(alloc, number, limit)?;
             Ok(output)
         }
+        Command::Replay {
+            options,
+            events,
+            slots,
+        } => output_of_replay(alloc, options, &events, slots, folder),
     }
 }
 

@@ -1,19 +1,29 @@
 // The form in which an answer is printed.
-ghost use Rattle.std.specs.Prelude.{◌≡◌, IfOk};
-ghost use Rattle.plan_command.specs.Form.{conflict_text_in, form_of, gave_up_text_in, plan_text_in, summary_of};
+ghost use Rattle.std.specs.Prelude.{◌≡◌, IfOk, if◌then◌else◌};
+ghost use Rattle.plan_json.specs.Texts.{conflict_json, not_shrunk_json, shrunk_json};
+ghost use Rattle.plan_print.specs.Texts.{conflict_text, not_shrunk_text, shrunk_text};
+ghost use Rattle.plan_command.specs.Form.{IsPlanText, conflict_text_in, form_of, gave_up_text_in, is_json, summary_of};
 
 use choice_problem::{Choice, ConflictSet, Counts};
 use command_line::Options;
-use plan_json::{json_of_conflict, json_of_giving_up, json_of_plan};
+use conflict_shrink::Shrunk;
+use plan_json::{
+    json_of_conflict, json_of_giving_up, json_of_not_shrunk, json_of_plan, json_of_shrunk,
+};
 use plan_nodes::PlanNode;
-use plan_print::{text_of_conflict, text_of_giving_up, text_of_plan, text_of_summary};
+use plan_print::{
+    text_of_conflict, text_of_giving_up, text_of_not_shrunk, text_of_plan, text_of_shrunk,
+    text_of_summary,
+};
+use plan_search::Blame;
 use plan_types::{Index, List, NoMemory, Text};
 use qualified_goals::Names;
+use replay_text::{JobEvent, replay_text};
 use sha2::{Digest, Sha256};
 use std::alloc::Global;
 
 /// The form in which an answer is printed.
-#[derive(Clone, Copy, Debug, PartialEq, Eq)]
+#[derive(Debug, Drop)]
 pub(crate) enum Form {
     /// A line for each part.
     Lines,
@@ -21,6 +31,8 @@ pub(crate) enum Form {
     Json,
     /// A plan by its counts and its digest, and all else in lines, for a folder that was made of this number.
     Summary(u32),
+    /// A plan by what a build of it does at these events, and all else in lines.
+    Replay { slots: u32, events: List<JobEvent> },
 }
 
 /// The form that options ask for.
@@ -36,21 +48,24 @@ pub(crate) fn form_of(options: &Options) -> Form
 
 pub(crate) fn plan_text_in(
     alloc: Global,
-    form: Form,
+    form: &Form,
     trail: &List<Choice>,
     index: &Index,
     names: &Names,
     nodes: &List<PlanNode>,
     counts: Counts,
 ) -> Result<Text, NoMemory>
-    ensures { IfOk result (λ text. text ≡ plan_text_in form index.now names.now trail.now nodes.now counts) }
+    ensures { IfOk result (IsPlanText form.now index.now names.now trail.now nodes.now counts) }
 {
     match form {
         Form::Lines => text_of_plan(alloc, trail, index, names, nodes, counts),
         Form::Json => json_of_plan(alloc, trail, index, names, nodes, counts),
         Form::Summary(number) => {
             let text = text_of_plan(alloc, trail, index, names, nodes, counts)?;
-            summary_of(alloc, number, trail, nodes, counts, &text)
+            summary_of(alloc, *number, trail, nodes, counts, &text)
+        }
+        Form::Replay { slots, events } => {
+            replay_text(alloc, nodes.as_slice(), *slots, events.as_slice())
         }
     }
 }
@@ -72,34 +87,101 @@ fn summary_of(
     text_of_summary(alloc, number, choices, nodes, counts, digest.as_str())
 }
 
+// What is no plan is printed in lines where JSON isn't asked for.
+fn is_json(form: &Form) -> bool
+    ensures { result ≡ is_json form.now }
+{
+    match form {
+        Form::Json => true,
+        Form::Lines | Form::Summary(_) | Form::Replay { .. } => false,
+    }
+}
+
 pub(crate) fn conflict_text_in(
     alloc: Global,
-    form: Form,
+    form: &Form,
+    set: &ConflictSet,
+    blame: &Blame,
+    index: &Index,
+    names: &Names,
+    counts: Counts,
+) -> Result<Text, NoMemory>
+    ensures { IfOk result (λ text. text ≡ conflict_text_in form.now index.now names.now set.now blame.now counts) }
+{
+    match blame {
+        Blame::Unasked => whole_text(alloc, is_json(form), set, index, names, counts),
+        Blame::Shrunk(shrunk) => { shrunk_text(alloc, is_json(form), shrunk, index, names, counts) }
+        Blame::TooLong(spent) => {
+            not_shrunk_text(alloc, is_json(form), set, *spent, index, names, counts)
+        }
+    }
+}
+
+fn whole_text(
+    alloc: Global,
+    json: bool,
     set: &ConflictSet,
     index: &Index,
     names: &Names,
     counts: Counts,
 ) -> Result<Text, NoMemory>
-    ensures { IfOk result (λ text. text ≡ conflict_text_in form index.now names.now set.now counts) }
+    ensures { IfOk result (λ text. text ≡ (if json then conflict_json index.now names.now set.now counts else conflict_text index.now names.now set.now counts)) }
 {
-    match form {
-        Form::Lines => text_of_conflict(alloc, set, index, names, counts),
-        Form::Json => json_of_conflict(alloc, set, index, names, counts),
-        Form::Summary(_) => text_of_conflict(alloc, set, index, names, counts),
+    if json {
+        json_of_conflict(alloc, set, index, names, counts)
+    } else {
+        text_of_conflict(alloc, set, index, names, counts)
+    }
+}
+
+fn shrunk_text(
+    alloc: Global,
+    json: bool,
+    shrunk: &Shrunk,
+    index: &Index,
+    names: &Names,
+    counts: Counts,
+) -> Result<Text, NoMemory>
+    ensures { IfOk result (λ text. text ≡ (if json then shrunk_json index.now names.now shrunk.now.set shrunk.now.maps counts
+        else shrunk_text index.now names.now shrunk.now.set shrunk.now.maps counts)) }
+{
+    if json {
+        json_of_shrunk(alloc, &shrunk.set, &shrunk.maps, index, names, counts)
+    } else {
+        text_of_shrunk(alloc, &shrunk.set, &shrunk.maps, index, names, counts)
+    }
+}
+
+fn not_shrunk_text(
+    alloc: Global,
+    json: bool,
+    set: &ConflictSet,
+    spent: u64,
+    index: &Index,
+    names: &Names,
+    counts: Counts,
+) -> Result<Text, NoMemory>
+    ensures { IfOk result (λ text. text ≡ (if json then not_shrunk_json index.now names.now set.now spent counts
+        else not_shrunk_text index.now names.now set.now spent counts)) }
+{
+    if json {
+        json_of_not_shrunk(alloc, set, spent, index, names, counts)
+    } else {
+        text_of_not_shrunk(alloc, set, spent, index, names, counts)
     }
 }
 
 pub(crate) fn gave_up_text_in(
     alloc: Global,
-    form: Form,
+    form: &Form,
     index: &Index,
     counts: Counts,
 ) -> Result<Text, NoMemory>
-    ensures { IfOk result (λ text. text ≡ gave_up_text_in form index.now counts) }
+    ensures { IfOk result (λ text. text ≡ gave_up_text_in form.now index.now counts) }
 {
-    match form {
-        Form::Lines => text_of_giving_up(alloc, index, counts),
-        Form::Json => json_of_giving_up(alloc, index, counts),
-        Form::Summary(_) => text_of_giving_up(alloc, index, counts),
+    if is_json(form) {
+        json_of_giving_up(alloc, index, counts)
+    } else {
+        text_of_giving_up(alloc, index, counts)
     }
 }

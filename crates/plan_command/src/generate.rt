@@ -29,7 +29,7 @@ pub(crate) fn output_of_generate(
 {
     let options = default_options(alloc, limit)?;
     let mut folder = SureFolder::new(generate(alloc, number)?);
-    match output_of_plan(alloc, Form::Summary(number), options, &mut folder) {
+    match output_of_plan(alloc, &Form::Summary(number), options, &mut folder) {
         Ok(output) => Ok(output),
         Err(Trouble::NoMemory) => Err(NoMemory),
         Err(Trouble::Failed) => unreachable!(),

@@ -5,9 +5,11 @@ ghost use Rattle.plan_command.specs.declared.output.Output.{Output};
 ghost use Rattle.plan_command.specs.Run.{IsOutputOf};
 
 use elaborate::one_plan;
+use event_file::one_event_list;
 use package_index::one_folder_index;
 use plan_search::one_finding;
 use project_config::one_folder_project;
+use replay_text::one_replay;
 
 /// Words and a folder's files have one answer: one status and one text.
 pub fn one_answer()
@@ -17,4 +19,6 @@ pub fn one_answer()
     one_folder_index();
     one_finding();
     one_plan();
+    one_event_list();
+    one_replay();
 }

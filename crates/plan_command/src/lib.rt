@@ -8,6 +8,7 @@ mod generate;
 mod laws;
 mod output;
 mod plan;
+mod replay;
 mod status;
 
 pub use command::{print_usage, run};

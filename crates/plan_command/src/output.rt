@@ -1,5 +1,6 @@
 // What is printed of what was found. The text is made whole before anything is written.
-ghost use Rattle.std.specs.Prelude.{◌≡◌, ◌≢◌, IfOk};
+ghost use Rattle.std.specs.Prelude.{◌≡◌, ◌≢◌, IfOk, IsErrOf};
+ghost use Rattle.plan_types.specs.declared.refusal.Refusal.{Refusal as TheRefusal};
 ghost use Rattle.flatten.specs.Sound.{IsSound};
 ghost use Rattle.plan_command.specs.Output.{IsMade, IsOutputOfOutcome, refused};
 
@@ -7,9 +8,10 @@ use crate::Status;
 use crate::form::{Form, conflict_text_in, gave_up_text_in, plan_text_in};
 use choice_problem::Outcome;
 use elaborate::elaborate;
+use outside_folder::Trouble;
 use plan_print::text_of_refusal;
-use plan_types::{Env, Index, NoMemory, Refusal, Text};
-use qualified_goals::Names;
+use plan_search::Finding;
+use plan_types::{Env, Halt, Index, NoMemory, Refusal, Text};
 use std::alloc::Global;
 
 /// What a run is to print, and the status that it ends with.
@@ -19,7 +21,21 @@ pub(crate) struct Output {
     pub text: Text,
 }
 
-pub(crate) fn refused(alloc: Global, refusal: &Refusal) -> Result<Output, NoMemory>
+// The output of a step that ended before its answer.
+pub(crate) fn halted(alloc: Global, halt: Halt) -> Result<Output, Trouble>
+    ensures refused { IfOk result (λ output. (refusal : TheRefusal) × (halt ≡ Halt.Refused refusal) × (output ≡ refused refusal)) }
+    ensures made { IfOk result (λ output. IsMade output.status) }
+    ensures read { IfOk result (λ output. output.status ≢ Status.Usage) }
+    ensures failed { IsErrOf result Trouble.Failed → halt ≡ Halt.Failed }
+{
+    match halt {
+        Halt::Refused(refusal) => Ok(refused(alloc, &refusal)?),
+        Halt::Failed => Err(Trouble::Failed),
+        Halt::NoMemory => Err(Trouble::NoMemory),
+    }
+}
+
+fn refused(alloc: Global, refusal: &Refusal) -> Result<Output, NoMemory>
     ensures output { IfOk result (λ output. output ≡ refused refusal.now) }
     ensures made { IfOk result (λ output. IsMade output.status) }
     ensures read { IfOk result (λ output. output.status ≢ Status.Usage) }
@@ -30,20 +46,20 @@ pub(crate) fn refused(alloc: Global, refusal: &Refusal) -> Result<Output, NoMemo
     })
 }
 
-pub(crate) fn output_of_outcome(
+pub(crate) fn output_of_finding(
     alloc: Global,
-    form: Form,
+    form: &Form,
     env: &Env,
     index: &Index,
-    names: &Names,
-    outcome: &Outcome,
+    finding: &Finding,
 ) -> Result<Output, NoMemory>
     requires { IsSound env.now index.now }
-    ensures output { IfOk result (IsOutputOfOutcome form env.now index.now names.now outcome.now) }
+    ensures output { IfOk result (IsOutputOfOutcome form.now env.now index.now finding.now.names finding.now.blame finding.now.outcome) }
     ensures made { IfOk result (λ output. IsMade output.status) }
     ensures read { IfOk result (λ output. output.status ≢ Status.Usage) }
 {
-    match outcome {
+    let names = &finding.names;
+    match &finding.outcome {
         Outcome::Found { trail, counts } => {
             let nodes = elaborate(alloc, trail.as_slice(), index, names, env)?;
             Ok(Output {
@@ -53,7 +69,7 @@ pub(crate) fn output_of_outcome(
         }
         Outcome::NoPlan { set, counts } => Ok(Output {
             status: Status::NoPlan,
-            text: conflict_text_in(alloc, form, set, index, names, *counts)?,
+            text: conflict_text_in(alloc, form, set, &finding.blame, index, names, *counts)?,
         }),
         Outcome::GaveUp { counts } => Ok(Output {
             status: Status::GaveUp,

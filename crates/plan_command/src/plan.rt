@@ -10,34 +10,34 @@ ghost use Rattle.plan_command.specs.Run.{IsOutputOfPlan, IsOutputOfTask};
 
 use crate::Status;
 use crate::form::Form;
-use crate::output::{Output, output_of_outcome, refused};
+use crate::output::{Output, halted, output_of_finding};
 use command_line::Options;
 use outside_folder::{Folder, Trouble};
 use plan_search::{Picking, find_plan};
 use plan_task::{Task, read_task};
-use plan_types::{Halt, NoMemory};
+use plan_types::NoMemory;
 use std::alloc::Global;
 
 /// The output of a plan of a folder in this form.
 pub(crate) fn output_of_plan<F: Folder>(
     alloc: Global,
-    form: Form,
+    form: &Form,
     options: Options,
     folder: &mut F,
 ) -> Result<Output, Trouble>
-    ensures headline { (files : Files) → F.tells folder.old ≡ Some files → IfOk result (Means (picking_of options) form options files) }
-    ensures told { (files : Files) → F.tells folder.old ≡ Some files → IfOk result (IsOutputOfPlan form options files) }
+    ensures headline { (files : Files) → F.tells folder.old ≡ Some files
+        → IfOk result (Means (picking_of options) options.minimize form.now options files) }
+    ensures told { (files : Files) → F.tells folder.old ≡ Some files → IfOk result (IsOutputOfPlan form.now options files) }
     ensures form { IfOk result HasForm }
     ensures made { IfOk result (λ output. IsMade output.status) }
     ensures read { IfOk result (λ output. output.status ≢ Status.Usage) }
     ensures folder { Leaves F.tells F.faults folder.old folder.new (IsErrOf result Trouble.Failed) }
 {
     let picking = picking_of(&options);
+    let minimize = options.minimize;
     match read_task(alloc, options, folder) {
-        Ok(task) => Ok(planned(alloc, picking, form, &task)?),
-        Err(Halt::Refused(refusal)) => Ok(refused(alloc, &refusal)?),
-        Err(Halt::Failed) => Err(Trouble::Failed),
-        Err(Halt::NoMemory) => Err(Trouble::NoMemory),
+        Ok(task) => Ok(planned(alloc, picking, minimize, form, &task)?),
+        Err(halt) => halted(alloc, halt),
     }
 }
 
@@ -52,21 +52,20 @@ fn picking_of(options: &Options) -> Picking
     }
 }
 
-// The output of a search over a task.
-fn planned(alloc: Global, picking: Picking, form: Form, task: &Task) -> Result<Output, NoMemory>
+/// The output of a search over a task.
+pub(crate) fn planned(
+    alloc: Global,
+    picking: Picking,
+    minimize: bool,
+    form: &Form,
+    task: &Task,
+) -> Result<Output, NoMemory>
     requires { IsReady task.now }
-    ensures headline { IfOk result (MeansTask picking form task.now) }
-    ensures output { IfOk result (IsOutputOfTask picking form task.now) }
+    ensures headline { IfOk result (MeansTask picking minimize form.now task.now) }
+    ensures output { IfOk result (IsOutputOfTask picking minimize form.now task.now) }
     ensures made { IfOk result (λ output. IsMade output.status) }
     ensures read { IfOk result (λ output. output.status ≢ Status.Usage) }
 {
-    let finding = find_plan(alloc, picking, &task.index, &task.settings)?;
-    output_of_outcome(
-        alloc,
-        form,
-        &task.settings.env,
-        &task.index,
-        &finding.names,
-        &finding.outcome,
-    )
+    let finding = find_plan(alloc, picking, minimize, &task.index, &task.settings)?;
+    output_of_finding(alloc, form, &task.settings.env, &task.index, &finding)
 }

@@ -1,5 +1,5 @@
 -- The lines of answers are the compact texts of their values, which have no fractions and are shallow.
-use Rattle.std.proofs.Common.{◌≡◌, ◌≤◌, ◌+◌, ◌||◌, ℕ, Bool, true, false, max, List, [], ◌∷◌, ◌++◌, codes, refl, sym, ap, ap₂, ◌∙◌, arith, append_assoc}
+use Rattle.std.proofs.Common.{◌≡◌, ◌≤◌, ◌+◌, ◌||◌, ℕ, Bool, true, false, max, List, [], ◌∷◌, ◌++◌, codes, zip, refl, sym, ap, ap₂, ◌∙◌, arith, append_assoc}
 use Rattle.std.specs.Prelude.{decimal}
 use Rattle.std.specs.List.{concat}
 use Rattle.std.proofs.lemmas.Bool.{or_from}
@@ -17,8 +17,8 @@ use Rattle.serde_json.specs.Data.{Data, boolean, depth, string}
 use Rattle.serde_json.specs.Read.{max_depth}
 use Rattle.serde_json.specs.Written.{compact_text, has_float}
 use Rattle.plan_json.specs.Line.{IsPlain}
-use Rattle.plan_json.specs.Texts.{choice_json, conflict_json, gave_up_json, line, list_text, node_json, plan_json, skipped_json, truth_text, variable_json, warning_json}
-use Rattle.plan_json.specs.Values.{choice_value, conflict_value, gave_up_value, ids_value, list_of, node_value, plan_value, skipped_value, variable_value, warning_value}
+use Rattle.plan_json.specs.Texts.{choice_json, conflict_json, freed_json, gave_up_json, line, list_text, node_json, not_shrunk_json, plan_json, shrunk_json, skipped_json, truth_text, variable_json, warning_json}
+use Rattle.plan_json.specs.Values.{choice_value, conflict_value, freed_value, gave_up_value, ids_value, list_of, node_value, not_shrunk_value, plan_value, shrunk_value, skipped_value, variable_value, warning_value}
 use Rattle.plan_json.proofs.Lists.{at-most, list-deep, list-text, list-whole}
 
 -- ---- the texts of the parts
@@ -35,6 +35,21 @@ warnings-text warnings = list-text warning_value warning_json (λ warning. refl)
 choice-text : (index : Index) (names : NameTable) (choice : Choice) → compact_text (choice_value index names choice) ≡ choice_json index names choice
 unfolding escape_byte
 choice-text index names choice = refl
+
+-- what becomes possible without a variable, with these choices
+abbrev freed-with : NameTable → Var → List ℕ → List ℕ
+freed-with names v keep = concat (codes "{\"keep\":" ∷ keep ∷ codes ",\"var\":" ∷ variable_json names v ∷ codes "}" ∷ [])
+
+freed-shape : (index : Index) (names : NameTable) (freed : Var × List Choice)
+    → compact_text (freed_value index names freed) ≡ freed-with names freed.0 (compact_text (list_of (choice_value index names) freed.1))
+unfolding escape_byte
+freed-shape index names freed = refl
+
+choices-text : (index : Index) (names : NameTable) (trail : List Choice) → compact_text (list_of (choice_value index names) trail) ≡ list_text (choice_json index names) trail
+choices-text index names trail = list-text (choice_value index names) (choice_json index names) (choice-text index names) trail
+
+freed-text : (index : Index) (names : NameTable) (freed : Var × List Choice) → compact_text (freed_value index names freed) ≡ freed_json index names freed
+freed-text index names freed = freed-shape index names freed ∙ ap (freed-with names freed.0) (choices-text index names freed.1)
 
 truth : (b : Bool) → compact_text (boolean b) ≡ truth_text b
 truth true = refl
@@ -81,6 +96,28 @@ conflict-with counts conflict skipped warnings =
     ∷ codes ",\"warnings\":" ∷ warnings
     ∷ codes "}" ∷ [])
 
+abbrev shrunk-with : Counts → List ℕ → List ℕ → List ℕ → List ℕ → List ℕ
+shrunk-with counts conflict without skipped warnings =
+    concat
+    (codes "{\"conflict\":" ∷ conflict
+    ∷ codes ",\"exhausted\":" ∷ decimal counts.exhausted
+    ∷ codes ",\"skipped\":" ∷ skipped
+    ∷ codes ",\"status\":\"no plan\",\"visited\":" ∷ decimal counts.visited
+    ∷ codes ",\"warnings\":" ∷ warnings
+    ∷ codes ",\"without\":" ∷ without
+    ∷ codes "}" ∷ [])
+
+abbrev not-shrunk-with : ℕ → Counts → List ℕ → List ℕ → List ℕ → List ℕ
+not-shrunk-with spent counts conflict skipped warnings =
+    concat
+    (codes "{\"conflict\":" ∷ conflict
+    ∷ codes ",\"exhausted\":" ∷ decimal counts.exhausted
+    ∷ codes ",\"not_minimised\":" ∷ decimal spent
+    ∷ codes ",\"skipped\":" ∷ skipped
+    ∷ codes ",\"status\":\"no plan\",\"visited\":" ∷ decimal counts.visited
+    ∷ codes ",\"warnings\":" ∷ warnings
+    ∷ codes "}" ∷ [])
+
 abbrev plan-with : Counts → List ℕ → List ℕ → List ℕ → List ℕ → List ℕ
 plan-with counts choices nodes skipped warnings =
     concat
@@ -103,6 +140,18 @@ conflict-shape : (index : Index) (names : NameTable) (set : List Var) (counts : 
 unfolding escape_byte
 conflict-shape index names set counts = refl
 
+shrunk-shape : (index : Index) (names : NameTable) (set : List Var) (maps : List (List Choice)) (counts : Counts)
+    → compact_text (shrunk_value index names set maps counts)
+    ≡ shrunk-with counts (compact_text (list_of (variable_value names) set)) (compact_text (list_of (freed_value index names) (zip set maps))) (compact_text (list_of skipped_value index.skipped)) (compact_text (list_of warning_value index.warnings))
+unfolding escape_byte
+shrunk-shape index names set maps counts = refl
+
+not-shrunk-shape : (index : Index) (names : NameTable) (set : List Var) (spent : ℕ) (counts : Counts)
+    → compact_text (not_shrunk_value index names set spent counts)
+    ≡ not-shrunk-with spent counts (compact_text (list_of (variable_value names) set)) (compact_text (list_of skipped_value index.skipped)) (compact_text (list_of warning_value index.warnings))
+unfolding escape_byte
+not-shrunk-shape index names set spent counts = refl
+
 plan-shape : (index : Index) (names : NameTable) (trail : List Choice) (nodes : List PlanNode) (counts : Counts)
     → compact_text (plan_value index names trail nodes counts)
     ≡ plan-with counts (compact_text (list_of (choice_value index names) trail)) (compact_text (list_of node_value nodes)) (compact_text (list_of skipped_value index.skipped)) (compact_text (list_of warning_value index.warnings))
@@ -121,23 +170,46 @@ module _ (index : Index) where
   gave-up-text counts = ap line (sym (gave-up-shape index counts ∙ ap₂ (gave-up-with counts) skipped-are warnings-are))
 
   module _ (names : NameTable) where
+    variables-text : (set : List Var) → compact_text (list_of (variable_value names) set) ≡ list_text (variable_json names) set
+    variables-text set = list-text (variable_value names) (variable_json names) (λ v. refl) set
+
     pub conflict-text : (set : List Var) (counts : Counts) → conflict_json index names set counts ≡ line (compact_text (conflict_value index names set counts))
     unfolding escape_byte
     conflict-text set counts =
-        let variables : compact_text (list_of (variable_value names) set) ≡ list_text (variable_json names) set =
-        list-text (variable_value names) (variable_json names) (λ v. refl) set in
+        let variables = variables-text set in
         ap line
         (sym
         (conflict-shape index names set counts
         ∙ ap (λ conflict. conflict-with counts conflict (compact_text (list_of skipped_value index.skipped)) (compact_text (list_of warning_value index.warnings))) variables
         ∙ ap₂ (conflict-with counts (list_text (variable_json names) set)) skipped-are warnings-are))
 
+    pub shrunk-text : (set : List Var) (maps : List (List Choice)) (counts : Counts)
+        → shrunk_json index names set maps counts ≡ line (compact_text (shrunk_value index names set maps counts))
+    unfolding escape_byte
+    shrunk-text set maps counts =
+        let freed : compact_text (list_of (freed_value index names) (zip set maps)) ≡ list_text (freed_json index names) (zip set maps) =
+        list-text (freed_value index names) (freed_json index names) (freed-text index names) (zip set maps) in
+        ap line
+        (sym
+        (shrunk-shape index names set maps counts
+        ∙ ap₂ (λ conflict without. shrunk-with counts conflict without (compact_text (list_of skipped_value index.skipped)) (compact_text (list_of warning_value index.warnings))) (variables-text set) freed
+        ∙ ap₂ (shrunk-with counts (list_text (variable_json names) set) (list_text (freed_json index names) (zip set maps))) skipped-are warnings-are))
+
+    pub not-shrunk-text : (set : List Var) (spent : ℕ) (counts : Counts)
+        → not_shrunk_json index names set spent counts ≡ line (compact_text (not_shrunk_value index names set spent counts))
+    unfolding escape_byte
+    not-shrunk-text set spent counts =
+        ap line
+        (sym
+        (not-shrunk-shape index names set spent counts
+        ∙ ap (λ conflict. not-shrunk-with spent counts conflict (compact_text (list_of skipped_value index.skipped)) (compact_text (list_of warning_value index.warnings))) (variables-text set)
+        ∙ ap₂ (not-shrunk-with spent counts (list_text (variable_json names) set)) skipped-are warnings-are))
+
     pub plan-text : (trail : List Choice) (nodes : List PlanNode) (counts : Counts)
         → plan_json index names trail nodes counts ≡ line (compact_text (plan_value index names trail nodes counts))
     unfolding escape_byte
     plan-text trail nodes counts =
-        let choices : compact_text (list_of (choice_value index names) trail) ≡ list_text (choice_json index names) trail =
-        list-text (choice_value index names) (choice_json index names) (choice-text index names) trail in
+        let choices = choices-text index names trail in
         let told : compact_text (list_of node_value nodes) ≡ list_text node_json nodes = list-text node_value node_json node-text nodes in
         ap line
         (sym
@@ -188,6 +260,36 @@ module _ (index : Index) where
 
     pub conflict-plain : (set : List Var) (counts : Counts) → IsPlain (conflict_value index names set counts)
     conflict-plain set counts = record {
+      no_float = or_from _ _ (list-whole (variable_value names) (λ v. refl) set) end-whole;
+      shallow =
+          let conflict = variables-deep set in
+          let skipped = skipped-deep index in
+          let warnings = warnings-deep index in
+          omega (arith, conflict, skipped, warnings);
+    }
+
+    freed-whole : (freed : Var × List Choice) → has_float (freed_value index names freed) ≡ false
+    freed-whole freed = or_from _ _ (list-whole (choice_value index names) (λ choice. refl) freed.1) refl
+
+    freed-deep : (freed : Var × List Choice) → depth (freed_value index names freed) ≤ 3
+    freed-deep freed = let choices = choices-deep freed.1 in omega (arith, choices)
+
+    pub shrunk-plain : (set : List Var) (maps : List (List Choice)) (counts : Counts) → IsPlain (shrunk_value index names set maps counts)
+    shrunk-plain set maps counts = record {
+      no_float =
+          or_from _ _ (list-whole (variable_value names) (λ v. refl) set)
+          (or_from _ _ skipped-whole
+          (or_from _ _ warnings-whole (or_from _ _ (list-whole (freed_value index names) freed-whole (zip set maps)) refl)));
+      shallow =
+          let conflict = variables-deep set in
+          let without = list-deep (freed_value index names) 3 freed-deep (zip set maps) in
+          let skipped = skipped-deep index in
+          let warnings = warnings-deep index in
+          omega (arith, conflict, without, skipped, warnings);
+    }
+
+    pub not-shrunk-plain : (set : List Var) (spent : ℕ) (counts : Counts) → IsPlain (not_shrunk_value index names set spent counts)
+    not-shrunk-plain set spent counts = record {
       no_float = or_from _ _ (list-whole (variable_value names) (λ v. refl) set) end-whole;
       shallow =
           let conflict = variables-deep set in

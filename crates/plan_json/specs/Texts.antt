@@ -1,5 +1,5 @@
 -- The lines of answers as JSON. A text in quotes has a backslash before a quote and a backslash, and its control bytes spelled.
-use Rattle.std.specs.Prelude.{ℕ, Bool, true, false, List, [], ◌∷◌, ◌++◌, flat_map, codes}
+use Rattle.std.specs.Prelude.{ℕ, Bool, true, false, List, [], ◌∷◌, ◌++◌, flat_map, zip, codes}
 use Rattle.std.specs.List.{concat}
 use Rattle.std.specs.Fmt.{decimal}
 use Rattle.json.specs.Print.{quoted}
@@ -86,6 +86,40 @@ conflict_json index names set counts =
     (concat
     (codes "{\"conflict\":" ∷ list_text (variable_json names) set
     ∷ codes ",\"exhausted\":" ∷ decimal counts.exhausted
+    ∷ codes ",\"skipped\":" ∷ list_text skipped_json index.skipped
+    ∷ codes ",\"status\":\"no plan\",\"visited\":" ∷ decimal counts.visited
+    ∷ codes ",\"warnings\":" ∷ list_text warning_json index.warnings
+    ∷ codes "}" ∷ []))
+
+-- what becomes possible without a variable
+abbrev pub freed_json : Index → NameTable → Var × List Choice → List ℕ
+freed_json index names freed =
+    concat
+    (codes "{\"keep\":" ∷ list_text (choice_json index names) freed.1
+    ∷ codes ",\"var\":" ∷ variable_json names freed.0
+    ∷ codes "}" ∷ [])
+
+-- a set from which nothing can be dropped, and what becomes possible without each of its variables
+abbrev pub shrunk_json : Index → NameTable → List Var → List (List Choice) → Counts → List ℕ
+shrunk_json index names set maps counts =
+    line
+    (concat
+    (codes "{\"conflict\":" ∷ list_text (variable_json names) set
+    ∷ codes ",\"exhausted\":" ∷ decimal counts.exhausted
+    ∷ codes ",\"skipped\":" ∷ list_text skipped_json index.skipped
+    ∷ codes ",\"status\":\"no plan\",\"visited\":" ∷ decimal counts.visited
+    ∷ codes ",\"warnings\":" ∷ list_text warning_json index.warnings
+    ∷ codes ",\"without\":" ∷ list_text (freed_json index names) (zip set maps)
+    ∷ codes "}" ∷ []))
+
+-- a set that could not be shrunk within so many exhausted points
+abbrev pub not_shrunk_json : Index → NameTable → List Var → ℕ → Counts → List ℕ
+not_shrunk_json index names set spent counts =
+    line
+    (concat
+    (codes "{\"conflict\":" ∷ list_text (variable_json names) set
+    ∷ codes ",\"exhausted\":" ∷ decimal counts.exhausted
+    ∷ codes ",\"not_minimised\":" ∷ decimal spent
     ∷ codes ",\"skipped\":" ∷ list_text skipped_json index.skipped
     ∷ codes ",\"status\":\"no plan\",\"visited\":" ∷ decimal counts.visited
     ∷ codes ",\"warnings\":" ∷ list_text warning_json index.warnings

@@ -1,5 +1,5 @@
 -- Answers as values of JSON. The keys of an object stand in the order of their bytes.
-use Rattle.std.specs.Prelude.{ℕ, List, map, codes}
+use Rattle.std.specs.Prelude.{ℕ, List, map, zip, codes}
 use Rattle.serde_json.specs.Data.{Data, Members, array, boolean, number, object, string, unsigned, member, no_members, put}
 use Rattle.serde_json.specs.View.{items_of}
 use Rattle.plan_types.specs.declared.index.Index.{Index}
@@ -82,6 +82,35 @@ conflict_value index names set counts =
     (member (codes "status") (string (codes "no plan"))
     (member (codes "visited") (number (unsigned counts.visited))
     (member (codes "warnings") (list_of warning_value index.warnings) no_members))))))
+
+-- what becomes possible without a variable
+abbrev pub freed_value : Index → NameTable → Var × List Choice → Data
+freed_value index names freed =
+    object (member (codes "keep") (list_of (choice_value index names) freed.1) (member (codes "var") (variable_value names freed.0) no_members))
+
+-- a set from which nothing can be dropped, and what becomes possible without each of its variables
+abbrev pub shrunk_value : Index → NameTable → List Var → List (List Choice) → Counts → Data
+shrunk_value index names set maps counts =
+    object
+    (member (codes "conflict") (list_of (variable_value names) set)
+    (member (codes "exhausted") (number (unsigned counts.exhausted))
+    (member (codes "skipped") (list_of skipped_value index.skipped)
+    (member (codes "status") (string (codes "no plan"))
+    (member (codes "visited") (number (unsigned counts.visited))
+    (member (codes "warnings") (list_of warning_value index.warnings)
+    (member (codes "without") (list_of (freed_value index names) (zip set maps)) no_members)))))))
+
+-- a set that could not be shrunk within so many exhausted points
+abbrev pub not_shrunk_value : Index → NameTable → List Var → ℕ → Counts → Data
+not_shrunk_value index names set spent counts =
+    object
+    (member (codes "conflict") (list_of (variable_value names) set)
+    (member (codes "exhausted") (number (unsigned counts.exhausted))
+    (member (codes "not_minimised") (number (unsigned spent))
+    (member (codes "skipped") (list_of skipped_value index.skipped)
+    (member (codes "status") (string (codes "no plan"))
+    (member (codes "visited") (number (unsigned counts.visited))
+    (member (codes "warnings") (list_of warning_value index.warnings) no_members)))))))
 
 -- a search that gave up
 abbrev pub gave_up_value : Index → Counts → Data

@@ -2,11 +2,11 @@
 ghost use Rattle.std.specs.Prelude.{◌≡◌, IfOk, OnOk};
 ghost use Rattle.serde_json.specs.View.{members_view, view};
 ghost use Rattle.plan_json.specs.Line.{ReadsAs};
-ghost use Rattle.plan_json.specs.Texts.{conflict_json, gave_up_json, plan_json};
-ghost use Rattle.plan_json.specs.Values.{conflict_value, gave_up_value, plan_value, with_end};
+ghost use Rattle.plan_json.specs.Texts.{conflict_json, gave_up_json, not_shrunk_json, plan_json, shrunk_json};
+ghost use Rattle.plan_json.specs.Values.{conflict_value, gave_up_value, not_shrunk_value, plan_value, shrunk_value, with_end};
 
 use crate::line::line_of;
-use crate::parts::{choice_list, node_list, skipped_list, variable_list, warning_list};
+use crate::parts::{choice_list, freed_list, node_list, skipped_list, variable_list, warning_list};
 use choice_problem::{Choice, ConflictSet, Counts};
 use plan_nodes::PlanNode;
 use plan_types::{Index, List, NoMemory, Text};
@@ -43,6 +43,39 @@ pub fn json_of_conflict(
     ensures reads { IfOk result (ReadsAs (conflict_value index.now names.now set.now counts)) }
 {
     let value = conflict_value(alloc, set, index, names, counts)?;
+    line_of(alloc, &value)
+}
+
+/// That there is no plan: the variables of a set from which nothing can be dropped, and for each the choices that hold within the
+/// set without it.
+pub fn json_of_shrunk(
+    alloc: Global,
+    set: &ConflictSet,
+    maps: &List<List<Choice>>,
+    index: &Index,
+    names: &Names,
+    counts: Counts,
+) -> Result<Text, NoMemory>
+    ensures text { IfOk result (λ text. text ≡ shrunk_json index.now names.now set.now maps.now counts) }
+    ensures reads { IfOk result (ReadsAs (shrunk_value index.now names.now set.now maps.now counts)) }
+{
+    let value = shrunk_value(alloc, set, maps, index, names, counts)?;
+    line_of(alloc, &value)
+}
+
+/// That there is no plan: the variables that can't be met together, and that so many exhausted points didn't suffice to shrink them.
+pub fn json_of_not_shrunk(
+    alloc: Global,
+    set: &ConflictSet,
+    spent: u64,
+    index: &Index,
+    names: &Names,
+    counts: Counts,
+) -> Result<Text, NoMemory>
+    ensures text { IfOk result (λ text. text ≡ not_shrunk_json index.now names.now set.now spent counts) }
+    ensures reads { IfOk result (ReadsAs (not_shrunk_value index.now names.now set.now spent counts)) }
+{
+    let value = not_shrunk_value(alloc, set, spent, index, names, counts)?;
     line_of(alloc, &value)
 }
 
@@ -85,6 +118,43 @@ fn conflict_value(
 {
     let conflict = variable_list(alloc, set.vars(), names)?;
     let mut members = Map::new(alloc);
+    put(&mut members, alloc, "conflict", conflict)?;
+    put_end(&mut members, alloc, "no plan", index, counts)?;
+    Ok(Value::from(members))
+}
+
+fn shrunk_value(
+    alloc: Global,
+    set: &ConflictSet,
+    maps: &List<List<Choice>>,
+    index: &Index,
+    names: &Names,
+    counts: Counts,
+) -> Result<Value, NoMemory>
+    ensures { IfOk result (λ value. view value ≡ shrunk_value index.now names.now set.now maps.now counts) }
+{
+    let conflict = variable_list(alloc, set.vars(), names)?;
+    let without = freed_list(alloc, set.vars(), maps.as_slice(), index, names)?;
+    let mut members = Map::new(alloc);
+    put(&mut members, alloc, "without", without)?;
+    put(&mut members, alloc, "conflict", conflict)?;
+    put_end(&mut members, alloc, "no plan", index, counts)?;
+    Ok(Value::from(members))
+}
+
+fn not_shrunk_value(
+    alloc: Global,
+    set: &ConflictSet,
+    spent: u64,
+    index: &Index,
+    names: &Names,
+    counts: Counts,
+) -> Result<Value, NoMemory>
+    ensures { IfOk result (λ value. view value ≡ not_shrunk_value index.now names.now set.now spent counts) }
+{
+    let conflict = variable_list(alloc, set.vars(), names)?;
+    let mut members = Map::new(alloc);
+    put(&mut members, alloc, "not_minimised", Value::from(spent))?;
     put(&mut members, alloc, "conflict", conflict)?;
     put_end(&mut members, alloc, "no plan", index, counts)?;
     Ok(Value::from(members))

@@ -8,5 +8,7 @@ mod laws;
 mod line;
 mod parts;
 
-pub use answers::{json_of_conflict, json_of_giving_up, json_of_plan};
+pub use answers::{
+    json_of_conflict, json_of_giving_up, json_of_not_shrunk, json_of_plan, json_of_shrunk,
+};
 pub use laws::compact_texts;

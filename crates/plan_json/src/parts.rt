@@ -1,17 +1,17 @@
 // The lists of an answer: choices, nodes, and what stands in their lines besides.
-ghost use Rattle.std.specs.Prelude.{◌≡◌, ◌∷◌, ◌++◌, [], IfOk, OnOk, map, fold};
+ghost use Rattle.std.specs.Prelude.{◌≡◌, ◌∷◌, ◌++◌, [], IfOk, OnOk, map, fold, zip};
 ghost use Rattle.std.specs.BTreeSet.{insert_key};
 ghost use Rattle.std.specs.Cmp.Lexicographic.{slice_cmp};
 ghost use Rattle.std.specs.Ordering.{nat_cmp};
 ghost use Rattle.serde_json.specs.Data.{put as with_member, string};
 ghost use Rattle.serde_json.specs.View.{members_view, view};
 ghost use Rattle.plan_nodes.specs.Line.{kind_word};
-ghost use Rattle.plan_json.specs.Values.{choice_value, ids_value, list_of, node_value, skipped_value, variable_value, warning_value};
+ghost use Rattle.plan_json.specs.Values.{choice_value, freed_value, ids_value, list_of, node_value, skipped_value, variable_value, warning_value};
 
 use choice_problem::{Choice, Var};
 use plan_nodes::{NodeKind, PlanNode, package_text};
 use plan_print::{skipped_note, value_text, warning_note};
-use plan_types::{Index, NoMemory, Skipped, Text, Warning};
+use plan_types::{Index, List, NoMemory, Skipped, Text, Warning};
 use qualified_goals::Names;
 use serde_json::{Map, Value, json, put};
 use std::alloc::Global;
@@ -58,6 +58,29 @@ pub fn variable_list(alloc: Global, vars: &[Var], names: &Names) -> Result<Value
     Ok(Value::from(items))
 }
 
+/// What becomes possible without each variable of a set.
+pub fn freed_list(
+    alloc: Global,
+    set: &[Var],
+    maps: &[List<Choice>],
+    index: &Index,
+    names: &Names,
+) -> Result<Value, NoMemory>
+    ensures { IfOk result (λ value. view value ≡ list_of (freed_value index.now names.now) (zip set.now maps.now)) }
+{
+    let mut items = Vec::new(alloc);
+    let mut rest = set;
+    for kept in maps {
+        let [var, others @ ..] = rest else {
+            return Ok(Value::from(items));
+        };
+        let item = freed_value(alloc, *var, kept.as_slice(), index, names)?;
+        push(&mut items, item)?;
+        rest = others;
+    }
+    Ok(Value::from(items))
+}
+
 /// What is said of the files that were skipped.
 pub fn skipped_list(alloc: Global, skipped: &[Skipped]) -> Result<Value, NoMemory>
     ensures { IfOk result (λ value. view value ≡ list_of skipped_value skipped.now) }
@@ -94,6 +117,23 @@ fn choice_value(
     let var = names.print_var(alloc, choice.var)?;
     let value = json!(in alloc; {"value": chosen.as_str(), "var": var.as_str()})?;
     Ok(value)
+}
+
+fn freed_value(
+    alloc: Global,
+    var: Var,
+    kept: &[Choice],
+    index: &Index,
+    names: &Names,
+) -> Result<Value, NoMemory>
+    ensures { IfOk result (λ value. view value ≡ freed_value index.now names.now (var, kept.now)) }
+{
+    let keep = choice_list(alloc, kept, index, names)?;
+    let shown = names.print_var(alloc, var)?;
+    let mut members = Map::new(alloc);
+    put(&mut members, alloc, "keep", keep)?;
+    put_text(&mut members, alloc, "var", shown.as_str())?;
+    Ok(Value::from(members))
 }
 
 fn node_value(alloc: Global, node: &PlanNode) -> Result<Value, NoMemory>

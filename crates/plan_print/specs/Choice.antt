@@ -44,6 +44,14 @@ part_value entries value Benches = switch_text value
 abbrev pub value_text : Index → Choice → List ℕ
 value_text index choice = part_value (entries_of index.packages choice.var.«package») choice.val choice.var.part
 
--- the line of a choice
+-- a line of a choice: a word, the variable and the value
+abbrev pub line_of : List ℕ → Index → NameTable → Choice → List ℕ
+line_of word index names choice = word ++ codes " " ++ var_text names choice.var ++ codes " " ++ value_text index choice ++ 10 ∷ []
+
+-- the line of a choice of a plan
 abbrev pub choice_line : Index → NameTable → Choice → List ℕ
-choice_line index names choice = codes "choose " ++ var_text names choice.var ++ codes " " ++ value_text index choice ++ 10 ∷ []
+choice_line index names choice = line_of (codes "choose") index names choice
+
+-- the line of a choice that holds where a variable is dropped
+abbrev pub keep_line : Index → NameTable → Choice → List ℕ
+keep_line index names choice = line_of (codes "keep") index names choice

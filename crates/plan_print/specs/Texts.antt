@@ -1,5 +1,5 @@
 -- The texts of answers, each line with its end.
-use Rattle.std.specs.Prelude.{ℕ, ◌==◌, List, [], ◌∷◌, ◌++◌, length, flat_map, codes, if◌then◌else◌}
+use Rattle.std.specs.Prelude.{ℕ, ◌==◌, List, [], ◌∷◌, ◌++◌, length, flat_map, zip, codes, if◌then◌else◌}
 use Rattle.std.specs.Fmt.{decimal}
 use Rattle.plan_types.specs.declared.index.Index.{Index}
 use Rattle.plan_types.specs.declared.refusal.Refusal.{Refusal}
@@ -13,7 +13,7 @@ use Rattle.plan_nodes.specs.Line.{node_line}
 use Rattle.plan_print.specs.Cause.{cause_name}
 use Rattle.plan_print.specs.Place.{where_of}
 use Rattle.plan_print.specs.Note.{notes_text}
-use Rattle.plan_print.specs.Choice.{choice_line}
+use Rattle.plan_print.specs.Choice.{choice_line, keep_line}
 
 -- the line of the counts
 abbrev pub counts_line : Counts → List ℕ
@@ -36,6 +36,24 @@ conflict_line names set = codes "conflict" ++ flat_map (named_var names) set ++ 
 abbrev pub conflict_text : Index → NameTable → List Var → Counts → List ℕ
 conflict_text index names set counts =
     codes "no plan" ++ 10 ∷ notes_text index ++ conflict_line names set ++ counts_line counts
+
+-- the lines of a variable of a shrunk set: what is dropped, and the choices that hold then
+abbrev pub freed_lines : Index → NameTable → Var × List Choice → List ℕ
+freed_lines index names freed = codes "without" ++ named_var names freed.0 ++ 10 ∷ flat_map (keep_line index names) freed.1
+
+-- a set from which nothing can be dropped, and for each of its variables what becomes possible without it
+abbrev pub shrunk_text : Index → NameTable → List Var → List (List Choice) → Counts → List ℕ
+shrunk_text index names set maps counts =
+    codes "no plan" ++ 10 ∷ notes_text index ++ conflict_line names set ++ flat_map (freed_lines index names) (zip set maps) ++ counts_line counts
+
+-- the line of how many points were exhausted when a set could not be shrunk
+abbrev pub spent_line : ℕ → List ℕ
+spent_line spent = codes "not minimised " ++ decimal spent ++ 10 ∷ []
+
+-- a set that could not be shrunk within so many exhausted points
+abbrev pub not_shrunk_text : Index → NameTable → List Var → ℕ → Counts → List ℕ
+not_shrunk_text index names set spent counts =
+    codes "no plan" ++ 10 ∷ notes_text index ++ conflict_line names set ++ spent_line spent ++ counts_line counts
 
 -- the text of a search that gave up
 abbrev pub gave_up_text : Index → Counts → List ℕ

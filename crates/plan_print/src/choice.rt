@@ -1,6 +1,6 @@
 // The line of a choice.
 ghost use Rattle.std.specs.Prelude.{◌≡◌, ◌++◌, IfOk, OnOk, slice_get};
-ghost use Rattle.plan_print.specs.Choice.{choice_line, entry_text, instance_text, origin_text, switch_text, value_text};
+ghost use Rattle.plan_print.specs.Choice.{entry_text, instance_text, line_of, origin_text, switch_text, value_text};
 ghost use Rattle.plan_types.specs.Packages.{entries_of};
 
 use choice_problem::Choice;
@@ -9,17 +9,19 @@ use qualified_goals::{Names, Part};
 use std::alloc::Global;
 use version_range::print_version;
 
-// The line of a choice: its variable and its value.
+// A line of a choice: a word, its variable and its value.
 pub fn push_choice(
     alloc: Global,
     text: &mut Text,
+    word: &str,
     choice: Choice,
     index: &Index,
     names: &Names,
 ) -> Result<(), NoMemory>
-    ensures { OnOk result (text.new ≡ text.old ++ choice_line index.now names.now choice) }
+    ensures { OnOk result (text.new ≡ text.old ++ line_of word.now index.now names.now choice) }
 {
-    text.push_str("choose ")?;
+    text.push_str(word)?;
+    text.push_str(" ")?;
     let shown = names.print_var(alloc, choice.var)?;
     text.push_str(shown.as_str())?;
     text.push_str(" ")?;

@@ -12,4 +12,7 @@ mod texts;
 pub use choice::value_text;
 pub use note::{skipped_note, warning_note};
 pub use summary::text_of_summary;
-pub use texts::{text_of_conflict, text_of_giving_up, text_of_plan, text_of_refusal};
+pub use texts::{
+    text_of_conflict, text_of_giving_up, text_of_not_shrunk, text_of_plan, text_of_refusal,
+    text_of_shrunk,
+};

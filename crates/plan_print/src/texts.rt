@@ -1,8 +1,8 @@
 // The texts of answers.
-ghost use Rattle.std.specs.Prelude.{◌≡◌, ◌++◌, IfOk, OnOk, flat_map};
+ghost use Rattle.std.specs.Prelude.{◌≡◌, ◌++◌, IfOk, OnOk, flat_map, zip};
 ghost use Rattle.plan_nodes.specs.Line.{node_line};
-ghost use Rattle.plan_print.specs.Choice.{choice_line};
-ghost use Rattle.plan_print.specs.Texts.{named_var, conflict_line, counts_line, plan_text, conflict_text, gave_up_text, detail_text, refusal_text};
+ghost use Rattle.plan_print.specs.Choice.{choice_line, keep_line};
+ghost use Rattle.plan_print.specs.Texts.{named_var, conflict_line, counts_line, plan_text, conflict_text, freed_lines, gave_up_text, detail_text, not_shrunk_text, refusal_text, shrunk_text, spent_line};
 
 use crate::cause::cause_name;
 use crate::choice::push_choice;
@@ -51,6 +51,45 @@ pub fn text_of_conflict(
     Ok(text)
 }
 
+/// That there is no plan: the variables of a set from which nothing can be dropped, and for each the choices that hold within the
+/// set without it.
+pub fn text_of_shrunk(
+    alloc: Global,
+    set: &ConflictSet,
+    maps: &List<List<Choice>>,
+    index: &Index,
+    names: &Names,
+    counts: Counts,
+) -> Result<Text, NoMemory>
+    ensures { IfOk result (λ text. text ≡ shrunk_text index.now names.now set.now maps.now counts) }
+{
+    let mut text = Text::from_str(alloc, "no plan\n")?;
+    push_notes(alloc, &mut text, index)?;
+    push_conflict(alloc, &mut text, set.vars(), names)?;
+    push_freed(alloc, &mut text, set.vars(), maps.as_slice(), index, names)?;
+    push_counts(alloc, &mut text, counts)?;
+    Ok(text)
+}
+
+/// That there is no plan: the variables that can't be met together, and that so many exhausted points didn't suffice to shrink them.
+pub fn text_of_not_shrunk(
+    alloc: Global,
+    set: &ConflictSet,
+    spent: u64,
+    index: &Index,
+    names: &Names,
+    counts: Counts,
+) -> Result<Text, NoMemory>
+    ensures { IfOk result (λ text. text ≡ not_shrunk_text index.now names.now set.now spent counts) }
+{
+    let mut text = Text::from_str(alloc, "no plan\n")?;
+    push_notes(alloc, &mut text, index)?;
+    push_conflict(alloc, &mut text, set.vars(), names)?;
+    push_spent(alloc, &mut text, spent)?;
+    push_counts(alloc, &mut text, counts)?;
+    Ok(text)
+}
+
 /// That the search met its limit: what a user should know of the index, and the counts of the search.
 pub fn text_of_giving_up(alloc: Global, index: &Index, counts: Counts) -> Result<Text, NoMemory>
     ensures { IfOk result (λ text. text ≡ gave_up_text index.now counts) }
@@ -84,7 +123,60 @@ fn push_trail(
     ensures { OnOk result (text.new ≡ text.old ++ flat_map (choice_line index.now names.now) trail.now) }
 {
     for choice in trail {
-        push_choice(alloc, text, *choice, index, names)?;
+        push_choice(alloc, text, "choose", *choice, index, names)?;
+    }
+    Ok(())
+}
+
+// What becomes possible without each variable.
+fn push_freed(
+    alloc: Global,
+    text: &mut Text,
+    set: &[Var],
+    maps: &[List<Choice>],
+    index: &Index,
+    names: &Names,
+) -> Result<(), NoMemory>
+    ensures { OnOk result (text.new ≡ text.old ++ flat_map (freed_lines index.now names.now) (zip set.now maps.now)) }
+{
+    let mut rest = set;
+    for kept in maps {
+        let [var, others @ ..] = rest else {
+            return Ok(());
+        };
+        push_freed_var(alloc, text, *var, kept.as_slice(), index, names)?;
+        rest = others;
+    }
+    Ok(())
+}
+
+fn push_freed_var(
+    alloc: Global,
+    text: &mut Text,
+    var: Var,
+    kept: &[Choice],
+    index: &Index,
+    names: &Names,
+) -> Result<(), NoMemory>
+    ensures { OnOk result (text.new ≡ text.old ++ freed_lines index.now names.now (var, kept.now)) }
+{
+    text.push_str("without")?;
+    push_var(alloc, text, var, names)?;
+    text.push_str("\n")?;
+    push_kept(alloc, text, kept, index, names)
+}
+
+fn push_kept(
+    alloc: Global,
+    text: &mut Text,
+    kept: &[Choice],
+    index: &Index,
+    names: &Names,
+) -> Result<(), NoMemory>
+    ensures { OnOk result (text.new ≡ text.old ++ flat_map (keep_line index.now names.now) kept.now) }
+{
+    for choice in kept {
+        push_choice(alloc, text, "keep", *choice, index, names)?;
     }
     Ok(())
 }
@@ -116,11 +208,24 @@ fn push_vars(alloc: Global, text: &mut Text, vars: &[Var], names: &Names) -> Res
     ensures { OnOk result (text.new ≡ text.old ++ flat_map (named_var names.now) vars.now) }
 {
     for var in vars {
-        text.push_str(" ")?;
-        let shown = names.print_var(alloc, *var)?;
-        text.push_str(shown.as_str())?;
+        push_var(alloc, text, *var, names)?;
     }
     Ok(())
+}
+
+fn push_var(alloc: Global, text: &mut Text, var: Var, names: &Names) -> Result<(), NoMemory>
+    ensures { OnOk result (text.new ≡ text.old ++ named_var names.now var) }
+{
+    text.push_str(" ")?;
+    let shown = names.print_var(alloc, var)?;
+    text.push_str(shown.as_str())
+}
+
+fn push_spent(alloc: Global, text: &mut Text, spent: u64) -> Result<(), NoMemory>
+    ensures { OnOk result (text.new ≡ text.old ++ spent_line spent) }
+{
+    let line = format!(in alloc; "not minimised {spent}\n")?;
+    text.push_str(line.as_str())
 }
 
 // The line of the counts of a search.

@@ -1,5 +1,5 @@
 -- What a finding means, by the problem with whole conditions.
-use Rattle.std.specs.Prelude.{◌≡◌, ℕ, List}
+use Rattle.std.specs.Prelude.{◌≡◌, ℕ, Bool, List}
 use Rattle.plan_types.specs.declared.index.Index.{Index}
 use Rattle.plan_types.specs.declared.limit.Limit.TheVariants.{At}
 use Rattle.plan_types.specs.declared.project.Settings.{Settings}
@@ -22,6 +22,8 @@ use Rattle.solver_index.specs.Orders.{AreOrders}
 use Rattle.plan_search.specs.declared.search.Finding.{Finding}
 use Rattle.plan_search.specs.declared.search.Picking.{Picking}
 use Rattle.plan_search.specs.declared.search.Picking.TheVariants.{Least, MostMet}
+use Rattle.plan_search.specs.Blame.{IsBlame}
+use Rattle.plan_search.specs.declared.blame.Blame.{Blame}
 use Rattle.plan_search.specs.Finding.{guide_of}
 
 -- the problem of packages with whole conditions, by the numbers of their names
@@ -72,6 +74,19 @@ MeansOutcome picking index settings names (outcome.Found trail counts) = MeansTr
 MeansOutcome picking index settings names (outcome.NoPlan set counts) = AreToBlame index settings names set
 MeansOutcome picking index settings names (outcome.GaveUp counts) = MeetsLimit picking index settings names
 
+-- what is told of these variables besides
+pub record IsBlamed (minimize : Bool) (index : Index) (settings : Settings) (names : NameTable) (set : List Var) (blame : Blame) : Type 0 where
+  pub problem : General
+  pub problem_is : IsWholeProblem index settings names problem
+  pub is_so : IsBlame minimize problem settings.limit set blame
+
+-- what is told of a failure means
+abbrev pub MeansFailure : Bool → Index → Settings → NameTable → Outcome → Blame → Type 0
+MeansFailure minimize index settings names (outcome.Found trail counts) blame = Unit {0}
+MeansFailure minimize index settings names (outcome.NoPlan set counts) blame = IsBlamed minimize index settings names set blame
+MeansFailure minimize index settings names (outcome.GaveUp counts) blame = Unit {0}
+
 -- what a finding means
-abbrev pub Means : Picking → Index → Settings → Finding → Type 0
-Means picking index settings finding = MeansOutcome picking index settings finding.names finding.outcome
+pub record Means (picking : Picking) (minimize : Bool) (index : Index) (settings : Settings) (finding : Finding) : Type 0 where
+  pub outcome : MeansOutcome picking index settings finding.names finding.outcome
+  pub failure : MeansFailure minimize index settings finding.names finding.outcome finding.blame

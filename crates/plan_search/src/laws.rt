@@ -1,11 +1,11 @@
 // What a search over an index finds is right, and it finds one thing.
-ghost use Rattle.std.specs.Prelude.{◌≡◌, true};
+ghost use Rattle.std.specs.Prelude.{◌≡◌, Bool, true};
 ghost use Rattle.std.specs.List.{list_all};
 ghost use Rattle.flatten.specs.Sound.{IsSound, has_package};
 ghost use Rattle.plan_types.specs.declared.index.Index.{Index};
 ghost use Rattle.plan_types.specs.declared.project.Settings.{Settings};
 ghost use Rattle.plan_search.specs.Finding.{IsFindingOf};
-ghost use Rattle.plan_search.specs.Meaning.{Means};
+ghost use Rattle.plan_search.specs.Meaning.{MeansOutcome};
 ghost use Rattle.plan_search.specs.declared.search.Finding.{Finding};
 ghost use Rattle.plan_search.specs.declared.search.Picking.{Picking};
 
@@ -15,9 +15,9 @@ use choice_problem::{ends_right, ends_valid, limit_only_gives_up};
 /// By the problem with whole conditions: a trail that is found is the first whole valid assignment, or where conflicts are counted a
 /// whole valid assignment; a set admits none where there is no such assignment at all; and a search gives up at a limit alone.
 pub fn what_is_found_is_right()
-    ensures { (picking : Picking) (index : Index) (settings : Settings) (finding : Finding)
+    ensures { (picking : Picking) (minimize : Bool) (index : Index) (settings : Settings) (finding : Finding)
         → IsSound settings.env index → list_all (λ named. has_package index named.name) settings.project.extra ≡ true
-        → IsFindingOf picking index settings finding → Means picking index settings finding }
+        → IsFindingOf picking minimize index settings finding → MeansOutcome picking index settings finding.names finding.outcome }
 {
     ends_right();
     ends_valid();
@@ -28,8 +28,8 @@ pub fn what_is_found_is_right()
 
 /// A search over an index finds one thing, by one table of names.
 pub fn one_finding()
-    ensures { (picking : Picking) (index : Index) (settings : Settings) (a b : Finding)
-        → IsFindingOf picking index settings a → IsFindingOf picking index settings b → a ≡ b }
+    ensures { (picking : Picking) (minimize : Bool) (index : Index) (settings : Settings) (a b : Finding)
+        → IsFindingOf picking minimize index settings a → IsFindingOf picking minimize index settings b → a ≡ b }
 {
     one_problem();
 }

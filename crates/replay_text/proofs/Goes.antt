@@ -1,5 +1,5 @@
 -- Lines, one after another.
-use Rattle.std.proofs.Common.{◌≡◌, ◌+◌, ⊎_elim, inl, inr, ℕ, suc, zero, List, [], ◌∷◌, ◌++◌, refl, sym, subst, ap, arith, append_assoc}
+use Rattle.std.proofs.Common.{◌≡◌, ◌+◌, ⊎_elim, inl, inr, ℕ, suc, zero, List, [], ◌∷◌, ◌++◌, refl, sym, subst, ap, ◌∙◌, arith, append_assoc}
 use Rattle.replay_text.specs.declared.event.EventsFault.{EventsFault}
 use Rattle.replay_text.specs.declared.event.EventsFault.TheVariants.{NoMemory, Bad}
 use Rattle.replay_text.specs.declared.event.JobEvent.{JobEvent}
@@ -32,3 +32,8 @@ module _ (whole rest more : List (List ℕ)) (line : List ℕ) where
   bad_here number NoMemory split bad b = tt
   bad_here number (Bad told) split bad b =
       subst (λ k. IsFirstBad whole k) (sym b.0) (bad (suc zero) (subst (λ l. IsFirstBad l (suc zero)) (sym split) (here line b.1)))
+
+-- the number that is told of a bad line
+pub bad_number : (number : ℕ) (fault : EventsFault) (line : List ℕ) (told : ℕ) → BadAt line number fault → fault ≡ Bad told → told ≡ number
+bad_number number NoMemory line told b e = absurd (cc e)
+bad_number number (Bad n) line told b e = let same : n ≡ told = cc e in sym same ∙ b.0

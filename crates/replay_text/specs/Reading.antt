@@ -1,5 +1,5 @@
 -- The lines of a file of events.
-use Rattle.std.specs.Prelude.{◌≡◌, ◌+◌, ◌⊎◌, ℕ, zero, suc, List, [], ◌∷◌, ◌++◌, codes}
+use Rattle.std.specs.Prelude.{◌≡◌, ◌+◌, ◌⊎◌, ℕ, zero, suc, List, [], ◌∷◌, ◌++◌, Result, Ok, Err, codes}
 use Rattle.std.specs.Fmt.{decimal}
 use Rattle.version_range.specs.Version.{IsNumber}
 use Rattle.replay_text.specs.declared.event.EventsFault.{EventsFault}
@@ -42,6 +42,11 @@ IsGood line = (line ≡ []) ⊎ ((event : JobEvent) × IsLineOf event line)
 pub data IsFirstBad : List (List ℕ) → ℕ → Type 0 where
   here : {lines : List (List ℕ)} (line : List ℕ) → (IsGood line → ⊥) → IsFirstBad (line ∷ lines) (suc zero)
   later : {lines : List (List ℕ)} {number : ℕ} (line : List ℕ) → IsGood line → IsFirstBad lines number → IsFirstBad (line ∷ lines) (suc number)
+
+-- lines tell these events, or this is the first that is bad
+abbrev pub AreRead : List (List ℕ) → Result (List JobEvent) ℕ → Type 0
+AreRead lines (Ok events) = AreEvents lines events
+AreRead lines (Err number) = IsFirstBad lines number
 
 -- what is told where lines aren't read
 abbrev pub FirstBad : List (List ℕ) → EventsFault → Type 0

@@ -3,11 +3,13 @@
 #![tactic(auto)]
 
 mod event;
+mod laws;
 mod lines;
 mod print;
 mod read;
 mod standing;
 
 pub use event::{EventsFault, JobEvent};
+pub use laws::{one_reading, one_replay};
 pub use print::replay_text;
 pub use read::read_events;

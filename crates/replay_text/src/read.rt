@@ -1,5 +1,5 @@
 // Reading events.
-ghost use Rattle.std.specs.Prelude.{◌≡◌, ◌+◌, ℕ, OnOk, MatchOption, MatchResult};
+ghost use Rattle.std.specs.Prelude.{◌≡◌, ◌+◌, ◌≤◌, ℕ, Err, length, OnOk, MatchOption, MatchResult};
 ghost use Rattle.std.specs.Fmt.{decimal};
 ghost use Rattle.std.specs.Str.Lines.{lines};
 ghost use Rattle.version_range.specs.Version.{IsNumber};
@@ -13,7 +13,8 @@ use version_range::number_at;
 
 /// The events of a file, a line each. Empty lines are passed over.
 pub fn read_events(alloc: Global, bytes: &[u8]) -> Result<List<JobEvent>, EventsFault>
-    ensures { MatchResult result (AreEvents (lines bytes.now)) (FirstBad (lines bytes.now)) }
+    ensures read { MatchResult result (AreEvents (lines bytes.now)) (FirstBad (lines bytes.now)) }
+    ensures within { (number : ℕ) → result ≡ Err (EventsFault.Bad number) → number ≤ length bytes.now }
 {
     let mut events = List::new(alloc);
     let mut number = 0;

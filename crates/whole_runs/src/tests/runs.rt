@@ -262,6 +262,121 @@ node store c-2 lib c-2-8839e8057dd3a0028ae850def018b4e4f651ebe23df90b01566a73a9d
 node local main-1 lib main-1-inplace needs b-1-1812b140f077283c38d7c708cc6ea95dfbee2f31b6453ff8d6f8b872726f6c99 c-2-8839e8057dd3a0028ae850def018b4e4f651ebe23df90b01566a73a9db4777c1
 visited 7 exhausted 2";
 
+// Builds at events.
+pub(crate) const BUILD_RUNS: &str = "\
+$ cabal-plan replay --slots=2
+main.cabal main 1 b, c
+index/b/2/b.cabal b 2 c ==1
+index/b/1/b.cabal b 1 a
+index/a/1/a.cabal a 1
+index/a/2/a.cabal a 2
+index/c/1/c.cabal c 1 missing
+index/c/2/c.cabal c 2
+events: start;start;start;completed 1;start;failed 2;start;completed 3
+=> 0
+replay
+start 1 a-2-e5cbed83b11365e2d1cd911ae685e40697ce01aa6ad1592b97725fdb0e88a3cd
+start 3 c-2-8839e8057dd3a0028ae850def018b4e4f651ebe23df90b01566a73a9db4777c1
+start NoSlot
+completed 1
+start 2 b-1-1812b140f077283c38d7c708cc6ea95dfbee2f31b6453ff8d6f8b872726f6c99
+failed 2
+start NoneReady
+completed 3
+completed 2 failed 1 running 0 waiting 0 held 1
+
+$ cabal-plan replay --events=told/first
+main.cabal: cabal-version: 2.4;name: main;version: 1;build-type: Custom;custom-setup;  setup-depends: base ==4.17;library;  build-depends: base ==4.18
+installed/a.conf: name: base;version: 4.17;id: base-4.17
+installed/b.conf: name: base;version: 4.18;id: base-4.18
+told/first: completed 1;start;start;completed 3
+=> 0
+replay
+completed 1 NotRunning
+start 3 main-1-inplace
+start NoSlot
+completed 3
+completed 3 failed 0 running 0 waiting 0 held 0
+
+$ cabal-plan replay
+main.cabal: cabal-version: 2.4;name: main;version: 1;build-type: Custom;custom-setup;  setup-depends: base ==4.17;library;  build-depends: base ==4.18
+installed/a.conf: name: base;version: 4.17;id: base-4.17
+installed/b.conf: name: base;version: 4.18;id: base-4.18
+events: completed 1;stop
+=> 3
+refused events:2 BadEvent
+
+$ cabal-plan replay
+main.cabal main 1
+events too large
+=> 3
+refused events TooLarge
+
+$ cabal-plan replay
+main.cabal main 1 a
+events: stop
+=> 3
+refused events:1 BadEvent
+
+$ cabal-plan replay
+main.cabal main 1 a
+events: start
+=> 1
+no plan
+conflict main a
+visited 1 exhausted 2
+
+$ cabal-plan replay
+events: stop
+=> 3
+refused . NoPackages
+
+$ cabal-plan replay
+main.cabal main 1
+=> 0
+replay
+completed 0 failed 0 running 0 waiting 1 held 0";
+
+// Conflict sets from which nothing can be dropped.
+pub(crate) const SHRUNK_RUNS: &str = "\
+$ cabal-plan plan
+main.cabal main 1 a, b, c
+index/a/1/a.cabal a 1 b ==1
+index/b/1/b.cabal b 1
+index/b/2/b.cabal b 2
+index/c/1/c.cabal c 1 b ==5
+=> 1
+no plan
+conflict main a b c
+visited 5 exhausted 4
+
+$ cabal-plan plan --minimize-conflict-set
+main.cabal main 1 a, b, c
+index/a/1/a.cabal a 1 b ==1
+index/b/1/b.cabal b 1
+index/b/2/b.cabal b 2
+index/c/1/c.cabal c 1 b ==5
+=> 1
+no plan
+conflict main b c
+without main
+without b
+keep main 1 local
+keep c 1 source
+without c
+keep main 1 local
+keep b 2 source
+visited 5 exhausted 4
+
+$ cabal-plan plan --json --minimize-conflict-set
+main.cabal main 1 a, b, c
+index/a/1/a.cabal a 1 b ==1
+index/b/1/b.cabal b 1
+index/b/2/b.cabal b 2
+index/c/1/c.cabal c 1 b ==5
+=> 1
+{\"conflict\":[\"main\",\"b\",\"c\"],\"exhausted\":4,\"skipped\":[],\"status\":\"no plan\",\"visited\":5,\"warnings\":[],\"without\":[{\"keep\":[],\"var\":\"main\"},{\"keep\":[{\"value\":\"1 local\",\"var\":\"main\"},{\"value\":\"1 source\",\"var\":\"c\"}],\"var\":\"b\"},{\"keep\":[{\"value\":\"1 local\",\"var\":\"main\"},{\"value\":\"2 source\",\"var\":\"b\"}],\"var\":\"c\"}]}";
+
 // Words without a reading.
 pub(crate) const NO_READING: &str = "\
 $ cabal-plan

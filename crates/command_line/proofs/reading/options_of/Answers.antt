@@ -1,5 +1,4 @@
 use Rattle.std.proofs.Common.{◌≡◌, ◌∙◌, ap}
-use Rattle.std.specs.Option.{option_copied}
 use Rattle.command_line.specs.declared.option_name.OptionName.TheVariants.{Compiler}
 use Rattle.command_line.specs.Form.{is_compiler}
 use Rattle.command_line.specs.Reading.{compiler_or}
@@ -8,8 +7,7 @@ use Rattle.command_line.proofs.Forms.{compiler_formed}
 use Rattle.command_line.proofs.Parsed.{well_formed}
 use Rattle.command_line.proofs.reading.options_of.Goals as goal
 
-pub env_of-requires : goal.env_of-requires
-env_of-requires c =
+pub plain_options-requires : goal.plain_options-requires
+plain_options-requires c =
     let words = c.args.words.now in
-    let value_is : option_copied c.value_of-compiler.result ≡ given Compiler words = c.value_of-compiler.ensures ∙ c.in-Ok.ensures.values Compiler in
-    ap (λ o. is_compiler (compiler_or o)) value_is ∙ compiler_formed (given Compiler words) (well_formed words c.requires Compiler)
+    ap (λ o. is_compiler (compiler_or o)) (c.in_ok-matches.ensures Compiler) ∙ compiler_formed (given Compiler words) (well_formed words c.requires Compiler)

@@ -9,7 +9,7 @@ use Rattle.plan_command.proofs.generate.output_of_generate.Goals as goal
 
 pub returns-in-Ok-clause-meaning : goal.returns-in-Ok-clause-meaning
 returns-in-Ok-clause-meaning c =
-    subst (λ (o : Options). Means (picking_of o) (Summary c.args.number) o (generated c.args.number) c.in-Ok.output) c.in_ok-options.ensures
-    (subst (λ (files : Files). Means (picking_of c.in_ok-options.options) (Summary c.args.number) c.in_ok-options.options files c.in-Ok.output) c.in_ok-generate.ensures.files
-    (subst (λ (files : Files). Means (picking_of c.in_ok-options.options) (Summary c.args.number) c.in_ok-options.options files c.in-Ok.output) c.new-folder.ensures
+    subst (λ (o : Options). Means (picking_of o) o.minimize (Summary c.args.number) o (generated c.args.number) c.in-Ok.output) c.in_ok-options.ensures
+    (subst (λ (files : Files). Means (picking_of c.in_ok-options.options) c.in_ok-options.options.minimize (Summary c.args.number) c.in_ok-options.options files c.in-Ok.output) c.in_ok-generate.ensures.files
+    (subst (λ (files : Files). Means (picking_of c.in_ok-options.options) c.in_ok-options.options.minimize (Summary c.args.number) c.in_ok-options.options files c.in-Ok.output) c.new-folder.ensures
     (c.in-Ok.ensures.headline _ refl)))

@@ -1,4 +1,4 @@
 use Rattle.plan_search.proofs.search.find_plan.Given as goal
 
-abbrev pub ghosts-outcome_of : goal.ghosts-outcome_of
-ghosts-outcome_of a = record { name = a.blank.name; parts = a.blank.parts }
+abbrev pub ghosts-searched : goal.ghosts-searched
+ghosts-searched a = record { name = a.blank.name; parts = a.blank.parts }
