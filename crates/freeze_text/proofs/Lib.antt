@@ -1,0 +1,9 @@
+mod Plain
+mod Words
+mod Behind
+mod Entry
+mod Solid
+mod Cut
+mod Lines
+mod ReadBack
+mod Empty

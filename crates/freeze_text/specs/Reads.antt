@@ -1,0 +1,65 @@
+-- Constraints whose text is read as they are.
+use Rattle.std.specs.Prelude.{◌≡◌, ℕ, Bool, true, false, not, ◌&&◌, ◌||◌, List, [], ◌∷◌, map, codes, Ok}
+use Rattle.std.specs.Char.{to_ascii_lowercase}
+use Rattle.std.specs.List.{list_all}
+use Rattle.plan_types.specs.declared.condition.Env.{Env}
+use Rattle.plan_types.specs.declared.condition.FlagSet.{FlagSet}
+use Rattle.plan_types.specs.declared.constraint.Constraint.{Constraint}
+use Rattle.plan_types.specs.declared.constraint.Scope.{Scope}
+use Rattle.plan_types.specs.declared.constraint.Scope.TheVariants.{Top, Any, Setup, SetupOf}
+use Rattle.plan_types.specs.declared.constraint.What.{What}
+use Rattle.plan_types.specs.declared.constraint.What.TheVariants as what
+use Rattle.plan_types.specs.declared.project.Project.{Project}
+use Rattle.plan_types.specs.declared.range.Range.TheVariants.{Equal}
+use Rattle.plan_types.specs.declared.version.Version.{Version}
+use Rattle.plan_types.specs.Bytes.{same_text}
+use Rattle.plan_types.specs.Name.{is_flag_name, is_package_name}
+use Rattle.version_range.specs.Version.{is_version}
+use Rattle.project_file.specs.Project.{project_from}
+use Rattle.project_file.specs.Read.{IsProject}
+
+-- `-any` and `-none` are ranges where they stand alone
+abbrev pub is_range_word : FlagSet → Bool
+is_range_word set = not set.on && (same_text set.name (codes "any") || same_text set.name (codes "none"))
+
+-- whether these are flags where they stand behind a name
+abbrev pub are_flags : List FlagSet → Bool
+are_flags [] = false
+are_flags (set ∷ []) = not (is_range_word set)
+are_flags (set ∷ next ∷ sets) = true
+
+-- a name in lower case
+abbrev pub is_lower : List ℕ → Bool
+is_lower name = same_text (map to_ascii_lowercase name) name
+
+-- a flag as it is read
+abbrev pub is_plain_flag : FlagSet → Bool
+is_plain_flag set = is_flag_name set.name && is_lower set.name
+
+-- the package of a scope has the form of a name
+abbrev pub is_plain_scope : Scope → Bool
+is_plain_scope Top = true
+is_plain_scope Any = true
+is_plain_scope Setup = true
+is_plain_scope (SetupOf owner) = is_package_name owner
+
+-- a version, installed or not, or flags that aren't read as a range
+pub data IsPlain : What → Type 0 where
+  version : (v : Version) → is_version v.parts ≡ true → IsPlain (what.Range (Equal v))
+  installed : IsPlain what.Installed
+  source : IsPlain what.Source
+  flags : (sets : List FlagSet) → are_flags sets ≡ true → list_all is_plain_flag sets ≡ true → IsPlain (what.Flags sets)
+
+-- a constraint of such a form
+pub record IsPlainConstraint (c : Constraint) : Type 0 where
+  pub scope : is_plain_scope c.scope ≡ true
+  pub name : is_package_name c.«package» ≡ true
+  pub what : IsPlain c.what
+
+-- a project that gives constraints and nothing else
+abbrev pub project_with : List Constraint → Project
+project_with constraints = record (project_from []) { constraints = constraints }
+
+-- as a project file, wherever it lies, a text gives these constraints and nothing else
+abbrev pub IsReadAs : List ℕ → List Constraint → Type 0
+IsReadAs text constraints = (env : Env) (path : List ℕ) → IsProject env (record { path = path; bytes = text } ∷ []) (Ok (project_with constraints))

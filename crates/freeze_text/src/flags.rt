@@ -1,0 +1,22 @@
+// Flags behind the name of a package.
+ghost use Rattle.std.specs.Prelude.{◌≡◌};
+ghost use Rattle.freeze_text.specs.Reads.{are_flags, is_range_word};
+
+use plan_types::FlagSet;
+
+/// Whether these are flags where they stand behind a name: there are some, and they aren't read as a range.
+pub fn are_flags(sets: &[FlagSet]) -> bool
+    ensures { result ≡ are_flags sets.now }
+{
+    match sets {
+        [] => false,
+        [only] => !is_range_word(only),
+        _ => true,
+    }
+}
+
+fn is_range_word(set: &FlagSet) -> bool
+    ensures { result ≡ is_range_word set.now }
+{
+    !set.on && (set.name.as_str() == "any" || set.name.as_str() == "none")
+}

@@ -1,0 +1,13 @@
+//! Constraints as a project file. In go the constraints of a project; out comes their text, a line each, which is read as these
+//! constraints and nothing else.
+#![tactic(auto)]
+
+mod flags;
+mod laws;
+mod project;
+mod text;
+
+pub use flags::are_flags;
+pub use laws::text_reads_back;
+pub use project::project_with;
+pub use text::text_of_freeze;
