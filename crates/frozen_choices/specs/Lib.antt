@@ -1,0 +1,4 @@
+pub mod Frozen
+pub mod Barred
+pub mod Plain
+pub mod Examples

@@ -1,0 +1,45 @@
+// What the constraints of a trail leave of a problem.
+ghost use Rattle.std.specs.Prelude.{◌≡◌, ℕ, List, true};
+ghost use Rattle.std.specs.List.{list_all};
+ghost use Rattle.plan_types.specs.declared.condition.Env.{Env};
+ghost use Rattle.plan_types.specs.declared.index.Index.{Index};
+ghost use Rattle.plan_types.specs.declared.limit.Limit.TheVariants.{Unlimited};
+ghost use Rattle.plan_types.specs.declared.project.Project.{Project};
+ghost use Rattle.qualified_goals.specs.Names.{AreNumbers, NameTable};
+ghost use Rattle.choice_problem.specs.declared.problem.Choice.{Choice};
+ghost use Rattle.choice_problem.specs.Answer.{Found, answer_of};
+ghost use Rattle.choice_problem.specs.Trail.{AreNew, value_in};
+ghost use Rattle.choice_problem.specs.Valid.{IsFirst, IsWholeValid};
+ghost use Rattle.flatten.specs.Sound.{IsSound, has_package};
+ghost use Rattle.solver_index.specs.Orders.{AreOrders};
+ghost use Rattle.cabal_problem.specs.Problem.{problem_of};
+ghost use Rattle.cabal_problem.specs.WholeDemands.{whole_problem};
+ghost use Rattle.frozen_choices.specs.Barred.{with_constraints};
+ghost use Rattle.frozen_choices.specs.Frozen.{frozen};
+ghost use Rattle.frozen_plan.specs.Narrower.{AddsNothing, StaysFirst};
+
+/// What is valid with the constraints of a trail is valid without them.
+pub fn frozen_adds_nothing()
+    ensures { (env : Env) (index : Index) (project : Project) (names : NameTable) (orders : List (List ℕ)) (trail : List Choice)
+        → IsSound env index → AreNumbers index.packages names → AreNew trail
+        → IsWholeValid (whole_problem env index.packages project names orders) (value_in trail)
+        → AddsNothing (whole_problem env index.packages project names orders)
+        (whole_problem env index.packages (with_constraints (frozen index.packages names trail) project) names orders) }
+{}
+
+/// Where it was the first of all, it still is with its constraints.
+pub fn frozen_stays_first()
+    ensures { (env : Env) (index : Index) (project : Project) (names : NameTable) (orders : List (List ℕ)) (trail : List Choice)
+        → IsSound env index → AreNumbers index.packages names → AreNew trail
+        → StaysFirst (whole_problem env index.packages project names orders)
+        (whole_problem env index.packages (with_constraints (frozen index.packages names trail) project) names orders) (value_in trail) }
+{}
+
+/// A search without a limit that finds a trail finds it again with the constraints of that trail.
+pub fn found_again()
+    ensures { (env : Env) (index : Index) (project : Project) (names : NameTable) (orders : List (List ℕ)) (trail : List Choice)
+        → IsSound env index → list_all (λ named. has_package index named.name) project.extra ≡ true
+        → AreNumbers index.packages names → AreOrders project index.packages orders
+        → (answer_of (problem_of index.packages project names orders) Unlimited).ended ≡ Found trail
+        → (answer_of (problem_of index.packages (with_constraints (frozen index.packages names trail) project) names orders) Unlimited).ended ≡ Found trail }
+{}
