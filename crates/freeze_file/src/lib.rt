@@ -1,0 +1,11 @@
+//! A plan as constraints. In go a trail of choices and the packages of an index; out comes a project with the constraints with which
+//! these choices are made again, and nothing else.
+#![tactic(auto)]
+
+mod flags;
+mod freeze;
+mod instances;
+mod numbers;
+mod packages;
+
+pub use freeze::freeze;
