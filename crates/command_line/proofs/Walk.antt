@@ -18,7 +18,7 @@ use Rattle.clap.proofs.SimpleLemmas.{is_nil}
 use Rattle.clap.proofs.WalkLemmas.{both}
 use Rattle.command_line.specs.CommandName.{command_word}
 use Rattle.command_line.specs.declared.command_name.CommandName.{CommandName}
-use Rattle.command_line.specs.declared.command_name.CommandName.TheVariants.{Plan, Generate, Replay}
+use Rattle.command_line.specs.declared.command_name.CommandName.TheVariants.{Plan, Generate, Freeze, Replay}
 use Rattle.command_line.specs.declared.option_name.OptionKind.{OptionKind}
 use Rattle.command_line.specs.declared.option_name.OptionKind.TheVariants.{Valued, Flag}
 use Rattle.command_line.specs.declared.option_name.OptionName.{OptionName}
@@ -90,11 +90,13 @@ command_walked : (command : CommandName) (rows : List Row) → walked rules [] (
 unfolding walked
 command_walked Plan rows = refl
 command_walked Generate rows = refl
+command_walked Freeze rows = refl
 command_walked Replay rows = refl
 
 command_passes : (command : CommandName) (rows : List Row) → turn_passes shape [] (between rows 1) (command_word command) ≡ true
 command_passes Plan rows = refl
 command_passes Generate rows = refl
+command_passes Freeze rows = refl
 command_passes Replay rows = refl
 
 -- the rows with the command behind which a word stands
@@ -432,6 +434,8 @@ no_word Plan Valued name = refl
 no_word Plan Flag name = refl
 no_word Generate Valued name = refl
 no_word Generate Flag name = refl
+no_word Freeze Valued name = refl
+no_word Freeze Flag name = refl
 no_word Replay Valued name = refl
 no_word Replay Flag name = refl
 

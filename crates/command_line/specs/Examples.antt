@@ -2,7 +2,7 @@
 use Rattle.std.specs.Prelude.{◌≡◌, refl, false, [], ◌∷◌, Some, None, codes}
 use Rattle.plan_types.specs.declared.limit.Limit.TheVariants.{Unlimited, At}
 use Rattle.command_line.specs.declared.option_name.OptionName.TheVariants.{Index, Json}
-use Rattle.command_line.specs.declared.reading.Command.TheVariants.{Plan, Generate, Replay}
+use Rattle.command_line.specs.declared.reading.Command.TheVariants.{Plan, Generate, Freeze, Replay}
 use Rattle.command_line.specs.Form.{is_compiler, is_path, is_signed}
 use Rattle.command_line.specs.Words.{given}
 use Rattle.command_line.specs.Reading.{plain_options, reading}
@@ -39,6 +39,12 @@ one-slot = refl
 
 no-slots : reading (codes "replay" ∷ codes "--slots=0" ∷ []) ≡ None
 no-slots = refl
+
+a-freezing : reading (codes "--index=a" ∷ codes "freeze" ∷ []) ≡ Some (Freeze (plain_options (codes "--index=a" ∷ [])))
+a-freezing = refl
+
+a-freezing-with-slots : reading (codes "freeze" ∷ codes "--slots=2" ∷ []) ≡ None
+a-freezing-with-slots = refl
 
 a-build-as-json : reading (codes "replay" ∷ codes "--json" ∷ []) ≡ None
 a-build-as-json = refl

@@ -9,7 +9,7 @@ use Rattle.command_line.specs.declared.command_name.CommandName.{CommandName}
 use Rattle.command_line.specs.declared.command_name.CommandName.TheVariants as command
 use Rattle.command_line.specs.declared.option_name.OptionName.TheVariants.{Index, Installed, Os, Arch, Compiler, MaxBackjumps, Number, Events, Slots, Json, CountConflicts, MinimizeConflictSet}
 use Rattle.command_line.specs.declared.reading.Command.{Command}
-use Rattle.command_line.specs.declared.reading.Command.TheVariants.{Plan, Generate, Replay}
+use Rattle.command_line.specs.declared.reading.Command.TheVariants.{Plan, Generate, Freeze, Replay}
 use Rattle.command_line.specs.declared.reading.Options.{Options}
 use Rattle.command_line.specs.Form.{compiler_name, compiler_digits, number_in, parts_of}
 use Rattle.command_line.specs.Words.{asked, given}
@@ -80,6 +80,7 @@ replay_of words = Replay (plain_options words) (unwrap_or (given Events words) (
 abbrev pub meant : List (List ℕ) → CommandName → Command
 meant words command.Plan = Plan (options_of words)
 meant words command.Generate = generate_of words
+meant words command.Freeze = Freeze (plain_options words)
 meant words command.Replay = replay_of words
 
 -- the command that words mean
@@ -90,4 +91,5 @@ reading words = option_map (meant words) (asked words)
 abbrev pub IsBounded : Command → Type 0
 IsBounded (Plan options) = Unit {0}
 IsBounded (Generate number limit) = (1 ≤ number) × (number ≤ 2000)
+IsBounded (Freeze options) = Unit {0}
 IsBounded (Replay options events slots) = 1 ≤ slots

@@ -9,16 +9,18 @@ use crate::option_name::OptionName;
 pub enum CommandName {
     Plan,
     Generate,
+    Freeze,
     Replay,
 }
 
 /// Every command of the command line.
-pub fn commands() -> [CommandName; 3]
+pub fn commands() -> [CommandName; 4]
     ensures { result ≡ commands }
 {
     [
         CommandName::Plan,
         CommandName::Generate,
+        CommandName::Freeze,
         CommandName::Replay,
     ]
 }
@@ -30,6 +32,7 @@ pub fn command_word<'a>(command: CommandName) -> &'a str
     match command {
         CommandName::Plan => "plan",
         CommandName::Generate => "generate",
+        CommandName::Freeze => "freeze",
         CommandName::Replay => "replay",
     }
 }
@@ -51,6 +54,14 @@ pub fn taken_by(command: CommandName) -> &'static [OptionName]
             OptionName::MinimizeConflictSet,
         ],
         CommandName::Generate => &[OptionName::MaxBackjumps, OptionName::Number],
+        CommandName::Freeze => &[
+            OptionName::Index,
+            OptionName::Installed,
+            OptionName::Os,
+            OptionName::Arch,
+            OptionName::Compiler,
+            OptionName::MaxBackjumps,
+        ],
         CommandName::Replay => &[
             OptionName::Index,
             OptionName::Installed,
@@ -71,6 +82,7 @@ pub fn needed_by(command: CommandName) -> &'static [OptionName]
     match command {
         CommandName::Plan => &[],
         CommandName::Generate => &[OptionName::Number],
+        CommandName::Freeze => &[],
         CommandName::Replay => &[],
     }
 }

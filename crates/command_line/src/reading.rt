@@ -47,6 +47,8 @@ pub enum Command {
         number: u32,
         limit: Limit,
     },
+    /// The plan is printed as constraints of a project file.
+    Freeze(Options),
     /// A build of the plan, with so many slots, is told what this file of events says.
     Replay {
         options: Options,
@@ -102,6 +104,7 @@ fn meant(alloc: Global, words: &[Text], command: CommandName) -> Result<Command,
             Ok(Command::Plan(options))
         }
         CommandName::Generate => generate_of(alloc, words),
+        CommandName::Freeze => freeze_of(alloc, words),
         CommandName::Replay => replay_of(alloc, words),
     }
 }
@@ -134,6 +137,16 @@ pub fn default_options(alloc: Global, limit: Limit) -> Result<Options, NoMemory>
         count_conflicts: false,
         minimize: false,
     })
+}
+
+fn freeze_of(alloc: Global, words: &[Text]) -> Result<Command, NoMemory>
+    requires { asked words.now ≡ Some CommandName.Freeze }
+    ensures meant { IfOk result (λ found. found ≡ meant words.now CommandName.Freeze) }
+    ensures bounded { IfOk result IsBounded }
+{
+    let matches = matches_of(alloc, words)?;
+    let options = plain_options(alloc, &matches)?;
+    Ok(Command::Freeze(options))
 }
 
 fn replay_of(alloc: Global, words: &[Text]) -> Result<Command, NoMemory>
