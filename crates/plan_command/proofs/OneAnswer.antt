@@ -12,15 +12,15 @@ use Rattle.index_assembly.specs.Folder.{IsFolderIndex}
 use Rattle.outside_folder.specs.Files.{Bytes, Files}
 use Rattle.command_line.specs.Reading.{default_options, reading}
 use Rattle.command_line.specs.declared.reading.Command.{Command}
-use Rattle.command_line.specs.declared.reading.Command.TheVariants.{Plan, Generate, Replay}
+use Rattle.command_line.specs.declared.reading.Command.TheVariants.{Plan, Generate, Freeze, Replay}
 use Rattle.command_line.specs.declared.reading.Options.{Options}
 use Rattle.event_file.specs.Events.{AreEventsAt}
 use Rattle.replay_text.specs.Replay.{IsReplay}
 use Rattle.replay_text.specs.declared.event.JobEvent.{JobEvent}
 use Rattle.plan_generate.specs.Generated.{generated}
 use Rattle.plan_command.specs.declared.form.Form.{Form}
-use Rattle.plan_command.specs.declared.form.Form.TheVariants.{Lines, Json, Summary, Replay as at_events}
-use Rattle.plan_command.specs.Form.{IsPlanText, form_of}
+use Rattle.plan_command.specs.declared.form.Form.TheVariants.{Lines, Json, Summary, Freeze as as_constraints, Replay as at_events}
+use Rattle.plan_command.specs.Form.{IsPlanText, form_of, frozen_form}
 use Rattle.plan_command.specs.declared.output.Output.{Output}
 use Rattle.plan_task.specs.Task.{IsTask, IsTaskOf, task_or_refusal}
 use Rattle.plan_task.specs.declared.task.Task.{Task}
@@ -40,7 +40,7 @@ use Rattle.plan_components.specs.Chosen.{Selection, selection_from}
 use Rattle.plan_nodes.specs.declared.node.PlanNode.{PlanNode}
 use Rattle.elaborate.specs.Plan.{IsPlan}
 use Rattle.plan_command.specs.Output.{IsOutputOfOutcome, IsPlanned}
-use Rattle.plan_command.specs.Run.{IsOutputAtEvents, IsOutputAtTask, IsOutputOf, IsOutputOfCommand, IsOutputOfPlan, IsOutputOfRead, IsOutputOfReplay, IsOutputOfTask}
+use Rattle.plan_command.specs.Run.{IsOutputAtEvents, IsOutputAtTask, IsOutputOf, IsOutputOfCommand, IsOutputOfFreeze, IsOutputOfPlan, IsOutputOfRead, IsOutputOfReplay, IsOutputOfTask}
 
 abbrev pub OneProject : Type 0
 OneProject = (env : Env) (files : Files) (a b : Result FolderProject Refusal) → IsFolderProject env files a → IsFolderProject env files b → a ≡ b
@@ -68,6 +68,7 @@ module _ (project : OneProject) (one : OneIndex) (alike : OneFinding) (plan : On
   one_text Lines index names trail nodes counts a b h k = h ∙ sym k
   one_text Json index names trail nodes counts a b h k = h ∙ sym k
   one_text (Summary number) index names trail nodes counts a b h k = h ∙ sym k
+  one_text (as_constraints before) index names trail nodes counts a b h k = h ∙ sym k
   one_text (at_events slots events) index names trail nodes counts a b h k = built nodes slots events a b h k
 
   of_outcome : (form : Form) (env : Env) (index : Index) (names : NameTable) (blame : Blame) (found : Outcome) (a b : Output)
@@ -123,6 +124,12 @@ module _ (project : OneProject) (one : OneIndex) (alike : OneFinding) (plan : On
         of_read (picking_of options) options.minimize form k.0 a b
         (subst (λ (r : Result Task Refusal). IsOutputOfRead (picking_of options) options.minimize form r a) same h.2) k.2
 
+    of_freeze : (a b : Output) → IsOutputOfFreeze options files a → IsOutputOfFreeze options files b → a ≡ b
+    unfolding IsOutputOfFreeze
+    of_freeze a b h k =
+        let same = one_task h.0 k.0 h.1 k.1 in
+        of_read Least false (frozen_form files) k.0 a b (subst (λ (r : Result Task Refusal). IsOutputOfRead Least false (frozen_form files) r a) same h.2) k.2
+
     of_replay : (path : Bytes) (slots : ℕ) (a b : Output) → IsOutputOfReplay options path slots files a → IsOutputOfReplay options path slots files b → a ≡ b
     unfolding IsOutputOfReplay
     of_replay path slots a b h k =
@@ -133,6 +140,7 @@ module _ (project : OneProject) (one : OneIndex) (alike : OneFinding) (plan : On
   of_command files None a b h k = h ∙ sym k
   of_command files (Some (Plan options)) a b h k = of_plan options files (form_of options) a b h k
   of_command files (Some (Generate number limit)) a b h k = of_plan (default_options limit) (generated number) (Summary number) a b h k
+  of_command files (Some (Freeze options)) a b h k = of_freeze options files a b h k
   of_command files (Some (Replay options events slots)) a b h k = of_replay options files events slots a b h k
 
   pub one-answer : (words : List Bytes) (files : Files) (a b : Output) → IsOutputOf words files a → IsOutputOf words files b → a ≡ b

@@ -1,5 +1,6 @@
 -- The form in which an answer is printed.
-use Rattle.std.specs.Prelude.{◌≡◌, ℕ, Bool, true, false, List, length, if◌then◌else◌}
+use Rattle.std.specs.Prelude.{◌≡◌, ℕ, Bool, true, false, ◌==◌, ◌||◌, nat_eq, List, [], ◌∷◌, ◌++◌, length, Option, unwrap_or, if◌then◌else◌}
+use Rattle.std.specs.List.{ends_with}
 use Rattle.hex.specs.Hex.{encode_lower}
 use Rattle.sha2.specs.Sha256.{sha256}
 use Rattle.plan_types.specs.declared.index.Index.{Index}
@@ -7,7 +8,10 @@ use Rattle.qualified_goals.specs.Names.{NameTable}
 use Rattle.qualified_goals.specs.declared.variable.Var.{Var}
 use Rattle.choice_problem.specs.declared.outcome.Counts.{Counts}
 use Rattle.choice_problem.specs.declared.problem.Choice.{Choice}
-use Rattle.outside_folder.specs.Files.{Bytes}
+use Rattle.outside_folder.specs.Files.{Bytes, Files}
+use Rattle.project_config.specs.Project.{freeze_bytes}
+use Rattle.freeze_text.specs.Text.{freeze_text}
+use Rattle.frozen_choices.specs.Frozen.{frozen}
 use Rattle.command_line.specs.declared.reading.Options.{Options}
 use Rattle.plan_nodes.specs.declared.node.PlanNode.{PlanNode}
 use Rattle.replay_text.specs.Replay.{IsReplay}
@@ -17,7 +21,7 @@ use Rattle.plan_print.specs.Texts.{plan_text, conflict_text, gave_up_text, not_s
 use Rattle.plan_print.specs.Summary.{summary_text}
 use Rattle.plan_json.specs.Texts.{plan_json, conflict_json, gave_up_json, not_shrunk_json, shrunk_json}
 use Rattle.plan_command.specs.declared.form.Form.{Form}
-use Rattle.plan_command.specs.declared.form.Form.TheVariants.{Lines, Json, Summary, Replay}
+use Rattle.plan_command.specs.declared.form.Form.TheVariants.{Lines, Json, Summary, Freeze, Replay}
 
 -- the form that options ask for
 abbrev pub form_of : Options → Form
@@ -27,11 +31,32 @@ form_of options = if options.json then Json else Lines
 abbrev pub summary_of : ℕ → List Choice → List PlanNode → Counts → Bytes → Bytes
 summary_of number trail nodes counts text = summary_text number (length trail) (length nodes) counts (encode_lower (sha256 text))
 
+-- whether a text is empty or ends with a line end
+abbrev pub is_ended : Bytes → Bool
+is_ended text = length text == 0 || ends_with nat_eq text (10 ∷ [])
+
+-- a text with a line end behind its last line
+abbrev pub ended : Bytes → Bytes
+ended text = if is_ended text then text else text ++ 10 ∷ []
+
+-- what a freeze file said, and then the constraints of a trail
+abbrev pub frozen_text : Bytes → Index → NameTable → List Choice → Bytes
+frozen_text before index names trail = ended before ++ freeze_text (frozen index.packages names trail)
+
+-- what a freeze file says; nothing where there is none
+abbrev pub said_before : Option Bytes → Bytes
+said_before file = unwrap_or file []
+
+-- the form of constraints behind what the freeze file of a folder says
+abbrev pub frozen_form : Files → Form
+frozen_form files = Freeze (said_before (freeze_bytes files))
+
 -- a plan
 abbrev pub IsPlanText : Form → Index → NameTable → List Choice → List PlanNode → Counts → Bytes → Type 0
 IsPlanText Lines index names trail nodes counts text = text ≡ plan_text index names trail nodes counts
 IsPlanText Json index names trail nodes counts text = text ≡ plan_json index names trail nodes counts
 IsPlanText (Summary number) index names trail nodes counts text = text ≡ summary_of number trail nodes counts (plan_text index names trail nodes counts)
+IsPlanText (Freeze before) index names trail nodes counts text = text ≡ frozen_text before index names trail
 IsPlanText (Replay slots events) index names trail nodes counts text = IsReplay nodes slots events text
 
 -- what is no plan is printed as JSON where that is asked for, and else in lines
@@ -39,6 +64,7 @@ abbrev pub is_json : Form → Bool
 is_json Lines = false
 is_json Json = true
 is_json (Summary number) = false
+is_json (Freeze before) = false
 is_json (Replay slots events) = false
 
 -- a conflict, with what is told of it besides its set

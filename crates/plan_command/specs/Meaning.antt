@@ -26,7 +26,7 @@ use Rattle.plan_command.specs.declared.status.Status.TheVariants as status
 use Rattle.plan_nodes.specs.declared.node.PlanNode.{PlanNode}
 use Rattle.plan_command.specs.declared.form.Form.{Form}
 use Rattle.plan_command.specs.declared.form.Form.TheVariants.{Summary, Replay}
-use Rattle.plan_command.specs.Form.{IsPlanText, conflict_text_in, gave_up_text_in}
+use Rattle.plan_command.specs.Form.{IsPlanText, conflict_text_in, frozen_form, gave_up_text_in}
 use Rattle.plan_command.specs.Output.{ArePlanned, IsOutputOfOutcome, refused}
 
 -- What is printed of a whole valid assignment of the problem that the files make and of the nodes of its plan, with some counts: of the
@@ -93,6 +93,10 @@ Means picking minimize form options files output = MeansWith output.status picki
 -- what an output means for which the command `generate` asked
 abbrev pub MeansGenerated : ℕ → Limit → Output → Type 0
 MeansGenerated number limit output = Means Least false (Summary number) (default_options limit) (generated number) output
+
+-- what an output means for which the command `freeze` asked: what that of a plan means, printed as constraints
+abbrev pub MeansFreeze : Options → Files → Output → Type 0
+MeansFreeze options files output = Means Least false (frozen_form files) options files output
 
 -- what the output of a search over a task means
 pub record MeansTask (picking : Picking) (minimize : Bool) (form : Form) (task : Task) (output : Output) : Type 0 where

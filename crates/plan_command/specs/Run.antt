@@ -6,7 +6,7 @@ use Rattle.outside_folder.specs.Files.{Bytes, Files}
 use Rattle.outside_folder.specs.Sink.{Appends, AppendsPrefix}
 use Rattle.command_line.specs.Reading.{default_options, reading}
 use Rattle.command_line.specs.declared.reading.Command.{Command}
-use Rattle.command_line.specs.declared.reading.Command.TheVariants.{Plan, Generate, Replay}
+use Rattle.command_line.specs.declared.reading.Command.TheVariants.{Plan, Generate, Freeze, Replay}
 use Rattle.command_line.specs.declared.reading.Options.{Options}
 use Rattle.event_file.specs.Events.{AreEventsAt}
 use Rattle.replay_text.specs.declared.event.JobEvent.{JobEvent}
@@ -22,7 +22,7 @@ use Rattle.plan_command.specs.declared.status.Status.TheVariants as status
 use Rattle.plan_command.specs.declared.output.Output.{Output}
 use Rattle.plan_command.specs.declared.form.Form.{Form}
 use Rattle.plan_command.specs.declared.form.Form.TheVariants.{Summary, Replay as at_events}
-use Rattle.plan_command.specs.Form.{form_of}
+use Rattle.plan_command.specs.Form.{form_of, frozen_form}
 use Rattle.plan_command.specs.Asked.{picking_of}
 use Rattle.plan_command.specs.Output.{IsOutputOfOutcome, refused, usage}
 
@@ -48,6 +48,10 @@ IsOutputOfPlan form options files output = (task : Result Task Refusal) × IsTas
 abbrev pub IsOutputOfGenerate : ℕ → Limit → Output → Type 0
 IsOutputOfGenerate number limit output = IsOutputOfPlan (Summary number) (default_options limit) (generated number) output
 
+-- what is printed for the command `freeze`: what the freeze file said, and then the constraints of a plan
+unfoldable pub IsOutputOfFreeze : Options → Files → Output → Type 0
+IsOutputOfFreeze options files output = (task : Result Task Refusal) × IsTask options files task × IsOutputOfRead Least false (frozen_form files) task output
+
 -- what is printed of a task at these events, or of the refusal that came instead
 abbrev pub IsOutputAtEvents : ℕ → Task → Result (List JobEvent) Refusal → Output → Type 0
 IsOutputAtEvents slots task (Ok events) output = IsOutputOfTask Least false (at_events slots events) task output
@@ -68,6 +72,7 @@ abbrev pub IsOutputOfCommand : Option Command → Files → Output → Type 0
 IsOutputOfCommand None files output = output ≡ usage
 IsOutputOfCommand (Some (Plan options)) files output = IsOutputOfPlan (form_of options) options files output
 IsOutputOfCommand (Some (Generate number limit)) files output = IsOutputOfGenerate number limit output
+IsOutputOfCommand (Some (Freeze options)) files output = IsOutputOfFreeze options files output
 IsOutputOfCommand (Some (Replay options events slots)) files output = IsOutputOfReplay options events slots files output
 
 -- what is printed for words over a folder
@@ -80,6 +85,7 @@ abbrev pub Reads : Option Command → Option Files → Files → Type 0
 Reads None tells files = Unit {0}
 Reads (Some (Plan options)) tells files = tells ≡ Some files
 Reads (Some (Generate number limit)) tells files = Unit {0}
+Reads (Some (Freeze options)) tells files = tells ≡ Some files
 Reads (Some (Replay options events slots)) tells files = tells ≡ Some files
 
 -- ---- what is left in the sink

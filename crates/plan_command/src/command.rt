@@ -5,17 +5,18 @@ ghost use Rattle.outside_folder.specs.Faults.{Rose};
 ghost use Rattle.outside_folder.specs.Files.{Bytes, Files};
 ghost use Rattle.plan_types.specs.declared.limit.Limit.{Limit as TheLimit};
 ghost use Rattle.command_line.specs.Reading.{IsBounded, reading};
-ghost use Rattle.command_line.specs.declared.reading.Command.TheVariants.{Generate, Plan, Replay};
+ghost use Rattle.command_line.specs.declared.reading.Command.TheVariants.{Freeze, Generate, Plan, Replay};
 ghost use Rattle.command_line.specs.declared.reading.Options.{Options as PlanOptions};
 ghost use Rattle.plan_command.specs.Output.{BuildsInOrder, HasForm, IsMade, IsUsage, usage};
 ghost use Rattle.plan_command.specs.Form.{form_of};
 ghost use Rattle.plan_command.specs.Asked.{picking_of};
 ghost use Rattle.plan_search.specs.declared.search.Picking.TheVariants.{Least, MostMet};
-ghost use Rattle.plan_command.specs.Meaning.{Means, MeansGenerated, MeansReplay};
+ghost use Rattle.plan_command.specs.Meaning.{Means, MeansFreeze, MeansGenerated, MeansReplay};
 ghost use Rattle.plan_command.specs.Run.{IsOutputOf, IsOutputOfCommand, Prints, Reads};
 
 use crate::Status;
 use crate::form::form_of;
+use crate::freeze::output_of_freeze;
 use crate::generate::output_of_generate;
 use crate::output::Output;
 use crate::plan::output_of_plan;
@@ -42,6 +43,13 @@ pub fn run<F: Folder, S: Sink>(alloc: Global, words: &[Text], folder: &mut F, ou
     ensures counting { (options : PlanOptions) (files : Files)
         → reading words.now ≡ Some (Plan options) → options.count_conflicts ≡ true → F.tells folder.old ≡ Some files
         → Prints (Means MostMet options.minimize (form_of options) options files) (S.bytes out.old) (S.bytes out.new) result }
+
+    // Where they ask that a plan is frozen: it is that of the first of all whole valid assignments, as the constraints of its choices
+    // behind what the freeze file says. `frozen_plan` has laws that say what these leave: with them nothing more is valid than
+    // before, what was the first still is, and a search without a limit over the same index finds the same choices.
+    ensures frozen { (options : PlanOptions) (files : Files)
+        → reading words.now ≡ Some (Freeze options) → F.tells folder.old ≡ Some files
+        → Prints (MeansFreeze options files) (S.bytes out.old) (S.bytes out.new) result }
 
     // Where they ask for a build: it is that of the plan of the first of all whole valid assignments, at the events of the file.
     ensures replayed { (options : PlanOptions) (events : Bytes) (slots : ℕ) (files : Files)
@@ -99,6 +107,8 @@ fn perform<F: Folder, S: Sink>(
     requires { IsBounded command }
     ensures headline { (options : PlanOptions) (files : Files) → command ≡ Plan options → F.tells folder.old ≡ Some files
         → Prints (Means (picking_of options) options.minimize (form_of options) options files) (S.bytes out.old) (S.bytes out.new) result }
+    ensures frozen { (options : PlanOptions) (files : Files) → command ≡ Freeze options → F.tells folder.old ≡ Some files
+        → Prints (MeansFreeze options files) (S.bytes out.old) (S.bytes out.new) result }
     ensures replayed { (options : PlanOptions) (events : Bytes) (slots : ℕ) (files : Files)
         → command ≡ Replay options events slots → F.tells folder.old ≡ Some files
         → Prints (MeansReplay options events slots files) (S.bytes out.old) (S.bytes out.new) result }
@@ -126,6 +136,8 @@ fn output_of<F: Folder>(alloc: Global, command: Command, folder: &mut F) -> Resu
     requires { IsBounded command }
     ensures headline { (options : PlanOptions) (files : Files) → command ≡ Plan options → F.tells folder.old ≡ Some files
         → IfOk result (Means (picking_of options) options.minimize (form_of options) options files) }
+    ensures frozen { (options : PlanOptions) (files : Files) → command ≡ Freeze options → F.tells folder.old ≡ Some files
+        → IfOk result (MeansFreeze options files) }
     ensures replayed { (options : PlanOptions) (events : Bytes) (slots : ℕ) (files : Files)
         → command ≡ Replay options events slots → F.tells folder.old ≡ Some files → IfOk result (MeansReplay options events slots files) }
     ensures told { (files : Files) → Reads (Some command) (F.tells folder.old) files
@@ -147,6 +159,7 @@ fn output_of<F: Folder>(alloc: Global, command: Command, folder: &mut F) -> Resu
             let output = output_of_generate(alloc, number, limit)?;
             Ok(output)
         }
+        Command::Freeze(options) => output_of_freeze(alloc, options, folder),
         Command::Replay {
             options,
             events,

@@ -1,9 +1,11 @@
 // The form in which an answer is printed.
 ghost use Rattle.std.specs.Prelude.{◌≡◌, IfOk, if◌then◌else◌};
+ghost use Rattle.choice_problem.specs.Trail.{AreNew};
 ghost use Rattle.plan_json.specs.Texts.{conflict_json, not_shrunk_json, shrunk_json};
 ghost use Rattle.plan_print.specs.Texts.{conflict_text, not_shrunk_text, shrunk_text};
 ghost use Rattle.plan_command.specs.Form.{IsPlanText, conflict_text_in, form_of, gave_up_text_in, is_json, summary_of};
 
+use crate::freeze::frozen_text;
 use choice_problem::{Choice, ConflictSet, Counts};
 use command_line::Options;
 use conflict_shrink::Shrunk;
@@ -31,6 +33,8 @@ pub(crate) enum Form {
     Json,
     /// A plan by its counts and its digest, and all else in lines, for a folder that was made of this number.
     Summary(u32),
+    /// A plan by the constraints of its choices, behind what the freeze file said, and all else in lines.
+    Freeze(Text),
     /// A plan by what a build of it does at these events, and all else in lines.
     Replay { slots: u32, events: List<JobEvent> },
 }
@@ -55,6 +59,7 @@ pub(crate) fn plan_text_in(
     nodes: &List<PlanNode>,
     counts: Counts,
 ) -> Result<Text, NoMemory>
+    requires { AreNew trail.now }
     ensures { IfOk result (IsPlanText form.now index.now names.now trail.now nodes.now counts) }
 {
     match form {
@@ -64,6 +69,7 @@ pub(crate) fn plan_text_in(
             let text = text_of_plan(alloc, trail, index, names, nodes, counts)?;
             summary_of(alloc, *number, trail, nodes, counts, &text)
         }
+        Form::Freeze(before) => frozen_text(alloc, before, trail, index, names),
         Form::Replay { slots, events } => {
             replay_text(alloc, nodes.as_slice(), *slots, events.as_slice())
         }
@@ -93,7 +99,7 @@ fn is_json(form: &Form) -> bool
 {
     match form {
         Form::Json => true,
-        Form::Lines | Form::Summary(_) | Form::Replay { .. } => false,
+        Form::Lines | Form::Summary(_) | Form::Freeze(_) | Form::Replay { .. } => false,
     }
 }
 

@@ -4,6 +4,7 @@
 
 mod command;
 mod form;
+mod freeze;
 mod generate;
 mod laws;
 mod output;

@@ -1,7 +1,11 @@
 // What is printed of what was found. The text is made whole before anything is written.
-ghost use Rattle.std.specs.Prelude.{◌≡◌, ◌≢◌, IfOk, IsErrOf};
+ghost use Rattle.std.specs.Prelude.{◌≡◌, ◌≢◌, List, IfOk, IsErrOf};
 ghost use Rattle.plan_types.specs.declared.refusal.Refusal.{Refusal as TheRefusal};
 ghost use Rattle.flatten.specs.Sound.{IsSound};
+ghost use Rattle.choice_problem.specs.Trail.{AreNew};
+ghost use Rattle.choice_problem.specs.declared.outcome.Counts.{Counts as TheCounts};
+ghost use Rattle.choice_problem.specs.declared.outcome.Outcome.TheVariants.{Found};
+ghost use Rattle.choice_problem.specs.declared.problem.Choice.{Choice as TheChoice};
 ghost use Rattle.plan_command.specs.Output.{IsMade, IsOutputOfOutcome, refused};
 
 use crate::Status;
@@ -53,7 +57,8 @@ pub(crate) fn output_of_finding(
     index: &Index,
     finding: &Finding,
 ) -> Result<Output, NoMemory>
-    requires { IsSound env.now index.now }
+    requires sound { IsSound env.now index.now }
+    requires new { (trail : List TheChoice) (counts : TheCounts) → finding.now.outcome ≡ Found trail counts → AreNew trail }
     ensures output { IfOk result (IsOutputOfOutcome form.now env.now index.now finding.now.names finding.now.blame finding.now.outcome) }
     ensures made { IfOk result (λ output. IsMade output.status) }
     ensures read { IfOk result (λ output. output.status ≢ Status.Usage) }

@@ -21,8 +21,8 @@ use std::alloc::Global;
 pub struct Task {
     pub settings: Settings,
     pub index: Index,
-    /// The bytes of `cabal.project.freeze`, where there is one.
-    pub freeze: Option<List<u8>>,
+    /// The text of `cabal.project.freeze`, where there is one.
+    pub freeze: Option<Text>,
 }
 
 /// What is to be planned of a folder with these options, or the first refusal.
@@ -65,7 +65,7 @@ fn task_of(
     alloc: Global,
     options: Options,
     project: Project,
-    freeze: Option<List<u8>>,
+    freeze: Option<Text>,
     index: Index,
 ) -> Result<Task, NoMemory>
     requires sound { IsSound options.env index }

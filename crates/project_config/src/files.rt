@@ -1,6 +1,7 @@
-// The project files, one after the other: each is judged before the next is read. The bytes of the freeze file are kept.
+// The project files, one after the other: each is judged before the next is read. The text of the freeze file is kept.
 ghost use Rattle.std.specs.Prelude.{◌≡◌, true, IfOk, IfSome, IsErrOf};
 ghost use Rattle.std.specs.List.{list_all};
+ghost use Rattle.std.specs.Str.{IsUtf8};
 ghost use Rattle.plan_types.specs.Name.{is_package_name};
 ghost use Rattle.plan_types.specs.Refusal.{Answers};
 ghost use Rattle.outside_folder.specs.Calls.{Leaves};
@@ -18,8 +19,8 @@ pub(crate) struct FilesProject {
     pub project: Project,
     /// There is no `cabal.project`.
     pub implicit: bool,
-    /// The bytes of the freeze file, where there is one.
-    pub freeze: Option<List<u8>>,
+    /// The text of the freeze file, where there is one.
+    pub freeze: Option<Text>,
 }
 
 /// Reads the project files, up to the first that is refused.
@@ -56,14 +57,26 @@ pub(crate) fn read_files<F: Folder>(
     })
 }
 
-// The bytes of the freeze file, once it was read.
-fn kept(before: Option<List<u8>>, text: ProjectText) -> Option<List<u8>>
+// The text of the freeze file, once it was read.
+fn kept(before: Option<Text>, text: ProjectText) -> Option<Text>
+    requires { IsUtf8 text.bytes }
     ensures { result ≡ kept before text }
 {
     if is_freeze(&text.path) {
-        Some(text.bytes)
+        Some(text_of(text.bytes))
     } else {
         before
+    }
+}
+
+// A file that was read is a text.
+fn text_of(bytes: List<u8>) -> Text
+    requires { IsUtf8 bytes }
+    ensures { result ≡ bytes }
+{
+    match String::from_utf8(bytes.into_vec()) {
+        Ok(text) => Text::from_string(text),
+        Err(_) => unreachable!(),
     }
 }
 

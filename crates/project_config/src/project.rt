@@ -16,14 +16,14 @@ use std::alloc::Global;
 #[derive(Debug, Drop)]
 pub struct FolderProject {
     pub project: Project,
-    /// The bytes of `cabal.project.freeze`, where there is one.
-    pub freeze: Option<List<u8>>,
+    /// The text of `cabal.project.freeze`, where there is one.
+    pub freeze: Option<Text>,
     /// The paths of the local files, in byte order, each once.
     pub locals: List<Text>,
 }
 
 /// The project of a folder: what `cabal.project`, `cabal.project.freeze` and `cabal.project.local` say together, in this
-/// order, the bytes of the freeze file, and the paths of its local packages; or the first refusal: of a project file (one that is
+/// order, the text of the freeze file, and the paths of its local packages; or the first refusal: of a project file (one that is
 /// too large, or its first fault, file by file in reading order), and then of its entries. Behind what is refused nothing is read.
 pub fn read_folder_project<F: Folder>(
     alloc: Global,

@@ -2,7 +2,7 @@ use Rattle.std.proofs.Common.{Some}
 use Rattle.plan_command.specs.Output.{HasForm}
 use Rattle.plan_command.specs.Form.{form_of}
 use Rattle.plan_command.specs.Asked.{picking_of}
-use Rattle.plan_command.specs.Meaning.{Means, MeansGenerated, MeansReplay}
+use Rattle.plan_command.specs.Meaning.{Means, MeansFreeze, MeansGenerated, MeansReplay}
 use Rattle.plan_command.specs.Run.{IsOutputOfCommand}
 use Rattle.plan_command.proofs.Outputs.{prints-this}
 use Rattle.plan_command.proofs.command.perform.Goals as goal
@@ -10,6 +10,10 @@ use Rattle.plan_command.proofs.command.perform.Goals as goal
 pub returns-in-Ok-clause-headline : goal.returns-in-Ok-clause-headline
 returns-in-Ok-clause-headline g c = λ options files asked t.
     prints-this (Means (picking_of options) options.minimize (form_of options) options files) c.in-Ok.output (c.in-Ok.ensures.headline options files asked t) _ _ _ c.print.ensures.prints
+
+pub returns-in-Ok-clause-frozen : goal.returns-in-Ok-clause-frozen
+returns-in-Ok-clause-frozen g c = λ options files asked t.
+    prints-this (MeansFreeze options files) c.in-Ok.output (c.in-Ok.ensures.frozen options files asked t) _ _ _ c.print.ensures.prints
 
 pub returns-in-Ok-clause-replayed : goal.returns-in-Ok-clause-replayed
 returns-in-Ok-clause-replayed g c = λ options events slots files asked t.

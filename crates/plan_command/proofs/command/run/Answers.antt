@@ -12,6 +12,9 @@ pub returns-in-Ok-clause-counting : goal.returns-in-Ok-clause-counting
 returns-in-Ok-clause-counting g c = λ options files asked counting t.
     picked-so options MostMet (ap (λ b. if b then MostMet else Least) counting) files _ _ _ (c.perform.ensures.headline options files (cc (sym c.in-Ok.ensures.command ∙ asked)) t)
 
+pub returns-in-Ok-clause-frozen : goal.returns-in-Ok-clause-frozen
+returns-in-Ok-clause-frozen g c = λ options files asked t. c.perform.ensures.frozen options files (cc (sym c.in-Ok.ensures.command ∙ asked)) t
+
 pub returns-in-Ok-clause-replayed : goal.returns-in-Ok-clause-replayed
 returns-in-Ok-clause-replayed g c = λ options events slots files asked t. c.perform.ensures.replayed options events slots files (cc (sym c.in-Ok.ensures.command ∙ asked)) t
 

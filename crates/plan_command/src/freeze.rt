@@ -1,0 +1,91 @@
+// The command `freeze`: a plan as the constraints of its choices, behind what the freeze file says.
+ghost use Rattle.std.specs.Prelude.{◌≡◌, ◌≢◌, IfOk, IsErrOf, Some};
+ghost use Rattle.choice_problem.specs.Trail.{AreNew};
+ghost use Rattle.outside_folder.specs.Calls.{Leaves};
+ghost use Rattle.outside_folder.specs.Files.{Files};
+ghost use Rattle.plan_command.specs.Form.{ended, frozen_text, is_ended, said_before};
+ghost use Rattle.plan_command.specs.Output.{HasForm, IsMade};
+ghost use Rattle.plan_command.specs.Meaning.{MeansFreeze};
+ghost use Rattle.plan_command.specs.Run.{IsOutputOfFreeze};
+
+use crate::Status;
+use crate::form::Form;
+use crate::output::{Output, halted};
+use crate::plan::planned;
+use choice_problem::Choice;
+use command_line::Options;
+use freeze_file::freeze;
+use freeze_text::text_of_freeze;
+use outside_folder::{Folder, Trouble};
+use plan_search::Picking;
+use plan_task::read_task;
+use plan_types::{Index, List, NoMemory, Text};
+use qualified_goals::Names;
+use std::alloc::Global;
+
+/// The output of the command `freeze`.
+pub(crate) fn output_of_freeze<F: Folder>(
+    alloc: Global,
+    options: Options,
+    folder: &mut F,
+) -> Result<Output, Trouble>
+    ensures meaning { (files : Files) → F.tells folder.old ≡ Some files → IfOk result (MeansFreeze options files) }
+    ensures told { (files : Files) → F.tells folder.old ≡ Some files → IfOk result (IsOutputOfFreeze options files) }
+    ensures form { IfOk result HasForm }
+    ensures made { IfOk result (λ output. IsMade output.status) }
+    ensures read { IfOk result (λ output. output.status ≢ Status.Usage) }
+    ensures folder { Leaves F.tells F.faults folder.old folder.new (IsErrOf result Trouble.Failed) }
+{
+    match read_task(alloc, options, folder) {
+        Ok(task) => {
+            let before = said_before(alloc, &task.freeze)?;
+            let form = Form::Freeze(before);
+            Ok(planned(alloc, Picking::Least, false, &form, &task)?)
+        }
+        Err(halt) => halted(alloc, halt),
+    }
+}
+
+fn said_before(alloc: Global, file: &Option<Text>) -> Result<Text, NoMemory>
+    ensures { IfOk result (λ text. text ≡ said_before file.now) }
+{
+    match file {
+        Some(text) => text.copy(),
+        None => Ok(Text::new(alloc)),
+    }
+}
+
+/// What a freeze file said, and then the constraints of a trail.
+pub(crate) fn frozen_text(
+    alloc: Global,
+    before: &Text,
+    trail: &List<Choice>,
+    index: &Index,
+    names: &Names,
+) -> Result<Text, NoMemory>
+    requires { AreNew trail.now }
+    ensures { IfOk result (λ text. text ≡ frozen_text before.now index.now names.now trail.now) }
+{
+    let project = freeze(alloc, trail, index, names)?;
+    let constraints = text_of_freeze(alloc, &project)?;
+    let mut text = ended(before)?;
+    text.push_str(constraints.as_str())?;
+    Ok(text)
+}
+
+// A text with a line end behind its last line.
+fn ended(text: &Text) -> Result<Text, NoMemory>
+    ensures { IfOk result (λ ended. ended ≡ ended text.now) }
+{
+    let mut copied = text.copy()?;
+    if !is_ended(text.as_bytes()) {
+        copied.push_str("\n")?;
+    }
+    Ok(copied)
+}
+
+fn is_ended(text: &[u8]) -> bool
+    ensures { result ≡ is_ended text.now }
+{
+    text.is_empty() || text.ends_with(b"\n")
+}

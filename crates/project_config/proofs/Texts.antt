@@ -1,0 +1,53 @@
+-- Project files that were read are texts.
+use Rattle.std.proofs.Common.{◌≡◌, ℕ, List, [], ◌∷◌, ◌++◌, inl, inr, elim}
+use Rattle.std.specs.Prelude.{Result, Ok, Err}
+use Rattle.std.specs.Str.{IsUtf8}
+use Rattle.plan_types.specs.declared.condition.Env.{Env}
+use Rattle.plan_types.specs.declared.project.Project.{Project}
+use Rattle.plan_types.specs.declared.refusal.Refusal.{Refusal}
+use Rattle.project_file.specs.Project.{placed_all}
+use Rattle.project_file.specs.Project.{Placed}
+use Rattle.project_file.specs.Read.{AllRead, FileReads, GoesOn, IsProject, or_refusal, in_front, project_of}
+use Rattle.project_file.specs.Texts.{Reads}
+use Rattle.project_file.specs.declared.part.ProjectPart.{ProjectPart}
+use Rattle.project_file.specs.declared.read.ProjectText.{ProjectText}
+use Rattle.project_file.specs.declared.text.At.{At}
+
+module _ (env : Env) where
+  parts-text : (bytes : List ℕ) (parts : List ProjectPart) → Reads env bytes (Ok parts) → IsUtf8 bytes
+  parts-text bytes parts h = elim h [
+    | inl misfits ↦ absurd (cc misfits.comes)
+    | inr says ↦ says.tree.0
+  ]
+
+  file-text : (text : ProjectText) (parts : List ProjectPart) → FileReads env text (Ok parts) → IsUtf8 text.bytes
+  file-text text parts h = by h.0 h.1 h.2
+    where
+      by : (read : Result (List ProjectPart) At) → Reads env text.bytes read → Ok parts ≡ or_refusal text.path read → IsUtf8 text.bytes
+      by (Ok found) reads e = parts-text text.bytes found reads
+      by (Err at) reads e = absurd (cc e)
+
+  last-text : (before : List ProjectText) (text : ProjectText) (parts : List Placed) → AllRead env (before ++ text ∷ []) (Ok parts) → IsUtf8 text.bytes
+  unfolding AllRead
+  last-text [] text parts h = by h.0 h.1 h.2
+    where
+      by : (read : Result (List ProjectPart) Refusal) → FileReads env text read → GoesOn text.path read (λ more. AllRead env [] more) (Ok parts) → IsUtf8 text.bytes
+      by (Ok found) reads goes = file-text text found reads
+      by (Err refusal) reads goes = absurd (cc goes)
+  last-text (first ∷ before) text parts h = by h.0 h.2
+    where
+      behind : (found : List ProjectPart) (more : Result (List Placed) Refusal) → AllRead env (before ++ text ∷ []) more → Ok parts ≡ in_front (placed_all first.path found) more → IsUtf8 text.bytes
+      behind found (Ok later) reads e = last-text before text later reads
+      behind found (Err refusal) reads e = absurd (cc e)
+
+      by : (read : Result (List ProjectPart) Refusal) → GoesOn first.path read (λ more. AllRead env (before ++ text ∷ []) more) (Ok parts) → IsUtf8 text.bytes
+      by (Ok found) goes = behind found goes.0 goes.1 goes.2
+      by (Err refusal) goes = absurd (cc goes)
+
+  -- the last file of a project is one
+  pub last_is_text : (before : List ProjectText) (text : ProjectText) (project : Project) → IsProject env (before ++ text ∷ []) (Ok project) → IsUtf8 text.bytes
+  last_is_text before text project h = by h.0 h.1 h.2
+    where
+      by : (read : Result (List Placed) Refusal) → AllRead env (before ++ text ∷ []) read → Ok project ≡ project_of read → IsUtf8 text.bytes
+      by (Ok parts) reads e = last-text before text parts reads
+      by (Err refusal) reads e = absurd (cc e)
