@@ -79,11 +79,7 @@ fn is_turned_on(value: Option<u64>) -> bool
 }
 
 // The numbers of the flags that some instance declares as manual.
-fn manual_flags(
-    alloc: Global,
-    names: &Names,
-    entries: &[Entry],
-) -> Result<IndexSet<u64>, NoMemory>
+fn manual_flags(alloc: Global, names: &Names, entries: &[Entry]) -> Result<IndexSet<u64>, NoMemory>
     ensures { IfOk result (AreThose (is_manual names.now entries.now)) }
 {
     let mut manual = IndexSet::new(alloc);
@@ -93,11 +89,7 @@ fn manual_flags(
     Ok(manual)
 }
 
-fn add_manual(
-    manual: &mut IndexSet<u64>,
-    names: &Names,
-    flags: &[FlagDecl],
-) -> Result<(), NoMemory>
+fn add_manual(manual: &mut IndexSet<u64>, names: &Names, flags: &[FlagDecl]) -> Result<(), NoMemory>
     ensures { OnOk result (AddsManual names.now flags.now manual.old manual.new) }
 {
     for flag in flags {

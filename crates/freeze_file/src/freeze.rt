@@ -82,11 +82,7 @@ fn trail_of(alloc: Global, choices: &[Choice]) -> Result<Trail, NoMemory>
 }
 
 // The packages in whose setups something is chosen, in goal order.
-fn setups_in(
-    alloc: Global,
-    packages: &[Package],
-    choices: &[Choice],
-) -> Result<List<u64>, NoMemory>
+fn setups_in(alloc: Global, packages: &[Package], choices: &[Choice]) -> Result<List<u64>, NoMemory>
     ensures { IfOk result (λ setups. setups ≡ setups_in packages.now choices.now) }
 {
     let owners = setup_owners(alloc, choices)?;

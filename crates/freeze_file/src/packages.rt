@@ -17,6 +17,7 @@ use solver_index::is_local;
 use std::alloc::Global;
 
 /// What is frozen: the choices of a trail, by the packages of an index and the numbers of its names.
+#[derive(Drop)]
 pub(crate) struct Frozen<'a> {
     pub packages: &'a [Package],
     pub names: &'a Names,

@@ -12,7 +12,7 @@ ghost use Rattle.plan_types.specs.Refusal.{Answers};
 use command_line::Options;
 use outside_folder::Folder;
 use package_index::build_index;
-use plan_types::{Halt, Index, List, NoMemory, Project, Settings, Warning};
+use plan_types::{Halt, Index, List, NoMemory, Project, Settings, Text, Warning};
 use project_config::{FolderProject, read_folder_project};
 use std::alloc::Global;
 
