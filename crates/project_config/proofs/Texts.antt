@@ -9,40 +9,52 @@ use Rattle.project_file.specs.Project.{placed_all}
 use Rattle.project_file.specs.Project.{Placed}
 use Rattle.project_file.specs.Read.{AllRead, FileReads, GoesOn, IsProject, or_refusal, in_front, project_of}
 use Rattle.project_file.specs.Texts.{Reads}
-use Rattle.project_file.specs.declared.part.ProjectPart.{ProjectPart}
 use Rattle.project_file.specs.declared.read.ProjectText.{ProjectText}
-use Rattle.project_file.specs.declared.text.At.{At}
 
 module _ (env : Env) where
-  parts-text : (bytes : List ℕ) (parts : List ProjectPart) → Reads env bytes (Ok parts) → IsUtf8 bytes
+  parts-text : (bytes : List ℕ) (parts : _) → Reads env bytes (Ok parts) → IsUtf8 bytes
   parts-text bytes parts h = elim h [
     | inl misfits ↦ absurd (cc misfits.comes)
     | inr says ↦ says.tree.0
   ]
 
-  file-text : (text : ProjectText) (parts : List ProjectPart) → FileReads env text (Ok parts) → IsUtf8 text.bytes
+  file-text : (text : ProjectText) (parts : _) → FileReads env text (Ok parts) → IsUtf8 text.bytes
   file-text text parts h = by h.0 h.1 h.2
     where
-      by : (read : Result (List ProjectPart) At) → Reads env text.bytes read → Ok parts ≡ or_refusal text.path read → IsUtf8 text.bytes
+      by : (read : _) → Reads env text.bytes read → Ok parts ≡ or_refusal text.path read → IsUtf8 text.bytes
       by (Ok found) reads e = parts-text text.bytes found reads
       by (Err at) reads e = absurd (cc e)
 
-  last-text : (before : List ProjectText) (text : ProjectText) (parts : List Placed) → AllRead env (before ++ text ∷ []) (Ok parts) → IsUtf8 text.bytes
-  unfolding AllRead
-  last-text [] text parts h = by h.0 h.1 h.2
+  -- where what is read goes on, the last of the files behind it is a text
+  behind-text : (path : List ℕ) (found : _) (rest : List ProjectText) (text : ProjectText) (parts : List Placed)
+      → ((later : List Placed) → AllRead env rest (Ok later) → IsUtf8 text.bytes)
+      → GoesOn path (Ok found) (λ more. AllRead env rest more) (Ok parts) → IsUtf8 text.bytes
+  behind-text path found rest text parts last goes = by goes.0 goes.1 goes.2
     where
-      by : (read : Result (List ProjectPart) Refusal) → FileReads env text read → GoesOn text.path read (λ more. AllRead env [] more) (Ok parts) → IsUtf8 text.bytes
+      by : (more : Result (List Placed) Refusal) → AllRead env rest more → Ok parts ≡ in_front (placed_all path found) more → IsUtf8 text.bytes
+      by (Ok later) reads e = last later reads
+      by (Err refusal) reads e = absurd (cc e)
+
+  first-text : (text : ProjectText) (rest : List ProjectText) (parts : List Placed) → AllRead env (text ∷ rest) (Ok parts) → IsUtf8 text.bytes
+  unfolding AllRead
+  first-text text rest parts h = by h.0 h.1 h.2
+    where
+      by : (read : _) → FileReads env text read → GoesOn text.path read (λ more. AllRead env rest more) (Ok parts) → IsUtf8 text.bytes
       by (Ok found) reads goes = file-text text found reads
       by (Err refusal) reads goes = absurd (cc goes)
-  last-text (first ∷ before) text parts h = by h.0 h.2
-    where
-      behind : (found : List ProjectPart) (more : Result (List Placed) Refusal) → AllRead env (before ++ text ∷ []) more → Ok parts ≡ in_front (placed_all first.path found) more → IsUtf8 text.bytes
-      behind found (Ok later) reads e = last-text before text later reads
-      behind found (Err refusal) reads e = absurd (cc e)
 
-      by : (read : Result (List ProjectPart) Refusal) → GoesOn first.path read (λ more. AllRead env (before ++ text ∷ []) more) (Ok parts) → IsUtf8 text.bytes
-      by (Ok found) goes = behind found goes.0 goes.1 goes.2
+  later-text : (first : ProjectText) (rest : List ProjectText) (text : ProjectText) (parts : List Placed)
+      → ((later : List Placed) → AllRead env rest (Ok later) → IsUtf8 text.bytes) → AllRead env (first ∷ rest) (Ok parts) → IsUtf8 text.bytes
+  unfolding AllRead
+  later-text first rest text parts last h = by h.0 h.2
+    where
+      by : (read : _) → GoesOn first.path read (λ more. AllRead env rest more) (Ok parts) → IsUtf8 text.bytes
+      by (Ok found) goes = behind-text first.path found rest text parts last goes
       by (Err refusal) goes = absurd (cc goes)
+
+  last-text : (before : List ProjectText) (text : ProjectText) (parts : List Placed) → AllRead env (before ++ text ∷ []) (Ok parts) → IsUtf8 text.bytes
+  last-text [] text parts h = first-text text [] parts h
+  last-text (first ∷ before) text parts h = later-text first (before ++ text ∷ []) text parts (λ later reads. last-text before text later reads) h
 
   -- the last file of a project is one
   pub last_is_text : (before : List ProjectText) (text : ProjectText) (project : Project) → IsProject env (before ++ text ∷ []) (Ok project) → IsUtf8 text.bytes

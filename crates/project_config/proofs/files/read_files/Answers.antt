@@ -17,11 +17,17 @@ use Rattle.project_config.specs.Project.{AreSaid, project_files}
 use Rattle.project_config.specs.declared.files.FilesProject.{FilesProject}
 use Rattle.project_config.proofs.Locating.{all_said, large_said, refused_said}
 use Rattle.project_config.proofs.Reading.{GoesOn, implicit_at_end, kept_at_end, more_read}
+use Rattle.project_config.proofs.Texts.{last_is_text}
 use Rattle.common_laws.specs.Small.{if_some, some_at}
 use Rattle.project_config.proofs.files.read_files.Goals as goal
 
 pub with_project_file-requires : goal.with_project_file-requires
 with_project_file-requires g c = subst (λ (content : Content). IsReadable content) c.in-Bytes.is c.in_ok-content.ensures.within
+
+pub kept-freeze-requires : goal.kept-freeze-requires
+kept-freeze-requires g c =
+    let taken = c.loop-path.invariant.taken in
+    last_is_text c.args.env.now taken.0 (record { path = c.in-Some.path; bytes = c.in-Bytes.bytes }) c.in_ok-project-in-Bytes.project (c.in_ok-project-in-Bytes.ensures taken.0 taken.1)
 
 pub loop-path-init : goal.loop-path-init
 loop-path-init g c = record {
