@@ -1,2 +1,3 @@
 pub mod Releases
+pub mod Numbers
 pub mod Owners

@@ -1,11 +1,11 @@
 -- Where a flag has a value its package has one, whose instance asks for it.
 use Rattle.std.proofs.Common.{◌≡◌, ◌<◌, ◌⊎◌, inl, inr, ⊎_elim, ℕ, zero, suc, Bool, true, false, not, ◌&&◌, List, [], ◌∷◌, ◌++◌, length, map, Option, Some, None, refl, sym, ap, ◌∙◌, subst, arith}
-use Rattle.std.specs.Prelude.{is_none, is_some}
-use Rattle.std.specs.List.{Contains, filter, flat_map}
-use Rattle.std.proofs.lemmas.Bool.{and_from, and_parts, false≢true}
+use Rattle.std.specs.Prelude.{is_some, nat_lt}
+use Rattle.std.specs.List.{Contains, filter, flat_map, list_any}
+use Rattle.std.proofs.lemmas.Bool.{and_from, eq-eqb, false≢true, lt-ltb}
 use Rattle.std.proofs.lemmas.List.{map-append}
-use Rattle.std.proofs.lemmas.Option.{none-some}
-use Rattle.common_laws.specs.Lists.{contains-append, contains-cases, contains-flat_map, contains-left, contains-map, contains-none, map-contains}
+use Rattle.std.proofs.lemmas.List.Elements.{Contains-get_or}
+use Rattle.common_laws.specs.Lists.{any-from, contains-append, contains-cases, contains-flat_map, contains-left, contains-map, contains-none, map-contains}
 use Rattle.plan_types.specs.Packages.{declared_by, entries_of, is_installed, package_at}
 use Rattle.plan_types.specs.declared.condition.Env.{Env}
 use Rattle.plan_types.specs.declared.dependency.Dep.{Dep}
@@ -14,6 +14,7 @@ use Rattle.plan_types.specs.declared.description.Description.{Description}
 use Rattle.plan_types.specs.declared.description.FlagDecl.{FlagDecl}
 use Rattle.plan_types.specs.declared.index.Body.{Body}
 use Rattle.plan_types.specs.declared.index.Body.TheVariants.{Source, Installed}
+use Rattle.plan_types.specs.declared.index.Entry.{Entry}
 use Rattle.plan_types.specs.declared.index.Package.{Package}
 use Rattle.plan_types.specs.declared.project.Project.{Project}
 use Rattle.plan_types.specs.declared.version.Version.{Version}
@@ -22,21 +23,25 @@ use Rattle.qualified_goals.specs.declared.variable.Part.{Part}
 use Rattle.qualified_goals.specs.declared.variable.Part.TheVariants.{Package as ThePackage, Flag, Tests, Benches}
 use Rattle.qualified_goals.specs.declared.variable.Qual.{Qual}
 use Rattle.qualified_goals.specs.declared.variable.Var.{Var}
-use Rattle.qualified_goals.specs.Names.{NameTable}
+use Rattle.qualified_goals.specs.Names.{AreNumbers, NameTable, number_of}
 use Rattle.choice_problem.specs.declared.problem.Choice.{Choice}
 use Rattle.choice_problem.specs.declared.problem.Demand.{Demand}
-use Rattle.choice_problem.specs.Assignment.{Assignment}
+use Rattle.choice_problem.specs.Assignment.{Assignment, is_made}
 use Rattle.choice_problem.specs.General.{General, Request, request_of}
+use Rattle.choice_problem.specs.Holds.{HoldsWithin, IsAsked}
 use Rattle.choice_problem.specs.Problem.{IsChoice}
 use Rattle.choice_problem.specs.Trail.{choice_of, demands_after, next_var, trail_from, trail_of, value_in, with_next, with_value}
 use Rattle.choice_problem.specs.Valid.{IsWholeValid}
-use Rattle.choice_problem.proofs.Trails.{Passes, next-open, open-is, passes-push}
+use Rattle.choice_problem.proofs.Trails.{Passes, is_made-from, next-open, open-is, passes-push}
 use Rattle.solver_index.specs.AllowedVersions.{allowed_versions}
-use Rattle.solver_index.specs.Places.{entry_at, flag_number, rising}
+use Rattle.constraint_set.specs.Bars.{is_number}
+use Rattle.solver_index.specs.Places.{entry_at, flag_number, no_entry, rising}
+use Rattle.cabal_problem.specs.Laws.{known-below, known-qual}
 use Rattle.cabal_problem.specs.ListedDemands.{extra_root, flag_demand, has_stanzas, local_root, local_roots, roots_of, stanza_demand, stanza_if, unit_demand, unit_demands}
 use Rattle.cabal_problem.specs.Values.{package_var}
-use Rattle.cabal_problem.specs.Variables.{has_kind, is_benchmark, is_suite}
+use Rattle.cabal_problem.specs.Variables.{declares, has_kind, is_benchmark, is_qual, is_suite}
 use Rattle.cabal_problem.specs.WholeDemands.{body_requests, can_ask, front_demands, part_requests, requests_of, setup_request, setup_requests, whole_problem, whole_request}
+use Rattle.frozen_choices.proofs.Numbers.{declared-number}
 
 -- ---- what opens a variable
 
@@ -180,6 +185,47 @@ module _ (env : Env) (packages : List Package) (project : Project) (names : Name
   part-asks owner requests (Flag f) r h = absurd (contains-none r h)
   part-asks owner requests Tests r h = absurd (contains-none r h)
   part-asks owner requests Benches r h = absurd (contains-none r h)
+
+  -- ---- what an instance that is chosen asks for
+
+  declared-among : (owner : Choice) (allows : Dep → Version → Bool) (body : Body) (decl : FlagDecl) → Contains (declared_by body) decl
+      → Contains (body_requests env packages project names owner allows body) (request_of (flag_demand project names owner decl))
+  declared-among owner allows (Source d flats offer) decl h =
+      let one = flag_demand project names owner decl in
+      let flags = map (flag_demand project names owner) d.flags in
+      let has = has_stanzas packages owner.var in
+      let tests = stanza_if (has && has_kind is_suite d) owner Tests in
+      let benches = stanza_if (has && has_kind is_benchmark d) owner Benches in
+      let front = front_demands packages project names owner d in
+      let there : Contains front one = contains-left (flags ++ tests) benches one (contains-left flags tests one (map-contains (flag_demand project names owner) d.flags decl h)) in
+      let deps = map (whole_request env packages names owner allows) (filter (can_ask (has_stanzas packages owner.var)) (outward d)) in
+      let scripts = setup_requests d.custom (map (setup_request packages names owner allows) d.setup) in
+      contains-left (requests_of front ++ deps) scripts (request_of one) (contains-left (requests_of front) deps (request_of one) (map-contains request_of front one there))
+  declared-among owner allows (Installed unit needs) decl h = absurd (contains-none decl h)
+
+  -- it asks for a value of each flag that it declares
+  pub flag-asked : AreNumbers packages names → (A : Assignment) → HoldsWithin whole whole.known A → (q : Qual) (p i : ℕ) → A (package_var q p) ≡ Some i
+      → (decl : FlagDecl) → Contains (declared_by (entry_at (entries_of packages p) i).body) decl
+      → IsAsked whole whole.known A (request_of (flag_demand project names (choice_of (package_var q p) i) decl))
+  flag-asked numbers A holds q p i chosen decl declared =
+      let owner = choice_of (package_var q p) i in
+      let is : IsChoice whole owner = holds.assignment.choice owner chosen in
+      let below = known-below packages names (package_var q p) is.variable in
+      let entries = entries_of packages p in
+      let e = entry_at entries i in
+      let f = flag_number names decl.name in
+      let own : is_number (number_of names.flags decl.name) f ≡ true =
+      ap (λ o. is_number o f) (declared-number packages names numbers p i below is.value decl declared) ∙ eq-eqb f f refl in
+      let part : list_any (λ (x : Entry). declares names f x.body) entries ≡ true =
+      any-from (λ (x : Entry). declares names f x.body) entries e (Contains-get_or entries i no_entry is.value)
+      (any-from (λ (other : FlagDecl). is_number (number_of names.flags other.name) f) (declared_by e.body) decl declared own) in
+      record {
+        demand = inr (owner, is, declared-among owner (allowed_versions project e.instance) e.body decl declared);
+        yes = and_from (is_made A owner) true (is_made-from A owner chosen) refl;
+        inside = and_from (is_qual packages names q) (nat_lt p (length packages) && list_any (λ (x : Entry). declares names f x.body) entries)
+            (known-qual packages names (package_var q p) is.variable)
+            (and_from (nat_lt p (length packages)) (list_any (λ (x : Entry). declares names f x.body) entries) (lt-ltb p (length packages) below) part);
+      }
 
   -- ---- where a flag has a value
 
