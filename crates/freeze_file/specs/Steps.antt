@@ -1,18 +1,15 @@
 -- What is kept while a trail is frozen.
-use Rattle.std.specs.Prelude.{◌≡◌, ℕ, Bool, true, false, ◌∷◌, [], ◌||◌, ◌&&◌, nat_eq, List, Option, unwrap_or}
+use Rattle.std.specs.Prelude.{◌≡◌, ℕ, Bool, ◌||◌, ◌&&◌, nat_eq, List, Option, unwrap_or}
 use Rattle.std.specs.List.{list_any}
 use Rattle.std.specs.HashSet.{HashSet}
 use Rattle.plan_types.specs.declared.description.FlagDecl.{FlagDecl}
-use Rattle.plan_types.specs.declared.index.Body.{Body}
 use Rattle.plan_types.specs.declared.index.Entry.{Entry}
-use Rattle.plan_types.specs.declared.index.Package.{Package}
-use Rattle.plan_types.specs.Packages.{entries_of}
 use Rattle.qualified_goals.specs.declared.variable.Qual.{Qual}
 use Rattle.qualified_goals.specs.Names.{NameTable}
 use Rattle.choice_problem.specs.declared.problem.Choice.{Choice}
 use Rattle.solver_index.specs.Defaults.{has_number}
 use Rattle.solver_index.specs.Places.{no_entry}
-use Rattle.frozen_choices.specs.Frozen.{is_manual, is_setup_of}
+use Rattle.frozen_choices.specs.Frozen.{is_setup_of}
 
 -- whether a number is in a set
 abbrev pub has : {S : Type 0} → HashSet ℕ S → ℕ → Bool

@@ -23,7 +23,8 @@ pub(crate) fn flags_beside(
 {
     let mut sets = List::new(alloc);
     for flag in flags {
-        sets.push(flag_beside(names, trail, choice, flag)?)?;
+        let set = flag_beside(names, trail, choice, flag)?;
+        sets.push(set)?;
     }
     Ok(sets)
 }
@@ -43,7 +44,8 @@ pub(crate) fn automatic_beside(
     let mut sets = List::new(alloc);
     for flag in flags {
         if !has(&manual, flag_number(names, &flag.name)) {
-            sets.push(flag_beside(names, trail, choice, flag)?)?;
+            let set = flag_beside(names, trail, choice, flag)?;
+            sets.push(set)?;
         }
     }
     Ok(sets)

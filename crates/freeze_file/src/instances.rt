@@ -29,7 +29,7 @@ pub(crate) fn entry_of<'a>(packages: &'a [Package], choice: &Choice) -> Option<&
 
 /// The flags that it declares.
 pub(crate) fn declared_flags(entry: Option<&Entry>) -> &[FlagDecl]
-    ensures { result.now ≡ declared_by (or_none (option_copied entry)).body }
+    ensures { result.now ≡ declared_by (or_none (option_copied entry.entry)).body }
 {
     match entry {
         Some(entry) => entry.body.declared_flags(),
@@ -39,7 +39,7 @@ pub(crate) fn declared_flags(entry: Option<&Entry>) -> &[FlagDecl]
 
 /// Whether it is installed.
 pub(crate) fn is_installed(entry: Option<&Entry>) -> bool
-    ensures { result ≡ is_installed (or_none (option_copied entry)).body }
+    ensures { result ≡ is_installed (or_none (option_copied entry.entry)).body }
 {
     match entry {
         Some(entry) => entry.body.is_installed(),
@@ -49,7 +49,7 @@ pub(crate) fn is_installed(entry: Option<&Entry>) -> bool
 
 /// Its version.
 pub(crate) fn version_of(alloc: Global, entry: Option<&Entry>) -> Result<Version, NoMemory>
-    ensures { IfOk result (λ version. version ≡ (or_none (option_copied entry)).instance.version) }
+    ensures { IfOk result (λ version. version ≡ (or_none (option_copied entry.entry)).instance.version) }
 {
     match entry {
         Some(entry) => entry.instance.version.copy(alloc),
@@ -70,19 +70,19 @@ pub(crate) fn is_uniform(packages: &[Package], first: &Choice, choices: &[Choice
 }
 
 fn are_alike(one: Option<&Entry>, other: Option<&Entry>) -> bool
-    ensures { result ≡ are_alike (or_none (option_copied one)) (or_none (option_copied other)) }
+    ensures { result ≡ are_alike (or_none (option_copied one.entry)) (or_none (option_copied other.entry)) }
 {
     have_one_version(one, other) && is_installed(one) == is_installed(other)
 }
 
 fn have_one_version(one: Option<&Entry>, other: Option<&Entry>) -> bool
-    ensures { result ≡ is_version (or_none (option_copied one)).instance.version (or_none (option_copied other)).instance.version }
+    ensures { result ≡ is_version (or_none (option_copied one.entry)).instance.version (or_none (option_copied other.entry)).instance.version }
 {
     version_parts(one) == version_parts(other)
 }
 
 fn version_parts(entry: Option<&Entry>) -> &[u32]
-    ensures { result.now ≡ (or_none (option_copied entry)).instance.version.parts }
+    ensures { result.now ≡ (or_none (option_copied entry.entry)).instance.version.parts }
 {
     match entry {
         Some(entry) => entry.instance.version.parts.as_slice(),

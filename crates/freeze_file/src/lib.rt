@@ -3,9 +3,9 @@
 #![tactic(auto)]
 
 mod flags;
-mod freeze;
 mod instances;
 mod numbers;
 mod packages;
+mod project;
 
-pub use freeze::freeze;
+pub use project::freeze;

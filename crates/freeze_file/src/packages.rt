@@ -1,5 +1,5 @@
 // The constraints of each package.
-ghost use Rattle.std.specs.Prelude.{◌≡◌, ◌++◌, IfOk, OnOk, flat_map, map};
+ghost use Rattle.std.specs.Prelude.{◌≡◌, ◌++◌, ◌∷◌, IfOk, OnOk};
 ghost use Rattle.frozen_choices.specs.Frozen.{asked, asked_apart, asked_everywhere, asked_in_setup, asked_of, asked_of_local, asked_under, flags_asked, frozen_as, frozen_package, instance_asked, kind_of, setups_in};
 ghost use Rattle.plan_types.specs.Packages.{package_at};
 ghost use Rattle.frozen_choices.specs.Frozen.{entry_of};
@@ -204,7 +204,7 @@ impl Frozen<'_> {
 
 // That an instance is installed, or that it isn't.
 fn kind_of(entry: Option<&Entry>) -> What
-    ensures { result ≡ kind_of (or_none (option_copied entry)) }
+    ensures { result ≡ kind_of (or_none (option_copied entry.entry)) }
 {
     if is_installed(entry) {
         What::Installed

@@ -37,7 +37,9 @@ pub fn freeze(
         → IsSound env index.now → AreNumbers index.now.packages names.now
         → IsWholeValid (whole_problem env index.now.packages project names.now orders) (value_in trail.now)
         → BarsNone index.now.packages names.now made.constraints trail.now) }
-    ensures plain { IfOk result (λ made. (env : Env) → IsSound env index.now → AreLower index.now.packages
+    ensures plain { IfOk result (λ made. (env : Env) (project : TheProject) (orders : List (List ℕ))
+        → IsSound env index.now → AreLower index.now.packages
+        → IsWholeValid (whole_problem env index.now.packages project names.now orders) (value_in trail.now)
         → AllByRecursion IsPlainConstraint made.constraints) }
 {
     frozen_bars_none();
