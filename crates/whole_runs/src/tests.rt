@@ -5,8 +5,8 @@ use outside_folder::{MemFile, MemFolder, MemSink};
 use plan_command::{code_of, run};
 use plan_types::{List, Text};
 use runs::{
-    BUILD_RUNS, EIGHTH_CALL, GENERATED_RUNS, JSON_RUNS, NINTH_CALL, NO_READING, PROJECT_RUNS, RUNS,
-    SECOND_CALL, SHRUNK_RUNS, SIXTH_CALL, SMALL, SMALL_ANSWER, THIRD_CALL,
+    BUILD_RUNS, EIGHTH_CALL, FROZEN_RUNS, GENERATED_RUNS, JSON_RUNS, NINTH_CALL, NO_READING,
+    PROJECT_RUNS, RUNS, SECOND_CALL, SHRUNK_RUNS, SIXTH_CALL, SMALL, SMALL_ANSWER, THIRD_CALL,
 };
 use std::alloc::Global;
 use std::test::Fail;
@@ -156,6 +156,13 @@ fn answers_to_projects(rt: HostRuntime) -> Result<(), Fail> {
 #[test]
 fn answers_of_builds(rt: HostRuntime) -> Result<(), Fail> {
     let others = others(rt.alloc(), BUILD_RUNS, 0)?;
+    assert_eq!(rt; others.as_str(), "");
+    Ok(())
+}
+
+#[test]
+fn answers_with_frozen_plans(rt: HostRuntime) -> Result<(), Fail> {
+    let others = others(rt.alloc(), FROZEN_RUNS, 0)?;
     assert_eq!(rt; others.as_str(), "");
     Ok(())
 }

@@ -338,6 +338,85 @@ replay
 completed 0 failed 0 running 0 waiting 1 held 0";
 
 // Conflict sets from which nothing can be dropped.
+pub(crate) const FROZEN_RUNS: &str = "\
+$ cabal-plan freeze
+main.cabal main 1 b, c
+index/b/2/b.cabal b 2 c ==1
+index/b/1/b.cabal b 1 a
+index/a/1/a.cabal a 1
+index/a/2/a.cabal a 2
+index/c/1/c.cabal c 1 missing
+index/c/2/c.cabal c 2
+=> 0
+constraints:
+    any.a ==2,
+    any.a source,
+    any.b ==1,
+    any.b source,
+    any.c ==2,
+    any.c source
+
+$ cabal-plan freeze
+main.cabal: cabal-version: 2.4;name: main;version: 1;build-type: Custom;custom-setup;  setup-depends: base ==4.17;library;  build-depends: base ==4.18
+installed/a.conf: name: base;version: 4.17;id: base-4.17
+installed/b.conf: name: base;version: 4.18;id: base-4.18
+=> 0
+constraints:
+    base ==4.18,
+    base installed,
+    main:setup.base ==4.17,
+    main:setup.base installed
+
+$ cabal-plan freeze
+main.cabal: cabal-version: 2.4;name: main;version: 1;flag f;library;  if flag(f);    build-depends: gone
+=> 0
+constraints:
+    any.main -f
+
+$ cabal-plan freeze
+cabal.project: packages: .;constraints: p +f
+main.cabal: cabal-version: 2.4;name: main;version: 1;library;  build-depends: p;test-suite t;  build-tool-depends: t:t
+index/p/1/p.cabal: cabal-version: 2.4;name: p;version: 1;flag f;  default: False;  manual: True;library;  if !flag(f);    build-depends: gone
+index/t/1/t.cabal: cabal-version: 2.4;name: t;version: 1;executable t;  build-depends: p
+=> 0
+constraints:
+    any.p ==1,
+    any.p source,
+    any.p +f,
+    any.t ==1,
+    any.t source
+
+$ cabal-plan freeze --max-backjumps=-1
+main.cabal main 1 a
+cabal.project.freeze: constraints: a <2
+index/a/1/a.cabal a 1
+index/a/2/a.cabal a 2
+=> 0
+constraints: a <2
+constraints:
+    any.a ==1,
+    any.a source
+
+$ cabal-plan freeze
+main.cabal main 1
+cabal.project.freeze: -- nothing
+=> 0
+-- nothing
+
+$ cabal-plan freeze
+main.cabal main 1 a
+cabal.project.freeze: constraints: a <2
+=> 1
+no plan
+conflict main a
+visited 1 exhausted 2
+
+$ cabal-plan freeze
+main.cabal main 1
+cabal.project.freeze: constraints: a <<2
+=> 3
+refused cabal.project.freeze:1 BadConstraint";
+
 pub(crate) const SHRUNK_RUNS: &str = "\
 $ cabal-plan plan
 main.cabal main 1 a, b, c
@@ -390,6 +469,8 @@ $ cabal-plan plan --number=3
 $ cabal-plan generate --number=0
 $ cabal-plan generate --number=2001
 $ cabal-plan generate --number=3 --json
+$ cabal-plan freeze --json
+$ cabal-plan freeze --slots=2
 $ cabal-plan plan --max-backjumps=x
 ";
 
