@@ -22,7 +22,8 @@ use Rattle.plan_command.specs.declared.status.Status.{Status}
 use Rattle.plan_command.specs.declared.status.Status.TheVariants as status
 use Rattle.plan_command.specs.Output.{HasForm, IsOutputOfOutcome, of_outcome, of_refusal, refused}
 use Rattle.plan_command.specs.Meaning.{Means, MeansReplay, MeansTask, MeansWith, at_events, of_events, of_files}
-use Rattle.plan_command.specs.Run.{IsOutputOfPlan, IsOutputOfReplay, IsOutputOfTask, Prints}
+use Rattle.plan_command.specs.Form.{frozen_form}
+use Rattle.plan_command.specs.Run.{IsOutputOfFreeze, IsOutputOfPlan, IsOutputOfReplay, IsOutputOfTask, Prints}
 
 -- an output has the form of one
 
@@ -65,6 +66,16 @@ module _ (options : Options) (files : Files) where
         → Means picking minimize form options files output
     refused-means picking minimize refusal output made is =
         subst (Means picking minimize form options files) (sym is) (record { refusal = refusal; made = made; text_is = refl })
+
+  -- the same of a plan that is frozen
+  pub frozen-output : (task : Task) (output : Output) → IsTask options files (Ok task) → IsOutputOfTask Least false (frozen_form files) task output
+      → IsOutputOfFreeze options files output
+  unfolding IsOutputOfFreeze
+  frozen-output task output made is = (Ok task, made, is)
+
+  pub unfrozen-output : (refusal : Refusal) (output : Output) → IsTask options files (Err refusal) → output ≡ refused refusal → IsOutputOfFreeze options files output
+  unfolding IsOutputOfFreeze
+  unfrozen-output refusal output made is = (Err refusal, made, is)
 
   -- the same of a build of the plan
   module _ (path : Bytes) (slots : ℕ) where

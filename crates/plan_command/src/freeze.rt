@@ -75,7 +75,7 @@ pub(crate) fn frozen_text(
 
 // A text with a line end behind its last line.
 fn ended(text: &Text) -> Result<Text, NoMemory>
-    ensures { IfOk result (λ ended. ended ≡ ended text.now) }
+    ensures { IfOk result (λ copied. copied ≡ ended text.now) }
 {
     let mut copied = text.copy()?;
     if !is_ended(text.as_bytes()) {

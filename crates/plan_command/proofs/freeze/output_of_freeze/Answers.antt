@@ -1,0 +1,44 @@
+use Rattle.std.proofs.Common.{◌≡◌, Bool, false, Err, ap, subst, ◌∙◌}
+use Rattle.std.proofs.lemmas.Result.{IfOk-weaker}
+use Rattle.common_laws.specs.Small.{some_at}
+use Rattle.outside_folder.specs.Files.{Bytes}
+use Rattle.plan_types.specs.Refusal.{Answers}
+use Rattle.plan_types.specs.declared.refusal.Halt.{Halt}
+use Rattle.plan_task.specs.Task.{IsTask}
+use Rattle.plan_task.specs.declared.task.Task.{Task}
+use Rattle.plan_search.specs.declared.search.Picking.TheVariants.{Least}
+use Rattle.plan_command.specs.declared.form.Form.TheVariants.{Freeze}
+use Rattle.plan_command.specs.Form.{frozen_form, said_before}
+use Rattle.plan_command.specs.Meaning.{MeansTask}
+use Rattle.plan_command.specs.Run.{IsOutputOfTask}
+use Rattle.plan_command.proofs.Outputs.{formed-refusal, formed-task, frozen-output, planned-means, refused-means, unfrozen-output}
+use Rattle.plan_command.proofs.freeze.output_of_freeze.Goals as goal
+
+pub returns-in_ok-planned-in-Ok-clause-meaning : goal.returns-in_ok-planned-in-Ok-clause-meaning
+returns-in_ok-planned-in-Ok-clause-meaning g c = λ files t.
+    let task = c.in-Ok.task in
+    let output = c.in_ok-planned-in-Ok.field-0 in
+    let before = c.in_ok-before-in-Ok.ensures ∙ ap said_before (some_at _ _ files t c.in-Ok.ensures.freeze) in
+    planned-means c.args.options files (frozen_form files) Least false task (some_at _ _ files t c.in-Ok.ensures.told) c.in-Ok.ensures.ready output
+    (subst (λ (b : Bytes). MeansTask Least false (Freeze b) task output) before c.in_ok-planned-in-Ok.ensures.headline)
+
+pub returns-in_ok-planned-in-Ok-clause-told : goal.returns-in_ok-planned-in-Ok-clause-told
+returns-in_ok-planned-in-Ok-clause-told g c = λ files t.
+    let task = c.in-Ok.task in
+    let output = c.in_ok-planned-in-Ok.field-0 in
+    let before = c.in_ok-before-in-Ok.ensures ∙ ap said_before (some_at _ _ files t c.in-Ok.ensures.freeze) in
+    frozen-output c.args.options files task output (some_at _ _ files t c.in-Ok.ensures.told)
+    (subst (λ (b : Bytes). IsOutputOfTask Least false (Freeze b) task output) before c.in_ok-planned-in-Ok.ensures.output)
+
+pub returns-in_ok-planned-in-Ok-clause-form : goal.returns-in_ok-planned-in-Ok-clause-form
+returns-in_ok-planned-in-Ok-clause-form g c = formed-task _ _ _ c.in-Ok.task c.in_ok-planned-in-Ok.field-0 c.in_ok-planned-in-Ok.ensures.output
+
+pub returns-in-Err-clause-told : goal.returns-in-Err-clause-told
+returns-in-Err-clause-told g c = λ files t.
+    let told : Answers {A = Task} (IsTask c.args.options files) (Err c.in-Err.halt) = some_at _ _ files t c.in-Err.ensures.told in
+    IfOk-weaker c.halted.result _ _
+    (λ output h. unfrozen-output c.args.options files h.0 output (subst (λ (halt : Halt). Answers {A = Task} (IsTask c.args.options files) (Err halt)) h.1 told) h.2)
+    c.halted.ensures.refused
+
+pub returns-in-Err-clause-form : goal.returns-in-Err-clause-form
+returns-in-Err-clause-form g c = IfOk-weaker c.halted.result _ _ (λ output h. formed-refusal h.0 output h.2) c.halted.ensures.refused
