@@ -1,0 +1,235 @@
+-- How a constraint of a trail comes to ask for a value of a flag.
+use Rattle.std.proofs.Common.{◌≡◌, ℕ, ◌<◌, Bool, true, false, not, ◌&&◌, ◌||◌, cond, nat_eq, List, [], ◌∷◌, ◌++◌, length, map, flat_map, Option, Some, None, refl, sym, ap, ◌∙◌, subst, inl, inr, if◌then◌else◌}
+use Rattle.std.specs.List.{Contains, filter, list_any}
+use Rattle.std.proofs.lemmas.Bool.{and_parts, eqb-true, false≢true, not-true}
+use Rattle.common_laws.specs.Lists.{any-at, contains-append, contains-cases, contains-filter, contains-flat_map, contains-head, contains-left, contains-map, contains-none}
+use Rattle.plan_types.specs.Packages.{declared_by, entries_of, is_installed, package_at}
+use Rattle.plan_types.specs.declared.condition.FlagSet.{FlagSet}
+use Rattle.plan_types.specs.declared.constraint.Constraint.{Constraint}
+use Rattle.plan_types.specs.declared.constraint.Scope.{Scope}
+use Rattle.plan_types.specs.declared.constraint.Scope.TheVariants as scope
+use Rattle.plan_types.specs.declared.constraint.What.{What}
+use Rattle.plan_types.specs.declared.constraint.What.TheVariants as what
+use Rattle.plan_types.specs.declared.description.FlagDecl.{FlagDecl}
+use Rattle.plan_types.specs.declared.index.Entry.{Entry}
+use Rattle.plan_types.specs.declared.index.Package.{Package}
+use Rattle.plan_types.specs.declared.range.Range.TheVariants.{Equal}
+use Rattle.qualified_goals.specs.declared.variable.Part.{Part}
+use Rattle.qualified_goals.specs.declared.variable.Part.TheVariants.{Benches, Flag, Package as ThePackage, Tests}
+use Rattle.qualified_goals.specs.declared.variable.Qual.{Qual}
+use Rattle.qualified_goals.specs.declared.variable.Qual.TheVariants.{Setup, Top}
+use Rattle.qualified_goals.specs.Names.{Name, NameTable, number_of}
+use Rattle.choice_problem.specs.declared.problem.Choice.{Choice}
+use Rattle.choice_problem.specs.Trail.{AreNew, choice_of, value_in}
+use Rattle.choice_problem.specs.Trail.AreNew.{before_any, one_more}
+use Rattle.choice_problem.specs.Twins.{is_of_package, is_whole}
+use Rattle.choice_problem.proofs.Trails.{value_in-kept, value_in-new}
+use Rattle.constraint_set.specs.Bars.{asks, flag_values, is_number, is_value, values_of}
+use Rattle.freeze_text.specs.Reads.{are_flags}
+use Rattle.solver_index.specs.Places.{flag_number}
+use Rattle.cabal_problem.specs.ListedDemands.{part_beside}
+use Rattle.cabal_problem.specs.Values.{package_var}
+use Rattle.frozen_choices.specs.Frozen.{all_flags, asked, asked_apart, asked_everywhere, asked_in_setup, asked_of, asked_of_local, asked_under, asked_where, automatic_flags, entry_of, flag_beside, flags_asked, frozen_as, frozen_package, instance_asked, instances_in, is_automatic, is_turned_on, is_uniform, kind_of, setups_in}
+
+-- ---- a trail has the values of its choices
+
+pub new-value : {trail : List Choice} → AreNew trail → (c : Choice) → Contains trail c → value_in trail c.var ≡ Some c.val
+new-value before_any c h = absurd (contains-none c h)
+new-value (one_more {before = before} new d free is) c h =
+    subst (λ (t : List Choice). value_in t c.var ≡ Some c.val) (sym is)
+    (elim (contains-append before (d ∷ []) c (subst (λ (t : List Choice). Contains t c) is h)) [
+      | inl front ↦ value_in-kept before (d ∷ []) c.var c.val (new-value new c front)
+      | inr back ↦ elim (contains-cases d [] c back) [
+        | inl same ↦ subst (λ (x : Choice). value_in (before ++ d ∷ []) x.var ≡ Some x.val) same (value_in-new before [] d.var d.val free)
+        | inr none ↦ absurd (contains-none c none)
+      ]
+    ])
+
+whole-part : (part : Part) → is_whole part ≡ true → part ≡ ThePackage
+whole-part ThePackage h = refl
+whole-part (Flag f) h = absurd (false≢true h)
+whole-part Tests h = absurd (false≢true h)
+whole-part Benches h = absurd (false≢true h)
+
+-- ---- what settings of flags ask of a flag
+
+value-is : (value on : Bool) → is_value value on ≡ true → value ≡ on
+value-is true on h = sym h
+value-is false on h = sym (not-true on h)
+
+record AsksFlag (names : NameTable) (sets : List FlagSet) (f : ℕ) (on : Bool) : Type 0 where
+  set : FlagSet
+  among : Contains sets set
+  numbered : is_number (number_of names.flags set.name) f ≡ true
+  on_is : set.on ≡ on
+
+asks-flag : (names : NameTable) (sets : List FlagSet) (f : ℕ) (on : Bool) → asks names (what.Flags sets) (Flag f) on ≡ true → AsksFlag names sets f on
+asks-flag names sets f on h =
+    let (value, among, same) = any-at (λ value. is_value value on) (flag_values names sets f) h in
+    let (set, there, in_set) = contains-flat_map (λ (s : FlagSet). if is_number (number_of names.flags s.name) f then s.on ∷ [] else []) sets value among in
+    elim (is_number (number_of names.flags set.name) f) as (λ b. is_number (number_of names.flags set.name) f ≡ b → Contains (if b then set.on ∷ [] else []) value → AsksFlag names sets f on) [
+      | true ↦ λ e k. record {
+        set = set;
+        among = there;
+        numbered = e;
+        on_is = elim (contains-cases set.on [] value k) [ inl is ↦ is ∙ value-is value on same | inr none ↦ absurd (contains-none value none) ];
+      }
+      | false ↦ λ e k. absurd (contains-none value k)
+    ] refl in_set
+
+-- nothing that is asked of an instance asks for a flag
+range-asks-none : (names : NameTable) (at : Scope) (name : Name) (e : Entry) (f : ℕ) (on : Bool) (k : Constraint) → Contains (instance_asked at name e) k → asks names k.what (Flag f) on ≡ true → ⊥
+range-asks-none names at name e f on k h asked_it =
+    let range = asked at name (what.Range (Equal e.instance.version)) in
+    elim (contains-cases range (asked at name (kind_of e) ∷ []) k h) [
+      | inl first ↦ false≢true (subst (λ (j : Constraint). asks names j.what (Flag f) on ≡ true) (sym first) asked_it)
+      | inr later ↦ elim (contains-cases (asked at name (kind_of e)) [] k later) [
+        | inl second ↦ elim (is_installed e.body) as (λ b. asks names (if b then what.Installed else what.Source) (Flag f) on ≡ true → ⊥) [ true ↦ λ q. false≢true q | false ↦ λ q. false≢true q ]
+          (subst (λ (j : Constraint). asks names j.what (Flag f) on ≡ true) (sym second) asked_it)
+        | inr none ↦ contains-none k none
+      ]
+    ]
+
+module _ (packages : List Package) (names : NameTable) (trail : List Choice) where
+  -- a flag that these declarations have stands in the trail beside a choice with this value
+  record IsBeside (c : Choice) (decls : List FlagDecl) (f : ℕ) (on : Bool) : Type 0 where
+    decl : FlagDecl
+    among : Contains decls decl
+    numbered : is_number (number_of names.flags decl.name) f ≡ true
+    on_is : is_turned_on (value_in trail (part_beside c (Flag (flag_number names decl.name)))) ≡ on
+
+  flags-beside : (at : Scope) (name : Name) (c : Choice) (decls : List FlagDecl) (f : ℕ) (on : Bool) (k : Constraint) → Contains (flags_asked at name (map (flag_beside names trail c) decls)) k
+      → asks names k.what (Flag f) on ≡ true → IsBeside c decls f on × (k.«package» ≡ name)
+  flags-beside at name c decls f on k h asked_it =
+      let sets = map (flag_beside names trail c) decls in
+      elim (are_flags sets) as (λ b. Contains (if b then asked at name (what.Flags sets) ∷ [] else []) k → IsBeside c decls f on × (k.«package» ≡ name)) [
+        | true ↦ λ q. elim (contains-cases (asked at name (what.Flags sets)) [] k q) [
+          | inl same ↦
+              let found = asks-flag names sets f on (subst (λ (j : Constraint). asks names j.what (Flag f) on ≡ true) (sym same) asked_it) in
+              let (decl, among, set_is) = contains-map (flag_beside names trail c) decls found.set found.among in
+              (record {
+                decl = decl;
+                among = among;
+                numbered = ap (λ (s : FlagSet). is_number (number_of names.flags s.name) f) set_is ∙ found.numbered;
+                on_is = ap (λ (s : FlagSet). s.on) set_is ∙ found.on_is;
+              }, sym (ap (λ (j : Constraint). j.«package») same))
+          | inr none ↦ absurd (contains-none k none)
+        ]
+        | false ↦ λ q. absurd (contains-none k q)
+      ] h
+
+  -- why a value that the trail has of a flag is asked for: the package has one instance, or one version is asked for, or the flag is
+  -- manual in no instance
+  pub data IsReason (ks : List Constraint) (p : ℕ) (c : Choice) (decl : FlagDecl) : Type 0 where
+    is_local : (package_at packages p).local ≡ true → IsReason ks p c decl
+    one_version : Contains ks (asked scope.Any (package_at packages p).name (what.Range (Equal (entry_of packages c).instance.version))) → IsReason ks p c decl
+    never_manual : is_automatic names (entries_of packages p) decl ≡ true → IsReason ks p c decl
+
+  -- a choice of an instance of the package that declares the flag, which has this value in the trail
+  pub record IsAsked (ks : List Constraint) (p : ℕ) (name : Name) (f : ℕ) (on : Bool) : Type 0 where
+    pub choice : Choice
+    pub made : value_in trail choice.var ≡ Some choice.val
+    pub whole : choice.var.part ≡ ThePackage
+    pub of : choice.var.«package» ≡ p
+    pub decl : FlagDecl
+    pub declared : Contains (declared_by (entry_of packages choice).body) decl
+    pub numbered : is_number (number_of names.flags decl.name) f ≡ true
+    pub on_is : is_turned_on (value_in trail (part_beside choice (Flag (flag_number names decl.name)))) ≡ on
+    pub named : name ≡ (package_at packages p).name
+    pub reason : IsReason ks p choice decl
+
+  -- what is asked by a choice
+  by-choice : (ks : List Constraint) (p f : ℕ) (on : Bool) (at : Scope) (c : Choice) (k : Constraint) → value_in trail c.var ≡ Some c.val → c.var.part ≡ ThePackage → c.var.«package» ≡ p
+      → Contains (asked_of packages names trail at c) k → asks names k.what (Flag f) on ≡ true → IsAsked ks p k.«package» f on
+  by-choice ks p f on at c k made whole of h asked_it =
+      let name = (package_at packages c.var.«package»).name in
+      let e = entry_of packages c in
+      let test = is_automatic names (entries_of packages c.var.«package») in
+      elim (contains-append (instance_asked at name e) (flags_asked at name (automatic_flags packages names trail c)) k h) [
+        | inl range ↦ absurd (range-asks-none names at name e f on k range asked_it)
+        | inr flags ↦
+            let (beside, named) = flags-beside at name c (filter test (declared_by e.body)) f on k flags asked_it in
+            let (declared, automatic) = contains-filter test (declared_by e.body) beside.decl beside.among in
+            record {
+              choice = c;
+              made = made;
+              whole = whole;
+              of = of;
+              decl = beside.decl;
+              declared = declared;
+              numbered = beside.numbered;
+              on_is = beside.on_is;
+              named = named ∙ ap (λ q. (package_at packages q).name) of;
+              reason = never_manual (subst (λ q. is_automatic names (entries_of packages q) beside.decl ≡ true) of automatic);
+            }
+      ]
+
+  under : (ks : List Constraint) (p f : ℕ) (on : Bool) (at : Scope) (q : Qual) (k : Constraint) → Contains (asked_under packages names trail at q p) k → asks names k.what (Flag f) on ≡ true
+      → IsAsked ks p k.«package» f on
+  under ks p f on at q k h asked_it =
+      elim (value_in trail (package_var q p)) as (λ o. value_in trail (package_var q p) ≡ o → Contains (asked_where packages names trail at q p o) k → IsAsked ks p k.«package» f on) [
+        | None ↦ λ e i. absurd (contains-none k i)
+        | Some n ↦ λ e i. by-choice ks p f on at (choice_of (package_var q p) n) k e refl refl i asked_it
+      ] refl h
+
+  -- what is asked by all choices of a package alike
+  by-first : (ks : List Constraint) (p f : ℕ) (on : Bool) (c : Choice) (k : Constraint) → value_in trail c.var ≡ Some c.val → c.var.part ≡ ThePackage → c.var.«package» ≡ p
+      → ((decl : FlagDecl) → IsReason ks p c decl) → Contains (asked_of_local packages names trail c) k → asks names k.what (Flag f) on ≡ true → IsAsked ks p k.«package» f on
+  by-first ks p f on c k made whole of reason h asked_it =
+      let (beside, named) = flags-beside scope.Any (package_at packages c.var.«package»).name c (declared_by (entry_of packages c).body) f on k h asked_it in
+      record {
+        choice = c;
+        made = made;
+        whole = whole;
+        of = of;
+        decl = beside.decl;
+        declared = beside.among;
+        numbered = beside.numbered;
+        on_is = beside.on_is;
+        named = named ∙ ap (λ q. (package_at packages q).name) of;
+        reason = reason beside.decl;
+      }
+
+  module _ (new : AreNew trail) (ks : List Constraint) (p f : ℕ) (on : Bool) (k : Constraint) (asked_it : asks names k.what (Flag f) on ≡ true) where
+    apart : Contains (asked_apart packages names trail p) k → IsAsked ks p k.«package» f on
+    apart h =
+        elim (contains-append (asked_under packages names trail scope.Top Top p) (flat_map (asked_in_setup packages names trail p) (setups_in packages trail)) k h) [
+          | inl top ↦ under ks p f on scope.Top Top k top asked_it
+          | inr setups ↦
+              let (s, listed, inside) = contains-flat_map (asked_in_setup packages names trail p) (setups_in packages trail) k setups in
+              under ks p f on (scope.SetupOf (package_at packages s).name) (Setup s) k inside asked_it
+        ]
+
+    everywhere : (c : Choice) → value_in trail c.var ≡ Some c.val → c.var.part ≡ ThePackage → c.var.«package» ≡ p
+        → ((j : Constraint) → Contains (asked_everywhere packages names trail c) j → Contains ks j) → Contains (asked_everywhere packages names trail c) k → IsAsked ks p k.«package» f on
+    everywhere c made whole of inside h =
+        let name = (package_at packages c.var.«package»).name in
+        let e = entry_of packages c in
+        let range = asked scope.Any name (what.Range (Equal e.instance.version)) in
+        let flags = flags_asked scope.Any name (all_flags packages names trail c) in
+        let first = contains-left (instance_asked scope.Any name e) flags range (contains-head range (asked scope.Any name (kind_of e) ∷ [])) in
+        let of_p = subst (λ q. Contains ks (asked scope.Any (package_at packages q).name (what.Range (Equal e.instance.version)))) of (inside range first) in
+        elim (contains-append (instance_asked scope.Any name e) flags k h) [
+          | inl ranges ↦ absurd (range-asks-none names scope.Any name e f on k ranges asked_it)
+          | inr of_flags ↦ by-first ks p f on c k made whole of (λ decl. one_version of_p) of_flags asked_it
+        ]
+
+    -- by how the choices of the package stand
+    by-kind : (c : Choice) (local uniform : Bool) → (package_at packages p).local ≡ local → value_in trail c.var ≡ Some c.val → c.var.part ≡ ThePackage → c.var.«package» ≡ p
+        → ((j : Constraint) → Contains (if local then asked_of_local packages names trail c else if uniform then asked_everywhere packages names trail c else asked_apart packages names trail p) j → Contains ks j)
+        → Contains (if local then asked_of_local packages names trail c else if uniform then asked_everywhere packages names trail c else asked_apart packages names trail p) k
+        → IsAsked ks p k.«package» f on
+    by-kind c true uniform is made whole of inside h = by-first ks p f on c k made whole of (λ decl. is_local is) h asked_it
+    by-kind c false true is made whole of inside h = everywhere c made whole of inside h
+    by-kind c false false is made whole of inside h = apart h
+
+    pub in-package : ((j : Constraint) → Contains (frozen_package packages names trail p) j → Contains ks j) → Contains (frozen_package packages names trail p) k → IsAsked ks p k.«package» f on
+    in-package inside h =
+        elim (instances_in trail p) as (λ (l : List Choice). instances_in trail p ≡ l → ((j : Constraint) → Contains (frozen_as packages names trail p l) j → Contains ks j)
+            → Contains (frozen_as packages names trail p l) k → IsAsked ks p k.«package» f on) [
+          | [] ↦ λ e within i. absurd (contains-none k i)
+          | first ∷ others ↦ λ e within i.
+              let (in_trail, is_of) = contains-filter (is_of_package p) trail first (subst (λ (l : List Choice). Contains l first) (sym e) (contains-head first others)) in
+              let parts = and_parts (is_whole first.var.part) (nat_eq first.var.«package» p) is_of in
+              by-kind first (package_at packages p).local (is_uniform packages first others) refl (new-value new first in_trail) (whole-part first.var.part parts.0) (eqb-true first.var.«package» p parts.1) within i
+        ] refl inside h
