@@ -6,3 +6,5 @@ pub mod Chosen
 pub mod Asked
 pub mod FlagValues
 pub mod NoOther
+pub mod Whole
+pub mod FoundAgain

@@ -75,6 +75,13 @@ pub zip-map : {X Y Z : Type 0} (R : X → Y → Type 0) (f : Z → X) (g : Z →
 zip-map R f g [] h = tt
 zip-map R f g (z ∷ zs) h = (h z (contains-head z zs), zip-map R f g zs (λ y k. h y (contains-tail z zs y k)))
 
+-- of the images of both
+pub zip-mapped : {X Z : Type 0} (R : X → X → Type 0) (f : Z → X) (zs ws : List Z) → AllZip (λ z w. R (f z) (f w)) zs ws → AllZip R (map f zs) (map f ws)
+zip-mapped R f [] [] h = tt
+zip-mapped R f [] (w ∷ ws) h = absurd h
+zip-mapped R f (z ∷ zs) [] h = absurd h
+zip-mapped R f (z ∷ zs) (w ∷ ws) h = (h.0, zip-mapped R f zs ws h.1)
+
 pub zip-flat : {X Y Z : Type 0} (R : X → Y → Type 0) (f : Z → List X) (g : Z → List Y) (zs : List Z) → ((z : Z) → AllZip R (f z) (g z)) → AllZip R (flat_map f zs) (flat_map g zs)
 zip-flat R f g [] h = tt
 zip-flat R f g (z ∷ zs) h = zip-append R (f z) (g z) (flat_map f zs) (flat_map g zs) (h z) (zip-flat R f g zs h)
