@@ -21,35 +21,22 @@ use Rattle.qualified_goals.specs.declared.variable.Qual.TheVariants.{Setup, Top}
 use Rattle.qualified_goals.specs.Names.{Name, NameTable, number_of}
 use Rattle.choice_problem.specs.declared.problem.Choice.{Choice}
 use Rattle.choice_problem.specs.Trail.{AreNew, choice_of, value_in}
-use Rattle.choice_problem.specs.Trail.AreNew.{before_any, one_more}
 use Rattle.choice_problem.specs.Twins.{is_of_package, is_whole}
-use Rattle.choice_problem.proofs.Trails.{value_in-kept, value_in-new}
 use Rattle.constraint_set.specs.Bars.{asks, flag_values, is_number, is_value, values_of}
 use Rattle.freeze_text.specs.Reads.{are_flags}
-use Rattle.solver_index.specs.Places.{flag_number}
+use Rattle.solver_index.specs.Places.{entry_at, flag_number}
 use Rattle.cabal_problem.specs.ListedDemands.{part_beside}
 use Rattle.cabal_problem.specs.Values.{package_var}
 use Rattle.frozen_choices.specs.Frozen.{all_flags, asked, asked_apart, asked_everywhere, asked_in_setup, asked_of, asked_of_local, asked_under, asked_where, automatic_flags, entry_of, flag_beside, flags_asked, frozen_as, frozen_package, instance_asked, instances_in, is_automatic, is_turned_on, is_uniform, kind_of, setups_in}
+use Rattle.frozen_choices.proofs.Made.{whole-is}
+use Rattle.frozen_choices.proofs.Taken.{new-passes}
 
--- ---- a trail has the values of its choices
-
-pub new-value : {trail : List Choice} → AreNew trail → (c : Choice) → Contains trail c → value_in trail c.var ≡ Some c.val
-new-value before_any c h = absurd (contains-none c h)
-new-value (one_more {before = before} new d free is) c h =
-    subst (λ (t : List Choice). value_in t c.var ≡ Some c.val) (sym is)
-    (elim (contains-append before (d ∷ []) c (subst (λ (t : List Choice). Contains t c) is h)) [
-      | inl front ↦ value_in-kept before (d ∷ []) c.var c.val (new-value new c front)
-      | inr back ↦ elim (contains-cases d [] c back) [
-        | inl same ↦ subst (λ (x : Choice). value_in (before ++ d ∷ []) x.var ≡ Some x.val) same (value_in-new before [] d.var d.val free)
-        | inr none ↦ absurd (contains-none c none)
-      ]
-    ])
-
-whole-part : (part : Part) → is_whole part ≡ true → part ≡ ThePackage
-whole-part ThePackage h = refl
-whole-part (Flag f) h = absurd (false≢true h)
-whole-part Tests h = absurd (false≢true h)
-whole-part Benches h = absurd (false≢true h)
+-- a choice of an instance of a package
+instance-is : (p : ℕ) (c : Choice) → is_of_package p c ≡ true → choice_of (package_var c.var.qual p) c.val ≡ c
+instance-is p c h =
+    let parts = and_parts (is_whole c.var.part) (nat_eq c.var.«package» p) h in
+    ap (λ n. choice_of (package_var c.var.qual n) c.val) (sym (eqb-true c.var.«package» p parts.1))
+    ∙ ap (λ part. choice_of (record { qual = c.var.qual; «package» = c.var.«package»; part = part }) c.val) (whole-is c.var.part parts.0)
 
 -- ---- what settings of flags ask of a flag
 
@@ -118,118 +105,128 @@ module _ (packages : List Package) (names : NameTable) (trail : List Choice) whe
         | false ↦ λ q. absurd (contains-none k q)
       ] h
 
-  -- why a value that the trail has of a flag is asked for: the package has one instance, or one version is asked for, or the flag is
-  -- manual in no instance
-  pub data IsReason (ks : List Constraint) (p : ℕ) (c : Choice) (decl : FlagDecl) : Type 0 where
-    is_local : (package_at packages p).local ≡ true → IsReason ks p c decl
-    one_version : Contains ks (asked scope.Any (package_at packages p).name (what.Range (Equal (entry_of packages c).instance.version))) → IsReason ks p c decl
-    never_manual : is_automatic names (entries_of packages p) decl ≡ true → IsReason ks p c decl
+  -- the choice of an instance of a package
+  abbrev taken : Qual → ℕ → ℕ → Choice
+  taken q p i = choice_of (package_var q p) i
 
-  -- a choice of an instance of the package that declares the flag, which has this value in the trail
-  pub record IsAsked (ks : List Constraint) (p : ℕ) (name : Name) (f : ℕ) (on : Bool) : Type 0 where
-    pub choice : Choice
-    pub made : value_in trail choice.var ≡ Some choice.val
-    pub whole : choice.var.part ≡ ThePackage
-    pub of : choice.var.«package» ≡ p
+  -- why a value that the trail has of a flag is asked for: the package is local, or one version is asked for, or the flag is manual
+  -- in no instance
+  pub data IsReason (ks : List Constraint) (p i : ℕ) (decl : FlagDecl) : Type 0 where
+    is_local : (package_at packages p).local ≡ true → IsReason ks p i decl
+    one_version : Contains ks (asked scope.Any (package_at packages p).name (what.Range (Equal (entry_at (entries_of packages p) i).instance.version))) → IsReason ks p i decl
+    never_manual : is_automatic names (entries_of packages p) decl ≡ true → IsReason ks p i decl
+
+  -- a choice of an instance that declares the flag, which has this value in the trail beside that choice
+  pub record IsAskedBeside (ks : List Constraint) (p : ℕ) (name : Name) (f : ℕ) (on : Bool) : Type 0 where
+    pub qual : Qual
+    pub place : ℕ
+    pub made : value_in trail (package_var qual p) ≡ Some place
     pub decl : FlagDecl
-    pub declared : Contains (declared_by (entry_of packages choice).body) decl
+    pub declared : Contains (declared_by (entry_at (entries_of packages p) place).body) decl
     pub numbered : is_number (number_of names.flags decl.name) f ≡ true
-    pub on_is : is_turned_on (value_in trail (part_beside choice (Flag (flag_number names decl.name)))) ≡ on
+    pub on_is : is_turned_on (value_in trail (part_beside (choice_of (package_var qual p) place) (Flag (flag_number names decl.name)))) ≡ on
     pub named : name ≡ (package_at packages p).name
-    pub reason : IsReason ks p choice decl
-
-  -- what is asked by a choice
-  by-choice : (ks : List Constraint) (p f : ℕ) (on : Bool) (at : Scope) (c : Choice) (k : Constraint) → value_in trail c.var ≡ Some c.val → c.var.part ≡ ThePackage → c.var.«package» ≡ p
-      → Contains (asked_of packages names trail at c) k → asks names k.what (Flag f) on ≡ true → IsAsked ks p k.«package» f on
-  by-choice ks p f on at c k made whole of h asked_it =
-      let name = (package_at packages c.var.«package»).name in
-      let e = entry_of packages c in
-      let test = is_automatic names (entries_of packages c.var.«package») in
-      elim (contains-append (instance_asked at name e) (flags_asked at name (automatic_flags packages names trail c)) k h) [
-        | inl range ↦ absurd (range-asks-none names at name e f on k range asked_it)
-        | inr flags ↦
-            let (beside, named) = flags-beside at name c (filter test (declared_by e.body)) f on k flags asked_it in
-            let (declared, automatic) = contains-filter test (declared_by e.body) beside.decl beside.among in
-            record {
-              choice = c;
-              made = made;
-              whole = whole;
-              of = of;
-              decl = beside.decl;
-              declared = declared;
-              numbered = beside.numbered;
-              on_is = beside.on_is;
-              named = named ∙ ap (λ q. (package_at packages q).name) of;
-              reason = never_manual (subst (λ q. is_automatic names (entries_of packages q) beside.decl ≡ true) of automatic);
-            }
-      ]
-
-  under : (ks : List Constraint) (p f : ℕ) (on : Bool) (at : Scope) (q : Qual) (k : Constraint) → Contains (asked_under packages names trail at q p) k → asks names k.what (Flag f) on ≡ true
-      → IsAsked ks p k.«package» f on
-  under ks p f on at q k h asked_it =
-      elim (value_in trail (package_var q p)) as (λ o. value_in trail (package_var q p) ≡ o → Contains (asked_where packages names trail at q p o) k → IsAsked ks p k.«package» f on) [
-        | None ↦ λ e i. absurd (contains-none k i)
-        | Some n ↦ λ e i. by-choice ks p f on at (choice_of (package_var q p) n) k e refl refl i asked_it
-      ] refl h
-
-  -- what is asked by all choices of a package alike
-  by-first : (ks : List Constraint) (p f : ℕ) (on : Bool) (c : Choice) (k : Constraint) → value_in trail c.var ≡ Some c.val → c.var.part ≡ ThePackage → c.var.«package» ≡ p
-      → ((decl : FlagDecl) → IsReason ks p c decl) → Contains (asked_of_local packages names trail c) k → asks names k.what (Flag f) on ≡ true → IsAsked ks p k.«package» f on
-  by-first ks p f on c k made whole of reason h asked_it =
-      let (beside, named) = flags-beside scope.Any (package_at packages c.var.«package»).name c (declared_by (entry_of packages c).body) f on k h asked_it in
-      record {
-        choice = c;
-        made = made;
-        whole = whole;
-        of = of;
-        decl = beside.decl;
-        declared = beside.among;
-        numbered = beside.numbered;
-        on_is = beside.on_is;
-        named = named ∙ ap (λ q. (package_at packages q).name) of;
-        reason = reason beside.decl;
-      }
+    pub reason : IsReason ks p place decl
 
   module _ (new : AreNew trail) (ks : List Constraint) (p f : ℕ) (on : Bool) (k : Constraint) (asked_it : asks names k.what (Flag f) on ≡ true) where
-    apart : Contains (asked_apart packages names trail p) k → IsAsked ks p k.«package» f on
+    abbrev name : Name
+    name = (package_at packages p).name
+
+    abbrev IsSo : Type 0
+    IsSo = IsAskedBeside ks p k.«package» f on
+
+    -- what is asked by one choice
+    by-choice : (at : Scope) (q : Qual) (i : ℕ) → value_in trail (package_var q p) ≡ Some i → Contains (asked_of packages names trail at (taken q p i)) k → IsSo
+    by-choice at q i made h =
+        let c = taken q p i in
+        let e = entry_of packages c in
+        let test = is_automatic names (entries_of packages p) in
+        elim (contains-append (instance_asked at name e) (flags_asked at name (automatic_flags packages names trail c)) k h) [
+          | inl range ↦ absurd (range-asks-none names at name e f on k range asked_it)
+          | inr flags ↦
+              let (beside, named) = flags-beside at name c (filter test (declared_by e.body)) f on k flags asked_it in
+              let (declared, automatic) = contains-filter test (declared_by e.body) beside.decl beside.among in
+              record {
+                qual = q;
+                place = i;
+                made = made;
+                decl = beside.decl;
+                declared = declared;
+                numbered = beside.numbered;
+                on_is = beside.on_is;
+                named = named;
+                reason = never_manual automatic;
+              }
+        ]
+
+    under : (at : Scope) (q : Qual) → Contains (asked_under packages names trail at q p) k → IsSo
+    under at q h =
+        elim (value_in trail (package_var q p)) as (λ o. value_in trail (package_var q p) ≡ o → Contains (asked_where packages names trail at q p o) k → IsSo) [
+          | None ↦ λ e i. absurd (contains-none k i)
+          | Some n ↦ λ e i. by-choice at q n e i
+        ] refl h
+
+    apart : Contains (asked_apart packages names trail p) k → IsSo
     apart h =
         elim (contains-append (asked_under packages names trail scope.Top Top p) (flat_map (asked_in_setup packages names trail p) (setups_in packages trail)) k h) [
-          | inl top ↦ under ks p f on scope.Top Top k top asked_it
+          | inl top ↦ under scope.Top Top top
           | inr setups ↦
               let (s, listed, inside) = contains-flat_map (asked_in_setup packages names trail p) (setups_in packages trail) k setups in
-              under ks p f on (scope.SetupOf (package_at packages s).name) (Setup s) k inside asked_it
+              under (scope.SetupOf (package_at packages s).name) (Setup s) inside
         ]
 
-    everywhere : (c : Choice) → value_in trail c.var ≡ Some c.val → c.var.part ≡ ThePackage → c.var.«package» ≡ p
-        → ((j : Constraint) → Contains (asked_everywhere packages names trail c) j → Contains ks j) → Contains (asked_everywhere packages names trail c) k → IsAsked ks p k.«package» f on
-    everywhere c made whole of inside h =
-        let name = (package_at packages c.var.«package»).name in
-        let e = entry_of packages c in
-        let range = asked scope.Any name (what.Range (Equal e.instance.version)) in
-        let flags = flags_asked scope.Any name (all_flags packages names trail c) in
-        let first = contains-left (instance_asked scope.Any name e) flags range (contains-head range (asked scope.Any name (kind_of e) ∷ [])) in
-        let of_p = subst (λ q. Contains ks (asked scope.Any (package_at packages q).name (what.Range (Equal e.instance.version)))) of (inside range first) in
-        elim (contains-append (instance_asked scope.Any name e) flags k h) [
-          | inl ranges ↦ absurd (range-asks-none names scope.Any name e f on k ranges asked_it)
-          | inr of_flags ↦ by-first ks p f on c k made whole of (λ decl. one_version of_p) of_flags asked_it
-        ]
+    -- what is asked of all choices of the package alike
+    module _ (q : Qual) (i : ℕ) (made : value_in trail (package_var q p) ≡ Some i) where
+      local : ((decl : FlagDecl) → IsReason ks p i decl) → Contains (asked_of_local packages names trail (taken q p i)) k → IsSo
+      local reason h =
+          let (beside, named) = flags-beside scope.Any name (taken q p i) (declared_by (entry_at (entries_of packages p) i).body) f on k h asked_it in
+          record {
+            qual = q;
+            place = i;
+            made = made;
+            decl = beside.decl;
+            declared = beside.among;
+            numbered = beside.numbered;
+            on_is = beside.on_is;
+            named = named;
+            reason = reason beside.decl;
+          }
 
-    -- by how the choices of the package stand
-    by-kind : (c : Choice) (local uniform : Bool) → (package_at packages p).local ≡ local → value_in trail c.var ≡ Some c.val → c.var.part ≡ ThePackage → c.var.«package» ≡ p
-        → ((j : Constraint) → Contains (if local then asked_of_local packages names trail c else if uniform then asked_everywhere packages names trail c else asked_apart packages names trail p) j → Contains ks j)
-        → Contains (if local then asked_of_local packages names trail c else if uniform then asked_everywhere packages names trail c else asked_apart packages names trail p) k
-        → IsAsked ks p k.«package» f on
-    by-kind c true uniform is made whole of inside h = by-first ks p f on c k made whole of (λ decl. is_local is) h asked_it
-    by-kind c false true is made whole of inside h = everywhere c made whole of inside h
-    by-kind c false false is made whole of inside h = apart h
+      everywhere : ((j : Constraint) → Contains (asked_everywhere packages names trail (taken q p i)) j → Contains ks j) → Contains (asked_everywhere packages names trail (taken q p i)) k → IsSo
+      everywhere inside h =
+          let e = entry_at (entries_of packages p) i in
+          let range = asked scope.Any name (what.Range (Equal e.instance.version)) in
+          let flags = flags_asked scope.Any name (all_flags packages names trail (taken q p i)) in
+          let first = contains-left (instance_asked scope.Any name e) flags range (contains-head range (asked scope.Any name (kind_of e) ∷ [])) in
+          elim (contains-append (instance_asked scope.Any name e) flags k h) [
+            | inl ranges ↦ absurd (range-asks-none names scope.Any name e f on k ranges asked_it)
+            | inr of_flags ↦ local (λ decl. one_version (inside range first)) of_flags
+          ]
 
-    pub in-package : ((j : Constraint) → Contains (frozen_package packages names trail p) j → Contains ks j) → Contains (frozen_package packages names trail p) k → IsAsked ks p k.«package» f on
+    abbrev asked_as : Choice → Bool → Bool → List Constraint
+    asked_as c local uniform = if local then asked_of_local packages names trail c else if uniform then asked_everywhere packages names trail c else asked_apart packages names trail p
+
+    by-kind : (q : Qual) (i : ℕ) (is_in_project uniform : Bool) → (package_at packages p).local ≡ is_in_project → value_in trail (package_var q p) ≡ Some i
+        → ((j : Constraint) → Contains (asked_as (taken q p i) is_in_project uniform) j → Contains ks j) → Contains (asked_as (taken q p i) is_in_project uniform) k → IsSo
+    by-kind q i true uniform is made inside h = local q i made (λ decl. is_local is) h
+    by-kind q i false true is made inside h = everywhere q i made inside h
+    by-kind q i false false is made inside h = apart h
+
+    by-first : (first : Choice) (others : List Choice) → instances_in trail p ≡ first ∷ others → ((j : Constraint) → Contains (frozen_as packages names trail p (first ∷ others)) j → Contains ks j)
+        → Contains (frozen_as packages names trail p (first ∷ others)) k → IsSo
+    by-first first others e inside h =
+        let local_one = (package_at packages p).local in
+        let uniform = is_uniform packages first others in
+        let (in_trail, is_of) = contains-filter (is_of_package p) trail first (subst (λ (l : List Choice). Contains l first) (sym e) (contains-head first others)) in
+        let same : taken first.var.qual p first.val ≡ first = instance-is p first is_of in
+        let made = ap (λ (c : Choice). value_in trail c.var) same ∙ new-passes trail new first in_trail in
+        by-kind first.var.qual first.val local_one uniform refl made (λ j i. inside j (subst (λ c. Contains (asked_as c local_one uniform) j) same i))
+        (subst (λ c. Contains (asked_as c local_one uniform) k) (sym same) h)
+
+    pub in-package : ((j : Constraint) → Contains (frozen_package packages names trail p) j → Contains ks j) → Contains (frozen_package packages names trail p) k → IsSo
     in-package inside h =
         elim (instances_in trail p) as (λ (l : List Choice). instances_in trail p ≡ l → ((j : Constraint) → Contains (frozen_as packages names trail p l) j → Contains ks j)
-            → Contains (frozen_as packages names trail p l) k → IsAsked ks p k.«package» f on) [
+            → Contains (frozen_as packages names trail p l) k → IsSo) [
           | [] ↦ λ e within i. absurd (contains-none k i)
-          | first ∷ others ↦ λ e within i.
-              let (in_trail, is_of) = contains-filter (is_of_package p) trail first (subst (λ (l : List Choice). Contains l first) (sym e) (contains-head first others)) in
-              let parts = and_parts (is_whole first.var.part) (nat_eq first.var.«package» p) is_of in
-              by-kind first (package_at packages p).local (is_uniform packages first others) refl (new-value new first in_trail) (whole-part first.var.part parts.0) (eqb-true first.var.«package» p parts.1) within i
+          | first ∷ others ↦ λ e within i. by-first first others e within i
         ] refl inside h

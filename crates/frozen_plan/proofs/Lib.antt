@@ -1,10 +1,8 @@
 pub mod Lists
 pub mod Narrowed
-pub mod Numbers
-pub mod Releases
-pub mod Chosen
-pub mod Asked
+pub mod Flags
 pub mod FlagValues
+pub mod Asked
 pub mod NoOther
 pub mod Whole
 pub mod FoundAgain

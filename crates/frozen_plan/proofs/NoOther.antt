@@ -4,8 +4,8 @@ use Rattle.std.specs.List.{Contains, list_any}
 use Rattle.std.specs.Ordering.{is_eq, nat_cmp}
 use Rattle.std.specs.Cmp.Lexicographic.{slice_cmp, texts_ties}
 use Rattle.std.proofs.lemmas.Bool.{and_from, and_parts, eq-eqb, eqb-true, false≢true, or_cases, or_left, or_right}
-use Rattle.std.proofs.lemmas.List.{get_or-map, length-map}
 use Rattle.std.proofs.lemmas.List.Elements.{Contains-get_or}
+use Rattle.std.proofs.lemmas.Option.{same_Some}
 use Rattle.common_laws.specs.Lists.{any-at, any-from, contains-flat_map, contains-left, contains-right, flat_map-contains}
 use Rattle.common_laws.specs.Small.{not-to, same-is}
 use Rattle.conditionals.specs.Paths.{is_same}
@@ -33,23 +33,25 @@ use Rattle.qualified_goals.specs.declared.variable.Var.{Var}
 use Rattle.qualified_goals.specs.Names.{AreNumbers, Name, NameTable, number_of, package_names}
 use Rattle.choice_problem.specs.declared.problem.Choice.{Choice}
 use Rattle.choice_problem.specs.Holds.{HoldsWithin}
-use Rattle.choice_problem.specs.Trail.{AreNew, value_in}
+use Rattle.choice_problem.specs.Trail.{AreNew, choice_of, value_in}
 use Rattle.constraint_set.specs.Bars.{asks, bars, excludes, holds, is_boot, is_met, is_number, is_on, names_flag}
 use Rattle.solver_index.proofs.ListLaws.{rising-below}
 use Rattle.solver_index.specs.Defaults.{has_number}
 use Rattle.solver_index.specs.Places.{entry_at, flag_number, no_entry, rising}
 use Rattle.cabal_problem.specs.ListedDemands.{flag_allows, flag_values, part_beside}
-use Rattle.cabal_problem.specs.Variables as variables
+use Rattle.cabal_problem.specs.Values.{package_var}
+use Rattle.cabal_problem.specs.Variables.{is_on as value_on}
 use Rattle.cabal_problem.specs.WholeDemands.{whole_problem}
 use Rattle.frozen_choices.specs.Barred.{with_constraints}
 use Rattle.frozen_choices.specs.Frozen.{asked, entry_of, frozen, frozen_package, is_automatic, is_manual, is_turned_on}
-use Rattle.frozen_plan.proofs.Asked.{IsAsked, IsReason, in-package}
+use Rattle.frozen_choices.proofs.Entries.{entry-sound, package-sound}
+use Rattle.frozen_choices.proofs.Numbers.{declared-number, package-number}
+use Rattle.frozen_choices.proofs.Releases.{one-release}
+use Rattle.frozen_plan.proofs.Asked.{IsAskedBeside, IsReason, in-package}
 use Rattle.frozen_plan.proofs.Asked.IsReason.{is_local, never_manual, one_version}
-use Rattle.frozen_plan.proofs.Chosen.{HasValue, declared-source, flag-number, flag-value, one-flag, package-sound, source-within}
 use Rattle.frozen_plan.proofs.FlagValues.{allowed-at}
+use Rattle.frozen_plan.proofs.Flags.{HasValue, declared-source, flag-value, one-flag, one-name, package-within, source-within}
 use Rattle.frozen_plan.proofs.Lists.{any-parts, none-at}
-use Rattle.frozen_plan.proofs.Numbers.{has-name, one-name, one-place}
-use Rattle.frozen_plan.proofs.Releases.{one-release}
 
 number-is : (o : Option ℕ) (n : ℕ) → is_number o n ≡ true → o ≡ Some n
 number-is None n h = absurd (false≢true h)
@@ -86,21 +88,14 @@ module _ (env : Env) (index : Index) (project : Project) (names : NameTable) (or
   abbrev more : Project
   more = with_constraints ks project
 
-  -- the package with a number has no other
-  one-package : (p q : ℕ) (name : Name) → p < length packages → name ≡ (package_at packages p).name → number_of names.packages name ≡ Some q → q ≡ p
-  one-package p q name below named h =
-      let ns = package_names packages in
-      let has = has-name ns name q (subst (λ l. number_of l name ≡ Some q) numbers.packages_are h) in
-      let within_names : p < length ns = subst (λ n. p < n) (sym (length-map packages (λ (k : Package). k.name))) below in
-      one-place ns q p sound.in_goal_order.once has.within within_names (has.name_is ∙ named ∙ sym (get_or-map (λ (k : Package). k.name) packages p no_package [] below))
-
   -- a constraint on a package that asks for a flag comes from that package
-  asked-of-package : (p f : ℕ) (on : Bool) (k : Constraint) → Contains ks k → is_on names k p ≡ true → asks names k.what (Flag f) on ≡ true → IsAsked packages names trail ks p k.«package» f on
+  asked-of-package : (p f : ℕ) (on : Bool) (k : Constraint) → Contains ks k → is_on names k p ≡ true → asks names k.what (Flag f) on ≡ true → IsAskedBeside packages names trail ks p k.«package» f on
   asked-of-package p f on k h on_p asked_it =
       let (q, among, inside) = contains-flat_map (frozen_package packages names trail) (rising (length packages)) k h in
       let found = in-package packages names trail new ks q f on k asked_it (λ j i. flat_map-contains (frozen_package packages names trail) (rising (length packages)) q j among i) inside in
-      let same = one-package q p k.«package» (rising-below (length packages) q among) found.named (number-is (number_of names.packages k.«package») p on_p) in
-      subst (λ r. IsAsked packages names trail ks r k.«package» f on) (sym same) found
+      let own = package-number packages names sound.in_goal_order numbers q (rising-below (length packages) q among) in
+      let same : q ≡ p = same_Some q p (sym own ∙ ap (number_of names.packages) (sym found.named) ∙ number-is (number_of names.packages k.«package») p on_p) in
+      subst (λ r. IsAskedBeside packages names trail ks r k.«package» f on) same found
 
   -- an instance that isn't barred, where one version is asked for, is of that version
   version-of : (owner : Choice) (e : Entry) (name : Name) → bars more names owner.var (entry_of packages owner).instance ≡ false
@@ -122,8 +117,11 @@ module _ (env : Env) (index : Index) (project : Project) (names : NameTable) (or
     abbrev p : ℕ
     p = owner.var.«package»
 
+    abbrev entries : List Entry
+    entries = entries_of packages p
+
     abbrev e : Entry
-    e = entry_of packages owner
+    e = entry_at entries owner.val
 
     abbrev v : Var
     v = part_beside owner (Flag (flag_number names decl.name))
@@ -131,61 +129,57 @@ module _ (env : Env) (index : Index) (project : Project) (names : NameTable) (or
     source : is_installed e.body ≡ false
     source = declared-source e.body decl declared
 
-    there : Contains (entries_of packages p) e
-    there = Contains-get_or (entries_of packages p) owner.val no_entry (source-within (entries_of packages p) owner.val source)
+    place-within : owner.val < length entries
+    place-within = source-within entries owner.val source
+
+    below : p < length packages
+    below = package-within packages p owner.val place-within
 
     package-is : IsPackage env index (package_at packages p)
-    package-is = package-sound env index names sound numbers p e there
+    package-is = package-sound env index sound p below
 
-    module _ (on : Bool) (name : Name) (is : IsAsked packages names trail ks p name (flag_number names decl.name) on)
+    module _ (on : Bool) (name : Name) (is : IsAskedBeside packages names trail ks p name (flag_number names decl.name) on)
         (numbered : is_number (number_of names.packages name) p ≡ true) where
-      abbrev other : Entry
-      other = entry_of packages is.choice
+      other-source : is_installed (entry_at entries is.place).body ≡ false
+      other-source = declared-source (entry_at entries is.place).body is.decl is.declared
 
-      other-source : is_installed other.body ≡ false
-      other-source = declared-source other.body is.decl is.declared
-
-      other-there : Contains (entries_of packages p) other
-      other-there =
-          let own = entries_of packages is.choice.var.«package» in
-          subst (λ q. Contains (entries_of packages q) other) is.of
-          (Contains-get_or own is.choice.val no_entry (source-within own is.choice.val other-source))
+      other-within : is.place < length entries
+      other-within = source-within entries is.place other-source
 
       -- both flags have one name
       named-alike : is.decl.name ≡ decl.name
       named-alike =
           one-name names.flags is.decl.name decl.name (flag_number names decl.name)
-          (number-is (number_of names.flags is.decl.name) (flag_number names decl.name) is.numbered) (flag-number env index names sound numbers p e decl there declared)
+          (number-is (number_of names.flags is.decl.name) (flag_number names decl.name) is.numbered) (declared-number packages names numbers p owner.val below place-within decl declared)
 
       -- where the instances are one, the flags are too, and the value is allowed without the constraints of the trail
-      by-instance : other ≡ e → flag_allows project names v decl on ≡ true
+      by-instance : is.place ≡ owner.val → flag_allows project names v decl on ≡ true
       by-instance same =
-          let declared_too = subst (λ (x : Entry). Contains (declared_by x.body) is.decl) same is.declared in
-          let one : is.decl ≡ decl = one-flag env index names sound numbers p e is.decl decl there declared_too declared named-alike in
-          let has = flag-value env index names sound numbers project orders (value_in trail) within is.choice is.made is.whole is.decl is.declared in
-          let value : variables.is_on has.value ≡ on = ap is_turned_on (sym has.value_is) ∙ is.on_is in
-          let v_of_choice = part_beside is.choice (Flag (flag_number names is.decl.name)) in
-          let allowed = subst (λ b. flag_allows project names v_of_choice is.decl b ≡ true) value (allowed-at project names v_of_choice is.decl has.value has.among) in
-          subst (λ (x : FlagDecl). allows-in p x ≡ true) one (subst (λ q. allows-in q is.decl ≡ true) is.of allowed)
-        where
-          allows-in : ℕ → FlagDecl → Bool
-          allows-in q x = (not x.manual || is_same x.default on) || list_any (λ (c : Constraint). is_on names c q && asks names c.what (Flag (flag_number names x.name)) on) project.constraints
+          let declared_too = subst (λ i. Contains (declared_by (entry_at entries i).body) is.decl) same is.declared in
+          let body = (entry-sound env index sound p owner.val below place-within).body in
+          let one : is.decl ≡ decl = one-flag env index e.body is.decl decl body declared_too declared named-alike in
+          let beside = part_beside (choice_of (package_var is.qual p) is.place) (Flag (flag_number names is.decl.name)) in
+          let has = flag-value env packages project names orders numbers (value_in trail) within is.qual p is.place is.made is.decl is.declared in
+          let value : value_on has.value ≡ on = ap is_turned_on (sym has.value_is) ∙ is.on_is in
+          let allowed = subst (λ b. flag_allows project names beside is.decl b ≡ true) value (allowed-at project names beside is.decl has.value has.among) in
+          subst (λ (x : FlagDecl). flag_allows project names (part_beside owner (Flag (flag_number names x.name))) x on ≡ true) one allowed
 
       -- a manual flag isn't asked for as one that no instance declares as manual
-      never : decl.manual ≡ true → is_automatic names (entries_of packages p) is.decl ≡ true → ⊥
+      never : decl.manual ≡ true → is_automatic names entries is.decl ≡ true → ⊥
       never manual automatic =
           let f = flag_number names is.decl.name in
           let test = λ (x : FlagDecl). x.manual && has_number names f x in
           let has : has_number names f decl ≡ true = eq-eqb (flag_number names decl.name) f (ap (flag_number names) (sym named-alike)) in
           let in_body = any-from test (declared_by e.body) decl declared (and_from decl.manual (has_number names f decl) manual has) in
-          not-to (is_manual names (entries_of packages p) f) automatic (any-from (λ (x : Entry). list_any test (declared_by x.body)) (entries_of packages p) e there in_body)
+          let there = Contains-get_or entries owner.val no_entry place-within in
+          not-to (is_manual names entries f) automatic (any-from (λ (x : Entry). list_any test (declared_by x.body)) entries e there in_body)
 
-      by-reason : decl.manual ≡ true → IsReason packages names trail ks p is.choice is.decl → flag_allows project names v decl on ≡ true
-      by-reason manual (is_local local) = by-instance (one-release env index (package_at packages p) other e package-is other-there there other-source source (inl local))
+      by-reason : decl.manual ≡ true → IsReason packages names trail ks p is.place is.decl → flag_allows project names v decl on ≡ true
+      by-reason manual (is_local local) = let one = (package-is.local_is_one local).one in by-instance (omega (arith, one, place-within, other-within))
       by-reason manual (one_version range) =
           let of_name = subst (λ (n : Name). is_number (number_of names.packages n) p ≡ true) is.named numbered in
-          let version = version-of owner other (package_at packages p).name free range of_name in
-          by-instance (one-release env index (package_at packages p) other e package-is other-there there other-source source (inr (sym version)))
+          let version = version-of owner (entry_at entries is.place) (package_at packages p).name free range of_name in
+          by-instance (one-release (package_at packages p) package-is.in_order is.place owner.val other-within place-within other-source source (sym version))
       by-reason manual (never_manual automatic) = absurd (never manual automatic)
 
     pub no-other : (on : Bool) → flag_allows more names v decl on ≡ true → flag_allows project names v decl on ≡ true
