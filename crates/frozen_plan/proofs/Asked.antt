@@ -1,6 +1,6 @@
 -- How a constraint of a trail comes to ask for a value of a flag.
-use Rattle.std.proofs.Common.{◌≡◌, ℕ, ◌<◌, Bool, true, false, not, ◌&&◌, ◌||◌, cond, nat_eq, List, [], ◌∷◌, ◌++◌, length, map, flat_map, Option, Some, None, refl, sym, ap, ◌∙◌, subst, inl, inr, if◌then◌else◌}
-use Rattle.std.specs.List.{Contains, filter, list_any}
+use Rattle.std.proofs.Common.{◌≡◌, ℕ, Bool, true, false, nat_eq, List, [], ◌∷◌, map, flat_map, Some, None, refl, sym, ap, ◌∙◌, subst, inl, inr, if◌then◌else◌}
+use Rattle.std.specs.List.{Contains, filter}
 use Rattle.std.proofs.lemmas.Bool.{and_parts, eqb-true, false≢true, not-true}
 use Rattle.common_laws.specs.Lists.{any-at, contains-append, contains-cases, contains-filter, contains-flat_map, contains-head, contains-left, contains-map, contains-none}
 use Rattle.plan_types.specs.Packages.{declared_by, entries_of, is_installed, package_at}
@@ -8,21 +8,19 @@ use Rattle.plan_types.specs.declared.condition.FlagSet.{FlagSet}
 use Rattle.plan_types.specs.declared.constraint.Constraint.{Constraint}
 use Rattle.plan_types.specs.declared.constraint.Scope.{Scope}
 use Rattle.plan_types.specs.declared.constraint.Scope.TheVariants as scope
-use Rattle.plan_types.specs.declared.constraint.What.{What}
 use Rattle.plan_types.specs.declared.constraint.What.TheVariants as what
 use Rattle.plan_types.specs.declared.description.FlagDecl.{FlagDecl}
 use Rattle.plan_types.specs.declared.index.Entry.{Entry}
 use Rattle.plan_types.specs.declared.index.Package.{Package}
 use Rattle.plan_types.specs.declared.range.Range.TheVariants.{Equal}
-use Rattle.qualified_goals.specs.declared.variable.Part.{Part}
-use Rattle.qualified_goals.specs.declared.variable.Part.TheVariants.{Benches, Flag, Package as ThePackage, Tests}
+use Rattle.qualified_goals.specs.declared.variable.Part.TheVariants.{Flag}
 use Rattle.qualified_goals.specs.declared.variable.Qual.{Qual}
 use Rattle.qualified_goals.specs.declared.variable.Qual.TheVariants.{Setup, Top}
 use Rattle.qualified_goals.specs.Names.{Name, NameTable, number_of}
 use Rattle.choice_problem.specs.declared.problem.Choice.{Choice}
 use Rattle.choice_problem.specs.Trail.{AreNew, choice_of, value_in}
 use Rattle.choice_problem.specs.Twins.{is_of_package, is_whole}
-use Rattle.constraint_set.specs.Bars.{asks, flag_values, is_number, is_value, values_of}
+use Rattle.constraint_set.specs.Bars.{asks, flag_values, is_number, is_value}
 use Rattle.freeze_text.specs.Reads.{are_flags}
 use Rattle.solver_index.specs.Places.{entry_at, flag_number}
 use Rattle.cabal_problem.specs.ListedDemands.{part_beside}
@@ -72,7 +70,7 @@ range-asks-none names at name e f on k h asked_it =
       | inl first ↦ false≢true (subst (λ (j : Constraint). asks names j.what (Flag f) on ≡ true) (sym first) asked_it)
       | inr later ↦ elim (contains-cases (asked at name (kind_of e)) [] k later) [
         | inl second ↦ elim (is_installed e.body) as (λ b. asks names (if b then what.Installed else what.Source) (Flag f) on ≡ true → ⊥) [ true ↦ λ q. false≢true q | false ↦ λ q. false≢true q ]
-          (subst (λ (j : Constraint). asks names j.what (Flag f) on ≡ true) (sym second) asked_it)
+            (subst (λ (j : Constraint). asks names j.what (Flag f) on ≡ true) (sym second) asked_it)
         | inr none ↦ contains-none k none
       ]
     ]
@@ -93,13 +91,15 @@ module _ (packages : List Package) (names : NameTable) (trail : List Choice) whe
         | true ↦ λ q. elim (contains-cases (asked at name (what.Flags sets)) [] k q) [
           | inl same ↦
               let found = asks-flag names sets f on (subst (λ (j : Constraint). asks names j.what (Flag f) on ≡ true) (sym same) asked_it) in
-              let (decl, among, set_is) = contains-map (flag_beside names trail c) decls found.set found.among in
-              (record {
-                decl = decl;
-                among = among;
-                numbered = ap (λ (s : FlagSet). is_number (number_of names.flags s.name) f) set_is ∙ found.numbered;
-                on_is = ap (λ (s : FlagSet). s.on) set_is ∙ found.on_is;
-              }, sym (ap (λ (j : Constraint). j.«package») same))
+              let (decl, among, set_is) = contains-map (flag_beside names trail c) decls found.set found.among in (
+                record {
+                  decl = decl;
+                  among = among;
+                  numbered = ap (λ (s : FlagSet). is_number (number_of names.flags s.name) f) set_is ∙ found.numbered;
+                  on_is = ap (λ (s : FlagSet). s.on) set_is ∙ found.on_is;
+                },
+                sym (ap (λ (j : Constraint). j.«package») same),
+              )
           | inr none ↦ absurd (contains-none k none)
         ]
         | false ↦ λ q. absurd (contains-none k q)
@@ -226,7 +226,7 @@ module _ (packages : List Package) (names : NameTable) (trail : List Choice) whe
     pub in-package : ((j : Constraint) → Contains (frozen_package packages names trail p) j → Contains ks j) → Contains (frozen_package packages names trail p) k → IsSo
     in-package inside h =
         elim (instances_in trail p) as (λ (l : List Choice). instances_in trail p ≡ l → ((j : Constraint) → Contains (frozen_as packages names trail p l) j → Contains ks j)
-            → Contains (frozen_as packages names trail p l) k → IsSo) [
+        → Contains (frozen_as packages names trail p l) k → IsSo) [
           | [] ↦ λ e within i. absurd (contains-none k i)
           | first ∷ others ↦ λ e within i. by-first first others e within i
         ] refl inside h

@@ -1,6 +1,6 @@
 -- Flags that an instance declares: of one number there is one, and where the instance is chosen it has a value that is allowed.
-use Rattle.std.proofs.Common.{◌≡◌, ℕ, zero, suc, ◌<◌, Bool, true, false, cond, nat_eq, nat_lt, List, [], ◌∷◌, length, get_or, map, Option, Some, None, refl, sym, ap, ◌∙◌, subst, inl, inr, arith}
-use Rattle.std.specs.List.{AllByRecursion, Contains, position_or_len}
+use Rattle.std.proofs.Common.{◌≡◌, ℕ, zero, suc, ◌<◌, true, false, cond, nat_eq, nat_lt, List, [], ◌∷◌, length, get_or, map, Option, Some, None, refl, sym, ap, ◌∙◌, subst, inl, inr, arith}
+use Rattle.std.specs.List.{Contains, position_or_len}
 use Rattle.std.specs.List.Sorted.{IsStrictlySortedBy}
 use Rattle.std.specs.declared.cmp.Ordering.TheVariants.{Equal, Less}
 use Rattle.std.proofs.lemmas.Bool.{eqb-true, false≢true, ltb-true}
@@ -24,7 +24,6 @@ use Rattle.plan_types.specs.declared.project.Project.{Project}
 use Rattle.flatten.specs.Sound.{IsBody}
 use Rattle.qualified_goals.specs.declared.variable.Part.TheVariants.{Flag}
 use Rattle.qualified_goals.specs.declared.variable.Qual.{Qual}
-use Rattle.qualified_goals.specs.declared.variable.Var.{Var}
 use Rattle.qualified_goals.specs.Names.{AreNumbers, Name, NameTable, number_of}
 use Rattle.choice_problem.specs.Assignment.{Assignment, is_one_of}
 use Rattle.choice_problem.specs.General.{request_of}

@@ -1,9 +1,8 @@
 -- A search that finds a trail finds it again with the constraints of that trail.
-use Rattle.std.proofs.Common.{◌≡◌, ℕ, true, List, [], map, Some, refl, sym, ap, ◌∙◌, subst}
+use Rattle.std.proofs.Common.{◌≡◌, ℕ, true, List, [], map, refl, sym, ap, ◌∙◌, subst}
 use Rattle.std.specs.List.{Contains, list_all}
 use Rattle.common_laws.specs.Lists.{contains-none}
 use Rattle.plan_types.specs.declared.condition.Env.{Env}
-use Rattle.plan_types.specs.declared.constraint.Constraint.{Constraint}
 use Rattle.plan_types.specs.declared.index.Index.{Index}
 use Rattle.plan_types.specs.declared.limit.Limit.TheVariants.{Unlimited}
 use Rattle.plan_types.specs.declared.project.Project.{Project}
@@ -116,9 +115,6 @@ module _ (right : EndsRight) (ends : EndsValid) (one_first : OneFirst) (lawful :
 
   new : AreNew trail
   new = (subst (IsValidEnd p) ended (ends p least lawful-p least-is-guide)).0
-
-  abbrev IsFirstTrail : Problem → List Choice → Type 0
-  IsFirstTrail r found = IsRightEnd r (Found found)
 
   end : IsRightEnd p (Found trail)
   end = subst (IsRightEnd p) ended (right p lawful-p)

@@ -1,16 +1,15 @@
 -- What is valid in a narrower problem is valid in the other, and trails are the same.
-use Rattle.std.proofs.Common.{◌≡◌, ◌↔◌, ◌<◌, ℕ, zero, suc, Bool, true, false, ◌&&◌, List, [], ◌∷◌, ◌++◌, map, flat_map, Option, Some, None, refl, sym, ap, ◌∙◌, subst, inl, inr}
-use Rattle.std.specs.Prelude.{is_none, IsSome, IsTrue, IsFalse}
+use Rattle.std.proofs.Common.{◌≡◌, ◌↔◌, ◌<◌, ℕ, zero, suc, Bool, true, ◌&&◌, List, [], ◌∷◌, ◌++◌, map, flat_map, Option, Some, None, refl, sym, ap, ◌∙◌, subst, inl, inr}
+use Rattle.std.specs.Prelude.{is_none, IsSome, IsTrue}
 use Rattle.std.specs.List.{AllZip, Contains, filter}
-use Rattle.std.proofs.lemmas.Bool.{and_parts, and_from, false≢true}
-use Rattle.common_laws.specs.Graphs.{HasNoCycle, IsPath, last, more}
+use Rattle.std.proofs.lemmas.Bool.{false≢true}
 use Rattle.common_laws.specs.Lists.{contains-filter, contains-map, filter-contains, map-contains}
 use Rattle.qualified_goals.specs.declared.variable.Var.{Var}
 use Rattle.choice_problem.specs.declared.problem.Choice.{Choice}
 use Rattle.choice_problem.specs.Assignment.{Assignment, is_one_of}
-use Rattle.choice_problem.specs.ConflictSet.{first_of, set_of}
+use Rattle.choice_problem.specs.ConflictSet.{first_of}
 use Rattle.choice_problem.specs.General.{General, Request}
-use Rattle.choice_problem.specs.Holds.{HoldsWithin, IsAsked, IsAssignmentIn, IsEdge}
+use Rattle.choice_problem.specs.Holds.{HoldsWithin, IsAsked, IsEdge}
 use Rattle.choice_problem.specs.Problem.{IsChoice, IsDemand}
 use Rattle.choice_problem.specs.Trail.{choice_of, demands_after, next_var, open_vars, opens, trail_from, trail_of, value_in, with_next, with_value}
 use Rattle.choice_problem.specs.Twins.{must_agree}
@@ -19,7 +18,7 @@ use Rattle.choice_problem.proofs.Alike.{path-map}
 use Rattle.choice_problem.proofs.Sets.{set-alike}
 use Rattle.choice_problem.proofs.Trails.{targets_open}
 use Rattle.frozen_plan.specs.Narrower.{AddsNothing, BarsNoneOf, IsNarrowed, IsNarrower}
-use Rattle.frozen_plan.proofs.Lists.{HasLeft, HasRight, zip-append, zip-flat, zip-left, zip-right}
+use Rattle.frozen_plan.proofs.Lists.{zip-append, zip-flat, zip-left, zip-right}
 
 module _ (g h : General) (is : IsNarrower g h) where
   -- ---- demands

@@ -1,16 +1,16 @@
 -- The constraints of a trail allow a flag of an instance that they don't bar no value that it may not have without them.
-use Rattle.std.proofs.Common.{◌≡◌, ℕ, ◌<◌, Bool, true, false, not, ◌&&◌, ◌||◌, nat_eq, List, [], ◌∷◌, ◌++◌, length, get_or, map, flat_map, Option, Some, None, refl, sym, ap, ◌∙◌, subst, inl, inr, ◌⊎◌, arith}
+use Rattle.std.proofs.Common.{◌≡◌, ℕ, ◌<◌, Bool, true, false, not, ◌&&◌, ◌||◌, List, length, Option, Some, None, refl, sym, ap, ◌∙◌, subst, inl, inr, arith}
 use Rattle.std.specs.List.{Contains, list_any}
-use Rattle.std.specs.Ordering.{is_eq, nat_cmp}
-use Rattle.std.specs.Cmp.Lexicographic.{slice_cmp, texts_ties}
+use Rattle.std.specs.Ordering.{is_eq}
+use Rattle.std.specs.Cmp.Lexicographic.{texts_ties}
 use Rattle.std.proofs.lemmas.Bool.{and_from, and_parts, eq-eqb, eqb-true, false≢true, or_cases, or_left, or_right}
 use Rattle.std.proofs.lemmas.List.Elements.{Contains-get_or}
 use Rattle.std.proofs.lemmas.Option.{same_Some}
-use Rattle.common_laws.specs.Lists.{any-at, any-from, contains-flat_map, contains-left, contains-right, flat_map-contains}
+use Rattle.common_laws.specs.Lists.{any-at, any-from, contains-flat_map, contains-right, flat_map-contains}
 use Rattle.common_laws.specs.Small.{not-to, same-is}
 use Rattle.conditionals.specs.Paths.{is_same}
 use Rattle.plan_types.specs.Members.{members, members_step, order}
-use Rattle.plan_types.specs.Packages.{declared_by, entries_of, is_installed, no_package, package_at}
+use Rattle.plan_types.specs.Packages.{declared_by, entries_of, is_installed, package_at}
 use Rattle.plan_types.specs.declared.condition.Env.{Env}
 use Rattle.plan_types.specs.declared.constraint.Constraint.{Constraint}
 use Rattle.plan_types.specs.declared.constraint.Scope.TheVariants as scope
@@ -25,12 +25,11 @@ use Rattle.plan_types.specs.declared.range.Range.TheOpen as layer
 use Rattle.plan_types.specs.declared.range.Range.TheVariants.{Equal, rolls-Equal}
 use Rattle.plan_types.specs.declared.version.Version.{Version}
 use Rattle.flatten.specs.Sound.{IsPackage, IsSound}
-use Rattle.qualified_goals.specs.declared.variable.Part.{Part}
-use Rattle.qualified_goals.specs.declared.variable.Part.TheVariants.{Flag, Package as ThePackage}
+use Rattle.qualified_goals.specs.declared.variable.Part.TheVariants.{Flag}
 use Rattle.qualified_goals.specs.declared.variable.Qual.{Qual}
 use Rattle.qualified_goals.specs.declared.variable.Qual.TheVariants.{Exe, Setup, Top}
 use Rattle.qualified_goals.specs.declared.variable.Var.{Var}
-use Rattle.qualified_goals.specs.Names.{AreNumbers, Name, NameTable, number_of, package_names}
+use Rattle.qualified_goals.specs.Names.{AreNumbers, Name, NameTable, number_of}
 use Rattle.choice_problem.specs.declared.problem.Choice.{Choice}
 use Rattle.choice_problem.specs.Holds.{HoldsWithin}
 use Rattle.choice_problem.specs.Trail.{AreNew, choice_of, value_in}
@@ -38,7 +37,7 @@ use Rattle.constraint_set.specs.Bars.{asks, bars, excludes, holds, is_boot, is_m
 use Rattle.solver_index.proofs.ListLaws.{rising-below}
 use Rattle.solver_index.specs.Defaults.{has_number}
 use Rattle.solver_index.specs.Places.{entry_at, flag_number, no_entry, rising}
-use Rattle.cabal_problem.specs.ListedDemands.{flag_allows, flag_values, part_beside}
+use Rattle.cabal_problem.specs.ListedDemands.{flag_allows, part_beside}
 use Rattle.cabal_problem.specs.Values.{package_var}
 use Rattle.cabal_problem.specs.Variables.{is_on as value_on}
 use Rattle.cabal_problem.specs.WholeDemands.{whole_problem}
@@ -50,7 +49,7 @@ use Rattle.frozen_choices.proofs.Releases.{one-release}
 use Rattle.frozen_plan.proofs.Asked.{IsAskedBeside, IsReason, in-package}
 use Rattle.frozen_plan.proofs.Asked.IsReason.{is_local, never_manual, one_version}
 use Rattle.frozen_plan.proofs.FlagValues.{allowed-at}
-use Rattle.frozen_plan.proofs.Flags.{HasValue, declared-source, flag-value, one-flag, one-name, package-within, source-within}
+use Rattle.frozen_plan.proofs.Flags.{declared-source, flag-value, one-flag, one-name, package-within, source-within}
 use Rattle.frozen_plan.proofs.Lists.{any-parts, none-at}
 
 number-is : (o : Option ℕ) (n : ℕ) → is_number o n ≡ true → o ≡ Some n

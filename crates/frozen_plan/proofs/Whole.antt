@@ -1,16 +1,14 @@
 -- The problem of a project with the constraints of a whole valid trail is narrower, and bars no choice of the trail.
-use Rattle.std.proofs.Common.{◌≡◌, ℕ, Bool, true, false, not, ◌&&◌, ◌||◌, List, [], ◌++◌, map, Some, refl, sym, ap, ◌∙◌, subst, inl, inr}
+use Rattle.std.proofs.Common.{◌≡◌, ℕ, Bool, true, false, not, ◌&&◌, ◌||◌, List, ◌++◌, map, Some, refl, sym, ◌∙◌, subst, inl, inr}
 use Rattle.std.specs.List.{AllZip, Contains, filter, list_any}
 use Rattle.std.proofs.lemmas.Bool.{and_parts, false≢true, or_cases, or_left, or_right}
-use Rattle.plan_types.specs.Packages.{declared_by, entries_of}
+use Rattle.plan_types.specs.Packages.{declared_by}
 use Rattle.plan_types.specs.declared.condition.Env.{Env}
 use Rattle.plan_types.specs.declared.constraint.Constraint.{Constraint}
 use Rattle.plan_types.specs.declared.dependency.Dep.{Dep}
-use Rattle.plan_types.specs.declared.description.Description.{Description}
 use Rattle.plan_types.specs.declared.description.FlagDecl.{FlagDecl}
 use Rattle.plan_types.specs.declared.index.Body.{Body}
 use Rattle.plan_types.specs.declared.index.Body.TheVariants.{Installed, Source}
-use Rattle.plan_types.specs.declared.index.Entry.{Entry}
 use Rattle.plan_types.specs.declared.index.Index.{Index}
 use Rattle.plan_types.specs.declared.index.Instance.{Instance}
 use Rattle.plan_types.specs.declared.index.Package.{Package}
@@ -25,14 +23,14 @@ use Rattle.qualified_goals.specs.declared.variable.Var.{Var}
 use Rattle.qualified_goals.specs.Names.{AreNumbers, NameTable}
 use Rattle.choice_problem.specs.declared.problem.Choice.{Choice}
 use Rattle.choice_problem.specs.declared.problem.Demand.{Demand}
-use Rattle.choice_problem.specs.Assignment.{Assignment, is_made, is_one_of}
+use Rattle.choice_problem.specs.Assignment.{is_made}
 use Rattle.choice_problem.specs.General.{General, Request, request_of}
-use Rattle.choice_problem.specs.Trail.{AreNew, choice_of, value_in}
-use Rattle.choice_problem.specs.Valid.{IsFirst, IsWholeValid}
+use Rattle.choice_problem.specs.Trail.{AreNew, value_in}
+use Rattle.choice_problem.specs.Valid.{IsWholeValid}
 use Rattle.choice_problem.proofs.Trails.{is_made-is, value_in-made}
 use Rattle.constraint_set.specs.Bars.{asks, excludes, is_boot, is_met, is_on, names_flag, wants}
 use Rattle.solver_index.specs.AllowedVersions.{allowed_versions}
-use Rattle.solver_index.specs.Places.{entry_at, flag_number}
+use Rattle.solver_index.specs.Places.{flag_number}
 use Rattle.cabal_problem.specs.ListedDemands.{flag_allows, flag_demand, has_stanzas, part_beside, stanza_if}
 use Rattle.cabal_problem.specs.Problem.{barred_part}
 use Rattle.cabal_problem.specs.Variables.{has_kind, is_benchmark, is_on as value_on, is_suite}

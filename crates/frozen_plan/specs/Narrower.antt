@@ -4,7 +4,6 @@ use Rattle.std.specs.List.{AllZip}
 use Rattle.choice_problem.specs.declared.problem.Choice.{Choice}
 use Rattle.choice_problem.specs.Assignment.{Assignment, is_one_of}
 use Rattle.choice_problem.specs.General.{General, Request}
-use Rattle.choice_problem.specs.Problem.{IsChoice}
 use Rattle.choice_problem.specs.Valid.{IsFirst, IsWholeValid}
 
 -- a problem bars no choice of an assignment
