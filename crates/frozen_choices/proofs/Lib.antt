@@ -4,5 +4,7 @@ pub mod Owners
 pub mod Entries
 pub mod Taken
 pub mod Made
+pub mod Told
+pub mod Alike
 pub mod Spared
 pub mod Read

@@ -1,5 +1,5 @@
 -- What each constraint of a trail was made from.
-use Rattle.std.proofs.Common.{◌≡◌, ◌<◌, inl, inr, ℕ, Bool, true, false, ◌&&◌, nat_eq, if◌then◌else◌, List, [], ◌∷◌, ◌++◌, length, map, Option, Some, None, refl, sym, ap, ◌∙◌, subst}
+use Rattle.std.proofs.Common.{◌≡◌, ◌<◌, inl, inr, ℕ, Bool, true, false, nat_eq, if◌then◌else◌, List, [], ◌∷◌, length, Some, None, refl, sym, ap, ◌∙◌, subst}
 use Rattle.std.specs.List.{Contains, filter, flat_map, list_any}
 use Rattle.constraint_set.specs.Relaxed.{is_version}
 use Rattle.std.proofs.lemmas.Bool.{and_from, and_parts, eqb-true, eq-eqb, false≢true}
@@ -28,7 +28,7 @@ use Rattle.choice_problem.proofs.Trails.{value_in-made}
 use Rattle.solver_index.specs.Places.{entry_at, rising}
 use Rattle.solver_index.proofs.ListLaws.{rising-below}
 use Rattle.cabal_problem.specs.Values.{package_var}
-use Rattle.frozen_choices.specs.Frozen.{all_flags, are_alike, asked, asked_apart, asked_everywhere, asked_in_setup, asked_of, asked_of_local, asked_under, asked_where, automatic_flags, entry_of, flag_beside, flags_asked, frozen, frozen_as, frozen_package, instance_asked, instances_in, is_automatic, is_setup_of, is_uniform, kind_of, setups_in}
+use Rattle.frozen_choices.specs.Frozen.{all_flags, are_alike, asked, asked_apart, asked_everywhere, asked_in_setup, asked_of_local, asked_under, asked_where, automatic_flags, entry_of, flag_beside, flags_asked, frozen, frozen_as, frozen_package, instance_asked, instances_in, is_automatic, is_setup_of, is_uniform, kind_of, setups_in}
 use Rattle.frozen_choices.proofs.Numbers.{self}
 
 -- ---- what a constraint says

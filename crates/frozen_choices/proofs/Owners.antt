@@ -1,15 +1,14 @@
 -- Where a flag has a value its package has one, whose instance asks for it.
-use Rattle.std.proofs.Common.{◌≡◌, ◌<◌, ◌⊎◌, inl, inr, ⊎_elim, ℕ, zero, suc, Bool, true, false, not, ◌&&◌, List, [], ◌∷◌, ◌++◌, length, map, Option, Some, None, refl, sym, ap, ◌∙◌, subst, arith}
+use Rattle.std.proofs.Common.{◌≡◌, ◌⊎◌, inl, inr, ℕ, zero, suc, Bool, true, false, ◌&&◌, List, [], ◌∷◌, ◌++◌, length, map, Some, None, refl, sym, ap, ◌∙◌, subst}
 use Rattle.std.specs.Prelude.{is_some, nat_lt}
 use Rattle.std.specs.List.{Contains, filter, flat_map, list_any}
 use Rattle.std.proofs.lemmas.Bool.{and_from, eq-eqb, false≢true, lt-ltb}
 use Rattle.std.proofs.lemmas.List.{map-append}
 use Rattle.std.proofs.lemmas.List.Elements.{Contains-get_or}
 use Rattle.common_laws.specs.Lists.{any-from, contains-append, contains-cases, contains-flat_map, contains-left, contains-map, contains-none, map-contains}
-use Rattle.plan_types.specs.Packages.{declared_by, entries_of, is_installed, package_at}
+use Rattle.plan_types.specs.Packages.{declared_by, entries_of, package_at}
 use Rattle.plan_types.specs.declared.condition.Env.{Env}
 use Rattle.plan_types.specs.declared.dependency.Dep.{Dep}
-use Rattle.plan_types.specs.declared.dependency.Named.{Named}
 use Rattle.plan_types.specs.declared.description.Description.{Description}
 use Rattle.plan_types.specs.declared.description.FlagDecl.{FlagDecl}
 use Rattle.plan_types.specs.declared.index.Body.{Body}
@@ -18,7 +17,7 @@ use Rattle.plan_types.specs.declared.index.Entry.{Entry}
 use Rattle.plan_types.specs.declared.index.Package.{Package}
 use Rattle.plan_types.specs.declared.project.Project.{Project}
 use Rattle.plan_types.specs.declared.version.Version.{Version}
-use Rattle.flatten.specs.Demands.{Outward, outward}
+use Rattle.flatten.specs.Demands.{outward}
 use Rattle.qualified_goals.specs.declared.variable.Part.{Part}
 use Rattle.qualified_goals.specs.declared.variable.Part.TheVariants.{Package as ThePackage, Flag, Tests, Benches}
 use Rattle.qualified_goals.specs.declared.variable.Qual.{Qual}
@@ -30,7 +29,7 @@ use Rattle.choice_problem.specs.Assignment.{Assignment, is_made}
 use Rattle.choice_problem.specs.General.{General, Request, request_of}
 use Rattle.choice_problem.specs.Holds.{HoldsWithin, IsAsked}
 use Rattle.choice_problem.specs.Problem.{IsChoice}
-use Rattle.choice_problem.specs.Trail.{choice_of, demands_after, next_var, trail_from, trail_of, value_in, with_next, with_value}
+use Rattle.choice_problem.specs.Trail.{choice_of, demands_after, next_var, trail_from, with_next, with_value}
 use Rattle.choice_problem.specs.Valid.{IsWholeValid}
 use Rattle.choice_problem.proofs.Trails.{Passes, is_made-from, next-open, open-is, passes-push}
 use Rattle.solver_index.specs.AllowedVersions.{allowed_versions}
@@ -98,6 +97,10 @@ module _ (g : General) (A : Assignment) where
       ]
 
 -- ---- which demands are on flags
+
+-- the variable of a flag of a package under a qualifier
+abbrev pub flag_var : Qual → ℕ → ℕ → Var
+flag_var q p f = record { qual = q; «package» = p; part = Flag f }
 
 -- whether a part is a flag
 abbrev is_flag_part : Part → Bool
@@ -236,9 +239,6 @@ module _ (env : Env) (packages : List Package) (project : Project) (names : Name
     pub decl : FlagDecl
     pub declared : Contains (declared_by (entry_at (entries_of packages p) place).body) decl
     pub number_is : flag_number names decl.name ≡ f
-
-  abbrev flag_var : Qual → ℕ → ℕ → Var
-  flag_var q p f = record { qual = q; «package» = p; part = Flag f }
 
   declared-so : (A : Assignment) (q : Qual) (p f : ℕ) (owner : Choice) → A owner.var ≡ Some owner.val → (r : Request) → r.target ≡ flag_var q p f
       → Contains (whole.demands owner) r → IsDeclared A q p f

@@ -1,5 +1,5 @@
 -- The constraints of a trail have the forms in which constraints are read.
-use Rattle.std.proofs.Common.{◌≡◌, ◌<◌, ℕ, Bool, true, false, ◌&&◌, if◌then◌else◌, List, length, refl, sym, ap, ◌∙◌, subst}
+use Rattle.std.proofs.Common.{◌≡◌, ◌<◌, ℕ, true, false, if◌then◌else◌, List, length, refl, subst}
 use Rattle.std.specs.List.{AllByRecursion, Contains, list_all}
 use Rattle.std.proofs.lemmas.Bool.{and_from}
 use Rattle.std.proofs.lemmas.List.Elements.{Contains-get_or, recursion_from_All}
@@ -21,12 +21,12 @@ use Rattle.flatten.specs.Sound.{IsBody, IsSound}
 use Rattle.freeze_text.specs.Reads as plain
 use Rattle.freeze_text.specs.Reads.{IsPlain, IsPlainConstraint, is_lower, is_plain_flag, is_plain_scope}
 use Rattle.qualified_goals.specs.declared.variable.Qual.{Qual}
-use Rattle.qualified_goals.specs.Names.{Name, NameTable}
+use Rattle.qualified_goals.specs.Names.{NameTable}
 use Rattle.choice_problem.specs.declared.problem.Choice.{Choice}
 use Rattle.choice_problem.specs.Trail.{choice_of}
 use Rattle.solver_index.specs.Places.{entry_at, no_entry}
 use Rattle.cabal_problem.specs.Values.{package_var}
-use Rattle.frozen_choices.specs.Frozen.{entry_of, frozen}
+use Rattle.frozen_choices.specs.Frozen.{frozen}
 use Rattle.frozen_choices.specs.Plain.{AreInDomains, AreLower}
 use Rattle.frozen_choices.proofs.Entries.{entry-sound, package-sound}
 use Rattle.frozen_choices.proofs.Made.{IsMade, Reaches, Tells, alike, flags, frozen-made, kind, local, setup, top, version}

@@ -6,7 +6,6 @@ use Rattle.plan_types.specs.declared.constraint.Scope.{Scope}
 use Rattle.plan_types.specs.declared.constraint.Scope.TheVariants.{Any, SetupOf, Top as AtTop}
 use Rattle.plan_types.specs.declared.constraint.What.{What}
 use Rattle.plan_types.specs.declared.constraint.What.TheVariants as what
-use Rattle.plan_types.specs.declared.description.Description.{Description}
 use Rattle.plan_types.specs.declared.description.FlagDecl.{FlagDecl}
 use Rattle.plan_types.specs.declared.index.Body.{Body}
 use Rattle.plan_types.specs.declared.index.Body.TheVariants.{Source, Installed}
