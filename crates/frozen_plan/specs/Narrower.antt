@@ -1,17 +1,39 @@
--- Problems of which the second bars more, and allows no demand a value that the first doesn't allow it.
-use Rattle.std.specs.Prelude.{◌≡◌, ℕ, true, false, List, Contains, Some}
+-- Problems of which the second bars more, and allows a value that the first doesn't only where it bars that value or its owner.
+use Rattle.std.specs.Prelude.{◌≡◌, ℕ, IsTrue, IsFalse, Some}
+use Rattle.std.specs.List.{AllZip}
 use Rattle.choice_problem.specs.declared.problem.Choice.{Choice}
-use Rattle.choice_problem.specs.Assignment.{is_one_of}
+use Rattle.choice_problem.specs.Assignment.{Assignment, is_one_of}
 use Rattle.choice_problem.specs.General.{General, Request}
-use Rattle.choice_problem.specs.Problem.{IsDemand}
-use Rattle.choice_problem.specs.Trail.{choice_of}
 use Rattle.choice_problem.specs.Valid.{IsFirst, IsWholeValid}
-use Rattle.choice_problem.specs.Assignment.{Assignment}
+
+-- a problem bars no choice of an assignment
+abbrev pub BarsNoneOf : General → Assignment → Type 0
+BarsNoneOf h A = (c : Choice) → A c.var ≡ Some c.val → IsFalse (h.barred c)
+
+-- Two demands ask for the same. The second allows what the first does, and no other value by an assignment of which its problem
+-- bars nothing and under which it is Yes.
+pub record IsNarrowed (h : General) (r s : Request) : Type 0 where
+  pub owner : r.owner ≡ s.owner
+  pub target : r.target ≡ s.target
+  pub yes : (A : Assignment) → r.is_yes A ≡ s.is_yes A
+  pub allows : (n : ℕ) → IsTrue (is_one_of (Some n) r.allowed) → IsTrue (is_one_of (Some n) s.allowed)
+  pub no_other : (A : Assignment) → BarsNoneOf h A → IsTrue (s.is_yes A) → IsTrue (is_one_of (A s.target) s.allowed)
+      → IsTrue (is_one_of (A s.target) r.allowed)
+
+-- the second problem bars what the first does, and its demands are those of the first, narrowed one by one
+pub record IsNarrower (g h : General) : Type 0 where
+  pub bound : g.bound ≡ h.bound
+  pub known : g.known ≡ h.known
+  pub domain : g.domain ≡ h.domain
+  pub order : g.order ≡ h.order
+  pub barred : (c : Choice) → IsFalse (h.barred c) → IsFalse (g.barred c)
+  pub roots : AllZip (IsNarrowed h) g.roots h.roots
+  pub demands : (owner : Choice) → AllZip (IsNarrowed h) (g.demands owner) (h.demands owner)
 
 -- what is valid in the second is valid in the first
 abbrev pub AddsNothing : General → General → Type 0
 AddsNothing g h = (A : Assignment) → IsWholeValid h A → IsWholeValid g A
 
--- the first of all of the first problem is that of the second, where it is valid there
+-- the first of all of the first problem is that of the second too
 abbrev pub StaysFirst : General → General → Assignment → Type 0
 StaysFirst g h A = IsFirst g A → IsFirst h A

@@ -18,6 +18,10 @@ ghost use Rattle.frozen_choices.specs.Barred.{with_constraints};
 ghost use Rattle.frozen_choices.specs.Frozen.{frozen};
 ghost use Rattle.frozen_plan.specs.Narrower.{AddsNothing, StaysFirst};
 
+use cabal_problem::{problem_is_lawful, valid_as_whole};
+use choice_problem::{ends_right, ends_valid, general_is_lawful, one_first};
+use frozen_choices::frozen_bars_none;
+
 /// What is valid with the constraints of a trail is valid without them.
 pub fn frozen_adds_nothing()
     ensures { (env : Env) (index : Index) (project : Project) (names : NameTable) (orders : List (List ℕ)) (trail : List Choice)
@@ -33,7 +37,9 @@ pub fn frozen_stays_first()
         → IsSound env index → AreNumbers index.packages names → AreNew trail
         → StaysFirst (whole_problem env index.packages project names orders)
         (whole_problem env index.packages (with_constraints (frozen index.packages names trail) project) names orders) (value_in trail) }
-{}
+{
+    frozen_bars_none();
+}
 
 /// A search without a limit that finds a trail finds it again with the constraints of that trail.
 pub fn found_again()
@@ -42,4 +48,12 @@ pub fn found_again()
         → AreNumbers index.packages names → AreOrders project index.packages orders
         → (answer_of (problem_of index.packages project names orders) Unlimited).ended ≡ Found trail
         → (answer_of (problem_of index.packages (with_constraints (frozen index.packages names trail) project) names orders) Unlimited).ended ≡ Found trail }
-{}
+{
+    ends_right();
+    ends_valid();
+    general_is_lawful();
+    one_first();
+    problem_is_lawful();
+    valid_as_whole();
+    frozen_bars_none();
+}
