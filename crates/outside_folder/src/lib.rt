@@ -10,6 +10,7 @@ mod mem_sink;
 mod real_folder;
 mod real_sink;
 mod sink;
+mod system_calls;
 
 pub use calls::{Content, Trouble, list_names, read_content};
 pub use folder::{FILE_LIMIT, Folder, FolderFault, Name};
@@ -18,3 +19,4 @@ pub use mem_sink::MemSink;
 pub use real_folder::RealFolder;
 pub use real_sink::RealSink;
 pub use sink::{Sink, SinkFault, write_all};
+pub use system_calls::SystemCalls;
