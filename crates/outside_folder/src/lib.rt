@@ -17,6 +17,6 @@ pub use folder::{FILE_LIMIT, Folder, FolderFault, Name};
 pub use mem_folder::{MemFault, MemFile, MemFolder};
 pub use mem_sink::MemSink;
 pub use real_folder::RealFolder;
-pub use real_sink::RealSink;
+pub use real_sink::{RealSink, WriterSink};
 pub use sink::{Sink, SinkFault, write_all};
 pub use system_calls::SystemCalls;
