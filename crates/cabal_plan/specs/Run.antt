@@ -18,7 +18,7 @@ pub record IsRunOver (tells : Option Files) (words : List Bytes) (old new : Opti
   pub told : (files : Files) → Reads (reading words) tells files → Prints (IsOutputOf words files) old new end
   pub one_text : Prints HasForm old new end
   pub in_order : Prints BuildsInOrder old new end
-  pub usage : end ≡ status.Usage → reading words ≡ None
+  pub usage_alone : end ≡ status.Usage → reading words ≡ None
   pub no_reading : reading words ≡ None → end ≢ status.NoMemory → IsUsage end
 
 -- want of memory, behind which nothing was written
