@@ -127,7 +127,6 @@ abbrev pub IsReadOf : {F : Type 0} → (F → Option Bytes) → Result F Error �
 IsReadOf bytes (Ok file) answer = (read : Result (Option Bytes) Error) × AreAllBytes (bytes file) read × IsReadAs read answer
 IsReadOf bytes (Err error) answer = IsUnread error answer
 
-
 -- What is told of a file below a root, where the system may answer so to opening one.
 pub record IsReadAt {F : Type 0} (opens : Bytes → Result F Error → Type 0) (bytes : F → Option Bytes) (root path : Bytes) (answer : Result (Option Bytes) FolderFault) : Type 0 where
   pub no_path : IsTrue (has_zero path) → answer ≡ Ok None
