@@ -8,8 +8,8 @@ use outside_folder::{Folder, MemFile, MemFolder, MemSink};
 use plan_command::{code_of, run};
 use plan_types::{List, Text};
 use runs::{
-    BUILD_RUNS, EDGE_RUNS, EIGHTH_CALL, GENERATED_RUNS, JSON_RUNS, NINTH_CALL, NO_READING, PROJECT_RUNS, RUNS,
-    SECOND_CALL, SHRUNK_RUNS, SIXTH_CALL, SMALL, SMALL_ANSWER, THIRD_CALL,
+    BUILD_RUNS, EDGE_RUNS, EIGHTH_CALL, GENERATED_RUNS, JSON_RUNS, NINTH_CALL, NO_READING,
+    PROJECT_RUNS, RUNS, SECOND_CALL, SHRUNK_RUNS, SIXTH_CALL, SMALL, SMALL_ANSWER, THIRD_CALL,
 };
 use std::alloc::Global;
 use std::test::Fail;

@@ -15,7 +15,10 @@ visited 1 exhausted 0
 
 // The bytes of a package's file, with blanks behind them up to this size.
 fn filled(alloc: Global, size: usize) -> Result<List<u8>, Fail> {
-    let mut bytes = bytes_of(alloc, "cabal-version: 2.4\nname: main\nversion: 1\nlibrary\n")?;
+    let mut bytes = bytes_of(
+        alloc,
+        "cabal-version: 2.4\nname: main\nversion: 1\nlibrary\n",
+    )?;
     for _ in bytes.len()..size {
         bytes.push(b' ')?;
     }
@@ -30,7 +33,12 @@ fn answer_to_filled(alloc: Global, size: usize) -> Result<String, Fail> {
         bytes: filled(alloc, size)?,
     })?;
     let words = words(alloc, "$ cabal-plan plan")?;
-    answer(alloc, &words, folder(alloc, files, 0)?, sink(alloc, 2000, 0)?)
+    answer(
+        alloc,
+        &words,
+        folder(alloc, files, 0)?,
+        sink(alloc, 2000, 0)?,
+    )
 }
 
 // A package without needs beside so many records.

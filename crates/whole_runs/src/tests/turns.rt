@@ -53,12 +53,7 @@ fn is_front(found: &str, whole: &str) -> bool {
 }
 
 // With each write that fails in turn, of which each takes so many bytes at most, the answers that are no front of the whole one.
-fn others_by_writes(
-    alloc: Global,
-    asked: &str,
-    whole: &str,
-    most: usize,
-) -> Result<String, Fail> {
+fn others_by_writes(alloc: Global, asked: &str, whole: &str, most: usize) -> Result<String, Fail> {
     let mut others = String::new(alloc);
     for write in 1..=40_u64 {
         let fail_at = List::from_vec([write].to_vec(alloc)?);
@@ -74,7 +69,11 @@ fn others_by_writes(
 fn others_by_room(alloc: Global, asked: &str, whole: &str) -> Result<String, Fail> {
     let mut others = String::new(alloc);
     for room in 0..100_usize {
-        let found = answer_into(alloc, asked, MemSink::new(alloc, room, 2000, List::new(alloc))?)?;
+        let found = answer_into(
+            alloc,
+            asked,
+            MemSink::new(alloc, room, 2000, List::new(alloc))?,
+        )?;
         if !is_front(found.as_str(), whole) || found.len() != room + 2 {
             write!(&mut others, "{room}: {found}")?;
         }
@@ -84,16 +83,16 @@ fn others_by_room(alloc: Global, asked: &str, whole: &str) -> Result<String, Fai
 
 fn size_of(alloc: Global, asked: &str, place: usize) -> Result<usize, Fail> {
     let files = files(alloc, asked)?;
-    Ok(files.as_slice().get(place).map_or(0, |file| file.bytes.len()))
+    Ok(
+        files
+            .as_slice()
+            .get(place)
+            .map_or(0, |file| file.bytes.len()),
+    )
 }
 
 // The files of a run that is written so, of which the one at this place is cut off behind so many bytes.
-fn cut_off(
-    alloc: Global,
-    asked: &str,
-    place: usize,
-    length: usize,
-) -> Result<List<MemFile>, Fail> {
+fn cut_off(alloc: Global, asked: &str, place: usize, length: usize) -> Result<List<MemFile>, Fail> {
     let mut cut = List::new(alloc);
     for (at, file) in files(alloc, asked)?.into_vec().into_iter().enumerate() {
         let MemFile { path, mut bytes } = file;
@@ -105,12 +104,7 @@ fn cut_off(
     Ok(cut)
 }
 
-fn answer_to_cut(
-    alloc: Global,
-    asked: &str,
-    place: usize,
-    length: usize,
-) -> Result<String, Fail> {
+fn answer_to_cut(alloc: Global, asked: &str, place: usize, length: usize) -> Result<String, Fail> {
     let words = words(alloc, asked.lines().next().unwrap_or(""))?;
     let folder = folder(alloc, cut_off(alloc, asked, place, length)?, 0)?;
     let out = MemSink::new(alloc, 2000, 2000, List::new(alloc))?;
@@ -144,12 +138,18 @@ fn each_call_and_each_write_fails(rt: HostRuntime) -> Result<(), Fail> {
     let whole = answer_to(alloc, PROJECT, 0)?;
     assert!(rt; whole.as_str().starts_with("0\nplan\n"), "{whole}");
     assert_eq!(rt; answer_to(alloc, PROJECT, 12)?.as_str(), "4\n");
-    assert_eq!(rt; others_by_calls(alloc, PROJECT, whole.as_str())?.as_str(), "");
+    assert_eq!(rt;
+        others_by_calls(alloc, PROJECT, whole.as_str())?.as_str(),
+        ""
+    );
     for most in [1, 20, 2000_usize] {
         let others = others_by_writes(alloc, PROJECT, whole.as_str(), most)?;
         assert_eq!(rt; others.as_str(), "", "{most}");
     }
-    assert_eq!(rt; others_by_room(alloc, PROJECT, whole.as_str())?.as_str(), "");
+    assert_eq!(rt;
+        others_by_room(alloc, PROJECT, whole.as_str())?.as_str(),
+        ""
+    );
     Ok(())
 }
 
