@@ -1,3 +1,4 @@
 pub mod Examples
 pub mod Failure
+pub mod Run
 pub mod Words

@@ -1,46 +1,98 @@
 //! The program `cabal-plan`: it plans the packages of the current folder, and prints the plan.
 #![tactic(auto)]
 
-ghost use Rattle.std.specs.Prelude.{◌≡◌, ◌≢◌, codes, map, string_bytes, Err, IfOk, IfErr, IfSome, None};
+ghost use Rattle.std.specs.Prelude.{◌≡◌, codes, map, string_bytes, IfOk};
 ghost use Rattle.std.specs.Option.{option_copied};
 ghost use Rattle.std.specs.Process.{exit_status};
 ghost use Rattle.std.specs.Vec.Iter.{into_iter_items};
 ghost use Rattle.cabal_plan.specs.Failure.{failure_of};
+ghost use Rattle.cabal_plan.specs.Run.{IsEnd, IsEndWithWords, IsEndWithoutWords, IsRunOver};
 ghost use Rattle.cabal_plan.specs.Words.{words_of};
-ghost use Rattle.plan_command.specs.Output.{IsUsage};
+ghost use Rattle.plan_command.specs.declared.status.Status.{Status as TheStatus};
 ghost use Rattle.plan_command.specs.Status.{number_of_status};
-ghost use Rattle.command_line.specs.Reading.{reading};
 
-use outside_folder::{RealFolder, RealSink};
+use outside_folder::{Folder, RealFolder, RealSink, Sink};
 use plan_command::{Status, code_of, print_usage, run};
 use plan_types::{List, NoMemory, Text};
 use std::alloc::Global;
 use std::env::{self, Args};
-use std::io::ErrorKind;
+use std::io::{self, ErrorKind};
 use std::process::ExitCode;
-use std::rt::{Env, Files};
+use std::rt::Files;
 
 fn main(rt: HostRuntime) -> ExitCode {
-    ended(&rt, status_of(&rt))
+    program(
+        &rt,
+        env::args(&rt),
+        current_folder(&rt),
+        &mut RealSink::new(&rt),
+    )
 }
 
-fn status_of<R: Env + Files + Print + AllocGlobal + Clone + Drop>(rt: &R) -> Status {
-    match env::args(rt) {
-        Ok(args) => status_for(rt, words_of(rt.alloc(), args)),
-        Err(error) => status_without_words(rt, error.kind()),
+// Runs what the words ask for over a folder, and ends with the number of what came of it.
+fn program<R: Eprint + AllocGlobal, F: Folder + Drop, S: Sink>(
+    rt: &R,
+    args: io::Result<Args>,
+    folder: Result<F, NoMemory>,
+    out: &mut S,
+) -> ExitCode
+    ensures { (status : TheStatus) × (exit_status result ≡ number_of_status status) × IsEnd (λ args. map string_bytes (into_iter_items args)) F.tells args folder (S.bytes out.old) (S.bytes out.new) status }
+{
+    let status = status_of(rt.alloc(), args, folder, out);
+    ended(rt, status)
+}
+
+fn status_of<F: Folder + Drop, S: Sink>(
+    alloc: Global,
+    args: io::Result<Args>,
+    folder: Result<F, NoMemory>,
+    out: &mut S,
+) -> Status
+    ensures { IsEnd (λ args. map string_bytes (into_iter_items args)) F.tells args folder (S.bytes out.old) (S.bytes out.new) result }
+{
+    match args {
+        Ok(args) => status_for(alloc, args, folder, out),
+        Err(error) => status_without_words(error.kind(), out),
     }
 }
 
 // Where the system doesn't give the words as text, they have no reading.
-fn status_without_words<R: Print>(rt: &R, kind: ErrorKind) -> Status
-    ensures no_memory { kind ≡ ErrorKind.OutOfMemory → result ≡ Status.NoMemory }
-    ensures no_text { kind ≢ ErrorKind.OutOfMemory → IsUsage result }
+fn status_without_words<S: Sink>(kind: ErrorKind, out: &mut S) -> Status
+    ensures { IsEndWithoutWords kind (S.bytes out.old) (S.bytes out.new) result }
 {
     if kind == ErrorKind::OutOfMemory {
         Status::NoMemory
     } else {
-        print_usage(&mut RealSink::new(rt))
+        print_usage(out)
     }
+}
+
+fn status_for<F: Folder + Drop, S: Sink>(
+    alloc: Global,
+    args: Args,
+    folder: Result<F, NoMemory>,
+    out: &mut S,
+) -> Status
+    ensures { IsEndWithWords F.tells (words_of (map string_bytes (into_iter_items args))) folder (S.bytes out.old) (S.bytes out.new) result }
+{
+    let Ok(words) = words_of(alloc, args) else {
+        return Status::NoMemory;
+    };
+    let Ok(mut folder) = folder else {
+        return Status::NoMemory;
+    };
+    planned(alloc, &words, &mut folder, out)
+}
+
+fn planned<F: Folder, S: Sink>(
+    alloc: Global,
+    words: &List<Text>,
+    folder: &mut F,
+    out: &mut S,
+) -> Status
+    ensures { IsRunOver (F.tells folder.old) words.now (S.bytes out.old) (S.bytes out.new) result }
+{
+    run(alloc, words.as_slice(), folder, out)
 }
 
 // The words after the program's name.
@@ -56,41 +108,13 @@ fn words_of(alloc: Global, args: Args) -> Result<List<Text>, NoMemory>
     Ok(words)
 }
 
-fn status_for<R: Files + Print + AllocGlobal + Clone + Drop>(
+fn current_folder<R: Files + AllocGlobal + Clone + Drop>(
     rt: &R,
-    words: Result<List<Text>, NoMemory>,
-) -> Status
-    ensures no_memory { IfErr words (λ _. result ≡ Status.NoMemory) }
-    ensures usage { IfOk words (λ words. result ≡ Status.Usage → reading words ≡ None) }
-    ensures no_reading { IfOk words (λ words. reading words ≡ None → result ≢ Status.NoMemory → IsUsage result) }
+) -> Result<RealFolder<'_, R>, NoMemory>
+    ensures { IfOk result (λ folder. folder.root ≡ codes ".") }
 {
-    let Ok(words) = words else {
-        return Status::NoMemory;
-    };
-    match root_of(rt) {
-        Some(root) => planned(rt, &words, root),
-        None => Status::NoMemory,
-    }
-}
-
-// The current folder.
-fn root_of(rt: &impl AllocGlobal) -> Option<Text>
-    ensures { IfSome result (λ root. root ≡ codes ".") }
-{
-    Text::from_str(rt.alloc(), ".").ok()
-}
-
-fn planned<R: Files + Print + AllocGlobal + Clone + Drop>(
-    rt: &R,
-    words: &List<Text>,
-    root: Text,
-) -> Status
-    ensures usage { result ≡ Status.Usage → reading words.now ≡ None }
-    ensures no_reading { reading words.now ≡ None → IsUsage result }
-{
-    let mut folder = RealFolder::new(rt, root);
-    let mut out = RealSink::new(rt);
-    run(rt.alloc(), words.as_slice(), &mut folder, &mut out)
+    let root = Text::from_str(rt.alloc(), ".")?;
+    Ok(RealFolder::new(rt, root))
 }
 
 // Says on standard error what the output can't say. Where even that fails, the status alone tells.

@@ -2,6 +2,7 @@ pub mod Appending
 pub mod Leaving
 pub mod Listings
 pub mod Orders
+pub mod Pairs
 pub mod Places
 pub mod Prefixes
 pub mod Trees

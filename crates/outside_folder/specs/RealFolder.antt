@@ -1,5 +1,9 @@
 -- A folder of the system: its paths, what its entries and errors tell, and what its names are made of.
-use Rattle.std.specs.Prelude.{◌≡◌, ◌≢◌, ℕ, ◌<◌, ◌⊎◌, Bool, List, [], ◌∷◌, ◌++◌, length, fold, codes, Any, IsErr, Ok, Option, Result, map}
+use Rattle.std.specs.Prelude.{◌≡◌, ◌≢◌, ℕ, ◌==◌, ◌<◌, ◌⊎◌, ◌↔◌, Bool, false, List, [], ◌∷◌, ◌++◌, length, fold, codes, Any, Ok, Err, Option, Some, None, Result, IfOk, IfSome, IsErrAnd, IsTrue}
+use Rattle.std.specs.List.{AllZip, list_any}
+use Rattle.std.specs.Fs.{IsDir, dir_entry_name, dir_entry_path, file_type}
+use Rattle.std.specs.declared.fs.DirEntry.{DirEntry}
+use Rattle.std.specs.declared.fs.Metadata.{Metadata}
 use Rattle.std.specs.Iterator.{Drains, Yields}
 use Rattle.std.specs.BTreeMap.{insert_entry}
 use Rattle.std.specs.Cmp.Lexicographic.{slice_cmp}
@@ -10,7 +14,8 @@ use Rattle.std.specs.declared.io.ErrorKind.TheVariants as kind
 use Rattle.outside_folder.specs.declared.folder.Name.{Name}
 use Rattle.outside_folder.specs.declared.folder.FolderFault.{FolderFault}
 use Rattle.outside_folder.specs.declared.folder.FolderFault.TheVariants.{Failed, TooLarge, NoMemory}
-use Rattle.outside_folder.specs.Files.{Bytes}
+use Rattle.outside_folder.specs.Files.{Bytes, as_names}
+use Rattle.outside_folder.specs.Folder.{within_limit}
 
 -- how many names a directory has at most
 abbrev pub name_limit : ℕ
@@ -42,14 +47,87 @@ with_name names name = insert_entry (slice_cmp nat_cmp) names name.text name.fol
 abbrev pub by_text : List Name → List (Bytes × Bool)
 by_text names = fold with_name [] names
 
--- the entries are more than can be listed, or one of them is an error
-abbrev pub HaveFault : List (Result Name Error) → Type 0
-HaveFault entries = (name_limit < length entries) ⊎ Any IsErr entries
+-- what is found at an entry's path says whether it is a folder: a link that leads nowhere is none
+abbrev pub SaysFolder : Result Metadata Error → Bool → Type 0
+SaysFolder (Ok found) folder = IsTrue folder ↔ IsDir (file_type found)
+SaysFolder (Err error) folder = IsMissing error × (folder ≡ false)
 
--- a listing gives entries to its end, none of which is an error, and this holds of their names
-abbrev pub GivesNames : {S : Type 0} → (S → Option (Result Name Error) → S → Type 0) → S → (List Name → Type 0) → Type 0
-GivesNames next_gives entries Holds = (names : List Name) × Drains next_gives entries (map Ok names) × Holds names
+-- nothing is said of it
+abbrev pub SaysNothing : Result Metadata Error → Type 0
+SaysNothing (Ok found) = ⊥
+SaysNothing (Err error) = IsMissing error → ⊥
 
--- the entries that a listing gives are too many, or one of them is an error
-abbrev pub GivesFault : {S : Type 0} → (S → Option (Result Name Error) → S → Type 0) → S → Type 0
-GivesFault {S} next_gives entries = (given : List (Result Name Error)) × (rest : S) × Yields next_gives entries given rest × HaveFault given
+-- a path with a zero byte, which the system takes for none
+abbrev pub has_zero : Bytes → Bool
+has_zero path = list_any (λ byte. byte == 0) path
+
+-- the name of an entry, where what may be found at a path is this
+abbrev pub IsNameOf : {R A F D : Type 0} → (Bytes → Result Metadata Error → Type 0) → Result (DirEntry R A F D) Error → Name → Type 0
+IsNameOf finds (Ok entry) name =
+    (name.text ≡ dir_entry_name entry) × (found : Result Metadata Error) × finds (dir_entry_path entry) found × SaysFolder found name.folder
+IsNameOf finds (Err error) name = ⊥
+
+-- an entry without a name: it is an error, or nothing is said of what it is
+abbrev pub HasNoName : {R A F D : Type 0} → (Bytes → Result Metadata Error → Type 0) → Result (DirEntry R A F D) Error → Type 0
+HasNoName finds (Ok entry) = (found : Result Metadata Error) × finds (dir_entry_path entry) found × SaysNothing found
+HasNoName finds (Err error) = Unit {0}
+
+-- a listing gives entries to its end, each of which has a name, and this holds of their names
+abbrev pub GivesNames : {S R A F D : Type 0} → (Bytes → Result Metadata Error → Type 0) → (S → Option (Result (DirEntry R A F D) Error) → S → Type 0) → S → (List Name → Type 0) → Type 0
+GivesNames {R = R} {A = A} {F = F} {D = D} finds next_gives entries Holds =
+    (given : List (Result (DirEntry R A F D) Error)) × (names : List Name) × Drains next_gives entries given × AllZip (IsNameOf finds) given names × Holds names
+
+-- the entries that a listing gives are too many, or one of them has no name
+abbrev pub GivesFault : {S R A F D : Type 0} → (Bytes → Result Metadata Error → Type 0) → (S → Option (Result (DirEntry R A F D) Error) → S → Type 0) → S → Type 0
+GivesFault {S = S} {R = R} {A = A} {F = F} {D = D} finds next_gives entries =
+    (given : List (Result (DirEntry R A F D) Error)) × (rest : S) × Yields next_gives entries given rest × ((name_limit < length given) ⊎ Any (HasNoName finds) given)
+
+-- What is told of a directory that can't be listed: that it is missing, which the root never is, or a fault.
+pub record IsUnlisted (dir : Bytes) (error : Error) (answer : Result (Option (List Name)) FolderFault) : Type 0 where
+  pub missing : IsMissing error → dir ≢ [] → answer ≡ Ok None
+  pub fault : (IsMissing error → ⊥) → IsErrAnd answer (IsFaultOf error)
+  pub root : dir ≡ [] → IsErrAnd answer (IsFaultOf error)
+
+-- what is told of a listing's entries
+abbrev pub IsListed : {S R A F D : Type 0} → (Bytes → Result Metadata Error → Type 0) → (S → Option (Result (DirEntry R A F D) Error) → S → Type 0) → S → Result (Option (List Name)) FolderFault → Type 0
+IsListed finds next_gives entries (Ok (Some names)) = GivesNames finds next_gives entries (λ found. names ≡ as_names (by_text found))
+IsListed finds next_gives entries (Ok None) = ⊥
+IsListed finds next_gives entries (Err Failed) = GivesFault finds next_gives entries
+IsListed finds next_gives entries (Err TooLarge) = ⊥
+IsListed finds next_gives entries (Err NoMemory) = Unit {0}
+
+-- what is told of a directory that was opened, or couldn't be
+abbrev pub IsListingOf : {S R A F D : Type 0} → (Bytes → Result Metadata Error → Type 0) → (S → Option (Result (DirEntry R A F D) Error) → S → Type 0) → Bytes → Result S Error → Result (Option (List Name)) FolderFault → Type 0
+IsListingOf finds next_gives dir (Ok entries) answer = IsListed finds next_gives entries answer
+IsListingOf finds next_gives dir (Err error) answer = IsUnlisted dir error answer
+
+-- What is told of a directory below a root, where the system may answer so to opening one.
+pub record IsListingAt {S R A F D : Type 0} (lists : Bytes → Result S Error → Type 0) (finds : Bytes → Result Metadata Error → Type 0) (next_gives : S → Option (Result (DirEntry R A F D) Error) → S → Type 0) (root dir : Bytes) (answer : Result (Option (List Name)) FolderFault) : Type 0 where
+  pub no_path : IsTrue (has_zero dir) → answer ≡ Ok None
+  pub asked : (IsTrue (has_zero dir) → ⊥) → answer ≢ Err NoMemory → (opened : Result S Error) × lists (system_path root dir) opened × IsListingOf finds next_gives dir opened answer
+
+-- What is told of a file that can't be read: that it is missing, as a directory is, or a fault.
+pub record IsUnread (error : Error) (answer : Result (Option Bytes) FolderFault) : Type 0 where
+  pub missing : IsMissing error → answer ≡ Ok None
+  pub directory : error_kind error ≡ kind.IsADirectory → answer ≡ Ok None
+  pub fault : (IsMissing error → ⊥) → error_kind error ≢ kind.IsADirectory → IsErrAnd answer (IsFaultOf error)
+
+-- what is told of the bytes that were read, of which there may be too many
+abbrev pub IsReadAs : Result (Option Bytes) Error → Result (Option Bytes) FolderFault → Type 0
+IsReadAs (Ok None) answer = answer ≡ Err TooLarge
+IsReadAs (Ok (Some bytes)) answer = answer ≡ Ok (Some bytes)
+IsReadAs (Err error) answer = IsUnread error answer
+
+-- all bytes of a file that tells them, unless they are too many
+abbrev pub AreAllBytes : Option Bytes → Result (Option Bytes) Error → Type 0
+AreAllBytes bytes read = IfSome bytes (λ bytes. IfOk read (λ read. read ≡ within_limit bytes))
+
+-- what is told of a file that was opened, or couldn't be
+abbrev pub IsReadOf : {F : Type 0} → (F → Option Bytes) → Result F Error → Result (Option Bytes) FolderFault → Type 0
+IsReadOf bytes (Ok file) answer = (read : Result (Option Bytes) Error) × AreAllBytes (bytes file) read × IsReadAs read answer
+IsReadOf bytes (Err error) answer = IsUnread error answer
+
+-- What is told of a file below a root, where the system may answer so to opening one.
+pub record IsReadAt {F : Type 0} (opens : Bytes → Result F Error → Type 0) (bytes : F → Option Bytes) (root path : Bytes) (answer : Result (Option Bytes) FolderFault) : Type 0 where
+  pub no_path : IsTrue (has_zero path) → answer ≡ Ok None
+  pub asked : (IsTrue (has_zero path) → ⊥) → answer ≢ Err NoMemory → (opened : Result F Error) × opens (system_path root path) opened × IsReadOf bytes opened answer

@@ -10,11 +10,13 @@ mod mem_sink;
 mod real_folder;
 mod real_sink;
 mod sink;
+mod system_calls;
 
 pub use calls::{Content, Trouble, list_names, read_content};
 pub use folder::{FILE_LIMIT, Folder, FolderFault, Name};
 pub use mem_folder::{MemFault, MemFile, MemFolder};
 pub use mem_sink::MemSink;
 pub use real_folder::RealFolder;
-pub use real_sink::RealSink;
+pub use real_sink::{RealSink, WriterSink};
 pub use sink::{Sink, SinkFault, write_all};
+pub use system_calls::SystemCalls;

@@ -1,21 +1,24 @@
-// What a real folder holds isn't told, so that the calls of the system are trusted as to content. What is made of
-// their answers is proved over any entries and any reader.
-ghost use Rattle.std.specs.Prelude.{◌≡◌, ◌≢◌, ◌≤◌, ◌<◌, ◌+◌, ◌^◌, ◌-◌, ◌↔◌, [], None, length, map, Ok, Err, Result, false, IfOk, IfErr, IfSome, IsSome, OnOk, IsOkAnd, IsErrOf, IsErrAnd, IsTrue};
-ghost use Rattle.std.specs.Iterator.{Drains, IsFinite, Yields};
-ghost use Rattle.outside_folder.specs.Files.{as_names};
-ghost use Rattle.outside_folder.specs.Folder.{IsInOrder, IsWithinLimit, within_limit};
-ghost use Rattle.outside_folder.specs.Faults.{Rose};
-ghost use Rattle.outside_folder.specs.RealFolder.{name_limit, system_path, IsFaultOf, IsMissing, with_name, by_text, GivesFault, GivesNames, HaveFault};
-ghost use Rattle.std.specs.declared.io.Error.{Error};
-ghost use Rattle.std.specs.Fs.{IsDir, dir_entry_name, file_type};
+// What a real folder holds isn't told. What is made of the system's answers is proved over any system, any entries and
+// any reader.
+ghost use Rattle.std.specs.Prelude.{◌≡◌, ◌≢◌, ◌≤◌, ◌<◌, ◌+◌, ◌^◌, ◌-◌, ◌↔◌, [], None, length, Ok, Err, Result, Option, List, ℕ, IfOk, IfErr, IfSome, IsSome, OnOk, IsErrOf, IsTrue, true, false};
+ghost use Rattle.std.specs.Iterator.{IsFinite};
+ghost use Rattle.std.specs.Fs.{dir_entry_path};
 ghost use Rattle.std.specs.IoError.{error_kind};
+ghost use Rattle.std.specs.declared.alloc.Global.{Global};
+ghost use Rattle.std.specs.declared.fs.Metadata.{Metadata};
+ghost use Rattle.std.specs.declared.fs.ReadDir.{ReadDir};
+ghost use Rattle.std.specs.declared.io.Error.{Error};
+ghost use Rattle.outside_folder.specs.Files.{as_names};
+ghost use Rattle.outside_folder.specs.Folder.{IsInOrder, IsWithinLimit};
+ghost use Rattle.outside_folder.specs.Faults.{Rose};
+ghost use Rattle.outside_folder.specs.RealFolder.{name_limit, has_zero, system_path, AreAllBytes, GivesFault, GivesNames, HasNoName, IsFaultOf, IsMissing, IsNameOf, IsReadAs, IsListingAt, IsListingOf, IsReadAt, IsReadOf, IsUnlisted, IsUnread, SaysFolder, SaysNothing, by_text, with_name};
 
 use crate::folder::as_names;
-use crate::{FILE_LIMIT, Folder, FolderFault, Name};
+use crate::{FILE_LIMIT, Folder, FolderFault, Name, SystemCalls};
 use plan_types::{List, NoMemory, Text};
 use std::alloc::Global;
 use std::collections::BTreeMap;
-use std::fs::{self, DirEntry, Metadata};
+use std::fs::{DirEntry, Metadata, ReadDir};
 use std::io::{self, ErrorKind, Read};
 use std::rt::Files;
 
@@ -43,7 +46,7 @@ impl<'a, R: Files> RealFolder<'a, R> {
     }
 }
 
-impl<R: Files + AllocGlobal + Clone + Drop> Folder for RealFolder<'_, R> {
+impl<R: SystemCalls> Folder for RealFolder<'_, R> {
     ghost tells = { λ _. None };
 
     ghost ceiling = { λ _. 2 ^ 64 - 1 };
@@ -54,6 +57,9 @@ impl<R: Files + AllocGlobal + Clone + Drop> Folder for RealFolder<'_, R> {
         ensures order { IfOk result (λ names. IfSome names IsInOrder) }
         ensures root { dir.now ≡ [] → IfOk result IsSome }
         ensures never_too_large { IsErrOf result FolderFault.TooLarge → ⊥ }
+
+        // It is what the system says of the directory at this path below the root.
+        ensures asked { IsListingAt (R.lists self.old.rt.now) (R.finds self.old.rt.now) ⟦<ReadDir<R, Global> as Iterator>⟧.next_gives self.old.root dir.now result }
 
         // No other call than one that answers `Failed` changes the count.
         ensures failed { IsErrOf result FolderFault.Failed → Rose self.old.faults self.new.faults }
@@ -71,6 +77,9 @@ impl<R: Files + AllocGlobal + Clone + Drop> Folder for RealFolder<'_, R> {
 
     fn read(&mut self, alloc: Global, path: &str) -> Result<Option<List<u8>>, FolderFault>
         ensures within { IfOk result IsWithinLimit }
+
+        // It is what the system says of the file at this path below the root.
+        ensures asked { IsReadAt (R.opens self.old.rt.now) R.File.remaining self.old.root path.now result }
 
         ensures failed { IsErrOf result FolderFault.Failed → Rose self.old.faults self.new.faults }
         ensures still { (IsErrOf result FolderFault.Failed → ⊥) → self.new.faults ≡ self.old.faults }
@@ -120,8 +129,14 @@ fn system_path(alloc: Global, root: &str, path: &str) -> Result<Text, NoMemory>
     Ok(whole)
 }
 
-fn list_at<R: Files + AllocGlobal + Clone + Drop>(
-    rt: &R,
+fn has_zero(path: &str) -> bool
+    ensures { result ≡ has_zero path.now }
+{
+    path.as_bytes().contains(&0)
+}
+
+fn list_at<S: SystemCalls>(
+    system: &S,
     alloc: Global,
     root: &str,
     dir: &str,
@@ -129,22 +144,43 @@ fn list_at<R: Files + AllocGlobal + Clone + Drop>(
     ensures order { IfOk result (λ names. IfSome names IsInOrder) }
     ensures root { dir.now ≡ [] → IfOk result IsSome }
     ensures never_too_large { IsErrOf result FolderFault.TooLarge → ⊥ }
+    ensures asked { IsListingAt (S.lists system.now) (S.finds system.now) ⟦<ReadDir<S, Global> as Iterator>⟧.next_gives root.now dir.now result }
 {
+    if has_zero(dir) {
+        return Ok(None);
+    }
     let path = system_path(alloc, root, dir)?;
-    match fs::read_dir(rt, path.as_str()) {
+    listing_of(system, alloc, dir, system.entries_at(path.as_str()))
+}
+
+// What is told of a directory that was opened, or couldn't be.
+fn listing_of<S: SystemCalls, I: Iterator<Item = io::Result<DirEntry<S, Global>>> + Drop>(
+    system: &S,
+    alloc: Global,
+    dir: &str,
+    opened: io::Result<I>,
+) -> Result<Option<List<Name>>, FolderFault>
+    requires can { IfOk opened I.can_next }
+    requires finite { IfOk opened (λ entries. IsFinite (I.remaining entries)) }
+    ensures told { IsListingOf (S.finds system.now) I.next_gives dir.now opened result }
+    ensures order { IfOk result (λ names. IfSome names IsInOrder) }
+    ensures root { dir.now ≡ [] → IfOk result IsSome }
+    ensures never_too_large { IsErrOf result FolderFault.TooLarge → ⊥ }
+{
+    match opened {
         Ok(entries) => {
-            let names = entries.map(|entry| name_of(rt, alloc, entry));
-            Ok(Some(listed(alloc, names)?))
+            let names = listed(system, alloc, entries)?;
+            Ok(Some(names))
         }
         Err(error) => unlisted(dir, &error),
     }
 }
 
-// What is told of a directory that can't be listed. The root is never missing.
+// The root is never missing.
 fn unlisted(dir: &str, error: &io::Error) -> Result<Option<List<Name>>, FolderFault>
-    ensures missing { IsMissing error.now → dir.now ≢ [] → result ≡ Ok None }
-    ensures there { (IsMissing error.now → ⊥) → IsErrAnd result (IsFaultOf error.now) }
-    ensures root { dir.now ≡ [] → IsErrAnd result (IsFaultOf error.now) }
+    ensures told { IsUnlisted dir.now error.now result }
+    ensures root { dir.now ≡ [] → IfOk result IsSome }
+    ensures never_too_large { IsErrOf result FolderFault.TooLarge → ⊥ }
 {
     if is_missing(error) && !dir.is_empty() {
         Ok(None)
@@ -154,34 +190,36 @@ fn unlisted(dir: &str, error: &io::Error) -> Result<Option<List<Name>>, FolderFa
 }
 
 // All names that a directory's entries give, in byte order.
-fn listed<I: Iterator<Item = io::Result<Name>> + Drop>(
+fn listed<S: SystemCalls, I: Iterator<Item = io::Result<DirEntry<S, Global>>> + Drop>(
+    system: &S,
     alloc: Global,
     entries: I,
 ) -> Result<List<Name>, FolderFault>
     requires can { I.can_next entries }
     requires finite { IsFinite (I.remaining entries) }
-    ensures whole { IfOk result (λ listed. GivesNames I.next_gives entries (λ names. listed ≡ as_names (by_text names))) }
-    ensures failed { IsErrOf result FolderFault.Failed → GivesFault I.next_gives entries }
+    ensures whole { IfOk result (λ listed. GivesNames (S.finds system.now) I.next_gives entries (λ names. listed ≡ as_names (by_text names))) }
+    ensures failed { IsErrOf result FolderFault.Failed → GivesFault (S.finds system.now) I.next_gives entries }
     ensures order { IfOk result IsInOrder }
     ensures never_too_large { IsErrOf result FolderFault.TooLarge → ⊥ }
 {
-    let names = names_of(alloc, entries)?;
+    let names = names_of(system, alloc, entries)?;
     Ok(as_names(alloc, names)?)
 }
 
-fn names_of<I: Iterator<Item = io::Result<Name>> + Drop>(
+fn names_of<S: SystemCalls, I: Iterator<Item = io::Result<DirEntry<S, Global>>> + Drop>(
+    system: &S,
     alloc: Global,
     entries: I,
 ) -> Result<BTreeMap<Text, bool>, FolderFault>
     requires can { I.can_next entries }
     requires finite { IsFinite (I.remaining entries) }
-    ensures whole { IfOk result (λ found. GivesNames I.next_gives entries (λ names. found.entries ≡ by_text names)) }
-    ensures failed { IsErrOf result FolderFault.Failed → GivesFault I.next_gives entries }
+    ensures whole { IfOk result (λ found. GivesNames (S.finds system.now) I.next_gives entries (λ names. found.entries ≡ by_text names)) }
+    ensures failed { IsErrOf result FolderFault.Failed → GivesFault (S.finds system.now) I.next_gives entries }
     ensures never_too_large { IsErrOf result FolderFault.TooLarge → ⊥ }
 {
     let mut names = BTreeMap::new(alloc);
     for entry in entries {
-        match entry {
+        match name_of(system, alloc, entry) {
             Ok(name) => add_name(&mut names, name)?,
             Err(error) => return Err(fault_of(&error)),
         }
@@ -207,60 +245,80 @@ fn add_name(names: &mut BTreeMap<Text, bool>, name: Name) -> Result<(), FolderFa
     Ok(())
 }
 
-fn name_of<R: Files + AllocGlobal + Clone + Drop>(
-    rt: &R,
+// An error of the system is handed on as it is.
+fn name_of<S: SystemCalls>(
+    system: &S,
     alloc: Global,
-    entry: io::Result<DirEntry<R, Global>>,
+    entry: io::Result<DirEntry<S, Global>>,
 ) -> io::Result<Name>
-    ensures text { IfOk entry (λ entry. IfOk result (λ name. name.text ≡ dir_entry_name entry)) }
+    ensures name { IfOk result (IsNameOf (S.finds system.now) entry) }
+    ensures no_name { IfErr result (λ error. error_kind error ≢ ErrorKind.OutOfMemory → HasNoName (S.finds system.now) entry) }
     ensures err { IfErr entry (λ error. result ≡ Err error) }
 {
     let entry = entry?;
     let text = Text::from_str(alloc, entry.file_name()).map_err(|_| io::Error::from(
         ErrorKind::OutOfMemory,
     ))?;
-    let folder = is_folder(fs::metadata(rt, entry.path()))?;
+    let folder = is_folder(system.metadata_at(entry.path()))?;
     Ok(Name { text, folder })
 }
 
-// A link that leads nowhere is no folder.
-fn is_folder(metadata: io::Result<Metadata>) -> io::Result<bool>
-    ensures there { IfOk metadata (λ found. IsOkAnd result (λ folder. IsTrue folder ↔ IsDir (file_type found))) }
-    ensures missing { IfErr metadata (λ error. IsMissing error → result ≡ Ok false) }
-    ensures err { IfErr metadata (λ error. (IsMissing error → ⊥) → result ≡ Err error) }
+fn is_folder(found: io::Result<Metadata>) -> io::Result<bool>
+    ensures said { IfOk result (SaysFolder found) }
+    ensures unsaid { IfErr result (λ error. SaysNothing found × (found ≡ Err error)) }
 {
-    match metadata {
-        Ok(metadata) => Ok(metadata.is_dir()),
+    match found {
+        Ok(found) => Ok(found.is_dir()),
         Err(error) if is_missing(&error) => Ok(false),
         Err(error) => Err(error),
     }
 }
 
-fn read_at<R: Files>(
-    rt: &R,
+fn read_at<S: SystemCalls>(
+    system: &S,
     alloc: Global,
     root: &str,
     path: &str,
 ) -> Result<Option<List<u8>>, FolderFault>
     ensures within { IfOk result IsWithinLimit }
+    ensures asked { IsReadAt (S.opens system.now) S.File.remaining root.now path.now result }
 {
+    if has_zero(path) {
+        return Ok(None);
+    }
     let path = system_path(alloc, root, path)?;
-    let file = match fs::open(rt, path.as_str()) {
-        Ok(file) => file,
-        Err(error) => return unread(&error),
-    };
-    match bytes_of(alloc, file) {
+    read_of(alloc, system.open_at(path.as_str()))
+}
+
+// What is told of a file that was opened, or couldn't be.
+fn read_of<F: Read + Drop>(
+    alloc: Global,
+    opened: io::Result<F>,
+) -> Result<Option<List<u8>>, FolderFault>
+    ensures told { IsReadOf F.remaining opened result }
+    ensures within { IfOk result IsWithinLimit }
+{
+    match opened {
+        Ok(file) => read_as(bytes_of(alloc, file)),
+        Err(error) => unread(&error),
+    }
+}
+
+fn read_as(read: io::Result<Option<List<u8>>>) -> Result<Option<List<u8>>, FolderFault>
+    ensures told { IsReadAs read result }
+    ensures within { IfOk read IsWithinLimit → IfOk result IsWithinLimit }
+{
+    match read {
         Ok(Some(bytes)) => Ok(Some(bytes)),
         Ok(None) => Err(FolderFault::TooLarge),
         Err(error) => unread(&error),
     }
 }
 
-// What is told of a file that can't be read. A directory is no file.
+// A directory is no file.
 fn unread(error: &io::Error) -> Result<Option<List<u8>>, FolderFault>
-    ensures missing { IsMissing error.now → result ≡ Ok None }
-    ensures directory { error_kind error.now ≡ ErrorKind.IsADirectory → result ≡ Ok None }
-    ensures file { (IsMissing error.now → ⊥) → error_kind error.now ≢ ErrorKind.IsADirectory → IsErrAnd result (IsFaultOf error.now) }
+    ensures told { IsUnread error.now result }
+    ensures within { IfOk result IsWithinLimit }
 {
     if is_missing(error) || error.kind() == ErrorKind::IsADirectory {
         Ok(None)
@@ -271,7 +329,7 @@ fn unread(error: &io::Error) -> Result<Option<List<u8>>, FolderFault>
 
 // All bytes that a reader gives; `None` where they are too many. One byte more than the limit is asked for.
 fn bytes_of<R: Read + Drop>(alloc: Global, reader: R) -> io::Result<Option<List<u8>>>
-    ensures whole { IfSome (R.remaining reader) (λ bytes. IfOk result (λ read. read ≡ within_limit bytes)) }
+    ensures whole { AreAllBytes (R.remaining reader) result }
     ensures within { IfOk result IsWithinLimit }
 {
     let mut bytes = Vec::new(alloc);

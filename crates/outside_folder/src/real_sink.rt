@@ -1,29 +1,35 @@
-// What standard output received isn't told, so that these lines are trusted as to content.
+// What standard output received isn't told. What is made of a writer's answers is proved over any writer.
 ghost use Rattle.std.specs.Prelude.{◌≡◌, ◌≤◌, ◌<◌, ◌^◌, ◌-◌, take, IfOk, OnOk, OnErr};
 ghost use Rattle.std.specs.Io.KnownBytes as known;
 ghost use Rattle.outside_folder.specs.Sink.{Appends, IsCount, untold};
 ghost use Rattle.outside_folder.specs.Faults.{Rose};
 
 use crate::{Sink, SinkFault};
-use std::io::{self, Write};
+use std::io::{self, Printer, Write};
 
-/// Standard output, with a count of its faults that stays at 2^64 - 1.
+/// A writer, with a count of its faults that stays at 2^64 - 1.
 #[derive(Drop)]
-pub struct RealSink<'a, R: Print> {
-    rt: &'a R,
+pub struct WriterSink<W> {
+    writer: W,
     faults: u64,
     ghost in_range: { faults < 2 ^ 64 },
 }
 
-impl<'a, R: Print> RealSink<'a, R> {
+/// Standard output.
+pub type RealSink<'a, R> = WriterSink<Printer<'a, R>>;
+
+impl<'a, R: Print> WriterSink<Printer<'a, R>> {
     pub fn new(rt: &'a R) -> RealSink<'a, R>
         ensures no_faults { result.faults ≡ 0 }
     {
-        RealSink { rt, faults: 0 }
+        WriterSink {
+            writer: io::writer(rt),
+            faults: 0,
+        }
     }
 }
 
-impl<R: Print> Sink for RealSink<'_, R> {
+impl<W: Write> Sink for WriterSink<W> {
     ghost bytes = { λ _. untold };
 
     ghost faults = { λ sink. sink.faults };
@@ -33,13 +39,17 @@ impl<R: Print> Sink for RealSink<'_, R> {
         ensures ok { IfOk result (λ n. Appends untold untold (take n piece.now)) }
         ensures err { OnErr result (untold ≡ untold) }
 
+        // The writer holds what was taken and no more, where it tells what it holds.
+        ensures taken { IfOk result (λ n. known.Appends (W.contents self.old.writer) (W.contents self.new.writer) (take n piece.now)) }
+        ensures kept { OnErr result (known.Keeps (W.contents self.old.writer) (W.contents self.new.writer)) }
+
         // No other write than one that answers `Failed` changes the count.
         ensures failed { OnErr result (Rose self.old.faults self.new.faults) }
         ensures still { OnOk result (self.new.faults ≡ self.old.faults) }
         ensures later { self.old.faults ≤ self.new.faults }
         ensures bounded { self.new.faults ≤ 2 ^ 64 - 1 }
     {
-        let taken = write_some(&mut io::writer(self.rt), piece);
+        let taken = write_some(&mut self.writer, piece);
         if taken.is_err() {
             self.faults = self.faults.saturating_add(1);
         }

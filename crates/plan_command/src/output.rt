@@ -31,6 +31,7 @@ pub(crate) fn halted(alloc: Global, halt: Halt) -> Result<Output, Trouble>
     ensures made { IfOk result (λ output. IsMade output.status) }
     ensures read { IfOk result (λ output. output.status ≢ Status.Usage) }
     ensures failed { IsErrOf result Trouble.Failed → halt ≡ Halt.Failed }
+    ensures handed_on { halt ≡ Halt.Failed → IsErrOf result Trouble.Failed }
 {
     match halt {
         Halt::Refused(refusal) => Ok(refused(alloc, &refusal)?),

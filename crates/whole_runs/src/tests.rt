@@ -1,12 +1,16 @@
+mod limits;
+mod real;
 // Each run is written as a text: its words, its files, and what it answers.
 mod runs;
+mod turns;
 
-use outside_folder::{MemFile, MemFolder, MemSink};
+use outside_folder::{Folder, MemFile, MemFolder, MemSink};
 use plan_command::{code_of, run};
 use plan_types::{List, Text};
 use runs::{
-    BUILD_RUNS, EIGHTH_CALL, FROZEN_RUNS, GENERATED_RUNS, JSON_RUNS, NINTH_CALL, NO_READING,
-    PROJECT_RUNS, RUNS, SECOND_CALL, SHRUNK_RUNS, SIXTH_CALL, SMALL, SMALL_ANSWER, THIRD_CALL,
+    BUILD_RUNS, EDGE_RUNS, EIGHTH_CALL, FROZEN_RUNS, GENERATED_RUNS, JSON_RUNS, NINTH_CALL,
+    NO_READING, PROJECT_RUNS, RUNS, SECOND_CALL, SHRUNK_RUNS, SIXTH_CALL, SMALL, SMALL_ANSWER,
+    THIRD_CALL,
 };
 use std::alloc::Global;
 use std::test::Fail;
@@ -84,7 +88,7 @@ fn sink(alloc: Global, most: usize, failing: u64) -> Result<MemSink, Fail> {
 }
 
 // Above this call no clause of `run` is known, so that the tests are proved in little time.
-fn number(alloc: Global, words: &List<Text>, folder: &mut MemFolder, out: &mut MemSink) -> u8 {
+fn number<F: Folder>(alloc: Global, words: &List<Text>, folder: &mut F, out: &mut MemSink) -> u8 {
     code_of(run(alloc, words.as_slice(), folder, out))
 }
 
@@ -175,6 +179,13 @@ fn answers_with_shrunk_sets(rt: HostRuntime) -> Result<(), Fail> {
 }
 
 #[test]
+fn answers_at_edges(rt: HostRuntime) -> Result<(), Fail> {
+    let others = others(rt.alloc(), EDGE_RUNS, 0)?;
+    assert_eq!(rt; others.as_str(), "");
+    Ok(())
+}
+
+#[test]
 fn answers_as_json(rt: HostRuntime) -> Result<(), Fail> {
     let others = others(rt.alloc(), JSON_RUNS, 0)?;
     assert_eq!(rt; others.as_str(), "");
@@ -250,26 +261,6 @@ fn a_write_fails(rt: HostRuntime) -> Result<(), Fail> {
     let folder = folder(alloc, files, 0)?;
     let found = answer(alloc, &words, folder, sink(alloc, 10, 3)?)?;
     assert_eq!(rt; found.as_str(), "5\nplan\nchoose main 1 l");
-    Ok(())
-}
-
-fn many_records(alloc: Global) -> Result<List<MemFile>, Fail> {
-    let mut files = List::new(alloc);
-    files.push(file(alloc, "main.cabal main 1")?)?;
-    for number in 0..20_001_u32 {
-        let line = format!(in alloc; "installed/{number}.conf: name: a;version: 1;id: a-{number}")?;
-        files.push(file(alloc, line.as_str())?)?;
-    }
-    Ok(files)
-}
-
-#[test]
-fn too_many_records(rt: HostRuntime) -> Result<(), Fail> {
-    let alloc = rt.alloc();
-    let words = words(alloc, "$ cabal-plan plan")?;
-    let folder = folder(alloc, many_records(alloc)?, 0)?;
-    let found = answer(alloc, &words, folder, sink(alloc, 2000, 0)?)?;
-    assert_eq!(rt; found.as_str(), "3\nrefused installed TooMany\n");
     Ok(())
 }
 

@@ -751,3 +751,31 @@ installed/x.conf: name: a;version: 1;id: a-1
 installed/y.conf: name: b;version: 1;id: b-1
 installed/z.conf: name: c;version: 1;id: c-1
 => 4";
+
+// Runs at the limit on open parentheses and one beyond it, with a name that no file has, and with a path that has a zero byte.
+pub(crate) const EDGE_RUNS: &str = "\
+$ cabal-plan plan
+main.cabal: cabal-version: 2.4;name: main;version: 1;library;  if ((((((((((((((((((((((((((((((((((((((((((((((((((((((((((((((((false))))))))))))))))))))))))))))))))))))))))))))))))))))))))))))))));    build-depends: gone
+=> 0
+plan
+choose main 1 local
+node local main-1 lib main-1-inplace
+visited 1 exhausted 0
+
+$ cabal-plan plan
+main.cabal: cabal-version: 2.4;name: main;version: 1;library;  if (((((((((((((((((((((((((((((((((((((((((((((((((((((((((((((((((false)))))))))))))))))))))))))))))))))))))))))))))))))))))))))))))))));    build-depends: gone
+=> 3
+refused main.cabal:5 TooDeep
+
+$ cabal-plan plan
+main.cabal main 1 nnnnnnnnnnnnnnnnnnnnnnnnnnnnnnnnnnnnnnnnnnnnnnnnnnnnnnnnnnnnnnnnnnnnnnnnnnnnnnnnnnnnnnnnnnnnnnnnnnnnnnnnnnnnnnnnnnnnnnnnnnnnnnnnnnnnnnnnnnnnnnnnnnnnnnnnnnnnnnnnnnnnnnnnnnnnnnnnnnnnnnnnnnnnnnnnnnnnnnnnnnnnnnnnnnnnnnnnnnnnnnnnnnnnnnnnnnnnnnnnnnnnnnnnnnnnnnnnnnnnnnnnnnnnnnnnnnnnnnnnnnnnnnnnnnnnnnnnnnnn
+=> 1
+no plan
+conflict main nnnnnnnnnnnnnnnnnnnnnnnnnnnnnnnnnnnnnnnnnnnnnnnnnnnnnnnnnnnnnnnnnnnnnnnnnnnnnnnnnnnnnnnnnnnnnnnnnnnnnnnnnnnnnnnnnnnnnnnnnnnnnnnnnnnnnnnnnnnnnnnnnnnnnnnnnnnnnnnnnnnnnnnnnnnnnnnnnnnnnnnnnnnnnnnnnnnnnnnnnnnnnnnnnnnnnnnnnnnnnnnnnnnnnnnnnnnnnnnnnnnnnnnnnnnnnnnnnnnnnnnnnnnnnnnnnnnnnnnnnnnnnnnnnnnnnnnnnnnn
+visited 1 exhausted 2
+
+$ cabal-plan plan
+cabal.project: packages: a\0b
+main.cabal main 1
+=> 3
+refused cabal.project:1 NoMatch a\0b";
