@@ -337,7 +337,7 @@ main.cabal main 1
 replay
 completed 0 failed 0 running 0 waiting 1 held 0";
 
-// Conflict sets from which nothing can be dropped.
+// Plans as constraints, and a plan with such constraints.
 pub(crate) const FROZEN_RUNS: &str = "\
 $ cabal-plan freeze
 main.cabal main 1 b, c
@@ -415,8 +415,30 @@ $ cabal-plan freeze
 main.cabal main 1
 cabal.project.freeze: constraints: a <<2
 => 3
-refused cabal.project.freeze:1 BadConstraint";
+refused cabal.project.freeze:1 BadConstraint
 
+$ cabal-plan plan
+main.cabal main 1 b, c
+cabal.project.freeze: constraints:;    any.a ==2,;    any.a source,;    any.b ==1,;    any.b source,;    any.c ==2,;    any.c source
+index/b/2/b.cabal b 2 c ==1
+index/b/1/b.cabal b 1 a
+index/a/1/a.cabal a 1
+index/a/2/a.cabal a 2
+index/c/1/c.cabal c 1 missing
+index/c/2/c.cabal c 2
+=> 0
+plan
+choose main 1 local
+choose b 1 source
+choose a 2 source
+choose c 2 source
+node store a-2 lib a-2-e5cbed83b11365e2d1cd911ae685e40697ce01aa6ad1592b97725fdb0e88a3cd
+node store b-1 lib b-1-1812b140f077283c38d7c708cc6ea95dfbee2f31b6453ff8d6f8b872726f6c99 needs a-2-e5cbed83b11365e2d1cd911ae685e40697ce01aa6ad1592b97725fdb0e88a3cd
+node store c-2 lib c-2-8839e8057dd3a0028ae850def018b4e4f651ebe23df90b01566a73a9db4777c1
+node local main-1 lib main-1-inplace needs b-1-1812b140f077283c38d7c708cc6ea95dfbee2f31b6453ff8d6f8b872726f6c99 c-2-8839e8057dd3a0028ae850def018b4e4f651ebe23df90b01566a73a9db4777c1
+visited 5 exhausted 0";
+
+// Conflict sets from which nothing can be dropped.
 pub(crate) const SHRUNK_RUNS: &str = "\
 $ cabal-plan plan
 main.cabal main 1 a, b, c
