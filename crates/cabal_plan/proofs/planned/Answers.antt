@@ -1,9 +1,10 @@
-use Rattle.std.proofs.Common.{ap, sym, ◌∙◌}
-use Rattle.command_line.specs.Reading.{reading}
+-- the words that are run are those that were given
+use Rattle.std.proofs.Common.{subst}
+use Rattle.cabal_plan.specs.Run.{IsRunOver}
 use Rattle.cabal_plan.proofs.planned.Goals as goal
 
-pub returns-clause-usage : goal.returns-clause-usage
-returns-clause-usage g c = λ is. ap reading (sym c.as_slice.ensures) ∙ c.run.ensures.usage is
-
-pub returns-clause-no_reading : goal.returns-clause-no_reading
-returns-clause-no_reading g c = λ none. c.run.ensures.no_reading (ap reading c.as_slice.ensures ∙ none)
+pub returns : goal.returns
+returns g c =
+    let run = c.run.ensures in
+    subst (λ words. IsRunOver (g.F.Folder.tells c.args.folder.now) words (g.S.Sink.bytes c.args.out.now) (g.S.Sink.bytes c.run.new.out) c.run.result) c.as_slice.ensures
+    (record { told = run.told; one_text = run.one_text; in_order = run.in_order; usage_alone = run.usage; no_reading = λ none other. run.no_reading none })
