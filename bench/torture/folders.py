@@ -60,6 +60,7 @@ ROWS = {
         project,
         "plan --index=index --installed=installed --os=Linux --arch=x86_64 --compiler=ghc-9.6.3 --max-backjumps=-1 --json --count-conflicts".split(),
     ),
+    "a project, `freeze`": (project, ["freeze"]),
     "no plan": (missing, ["plan"]),
     "no plan, `--json`": (missing, ["plan", "--json"]),
     "no plan, `--count-conflicts`": (missing, ["plan", "--count-conflicts"]),
