@@ -1,5 +1,5 @@
 -- How the program ends, and what it leaves in the sink.
-use Rattle.std.specs.Prelude.{◌≡◌, ◌≢◌, List, Option, None, Result, Ok, Err}
+use Rattle.std.specs.Prelude.{◌≡◌, ◌≢◌, ℕ, List, Option, None, Result, Ok, Err}
 use Rattle.std.specs.IoError.{error_kind}
 use Rattle.std.specs.declared.io.Error.{Error}
 use Rattle.std.specs.declared.io.ErrorKind.{ErrorKind}
@@ -12,6 +12,7 @@ use Rattle.plan_command.specs.declared.status.Status.{Status}
 use Rattle.plan_command.specs.declared.status.Status.TheVariants as status
 use Rattle.plan_command.specs.Output.{BuildsInOrder, HasForm, IsUsage, usage}
 use Rattle.plan_command.specs.Run.{IsOutputOf, Prints, Reads}
+use Rattle.plan_command.specs.Status.{number_of_status}
 
 -- Over a folder the end is that of one run: what is printed is that of the words and of the files that are read for them.
 pub record IsRunOver (tells : Option Files) (words : List Bytes) (old new : Option Bytes) (end : Status) : Type 0 where
@@ -39,3 +40,7 @@ pub record IsEndWithoutWords (why : ErrorKind) (old new : Option Bytes) (end : S
 abbrev pub IsEnd : {A F : Type 0} → (A → List Bytes) → (F → Option Files) → Result A Error → Result F NoMemory → Option Bytes → Option Bytes → Status → Type 0
 IsEnd texts tells (Ok args) folder old new end = IsEndWithWords tells (words_of (texts args)) folder old new end
 IsEnd texts tells (Err error) folder old new end = IsEndWithoutWords (error_kind error) old new end
+
+-- the number with which the program exits is that of its end
+abbrev pub IsExit : {A F : Type 0} → (A → List Bytes) → (F → Option Files) → Result A Error → Result F NoMemory → Option Bytes → Option Bytes → ℕ → Type 0
+IsExit texts tells args folder old new number = (end : Status) × (number ≡ number_of_status end) × IsEnd texts tells args folder old new end

@@ -6,9 +6,8 @@ ghost use Rattle.std.specs.Option.{option_copied};
 ghost use Rattle.std.specs.Process.{exit_status};
 ghost use Rattle.std.specs.Vec.Iter.{into_iter_items};
 ghost use Rattle.cabal_plan.specs.Failure.{failure_of};
-ghost use Rattle.cabal_plan.specs.Run.{IsEnd, IsEndWithWords, IsEndWithoutWords, IsRunOver};
+ghost use Rattle.cabal_plan.specs.Run.{IsEnd, IsEndWithWords, IsEndWithoutWords, IsExit, IsRunOver};
 ghost use Rattle.cabal_plan.specs.Words.{words_of};
-ghost use Rattle.plan_command.specs.declared.status.Status.{Status as TheStatus};
 ghost use Rattle.plan_command.specs.Status.{number_of_status};
 
 use outside_folder::{Folder, RealFolder, RealSink, Sink};
@@ -36,7 +35,8 @@ fn program<R: Eprint + AllocGlobal, F: Folder + Drop, S: Sink>(
     folder: Result<F, NoMemory>,
     out: &mut S,
 ) -> ExitCode
-    ensures { (status : TheStatus) × (exit_status result ≡ number_of_status status) × IsEnd (λ args. map string_bytes (into_iter_items args)) F.tells args folder (S.bytes out.old) (S.bytes out.new) status }
+    ensures { IsExit (λ args. map string_bytes (into_iter_items args)) F.tells args folder (S.bytes out.old) (S.bytes out.new)
+        (exit_status result) }
 {
     let status = status_of(rt.alloc(), args, folder, out);
     ended(rt, status)
