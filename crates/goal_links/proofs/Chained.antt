@@ -1,9 +1,8 @@
 -- Chains: what one that changes leaves of the others.
-use Rattle.std.proofs.Common.{◌≡◌, ℕ, zero, suc, ◌+◌, ◌<◌, arith, length, eqb, eqb-true, eq-eqb, true, false, cond, List, [], ◌∷◌, ◌++◌, Option, Some, None, IfSome, IsTrue, MatchOption, refl, sym, ap, ◌∙◌, subst, inl, inr, ◌⊎◌, get_or, take, drop, append-nil}
+use Rattle.std.proofs.Common.{◌≡◌, ℕ, zero, suc, ◌+◌, ◌<◌, arith, length, eqb, eqb-true, eq-eqb, true, false, cond, List, [], ◌∷◌, ◌++◌, Option, Some, None, IfSome, IsTrue, refl, sym, ap, ◌∙◌, subst, inl, inr, ◌⊎◌, get_or, take, drop, append-nil}
 use Rattle.std.specs.List.{Contains}
 use Rattle.std.proofs.Math.ListN.{set}
-use Rattle.std.specs.Option.{option_to_list}
-use Rattle.std.proofs.Math.Seq.{ext_get_or, get_or-append_seam}
+use Rattle.std.proofs.Math.Seq.{ext_get_or}
 use Rattle.std.proofs.lemmas.List.{length-set, get_or-set_same, get_or-set_other, get_or-map, get_or_append_left, length-append, map-append, length-map}
 use Rattle.std.proofs.lemmas.Bool.{false≢true}
 use Rattle.std.proofs.lemmas.List.{get_or_default}
@@ -17,7 +16,7 @@ use Rattle.goal_links.specs.Chains.{Chained, no_cell, cell_at, chain_at, chain_w
 use Rattle.goal_links.proofs.Paths.{path-stays, path-last, path-first, last-contains, not-last, not-first}
 use Rattle.goal_links.proofs.Rings.{has-contains, ring-once, ring-within, ring-is}
 use Rattle.goal_links.proofs.Nodes.{not-in, hasn't, contains-has, without-parted, apart-front, apart-back}
-use Rattle.goal_links.proofs.Rows.{row-linked, row-unlinked, written, AreSame, same-elsewhere, gap-within, node-parted, sides-within, linked-next, ring-pushed, ring-popped}
+use Rattle.goal_links.proofs.Rows.{row-linked, row-unlinked, written, AreSame, same-elsewhere, gap-within, node-parted, sides-within, linked-next, ring-pushed}
 
 -- the chain of an entry is the ring from its ends
 pub chain-is : (ends nodes : List Node) (entry : ℕ) → entry < length ends → chain_at (chains_of ends nodes) entry ≡ ring_of (ends_at ends entry) nodes
@@ -146,48 +145,28 @@ cell-pushed ends nodes nodes2 cells cells2 cell e f fits h =
       ap (chains_of ends) e ∙ chains-same ends nodes pushed same,
     )
 
--- the last cell goes, which is in no chain
-pub cell-popped : (ends nodes less : List Node) (m : Node) (cells fewer : List Cell) (cell : Cell) → nodes ≡ less ++ m ∷ [] → cells ≡ fewer ++ cell ∷ []
-    → AreChains ends nodes cells → has_node (chain_at (chains_of ends nodes) cell.entry) (length fewer) ≡ false
-    → AreChains ends less fewer × (chains_of ends less ≡ chains_of ends nodes)
-cell-popped ends nodes less m cells fewer cell e f h out =
-    let longer : length nodes ≡ length less + 1 = ap length e ∙ length-append less (m ∷ []) in
-    let paired : length fewer ≡ length less = omega (arith, h.paired, longer, ap length f, length-append fewer (cell ∷ [])) in
-    let last : (cell_at cells (length fewer)).entry ≡ cell.entry =
-    ap (λ (l : List Cell). (cell_at l (length fewer)).entry) f ∙ ap (λ (x : Cell). x.entry) (get_or-append_seam fewer cell [] no_cell) in
-    let apart : (n : ℕ) → n < length ends → Contains (ring_of (ends_at ends n) nodes) (length fewer) → ⊥ =
-    λ n lt c.
-    let own : cell.entry ≡ n = sym last ∙ h.owned n (length fewer) lt c in
-    hasn't (ring_of (ends_at ends n) nodes) (length fewer)
-    (ap (λ (l : List ℕ). has_node l (length fewer)) (sym (chain-is ends nodes n lt)) ∙ ap (λ j. has_node (chain_at (chains_of ends nodes) j) (length fewer)) (sym own) ∙ out) c in
-    let within : (n : ℕ) → n < length ends → (k : ℕ) → Contains (ring_of (ends_at ends n) nodes) k → k < length less =
-    λ n lt k c.
-    let in-nodes = ring-within (ends_at ends n) nodes (ring_of (ends_at ends n) nodes) (h.rings n lt) k c in
-    let other : k ≡ length fewer → ⊥ = λ i. apart n lt (subst (λ j. Contains (ring_of (ends_at ends n) nodes) j) i c) in
-    omega (arith, in-nodes, other, paired, longer) in
-    let stays : (n : ℕ) → n < length ends → IsRing (ends_at ends n) less (ring_of (ends_at ends n) nodes) =
-    λ n lt. ring-popped (ends_at ends n) nodes less m (ring_of (ends_at ends n) nodes) e (h.rings n lt) (within n lt) in
-    let same : (n : ℕ) → n < length ends → ring_of (ends_at ends n) less ≡ ring_of (ends_at ends n) nodes =
-    λ n lt. ring-is (ends_at ends n) less (ring_of (ends_at ends n) nodes) (stays n lt) in
-    let front : (k : ℕ) → k < length fewer → cell_at cells k ≡ cell_at fewer k =
-    λ k lt. ap (λ (l : List Cell). cell_at l k) f ∙ get_or_append_left fewer (cell ∷ []) no_cell k lt in (
-      record {
-        paired = paired;
-        rings = λ n lt. subst (λ l. IsRing (ends_at ends n) less l) (sym (same n lt)) (stays n lt);
-        owned = λ n k lt c.
-            let old : Contains (ring_of (ends_at ends n) nodes) k = subst (λ l. Contains l k) (same n lt) c in
-            let lt2 = within n lt k old in
-            ap (λ (x : Cell). x.entry) (sym (front k (omega (arith, lt2, paired)))) ∙ h.owned n k lt old;
-        entries = λ k lt. subst (λ (x : Cell). x.entry < length ends) (front k lt) (h.entries k (omega (arith, lt, ap length f, length-append fewer (cell ∷ []))));
-      },
-      chains-same ends nodes less same,
-    )
-
--- what is taken off a list that isn't empty
-pub popped-some : {X : Type 0} (xs less : List X) (o : Option X) (len fewer : ℕ) → xs ≡ less ++ option_to_list o → MatchOption o ((len ≡ 0) × (fewer ≡ 0)) (λ x. fewer + 1 ≡ len)
-    → len ≡ length xs → 0 < length xs → (x : X) × (xs ≡ less ++ x ∷ [])
-popped-some xs less None len fewer e h l some = absurd (omega (arith, h.0, l, some))
-popped-some xs less (Some x) len fewer e h l some = (x, e)
+-- another cell in the place of one that is in no chain
+pub cell-set : (ends nodes : List Node) (cells : List Cell) (place : ℕ) (cell : Cell) → AreChains ends nodes cells → place < length cells → cell.entry < length ends
+    → has_node (chain_at (chains_of ends nodes) (cell_at cells place).entry) place ≡ false → AreChains ends nodes (set cells place cell)
+cell-set ends nodes cells place cell h within fits out = record {
+  paired = length-set cells place cell ∙ h.paired;
+  rings = h.rings;
+  owned = λ n k lt c.
+      let apart : k ≡ place → ⊥ = λ i.
+      let here : Contains (ring_of (ends_at ends n) nodes) place = subst (λ j. Contains (ring_of (ends_at ends n) nodes) j) i c in
+      let own : (cell_at cells place).entry ≡ n = h.owned n place lt here in
+      hasn't (ring_of (ends_at ends n) nodes) place
+      (ap (λ (l : List ℕ). has_node l place) (sym (chain-is ends nodes n lt)) ∙ ap (λ j. has_node (chain_at (chains_of ends nodes) j) place) (sym own) ∙ out) here in
+      ap (λ (x : Cell). x.entry) (get_or-set_other cells place k cell no_cell apart) ∙ h.owned n k lt c;
+  entries = λ k lt. elim (eqb k place) as (λ b. eqb k place ≡ b → (cell_at (set cells place cell) k).entry < length ends) [
+    | true ↦ λ e.
+        let is : cell_at (set cells place cell) k ≡ cell = ap (cell_at (set cells place cell)) (eqb-true k place e) ∙ get_or-set_same cells place cell no_cell within in
+        subst (λ (x : Cell). x.entry < length ends) (sym is) fits
+    | false ↦ λ e.
+        let is : cell_at (set cells place cell) k ≡ cell_at cells k = get_or-set_other cells place k cell no_cell (λ j. false≢true (sym e ∙ eq-eqb k place j)) in
+        subst (λ (x : Cell). x.entry < length ends) (sym is) (h.entries k (omega (arith, lt, length-set cells place cell)))
+  ] refl;
+}
 
 abbrev pub chained : List Cell → List (List ℕ) → Chained
 chained cells chains = record { cells = cells; chains = chains }

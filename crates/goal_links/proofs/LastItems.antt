@@ -1,5 +1,5 @@
 -- Lists by their last items.
-use Rattle.std.proofs.Common.{◌≡◌, ◌<◌, List, [], ◌∷◌, ◌++◌, length, Option, Some, None, MatchOption, refl, sym, ap, ◌∙◌, subst, inl, inr, ◌⊎◌, arith}
+use Rattle.std.proofs.Common.{◌≡◌, ℕ, zero, suc, ◌+◌, ◌<◌, take, drop, List, [], ◌∷◌, ◌++◌, length, Option, Some, None, MatchOption, refl, sym, ap, ◌∙◌, subst, inl, inr, ◌⊎◌, arith}
 
 -- a list with one item more, split
 pub snoc-split : {A : Type 0} (xs : List A) (x : A) (front : List A) (l : A) (rest : List A) → xs ++ x ∷ [] ≡ front ++ l ∷ rest
@@ -26,3 +26,21 @@ pop-is {A = A} xs ys o x h e = subst (λ (p : Option A). MatchOption p ((xs ≡ 
 pub pop-some : {A : Type 0} (xs ys : List A) (o : Option A) → MatchOption o ((xs ≡ []) × (ys ≡ [])) (λ last. xs ≡ ys ++ last ∷ []) → (xs ≡ [] → ⊥) → (x : A) × (xs ≡ ys ++ x ∷ [])
 pop-some xs ys None h some = absurd (some h.0)
 pop-some xs ys (Some x) h some = (x, h)
+
+-- one item more of those behind some
+pub take-next : {A : Type 0} (k : ℕ) (xs : List A) → take (k + 1) xs ≡ take k xs ++ take 1 (drop k xs)
+take-next k xs = let on : k + 1 ≡ suc k = omega arith in ap (λ n. take n xs) on ∙ next k xs
+  where
+    next : {A : Type 0} (k : ℕ) (xs : List A) → take (suc k) xs ≡ take k xs ++ take 1 (drop k xs)
+    next zero [] = refl
+    next zero (x ∷ xs) = refl
+    next (suc k) [] = refl
+    next (suc k) (x ∷ xs) = ap (λ l. x ∷ l) (next k xs)
+
+pub drop-next : {A : Type 0} (k : ℕ) (xs : List A) → drop (k + 1) xs ≡ drop 1 (drop k xs)
+drop-next k xs = let on : k + 1 ≡ suc k = omega arith in ap (λ n. drop n xs) on ∙ next k xs
+  where
+    next : {A : Type 0} (k : ℕ) (xs : List A) → drop (suc k) xs ≡ drop 1 (drop k xs)
+    next zero xs = refl
+    next (suc k) [] = refl
+    next (suc k) (x ∷ xs) = next k xs

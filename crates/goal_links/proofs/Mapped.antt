@@ -86,3 +86,8 @@ get-push (y ∷ xs) v (suc k) x h = get-push xs v k x h
 pub get-last : {X : Type 0} (xs : List X) (v : X) → slice_get (xs ++ v ∷ []) (length xs) ≡ Some v
 get-last [] v = refl
 get-last (y ∷ xs) v = get-last xs v
+
+pub get-left : {X : Type 0} (xs ys : List X) (n : ℕ) (x : X) → slice_get xs n ≡ Some x → slice_get (xs ++ ys) n ≡ Some x
+get-left [] ys n x h = absurd (cc h)
+get-left (y ∷ xs) ys zero x h = h
+get-left (y ∷ xs) ys (suc n) x h = get-left xs ys n x h

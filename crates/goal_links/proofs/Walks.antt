@@ -1,13 +1,14 @@
 -- Mentions as cells: the variables of entries, the numbers of the cells of an entry, a cell more or less, and the walk along a chain.
-use Rattle.std.proofs.Common.{◌≡◌, ℕ, suc, ◌+◌, ◌-◌, ◌<◌, ◌≤◌, arith, length, get_or, eqb, eqb-true, eq-eqb, true, false, cond, ◌||◌, List, [], ◌∷◌, ◌++◌, Option, Some, None, is_some, IfSome, map, filter, refl, sym, ap, ◌∙◌, subst, inl, inr, ◌⊎◌, append_assoc, append-nil, length-append}
+use Rattle.std.proofs.Common.{◌≡◌, ℕ, zero, suc, ◌+◌, ◌<◌, ◌≤◌, arith, length, take, drop, get_or, eqb, eqb-true, eq-eqb, true, false, cond, ◌||◌, List, [], ◌∷◌, ◌++◌, Option, Some, None, is_some, IfSome, map, filter, refl, sym, ap, ◌∙◌, subst, inl, inr, ◌⊎◌, append_assoc, append-nil, length-append}
 use Rattle.std.specs.List.{Contains, slice_get}
 use Rattle.std.proofs.Math.ListN.{set}
-use Rattle.std.proofs.Math.Seq.{get_or-append_seam}
-use Rattle.std.proofs.lemmas.List.{map-append, length-set, get_or-set_same, get_or-set_other, get_or_append_left}
+use Rattle.std.proofs.Math.Seq.{get_or-append_seam, take-length, take-set-le, drop-set-add}
+use Rattle.std.proofs.lemmas.List.{map-append, length-map, length-drop, at_drop_more, take_more, take-append-le, take-append-drop, get_or-map, length-set, get_or-set_same, get_or-set_other, get_or_append_left}
 use Rattle.std.proofs.lemmas.List.Elements.{filter-append}
 use Rattle.std.proofs.lemmas.Bool.{false≢true, cases_lt}
-use Rattle.std.proofs.lemmas.Option.{slice_get_within, get_or_from_slice_get, slice_get-get_or}
-use Rattle.common_laws.specs.Lists.{contains-none, contains-cases}
+use Rattle.std.specs.Option.{option_map}
+use Rattle.std.proofs.lemmas.Option.{slice_get_within, get_or_from_slice_get, slice_get-get_or, slice_get-map}
+use Rattle.common_laws.specs.Lists.{contains-head, contains-tail, contains-none, contains-cases}
 use Rattle.qualified_goals.specs.declared.variable.Var.{Var}
 use Rattle.qualified_goals.specs.Variable.{same_var}
 use Rattle.qualified_goals.specs.SameVariable.{same_var-is}
@@ -16,18 +17,17 @@ use Rattle.goal_links.specs.declared.chains.Cell.{Cell}
 use Rattle.goal_links.specs.Beside.{last_of, first_of}
 use Rattle.goal_links.specs.Row.{has_node, behind}
 use Rattle.goal_links.specs.Chains.{no_cell, cell_at, chain_at, without_last}
-use Rattle.goal_links.specs.Links.{Entries, no_var, var_at, chain_with, registered, with_cell, with_cells, lengthened, shortened}
+use Rattle.goal_links.specs.Links.{Entries, no_var, var_at, chain_with, registered, with_cell, with_cell_at, lengthened, shortened}
 use Rattle.choice_problem.proofs.Paths.{parted}
-use Rattle.choice_problem.proofs.Sets.{contains-has}
+use Rattle.choice_problem.proofs.Sets.{contains-has, has-append}
 use Rattle.goal_links.proofs.Paths.{AreOnce, last-end}
 use Rattle.goal_links.proofs.Rings.{has-contains}
 use Rattle.goal_links.proofs.Nodes.{not-in, behind-parted, apart-front}
 use Rattle.goal_links.proofs.Chained.{without-last}
 use Rattle.goal_links.proofs.Entries.{same-number}
-use Rattle.goal_links.proofs.Mapped.{get-contains, map-alike}
+use Rattle.goal_links.proofs.Mapped.{get-contains, get-left, map-alike}
 use Rattle.goal_links.specs.declared.mentions.Mention.{Mention}
-use Rattle.goal_links.specs.Mentions.{mention_in, mentions, numbers_from, indices_from, indices_on, place_at, places_on, AreMentions, vars_at}
-use Rattle.goal_links.proofs.LastItems.{last-split}
+use Rattle.goal_links.specs.Mentions.{mention_in, mentions, numbers_from, indices_from, indices_on, place_at, places_on, used, AreMentions, AreSaid, KeepRow, vars_at}
 
 -- the variable of an entry
 
@@ -219,6 +219,10 @@ registered-mentions s v h =
       )
     ]
 
+-- other cells
+abbrev pub with_front : Entries → List Cell → Entries
+with_front s cells = record s { cells = cells }
+
 -- a cell more
 
 at-last : (cells : List Cell) (x : Cell) (k : ℕ) → k < length (cells ++ x ∷ []) → ((k < length cells) × (cell_at (cells ++ x ∷ []) k ≡ cell_at cells k)) ⊎ (cell_at (cells ++ x ∷ []) k ≡ x)
@@ -268,17 +272,11 @@ module _ (s : Entries) (cell : Cell) (h : AreMentions s) (fits : cell.entry < le
             ∙ sym (numbers-push 0 e s.cells cell);
       }
 
-  pub mentions-pushed : mentions longer ≡ mentions s ++ mention_in s.vars cell ∷ []
-  mentions-pushed = map-append (mention_in s.vars) s.cells (cell ∷ [])
-
 -- a cell less
 
 module _ (s : Entries) (front : List Cell) (cell : Cell) (h : AreMentions s) (parts : s.cells ≡ front ++ cell ∷ []) where
   last-entry : (cell_at s.cells (length front)).entry ≡ cell.entry
   last-entry = ap (λ (l : List Cell). (cell_at l (length front)).entry) parts ∙ ap (λ (x : Cell). x.entry) (get_or-append_seam front cell [] no_cell)
-
-  last-number : length s.cells - 1 ≡ length front
-  last-number = omega (arith, ap length parts, length-append front (cell ∷ []))
 
   last-fits : cell.entry < length s.vars
   last-fits =
@@ -297,21 +295,9 @@ module _ (s : Entries) (front : List Cell) (cell : Cell) (h : AreMentions s) (pa
   last-is = ap last_of last-chain ∙ last-end None (numbers_from 0 cell.entry front) (length front)
 
   abbrev less : Entries
-  less = shortened s (length front)
+  less = with_front (shortened s (length front)) front
 
-  less-chain : chain_with less (length front) ≡ numbers_from 0 cell.entry front
-  less-chain =
-      get_or-set_same s.chains (cell_at s.cells (length front)).entry (without_last (chain_with s (length front))) []
-      (omega (arith, last-fits, last-entry, h.counted))
-      ∙ ap without_last last-chain ∙ without-last (numbers_from 0 cell.entry front) (length front)
-
-  pub less-outside : has_node (chain_with less (length less.cells - 1)) (length less.cells - 1) ≡ false
-  less-outside =
-      subst (λ (n : ℕ). has_node (chain_with less n) n ≡ false) (sym last-number)
-      (ap (λ l. has_node l (length front)) less-chain
-      ∙ not-in (numbers_from 0 cell.entry front) (length front) (λ c. let in' = (numbers-within 0 cell.entry front (length front) c).1 in omega (arith, in')))
-
-  pub popped-mentions : AreMentions (with_cells less front)
+  pub popped-mentions : AreMentions less
   popped-mentions =
       let entry = (cell_at s.cells (length front)).entry in
       let chain = without_last (chain_with s (length front)) in
@@ -334,55 +320,277 @@ module _ (s : Entries) (front : List Cell) (cell : Cell) (h : AreMentions s) (pa
             ] refl;
       }
 
-  pub mentions-popped : mentions s ≡ mentions (with_cells less front) ++ mention_in s.vars cell ∷ []
-  mentions-popped = ap (map (mention_in s.vars)) parts ∙ map-append (mention_in s.vars) front (cell ∷ [])
+-- the cells that are in use, and those behind them
 
--- what a push and a pop make
+drop-more : {X : Type 0} (xs : List X) (n : ℕ) (d : X) → n < length xs → drop n xs ≡ get_or xs n d ∷ drop (n + 1) xs
+drop-more xs n d lt = at_drop_more (λ l. l) xs n d lt
 
-module _ (s t : Entries) (cell : Cell) (n : ℕ) (h : AreMentions s) (fits : cell.entry < length s.vars) (is : t ≡ with_cell s cell) (at : n ≡ length s.cells) where
-  pub push-fits : n < length t.cells
-  push-fits = omega (arith, at, ap (λ (x : Entries). length x.cells) is, length-append s.cells (cell ∷ []))
+length-front : {X : Type 0} (n : ℕ) (xs : List X) → n ≤ length xs → length (take n xs) ≡ n
+length-front zero xs h = refl
+length-front (suc n) [] h = absurd (omega (arith, h))
+length-front (suc n) (x ∷ xs) h = ap suc (length-front n xs (omega (arith, h)))
 
-  pub push-outside : has_node (chain_with t n) n ≡ false
-  push-outside =
-      ap (λ (x : Entries). has_node (chain_with x n) n) is ∙ ap (λ k. has_node (chain_with (with_cell s cell) k) k) at
-      ∙ ap (λ l. has_node l (length s.cells)) (chain-put s cell h fits)
-      ∙ not-in (numbers_from 0 cell.entry s.cells) (length s.cells) (λ c. let in' = (numbers-within 0 cell.entry s.cells (length s.cells) c).1 in omega (arith, in'))
+module _ (s : Entries) (n : ℕ) (h : AreSaid s n) where
+  used-count : length (take n s.cells) ≡ n
+  used-count = length-front n s.cells h.count
 
-  pub push-makes : (u : Entries) → u ≡ lengthened t n → AreMentions u × (mentions u ≡ mentions s ++ mention_in s.vars cell ∷ [])
-  push-makes u e =
-      let made : u ≡ lengthened (with_cell s cell) (length s.cells) = e ∙ ap (λ (x : Entries). lengthened x n) is ∙ ap (lengthened (with_cell s cell)) at in (
-        subst (λ (x : Entries). AreMentions x) (sym made) (pushed-mentions s cell h fits),
-        ap mentions made ∙ mentions-pushed s cell h fits,
-      )
+  pub said-count : n ≡ length (mentions (used n s))
+  said-count = sym used-count ∙ sym (length-map (take n s.cells) (mention_in s.vars))
 
-module _ (s t u : Entries) (n : ℕ) (h : AreMentions s) (some : length s.cells ≡ n + 1) where
-  pub last-cell : (front : List Cell) × (cell : Cell) × (s.cells ≡ front ++ cell ∷ [])
-  last-cell = last-split s.cells (omega (arith, some))
+  pub spare-count : n + length (map (mention_in s.vars) (drop n s.cells)) ≡ length s.cells
+  spare-count = omega (arith, h.count, length-map (drop n s.cells) (mention_in s.vars), length-drop n s.cells)
 
-  at-front : n ≡ length last-cell.0
-  at-front = omega (arith, some, ap length last-cell.2, length-append last-cell.0 (last-cell.1 ∷ []))
+  pub all-mentioned : mentions (used n s) ++ map (mention_in s.vars) (drop n s.cells) ≡ mentions s
+  all-mentioned = sym (map-append (mention_in s.vars) (take n s.cells) (drop n s.cells)) ∙ ap (map (mention_in s.vars)) (take-append-drop n s.cells)
+
+  -- the entry of what is mentioned at a place
+  pub mention-entry : (k : ℕ) (m : Mention) → k < length s.cells → slice_get (mentions (used n s) ++ map (mention_in s.vars) (drop n s.cells)) k ≡ Some m
+      → slice_get s.vars (cell_at s.cells k).entry ≡ Some m.var
+  mention-entry k m lt e =
+      let all : Some (mention_in s.vars (cell_at s.cells k)) ≡ Some m =
+      sym (slice_get-map (mention_in s.vars) s.cells k ∙ ap (option_map (mention_in s.vars)) (slice_get-get_or s.cells k no_cell lt))
+      ∙ ap (λ (l : List Mention). slice_get l k) (sym all-mentioned) ∙ e in
+      let is : mention_in s.vars (cell_at s.cells k) ≡ m = cc all in
+      get-at s.vars (cell_at s.cells k).entry (h.within k lt) ∙ ap (λ (x : Mention). Some x.var) is
+
+  pub said-at : (k : ℕ) (m : Mention) → k < n → mention_in s.vars (cell_at s.cells k) ≡ get_or (mentions (used n s)) k m
+  said-at k m lt =
+      sym (get_or-map (mention_in s.vars) (take n s.cells) k no_cell m (omega (arith, lt, used-count))
+      ∙ ap (mention_in s.vars) (sym (get_or_append_left (take n s.cells) (drop n s.cells) no_cell k (omega (arith, lt, used-count)))
+      ∙ ap (λ (l : List Cell). cell_at l k) (take-append-drop n s.cells)))
+
+  pub said-once : (entry : ℕ) → entry < length s.vars → AreOnce None (chain_at s.chains entry)
+  said-once entry lt = chain-once (used n s) h.said entry lt
+
+  -- the number of a cell that isn't in use is in no chain
+  pub spare-outside : (k : ℕ) → n ≤ k → k < length s.cells → has_node (chain_with s k) k ≡ false
+  spare-outside k least lt =
+      ap (λ l. has_node l k) (h.said.chains (cell_at s.cells k).entry (h.within k lt))
+      ∙ not-in (numbers_from 0 (cell_at s.cells k).entry (take n s.cells)) k (λ c.
+      let in' = (numbers-within 0 (cell_at s.cells k).entry (take n s.cells) k c).1 in
+      omega (arith, in', least, used-count))
+
+  -- the places of cells in a chain are those of the ones in use
+  pub said-places : (entry : ℕ) → entry < length s.vars → map (place_at (take n s.cells)) (chain_at s.chains entry) ≡ map (place_at s.cells) (chain_at s.chains entry)
+  said-places entry lt =
+      map-each (place_at (take n s.cells)) (place_at s.cells) (chain_at s.chains entry) (λ k c.
+      let in' = (numbers-within 0 entry (take n s.cells) k (subst (λ (l : List ℕ). Contains l k) (h.said.chains entry lt) c)).1 in
+      ap (λ (x : Cell). x.demand) (sym (get_or_append_left (take n s.cells) (drop n s.cells) no_cell k (omega (arith, in'))) ∙ ap (λ (l : List Cell). cell_at l k) (take-append-drop n s.cells)))
+    where
+      map-each : {X Y : Type 0} (f g : X → Y) (xs : List X) → ((x : X) → Contains xs x → f x ≡ g x) → map f xs ≡ map g xs
+      map-each f g [] e = refl
+      map-each f g (x ∷ xs) e = ap (λ y. y ∷ map f xs) (e x (contains-head x xs)) ∙ ap (λ l. g x ∷ l) (map-each f g xs (λ y c. e y (contains-tail x xs y c)))
+
+-- a cell is taken into use
+
+module _ (s u : Entries) (n : ℕ) (h : AreSaid s n) (more : n < length s.cells) (is : u ≡ lengthened s n) where
+  abbrev next : Cell
+  next = cell_at s.cells n
+
+  next-fits : next.entry < length s.vars
+  next-fits = h.within n more
+
+  grown : take (n + 1) s.cells ≡ take n s.cells ++ next ∷ []
+  grown = take_more s.cells n no_cell more
+
+  used-grown : used (n + 1) (lengthened s n) ≡ lengthened (with_cell (used n s) next) (length (take n s.cells))
+  used-grown =
+      let with_both : List Cell → ℕ → ℕ → Entries = λ cells entry k. record s { cells = cells; chains = set s.chains entry (chain_at s.chains entry ++ k ∷ []) } in
+      let own : (cell_at (take n s.cells ++ next ∷ []) (length (take n s.cells))).entry ≡ next.entry = ap (λ (x : Cell). x.entry) (get_or-append_seam (take n s.cells) next [] no_cell) in
+      ap (λ cells. with_both cells next.entry n) grown
+      ∙ ap (λ k. with_both (take n s.cells ++ next ∷ []) next.entry k) (sym (used-count s n h))
+      ∙ ap (λ e. with_both (take n s.cells ++ next ∷ []) e (length (take n s.cells))) (sym own)
+
+  pub taken-up : AreSaid u (n + 1)
+  taken-up = subst (λ (x : Entries). AreSaid x (n + 1)) (sym is) (record {
+    said = subst (λ (x : Entries). AreMentions x) (sym used-grown) (pushed-mentions (used n s) next h.said next-fits);
+    within = h.within;
+    count = omega (arith, more);
+  })
+
+  pub said-more : mentions (used (n + 1) u) ≡ mentions (used n s) ++ take 1 (map (mention_in s.vars) (drop n s.cells))
+  said-more =
+      ap (λ (x : Entries). mentions (used (n + 1) x)) is ∙ ap (map (mention_in s.vars)) grown ∙ map-append (mention_in s.vars) (take n s.cells) (next ∷ [])
+      ∙ ap (λ l. mentions (used n s) ++ take 1 (map (mention_in s.vars) l)) (sym (drop-more s.cells n no_cell more))
+
+  pub spare-less : map (mention_in u.vars) (drop (n + 1) u.cells) ≡ drop 1 (map (mention_in s.vars) (drop n s.cells))
+  spare-less =
+      ap (λ (x : Entries). map (mention_in x.vars) (drop (n + 1) x.cells)) is
+      ∙ ap (λ l. drop 1 (map (mention_in s.vars) l)) (sym (drop-more s.cells n no_cell more))
+
+-- the last one in use is taken off
+
+module _ (s u : Entries) (n : ℕ) (h : AreSaid s (n + 1)) (is : u ≡ shortened s n) where
+  there : n < length s.cells
+  there = omega (arith, h.count)
+
+  abbrev pub last : Cell
+  last = cell_at s.cells n
+
+  front-count : n ≡ length (take n s.cells)
+  front-count = sym (length-front n s.cells (omega (arith, there)))
+
+  parted-cells : take (n + 1) s.cells ≡ take n s.cells ++ last ∷ []
+  parted-cells = take_more s.cells n no_cell there
+
+  same-last : (cell_at (take (n + 1) s.cells) (length (take n s.cells))).entry ≡ last.entry
+  same-last = last-entry (used (n + 1) s) (take n s.cells) last h.said parted-cells
 
   pub pop-last : last_of (chain_with s n) ≡ Some n
-  pop-last = subst (λ (k : ℕ). last_of (chain_with s k) ≡ Some k) (sym at-front) (last-is s last-cell.0 last-cell.1 h last-cell.2)
+  pop-last =
+      ap (λ e. last_of (chain_at s.chains e)) (sym same-last)
+      ∙ last-is (used (n + 1) s) (take n s.cells) last h.said parted-cells ∙ ap Some (sym front-count)
 
-  module _ (is : t ≡ shortened s n) where
-    less-is : t ≡ shortened s (length last-cell.0)
-    less-is = is ∙ ap (shortened s) at-front
+  used-less : used n (shortened s n) ≡ with_front (shortened (used (n + 1) s) (length (take n s.cells))) (take n s.cells)
+  used-less =
+      let with_entry : ℕ → Entries = λ entry. record s { cells = take n s.cells; chains = set s.chains entry (without_last (chain_at s.chains entry)) } in
+      ap with_entry (sym same-last)
 
-    pub pop-outside : has_node (chain_with t (length t.cells - 1)) (length t.cells - 1) ≡ false
-    pop-outside =
-        subst (λ (x : Entries). has_node (chain_with x (length x.cells - 1)) (length x.cells - 1) ≡ false) (sym less-is)
-        (less-outside s last-cell.0 last-cell.1 h last-cell.2)
+  pub taken-off : AreSaid u n
+  taken-off = subst (λ (x : Entries). AreSaid x n) (sym is) (record {
+    said = subst (λ (x : Entries). AreMentions x) (sym used-less) (popped-mentions (used (n + 1) s) (take n s.cells) last h.said parted-cells);
+    within = h.within;
+    count = omega (arith, there);
+  })
 
-    pub pop-makes : ((front : List Cell) (cell : Cell) → t.cells ≡ front ++ cell ∷ [] → u ≡ with_cells t front)
-        → AreMentions u × (mentions s ≡ mentions u ++ mention_in s.vars last-cell.1 ∷ [])
-    pop-makes dropped =
-        let made : u ≡ with_cells (shortened s (length last-cell.0)) last-cell.0 =
-        dropped last-cell.0 last-cell.1 (ap (λ (x : Entries). x.cells) is ∙ last-cell.2) ∙ ap (λ (x : Entries). with_cells x last-cell.0) less-is in (
-          subst (λ (x : Entries). AreMentions x) (sym made) (popped-mentions s last-cell.0 last-cell.1 h last-cell.2),
-          mentions-popped s last-cell.0 last-cell.1 h last-cell.2 ∙ ap (λ (x : Entries). mentions x ++ mention_in s.vars last-cell.1 ∷ []) (sym made),
-        )
+  pub said-less : mentions (used (n + 1) s) ≡ mentions (used n u) ++ mention_in s.vars last ∷ []
+  said-less =
+      ap (map (mention_in s.vars)) parted-cells ∙ map-append (mention_in s.vars) (take n s.cells) (last ∷ [])
+      ∙ ap (λ (x : Entries). mentions (used n x) ++ mention_in s.vars last ∷ []) (sym is)
+
+-- what is made ready
+
+registered-used : (n : ℕ) (s : Entries) (v : Var) → used n (registered s v) ≡ registered (used n s) v
+registered-used n s v =
+    let more : Entries = record s { vars = s.vars ++ v ∷ []; kept = s.kept ++ Some (None, None) ∷ []; chains = s.chains ++ [] ∷ [] } in
+    elim (has s.vars v) as (λ b. used n (cond b s more) ≡ cond b (used n s) (used n more)) [ true ↦ refl | false ↦ refl ]
+
+registered-cells : (s : Entries) (v : Var) → (registered s v).cells ≡ s.cells
+registered-cells s v =
+    let more : Entries = record s { vars = s.vars ++ v ∷ []; kept = s.kept ++ Some (None, None) ∷ []; chains = s.chains ++ [] ∷ [] } in
+    elim (has s.vars v) as (λ b. (cond b s more).cells ≡ s.cells) [ true ↦ refl | false ↦ refl ]
+
+pub registered-row : (s : Entries) (v : Var) → KeepRow s (registered s v)
+registered-row s v =
+    let more : Entries = record s { vars = s.vars ++ v ∷ []; kept = s.kept ++ Some (None, None) ∷ []; chains = s.chains ++ [] ∷ [] } in
+    elim (has s.vars v) as (λ b. KeepRow s (cond b s more)) [
+      | true ↦ record { linked = refl; vars = λ n w e. e; known = λ w e. e; kept = λ n k e. e }
+      | false ↦ record {
+        linked = refl;
+        vars = λ n w e. get-left s.vars (v ∷ []) n w e;
+        known = λ w e. has-append s.vars (v ∷ []) w ∙ ap (λ b. b || has (v ∷ []) w) e;
+        kept = λ n k e. get-left s.kept (Some (None, None) ∷ []) n k e;
+      }
+    ]
+
+-- what is mentioned stays when a variable is registered
+same-mentions : (vars more : List Var) (cells : List Cell) → ((k : ℕ) → k < length cells → (cell_at cells k).entry < length vars) → map (mention_in (vars ++ more)) cells ≡ map (mention_in vars) cells
+same-mentions vars more cells within = map-alike (mention_in (vars ++ more)) (mention_in vars) cells (λ k x e.
+    let less : x.entry < length vars = subst (λ (y : Cell). y.entry < length vars) (get_or_from_slice_get cells k x no_cell e) (within k (slice_get_within cells k x e)) in
+    ap (λ w. let m : Mention = record { var = w; place = x.demand } in m) (get_or_append_left vars more no_var x.entry less))
+
+module _ (s : Entries) (n : ℕ) (v : Var) (h : AreSaid s n) where
+  registered-all : mentions (registered s v) ≡ mentions s
+  registered-all =
+      let more : Entries = record s { vars = s.vars ++ v ∷ []; kept = s.kept ++ Some (None, None) ∷ []; chains = s.chains ++ [] ∷ [] } in
+      elim (has s.vars v) as (λ b. mentions (cond b s more) ≡ mentions s) [ true ↦ refl | false ↦ same-mentions s.vars (v ∷ []) s.cells h.within ]
+
+  pub registered-said : AreSaid (registered s v) n
+  registered-said =
+      let more : Entries = record s { vars = s.vars ++ v ∷ []; kept = s.kept ++ Some (None, None) ∷ []; chains = s.chains ++ [] ∷ [] } in
+      record {
+        said = subst (λ (x : Entries). AreMentions x) (sym (registered-used n s v)) (registered-mentions (used n s) v h.said).0;
+        within = elim (has s.vars v) as (λ b. (k : ℕ) → k < length (cond b s more).cells → (cell_at (cond b s more).cells k).entry < length (cond b s more).vars) [
+          | true ↦ h.within
+          | false ↦ λ k lt. let less = h.within k lt in omega (arith, less, length-append s.vars (v ∷ []))
+        ];
+        count = omega (arith, h.count, ap length (registered-cells s v));
+      }
+
+  pub registered-front : mentions (used n (registered s v)) ≡ mentions (used n s)
+  registered-front = ap mentions (registered-used n s v) ∙ (registered-mentions (used n s) v h.said).1
+
+  pub registered-spare : map (mention_in (registered s v).vars) (drop n (registered s v).cells) ≡ map (mention_in s.vars) (drop n s.cells)
+  registered-spare =
+      sym (drop-map n (mention_in (registered s v).vars) (registered s v).cells) ∙ ap (drop n) registered-all ∙ drop-map n (mention_in s.vars) s.cells
+    where
+      drop-map : {X Y : Type 0} (n : ℕ) (f : X → Y) (xs : List X) → drop n (map f xs) ≡ map f (drop n xs)
+      drop-map zero f xs = refl
+      drop-map (suc n) f [] = refl
+      drop-map (suc n) f (x ∷ xs) = drop-map n f xs
+
+-- a cell behind those in use is another
+module _ (s u : Entries) (n i : ℕ) (cell : Cell) (h : AreSaid s n) (fits : cell.entry < length s.vars) (lt : n + i < length s.cells) (is : u ≡ with_cell_at s (n + i) cell) where
+  set-front : take n (set s.cells (n + i) cell) ≡ take n s.cells
+  set-front = take-set-le n s.cells (n + i) cell (omega arith)
+
+  pub set-said : AreSaid u n
+  set-said = subst (λ (x : Entries). AreSaid x n) (sym is) (record {
+    said = subst (λ (cells : List Cell). AreMentions (with_front s cells)) (sym set-front) h.said;
+    within = λ k less. elim (eqb k (n + i)) as (λ b. eqb k (n + i) ≡ b → (cell_at (set s.cells (n + i) cell) k).entry < length s.vars) [
+      | true ↦ λ e.
+          let at : cell_at (set s.cells (n + i) cell) k ≡ cell = ap (cell_at (set s.cells (n + i) cell)) (eqb-true k (n + i) e) ∙ get_or-set_same s.cells (n + i) cell no_cell lt in
+          subst (λ (x : Cell). x.entry < length s.vars) (sym at) fits
+      | false ↦ λ e.
+          let at : cell_at (set s.cells (n + i) cell) k ≡ cell_at s.cells k = get_or-set_other s.cells (n + i) k cell no_cell (λ j. false≢true (sym e ∙ eq-eqb k (n + i) j)) in
+          subst (λ (x : Cell). x.entry < length s.vars) (sym at) (h.within k (omega (arith, less, length-set s.cells (n + i) cell)))
+    ] refl;
+    count = omega (arith, h.count, length-set s.cells (n + i) cell);
+  })
+
+  pub set-mentioned : mentions (used n u) ≡ mentions (used n s)
+  set-mentioned = ap (λ (x : Entries). mentions (used n x)) is ∙ ap (map (mention_in s.vars)) set-front
+
+  pub set-ready : take (i + 1) (map (mention_in u.vars) (drop n u.cells)) ≡ take i (map (mention_in s.vars) (drop n s.cells)) ++ mention_in s.vars cell ∷ []
+  set-ready =
+      let on : i + 1 ≡ suc i = omega arith in
+      ap (λ (x : Entries). take (i + 1) (map (mention_in x.vars) (drop n x.cells))) is ∙ ap (λ l. take (i + 1) (map (mention_in s.vars) l)) (drop-set-add n s.cells i cell)
+      ∙ ap (λ k. take k (map (mention_in s.vars) (set (drop n s.cells) i cell))) on
+      ∙ ready i (drop n s.cells) (omega (arith, lt, length-drop n s.cells))
+    where
+      ready : (i : ℕ) (xs : List Cell) → i < length xs → take (suc i) (map (mention_in s.vars) (set xs i cell)) ≡ take i (map (mention_in s.vars) xs) ++ mention_in s.vars cell ∷ []
+      ready i [] within = absurd (omega (arith, within))
+      ready zero (x ∷ xs) within = refl
+      ready (suc i) (x ∷ xs) within = ap (λ l. mention_in s.vars x ∷ l) (ready i xs (omega (arith, within)))
+
+  pub set-count : i + 1 ≤ length (map (mention_in u.vars) (drop n u.cells))
+  set-count =
+      omega (arith, lt, length-map (drop n u.cells) (mention_in u.vars), length-drop n u.cells, ap (λ (x : Entries). length x.cells) is, length-set s.cells (n + i) cell)
+
+-- a cell more behind those in use
+module _ (s u : Entries) (n i : ℕ) (cell : Cell) (h : AreSaid s n) (fits : cell.entry < length s.vars) (last : n + i ≡ length s.cells) (is : u ≡ with_cell s cell) where
+  pub added-said : AreSaid u n
+  added-said = subst (λ (x : Entries). AreSaid x n) (sym is) (record {
+    said = subst (λ (cells : List Cell). AreMentions (with_front s cells)) (sym (take-append-le n s.cells (cell ∷ []) h.count)) h.said;
+    within = λ k lt. elim (at-last s.cells cell k lt) [
+      | inl p ↦ subst (λ (x : Cell). x.entry < length s.vars) (sym p.1) (h.within k p.0)
+      | inr p ↦ subst (λ (x : Cell). x.entry < length s.vars) (sym p) fits
+    ];
+    count = omega (arith, h.count, length-append s.cells (cell ∷ []));
+  })
+
+  pub added-mentioned : mentions (used n u) ≡ mentions (used n s)
+  added-mentioned = ap (λ (x : Entries). mentions (used n x)) is ∙ ap (map (mention_in s.vars)) (take-append-le n s.cells (cell ∷ []) h.count)
+
+  pub added-ready : take (i + 1) (map (mention_in u.vars) (drop n u.cells)) ≡ take i (map (mention_in s.vars) (drop n s.cells)) ++ mention_in s.vars cell ∷ []
+  added-ready =
+      let spare = map (mention_in s.vars) (drop n s.cells) in
+      let count : i ≡ length spare = omega (arith, last, h.count, length-map (drop n s.cells) (mention_in s.vars), length-drop n s.cells) in
+      let rest : drop n (s.cells ++ cell ∷ []) ≡ drop n s.cells ++ cell ∷ [] = drop-front n s.cells h.count in
+      let all : map (mention_in s.vars) (drop n s.cells ++ cell ∷ []) ≡ spare ++ mention_in s.vars cell ∷ [] = map-append (mention_in s.vars) (drop n s.cells) (cell ∷ []) in
+      let whole : i + 1 ≡ length (spare ++ mention_in s.vars cell ∷ []) = omega (arith, count, length-append spare (mention_in s.vars cell ∷ [])) in
+      ap (λ (x : Entries). take (i + 1) (map (mention_in x.vars) (drop n x.cells))) is ∙ ap (λ l. take (i + 1) (map (mention_in s.vars) l)) rest ∙ ap (take (i + 1)) all
+      ∙ ap (λ k. take k (spare ++ mention_in s.vars cell ∷ [])) whole ∙ take-length (spare ++ mention_in s.vars cell ∷ [])
+      ∙ ap (λ l. l ++ mention_in s.vars cell ∷ []) (sym (ap (λ k. take k spare) count ∙ take-length spare))
+    where
+      drop-front : (n : ℕ) (xs : List Cell) → n ≤ length xs → drop n (xs ++ cell ∷ []) ≡ drop n xs ++ cell ∷ []
+      drop-front zero xs le = refl
+      drop-front (suc n) [] le = absurd (omega (arith, le))
+      drop-front (suc n) (x ∷ xs) le = drop-front n xs (omega (arith, le))
+
+  pub added-count : i + 1 ≤ length (map (mention_in u.vars) (drop n u.cells))
+  added-count =
+      omega (arith, last, length-map (drop n u.cells) (mention_in u.vars), length-drop n u.cells, ap (λ (x : Entries). length x.cells) is, length-append s.cells (cell ∷ []))
 
 -- the walk along a chain
 
@@ -414,12 +622,12 @@ pub record IsOnChain (s : Entries) (entry : ℕ) (at : Option ℕ) : Type 0 wher
   pub owner : IfSome at (λ k. (cell_at s.cells k).entry ≡ entry)
 
 -- what is left from a cell on is that cell, and what is left from the next one on
-pub walk-on : (s : Entries) → AreMentions s → (entry : ℕ) → entry < length s.vars → (at next : Option ℕ) (k : ℕ) → IsOnChain s entry at → at ≡ Some k
+pub walk-on : (s : Entries) (entry : ℕ) → AreOnce None (chain_at s.chains entry) → (at next : Option ℕ) (k : ℕ) → IsOnChain s entry at → at ≡ Some k
     → next ≡ first_of (behind (Some k) (chain_with s k)) → walk_from (chain_at s.chains entry) at ≡ k ∷ walk_from (chain_at s.chains entry) next
-walk-on s h entry fits at next k on is then =
+walk-on s entry once at next k on is then =
     let chain = chain_at s.chains entry in
     let owner : (cell_at s.cells k).entry ≡ entry = subst (λ (o : Option ℕ). IfSome o (λ n. (cell_at s.cells n).entry ≡ entry)) is on.owner in
     let linked : has_node (chain_with s k) k ≡ true = subst (λ (o : Option ℕ). IfSome o (λ n. has_node (chain_with s n) n ≡ true)) is on.linked in
     let among : Contains chain k = has-contains chain k (ap (λ n. has_node (chain_at s.chains n) k) (sym owner) ∙ linked) in
     ap (walk_from chain) is
-    ∙ ap (λ l. k ∷ l) (sym (walk-next chain k next (chain-once s h entry fits) among (then ∙ ap (λ n. first_of (behind (Some k) (chain_at s.chains n))) owner)))
+    ∙ ap (λ l. k ∷ l) (sym (walk-next chain k next once among (then ∙ ap (λ n. first_of (behind (Some k) (chain_at s.chains n))) owner)))

@@ -41,6 +41,10 @@ with_chain all = record all { chains = all.chains ++ [] ∷ [] }
 abbrev pub with_cell : Chained → Cell → Chained
 with_cell all cell = record all { cells = all.cells ++ cell ∷ [] }
 
+-- another cell in the place of one
+abbrev pub with_cell_at : Chained → ℕ → Cell → Chained
+with_cell_at all n cell = record all { cells = slice_set all.cells n cell }
+
 -- a cell put behind the last one of its chain
 abbrev pub appended : Chained → ℕ → Chained
 appended all cell = record all { chains = slice_set all.chains (cell_at all.cells cell).entry (chain_with all cell ++ cell ∷ []) }

@@ -60,9 +60,9 @@ registered s v = cond (has s.vars v) s (record s {
 abbrev pub with_cell : Entries → Cell → Entries
 with_cell s cell = record s { cells = s.cells ++ cell ∷ [] }
 
--- other cells
-abbrev pub with_cells : Entries → List Cell → Entries
-with_cells s cells = record s { cells = cells }
+-- another cell in the place of one
+abbrev pub with_cell_at : Entries → ℕ → Cell → Entries
+with_cell_at s n cell = record s { cells = slice_set s.cells n cell }
 
 -- the variables behind that of an entry
 abbrev pub vars_behind : Entries → ℕ → List Var

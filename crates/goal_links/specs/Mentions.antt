@@ -1,11 +1,20 @@
--- Mentions of variables: each is a cell of its variable's entry, and the chain of an entry has its cells in order.
-use Rattle.std.specs.Prelude.{◌≡◌, ℕ, suc, ◌<◌, eqb, cond, List, [], ◌∷◌, length, map, filter}
+-- Mentions of variables: each is a cell of its variable's entry, and the chain of an entry has the cells of those that are said, in order.
+use Rattle.std.specs.Prelude.{◌≡◌, ℕ, suc, ◌<◌, ◌≤◌, true, eqb, cond, List, [], ◌∷◌, length, map, filter, take, drop, Option, Some, slice_get}
 use Rattle.qualified_goals.specs.declared.variable.Var.{Var}
 use Rattle.qualified_goals.specs.Variable.{same_var}
+use Rattle.choice_problem.specs.ConflictSet.{has}
 use Rattle.goal_links.specs.declared.chains.Cell.{Cell}
 use Rattle.goal_links.specs.Chains.{cell_at, chain_at}
 use Rattle.goal_links.specs.Links.{Entries, var_at}
 use Rattle.goal_links.specs.declared.mentions.Mention.{Mention}
+
+-- what contracts see of mentions
+pub record Mentioned : Type 0 where
+  pub said : List Mention
+  -- those that may be said next, which have their cells
+  pub spare : List Mention
+  -- the entries of their variables
+  pub row : Entries
 
 -- what a cell mentions
 abbrev pub mention_in : List Var → Cell → Mention
@@ -14,6 +23,18 @@ mention_in vars cell = record { var = var_at vars cell.entry; place = cell.deman
 -- what cells mention, in the order of their numbers
 abbrev pub mentions : Entries → List Mention
 mentions s = map (mention_in s.vars) s.cells
+
+-- the first cells alone
+abbrev pub used : ℕ → Entries → Entries
+used n s = record s { cells = take n s.cells }
+
+-- what the first cells mention is said, and what the others do may be said next
+abbrev pub mentioned : Entries → ℕ → Mentioned
+mentioned s n = record {
+  said = mentions (used n s);
+  spare = map (mention_in s.vars) (drop n s.cells);
+  row = s;
+}
 
 -- the numbers of the cells of an entry, among cells that come after n others
 abbrev pub numbers_from : ℕ → ℕ → List Cell → List ℕ
@@ -42,6 +63,19 @@ pub record AreMentions (s : Entries) : Type 0 where
   pub counted : length s.chains ≡ length s.vars
   pub within : (k : ℕ) → k < length s.cells → (cell_at s.cells k).entry < length s.vars
   pub chains : (entry : ℕ) → entry < length s.vars → chain_at s.chains entry ≡ numbers_from 0 entry s.cells
+
+-- the first cells are in chains, and the others in none
+pub record AreSaid (s : Entries) (n : ℕ) : Type 0 where
+  pub said : AreMentions (used n s)
+  pub within : (k : ℕ) → k < length s.cells → (cell_at s.cells k).entry < length s.vars
+  pub count : n ≤ length s.cells
+
+-- entries stay with what they keep, and what is linked stays so
+pub record KeepRow (old new : Entries) : Type 0 where
+  pub linked : new.linked ≡ old.linked
+  pub vars : (n : ℕ) (v : Var) → slice_get old.vars n ≡ Some v → slice_get new.vars n ≡ Some v
+  pub known : (v : Var) → has old.vars v ≡ true → has new.vars v ≡ true
+  pub kept : (n : ℕ) (sides : Option (Option Var × Option Var)) → slice_get old.kept n ≡ Some sides → slice_get new.kept n ≡ Some sides
 
 -- the places of the demands that are mentioned
 abbrev pub places_of : List Mention → List ℕ

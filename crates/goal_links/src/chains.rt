@@ -1,9 +1,9 @@
 // Chains of cells, one for each entry.
-ghost use Rattle.std.specs.Prelude.{◌≡◌, ◌<◌, ◌-◌, ◌++◌, [], ◌∷◌, List, Some, OnOk, OnErr, IsTrue, IfOk, IfSome, false, length};
+ghost use Rattle.std.specs.Prelude.{◌≡◌, ◌<◌, [], Some, OnOk, OnErr, IsTrue, IfOk, IfSome, false, length};
 ghost use Rattle.goal_links.specs.declared.chains.Cell.{Cell};
 ghost use Rattle.goal_links.specs.Beside.{first_of, last_of};
 ghost use Rattle.goal_links.specs.Row.{has_node, behind};
-ghost use Rattle.goal_links.specs.Chains.{Chained, cell_at, chain_at, chain_with, with_chain, with_cell, appended, shortened};
+ghost use Rattle.goal_links.specs.Chains.{Chained, cell_at, chain_at, chain_with, with_chain, with_cell, with_cell_at, appended, shortened};
 
 use crate::ring::{Node, alone, relink, unlink};
 use plan_types::NoMemory;
@@ -77,15 +77,14 @@ impl Chains {
         self.cells.len()
     }
 
-    /// Takes the last cell away, which stands outside its chain.
-    pub(crate) fn drop_last(&mut self)
-        requires some { 0 < length self.old.cells }
-        requires outside { has_node (chain_with self.old (length self.old.cells - 1)) (length self.old.cells - 1) ≡ false }
-        ensures cells { (front : List Cell) (cell : Cell) → self.old.cells ≡ front ++ cell ∷ [] → self.new.cells ≡ front }
-        ensures chains { self.new.chains ≡ self.old.chains }
+    /// Makes another cell of one that stands outside its chain.
+    pub(crate) fn set_cell(&mut self, place: usize, cell: Cell)
+        requires place { place < length self.old.cells }
+        requires entry { cell.entry < length self.old.chains }
+        requires outside { has_node (chain_with self.old place) place ≡ false }
+        ensures { self.new ≡ with_cell_at self.old place cell }
     {
-        let _ = self.nodes.pop();
-        let _ = self.cells.pop();
+        self.cells[place] = cell;
     }
 
     pub(crate) fn entry(&self, cell: usize) -> usize

@@ -1,5 +1,5 @@
 // Entries of variables that are linked in goal order, each with a chain of cells.
-ghost use Rattle.std.specs.Prelude.{◌≡◌, ◌<◌, ◌-◌, ◌++◌, List, [], ◌∷◌, Some, None, Option, OnOk, OnErr, IfOk, IfSome, IsTrue, MatchOption, true, false, length, slice_get, slice_index_or};
+ghost use Rattle.std.specs.Prelude.{◌≡◌, ◌<◌, List, [], Some, None, Option, OnOk, OnErr, IfOk, IfSome, IsTrue, MatchOption, true, false, length, slice_get, slice_index_or};
 ghost use Rattle.std.specs.Option.{option_map};
 ghost use Rattle.qualified_goals.specs.Variable.{is_before};
 ghost use Rattle.choice_problem.specs.ConflictSet.{is_rising, has};
@@ -7,7 +7,7 @@ ghost use Rattle.goal_links.specs.declared.chains.Cell.{Cell};
 ghost use Rattle.goal_links.specs.Beside.{first_of, last_of};
 ghost use Rattle.goal_links.specs.Row.{has_node, without_node, behind, StandsIn, AreBelow};
 ghost use Rattle.goal_links.specs.Chains.{cell_at, chain_at};
-ghost use Rattle.goal_links.specs.Links.{Entries, HaveOneEntry, is_entry_before, var_at, MayReturn, WasLinked, vars_behind, registered, with_cell, with_cells, linked, unlinked, chain_with, lengthened, shortened};
+ghost use Rattle.goal_links.specs.Links.{Entries, HaveOneEntry, is_entry_before, var_at, MayReturn, WasLinked, vars_behind, registered, with_cell, with_cell_at, linked, unlinked, chain_with, lengthened, shortened};
 
 use crate::chains::{Cell, Chains};
 use crate::row::Row;
@@ -104,13 +104,15 @@ impl Links {
         self.chains.len() as u64
     }
 
-    /// Takes the last cell away, which isn't in its chain. It takes no memory.
-    pub fn drop_cell(&mut self)
-        requires some { 0 < length self.old.cells }
-        requires outside { has_node (chain_with self.old (length self.old.cells - 1)) (length self.old.cells - 1) ≡ false }
-        ensures { (front : List Cell) (cell : Cell) → self.old.cells ≡ front ++ cell ∷ [] → self.new ≡ with_cells self.old front }
+    /// Makes a cell of an entry, for a demand, of one that isn't in its chain.
+    pub fn set_cell(&mut self, cell: u64, entry: u64, demand: u64)
+        requires cell { cell < length self.old.cells }
+        requires entry { entry < length self.old.vars }
+        requires outside { has_node (chain_with self.old cell) cell ≡ false }
+        ensures { self.new ≡ with_cell_at self.old cell (record { entry = entry; demand = demand }) }
     {
-        self.chains.drop_last();
+        let entry = entry as usize;
+        self.chains.set_cell(cell as usize, Cell { entry, demand });
     }
 
     /// The variable that was registered.
@@ -221,6 +223,7 @@ impl Links {
         ensures within { IfSome result (λ cell. cell < length self.now.cells) }
         ensures linked { IfSome result (λ cell. IsTrue (has_node (chain_with self.now cell) cell)) }
         ensures owner { IfSome result (λ cell. (cell_at self.now.cells cell).entry ≡ entry) }
+        ensures one { HaveOneEntry self.now.vars }
     {
         number(self.chains.first(entry as usize))
     }

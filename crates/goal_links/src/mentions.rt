@@ -1,8 +1,11 @@
 // Mentions of variables by demands, in chains, so that those of one variable are found.
-ghost use Rattle.std.specs.Prelude.{◌≡◌, ◌<◌, ◌++◌, [], ◌∷◌, IfOk, OnOk, OnErr, MatchOption, length, take, map, slice_index_or};
-ghost use Rattle.choice_problem.specs.ConflictSet.{has};
+ghost use Rattle.std.specs.Prelude.{◌≡◌, ◌+◌, ◌<◌, ◌≤◌, ◌++◌, List, [], ◌∷◌, IfOk, IfSome, IsTrue, MatchOption, OnOk, Some, false, length, take, drop, map, slice_get, slice_index_or};
+ghost use Rattle.std.specs.Option.{option_map};
+ghost use Rattle.choice_problem.specs.ConflictSet.{has, is_rising};
+ghost use Rattle.goal_links.specs.Beside.{first_of};
 ghost use Rattle.goal_links.specs.Chains.{chain_at};
-ghost use Rattle.goal_links.specs.Mentions.{indices_on, place_at, places_on, AreMentions, vars_at};
+ghost use Rattle.goal_links.specs.Links.{Entries, MayReturn, WasLinked, linked, unlinked, var_at, vars_behind};
+ghost use Rattle.goal_links.specs.Mentions.{KeepRow, indices_on, place_at, places_on, vars_at};
 
 use crate::links::Links;
 use choice_problem::Var;
@@ -17,105 +20,90 @@ pub struct Mention {
     pub place: usize,
 }
 
-/// Mentions in an order, of which those of one variable are a chain.
+/// Mentions in an order, of which those of one variable are a chain, and the entries of their variables. What was taken off
+/// stays ready, and what is made ready ahead is put on without memory.
 #[derive(Drop)]
 pub struct Mentions {
     // A cell for each mention, of its variable's entry. Its demand is the place.
     links: Links,
+    // How many of the cells are in use. The others are in no chain.
+    count: usize,
 }
 
 impl Model for Mentions {
-    ghost use Rattle.std.specs.Prelude.{List};
-    ghost use Rattle.goal_links.specs.declared.mentions.Mention.{Mention};
-    ghost use Rattle.goal_links.specs.Mentions.{mentions, AreMentions};
+    ghost use Rattle.goal_links.specs.Mentions.{Mentioned, mentioned, AreSaid};
 
-    ghost Value = { List Mention };
+    ghost Value = { Mentioned };
 
-    ghost view = { λ c. mentions c.links };
+    ghost view = { λ m. mentioned m.links m.count };
 
-    ghost invariant = { λ c. AreMentions c.links };
+    ghost invariant = { λ m. AreSaid m.links m.count };
 }
 
 impl Mentions {
     /// No mentions.
     pub fn new(alloc: Global) -> Mentions
-        ensures { result ≡ [] }
+        ensures said { result.said ≡ [] }
+        ensures linked { result.row.linked ≡ [] }
+        ensures spare { result.spare ≡ [] }
     {
         Mentions {
             links: Links::new(alloc),
+            count: 0,
         }
     }
 
     /// How many there are.
     pub fn len(&self) -> usize
-        ensures { result ≡ length self.now }
+        ensures { result ≡ length self.now.said }
     {
-        self.links.cell_count() as usize
+        self.count
     }
 
     /// Whether a variable is mentioned.
     pub fn names(&self, v: Var) -> bool
-        ensures { result ≡ has (vars_at self.now) v }
+        ensures { result ≡ has (vars_at self.now.said) v }
     {
         match self.links.entry_of(v) {
-            Some(entry) => self.links.chain_first(entry).is_some(),
+            Some(entry) => self.names_entry(entry),
             None => false,
         }
     }
 
-    /// Puts a mention behind the others.
-    pub fn push(&mut self, mention: Mention) -> Result<(), NoMemory>
-        ensures ok { OnOk result (self.new ≡ self.old ++ mention ∷ []) }
-        ensures err { OnErr result (self.new ≡ self.old) }
+    /// Whether the variable of an entry is mentioned.
+    pub fn names_entry(&self, entry: u64) -> bool
+        requires { entry < length self.now.row.vars }
+        ensures { result ≡ has (vars_at self.now.said) (var_at self.now.row.vars entry) }
     {
-        let entry = self.links.register(mention.var)?;
-        let cell = self.links.register_cell(entry, mention.place as u64)?;
-        self.links.chain_push(cell);
-        Ok(())
+        self.links.chain_first(entry).is_some()
     }
 
     /// The places of the demands that mention a variable.
     pub fn places(&self, alloc: Global, v: Var) -> Result<Vec<usize>, NoMemory>
-        ensures { IfOk result (λ found. found.items ≡ places_on v self.now) }
+        ensures { IfOk result (λ found. found.items ≡ places_on v self.now.said) }
     {
         let Some(entry) = self.links.entry_of(v) else {
             return Ok(Vec::new(alloc));
         };
-        let found = places_in(alloc, &self.links, entry)?;
+        let found = self.places_in(alloc, entry)?;
         Ok(found)
     }
 
     /// The indices of the mentions of a variable.
     pub fn indices(&self, alloc: Global, v: Var) -> Result<Vec<usize>, NoMemory>
-        ensures { IfOk result (λ found. found.items ≡ indices_on v self.now) }
+        ensures { IfOk result (λ found. found.items ≡ indices_on v self.now.said) }
     {
         let Some(entry) = self.links.entry_of(v) else {
             return Ok(Vec::new(alloc));
         };
-        let found = cells_in(alloc, &self.links, entry)?;
+        let found = self.cells_in(alloc, entry)?;
         Ok(found)
     }
 
-    /// Takes the last mention off. It takes no memory.
-    pub fn pop(&mut self) -> Option<Mention>
-        ensures { MatchOption result ((self.old ≡ []) × (self.new ≡ [])) (λ last. self.old ≡ self.new ++ last ∷ []) }
-    {
-        let count = self.len();
-        if count == 0 {
-            return None;
-        }
-        let mention = self.at(count - 1);
-        self.links.chain_pop(count as u64 - 1);
-        self.links.drop_cell();
-        Some(mention)
-    }
-}
-
-impl Mentions {
     /// The mention at a place of their order.
     pub fn at(&self, index: usize) -> Mention
-        requires { index < length self.now }
-        ensures { result ≡ slice_index_or self.now index result }
+        requires { index < length self.now.said }
+        ensures { result ≡ slice_index_or self.now.said index result }
     {
         let entry = self.links.owner_of(index as u64);
         Mention {
@@ -124,9 +112,77 @@ impl Mentions {
         }
     }
 
+    /// The entry of the variable that stands at a place of their order, in which those come last that may be said next.
+    pub fn entry_at(&self, index: usize) -> u64
+        requires { index < length self.now.said + length self.now.spare }
+        ensures { (m : Mention) → slice_get (self.now.said ++ self.now.spare) index ≡ Some m → slice_get self.now.row.vars result ≡ Some m.var }
+    {
+        self.links.owner_of(index as u64)
+    }
+}
+
+impl Mentions {
+    /// Makes a mention ready behind some that are, and tells how many are then. Only this takes memory.
+    pub fn prepare(&mut self, index: usize, mention: Mention) -> Result<usize, NoMemory>
+        requires { index ≤ length self.old.spare }
+        ensures said { self.new.said ≡ self.old.said }
+        ensures spare { IfOk result (λ ready. take ready self.new.spare ≡ take index self.old.spare ++ mention ∷ []) }
+        ensures ready { IfOk result (λ ready. (ready ≡ index + 1) × (ready ≤ length self.new.spare)) }
+        ensures row { KeepRow self.old.row self.new.row }
+    {
+        let entry = self.links.register(mention.var)?;
+        let demand = mention.place as u64;
+        let known = self.links.cell_count();
+        let cell = (self.count + index) as u64;
+        if cell < known {
+            self.links.set_cell(cell, entry, demand);
+            return Ok(index + 1);
+        }
+        self.links.register_cell(entry, demand)?;
+        prove!(cell < self.links.cell_count());
+        Ok(index + 1)
+    }
+
+    /// Puts the first of those that are ready behind the others.
+    pub fn take_up(&mut self)
+        requires { 0 < length self.old.spare }
+        ensures said { self.new.said ≡ self.old.said ++ take 1 self.old.spare }
+        ensures spare { self.new.spare ≡ drop 1 self.old.spare }
+        ensures row { KeepRow self.old.row self.new.row }
+    {
+        prove!((self.count as u64) < self.links.cell_count());
+        self.links.chain_push(self.count as u64);
+        self.count += 1;
+    }
+
+    /// Puts the first ones of those that are ready behind the others.
+    pub fn take_up_all(&mut self, count: usize)
+        requires { count ≤ length self.old.spare }
+        ensures { self.new.said ≡ self.old.said ++ take count self.old.spare }
+    {
+        for _ in 0..count {
+            self.take_up();
+        }
+    }
+
+    /// Takes the last mention off.
+    pub fn pop(&mut self) -> Option<Mention>
+        ensures last { MatchOption result ((self.old.said ≡ []) × (self.new.said ≡ [])) (λ last. self.old.said ≡ self.new.said ++ last ∷ []) }
+        ensures row { KeepRow self.old.row self.new.row }
+    {
+        if self.count == 0 {
+            return None;
+        }
+        let last = self.count - 1;
+        let mention = self.at(last);
+        self.links.chain_pop(last as u64);
+        self.count = last;
+        Some(mention)
+    }
+
     /// Keeps the first mentions.
     pub fn cut(&mut self, len: usize)
-        ensures { self.new ≡ take len self.old }
+        ensures { self.new.said ≡ take len self.old.said }
     {
         while self.len() > len {
             self.pop();
@@ -134,33 +190,105 @@ impl Mentions {
     }
 }
 
-// The places that the cells of an entry's chain have.
-fn places_in(alloc: Global, links: &Links, entry: u64) -> Result<Vec<usize>, NoMemory>
-    requires entry { entry < length links.now.vars }
-    requires mentions { AreMentions links.now }
-    ensures { IfOk result (λ found. found.items ≡ map (place_at links.now.cells) (chain_at links.now.chains entry)) }
-{
-    let mut found = Vec::new(alloc);
-    let mut at = links.chain_first(entry);
-    while let Some(cell) = at {
-        let place = links.demand_of(cell);
-        found.push(place as usize)?;
-        at = links.chain_next(cell);
+// The entries of the variables, of which some are linked in goal order.
+impl Mentions {
+    /// The entry of a variable that was mentioned or made ready at some time.
+    pub fn entry_of(&self, v: Var) -> Option<u64>
+        ensures { MatchOption result (has self.now.row.vars v ≡ false) (λ entry. slice_get self.now.row.vars entry ≡ Some v) }
+    {
+        self.links.entry_of(v)
     }
-    Ok(found)
+
+    pub fn var_of(&self, entry: u64) -> Var
+        requires { entry < length self.now.row.vars }
+        ensures { result ≡ var_at self.now.row.vars entry }
+    {
+        self.links.var_of(entry)
+    }
+
+    /// Puts an entry in its place by goal order.
+    pub fn link(&mut self, entry: u64)
+        requires entry { entry < length self.old.row.vars }
+        requires new { has self.old.row.linked (var_at self.old.row.vars entry) ≡ false }
+        ensures said { self.new.said ≡ self.old.said }
+        ensures spare { self.new.spare ≡ self.old.spare }
+        ensures row { self.new.row ≡ linked self.old.row entry }
+    {
+        self.links.link(entry);
+    }
+
+    /// Takes an entry out, which keeps its neighbours.
+    pub fn unlink(&mut self, entry: u64)
+        requires entry { entry < length self.old.row.vars }
+        requires linked { IsTrue (has self.old.row.linked (var_at self.old.row.vars entry)) }
+        ensures said { self.new.said ≡ self.old.said }
+        ensures spare { self.new.spare ≡ self.old.spare }
+        ensures row { self.new.row ≡ unlinked self.old.row entry }
+        ensures was { WasLinked self.old.row entry }
+    {
+        self.links.unlink(entry);
+    }
+
+    /// Puts an entry between the neighbours that it keeps.
+    pub fn relink(&mut self, entry: u64)
+        requires { MayReturn self.old.row entry }
+        ensures said { self.new.said ≡ self.old.said }
+        ensures spare { self.new.spare ≡ self.old.spare }
+        ensures row { self.new.row ≡ linked self.old.row entry }
+    {
+        self.links.relink(entry);
+    }
+
+    /// The first entry in goal order that is linked.
+    pub fn first(&self) -> Option<u64>
+        ensures first { option_map (var_at self.now.row.vars) result ≡ first_of self.now.row.linked }
+        ensures within { IfSome result (λ entry. entry < length self.now.row.vars) }
+        ensures linked { IfSome result (λ entry. IsTrue (has self.now.row.linked (var_at self.now.row.vars entry))) }
+    {
+        self.links.first()
+    }
+
+    /// The linked entry that follows one.
+    pub fn next(&self, entry: u64) -> Option<u64>
+        requires entry { entry < length self.now.row.vars }
+        requires linked { IsTrue (has self.now.row.linked (var_at self.now.row.vars entry)) }
+        ensures next { option_map (var_at self.now.row.vars) result ≡ first_of (vars_behind self.now.row entry) }
+        ensures within { IfSome result (λ next. next < length self.now.row.vars) }
+        ensures linked { IfSome result (λ next. IsTrue (has self.now.row.linked (var_at self.now.row.vars next))) }
+    {
+        self.links.next(entry)
+    }
 }
 
-// The numbers of the cells of an entry's chain.
-fn cells_in(alloc: Global, links: &Links, entry: u64) -> Result<Vec<usize>, NoMemory>
-    requires entry { entry < length links.now.vars }
-    requires mentions { AreMentions links.now }
-    ensures { IfOk result (λ found. found.items ≡ chain_at links.now.chains entry) }
-{
-    let mut found = Vec::new(alloc);
-    let mut at = links.chain_first(entry);
-    while let Some(cell) = at {
-        found.push(cell as usize)?;
-        at = links.chain_next(cell);
+impl Mentions {
+    // The places that the cells of an entry's chain have.
+    fn places_in(&self, alloc: Global, entry: u64) -> Result<Vec<usize>, NoMemory>
+        requires { entry < length self.now.row.vars }
+        ensures { IfOk result (λ found. found.items ≡ map (place_at self.now.row.cells) (chain_at self.now.row.chains entry)) }
+    {
+        let links = &self.links;
+        let mut found = Vec::new(alloc);
+        let mut at = links.chain_first(entry);
+        while let Some(cell) = at {
+            let place = links.demand_of(cell);
+            found.push(place as usize)?;
+            at = links.chain_next(cell);
+        }
+        Ok(found)
     }
-    Ok(found)
+
+    // The numbers of the cells of an entry's chain.
+    fn cells_in(&self, alloc: Global, entry: u64) -> Result<Vec<usize>, NoMemory>
+        requires { entry < length self.now.row.vars }
+        ensures { IfOk result (λ found. found.items ≡ chain_at self.now.row.chains entry) }
+    {
+        let links = &self.links;
+        let mut found = Vec::new(alloc);
+        let mut at = links.chain_first(entry);
+        while let Some(cell) = at {
+            found.push(cell as usize)?;
+            at = links.chain_next(cell);
+        }
+        Ok(found)
+    }
 }

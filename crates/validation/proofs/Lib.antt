@@ -11,3 +11,4 @@ pub mod Settles
 pub mod Backs
 pub mod Weighed
 pub mod Disagreeing
+pub mod Grown

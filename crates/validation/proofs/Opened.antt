@@ -14,7 +14,8 @@ use Rattle.choice_problem.specs.ConflictSet.{is_rising, has, without, first_behi
 use Rattle.choice_problem.proofs.Sets.{same-back, before-not-same, has-contains, has-append, has-with_var, rising-with_var, rising-tail, rising-below, rising-same}
 use Rattle.choice_problem.proofs.InOrder.{rising-without, has-without}
 use Rattle.goal_links.specs.Beside.{beside, behind_first, first_of, AreBeside}
-use Rattle.goal_links.specs.Links.{Entries, var_at, vars_behind, registered, linked, unlinked, MayReturn}
+use Rattle.goal_links.specs.Links.{Entries, var_at, vars_behind, linked, unlinked, MayReturn}
+use Rattle.goal_links.specs.Mentions.{KeepRow}
 use Rattle.goal_links.proofs.Entries.{may-return, slice_get-set}
 use Rattle.goal_links.proofs.Walks.{at-entry, entry-known, get-at}
 use Rattle.validation.specs.Open.{AreInOrder, Keeps, StayKept, MayComeBack, any_var, is_other, is_behind}
@@ -29,31 +30,16 @@ get-other (z ∷ xs) zero (suc n) y x other h = h
 get-other (z ∷ xs) (suc i) zero y x other h = h
 get-other (z ∷ xs) (suc i) (suc n) y x other h = get-other xs i n y x (λ e. other (ap suc e)) h
 
--- registered
+-- entries that stay
 
-module _ (s : Entries) (v : Var) where
-  abbrev more : Entries
-  more = record s { vars = s.vars ++ v ∷ []; kept = s.kept ++ Some (None, None) ∷ []; chains = s.chains ++ [] ∷ [] }
+pub row-order : (s t : Entries) → KeepRow s t → AreInOrder s → AreInOrder t
+row-order s t keep h = record {
+  rising = ap is_rising keep.linked ∙ h.rising;
+  known = λ v k. keep.known v (h.known v (ap (λ (l : List Var). has l v) (sym keep.linked) ∙ k));
+}
 
-  pub registered-linked : (registered s v).linked ≡ s.linked
-  registered-linked = elim (has s.vars v) as (λ b. (cond b s more).linked ≡ s.linked) [ true ↦ refl | false ↦ refl ]
-
-  pub registered-kept : StayKept any_var s (registered s v)
-  registered-kept n w sides t k =
-      elim (has s.vars v) as (λ b. Keeps (cond b s more) n w sides) [
-        | true ↦ k
-        | false ↦ record { owned = get-front s.vars (v ∷ []) n w k.owned; held = get-front s.kept (Some (None, None) ∷ []) n (Some sides) k.held }
-      ]
-
-  pub registered-order : AreInOrder s → AreInOrder (registered s v)
-  registered-order h =
-      elim (has s.vars v) as (λ b. AreInOrder (cond b s more)) [
-        | true ↦ h
-        | false ↦ record {
-          rising = h.rising;
-          known = λ w k. has-append s.vars (v ∷ []) w ∙ ap (λ b. b || has (v ∷ []) w) (h.known w k);
-        }
-      ]
+pub row-kept : (s t : Entries) → KeepRow s t → StayKept any_var s t
+row-kept s t keep n v sides test k = record { owned = keep.vars n v k.owned; held = keep.kept n (Some sides) k.held }
 
 -- linked
 

@@ -45,18 +45,6 @@ targets-grow listed more ms h = record {
       h.target front m rest e ∙ ap (λ (d : Demand). d.target) (sym (get_or-append listed more no_demand m.place (h.within front m rest e)));
 }
 
-pub targets-push : (listed : List Demand) (ms : List Mention) (m : Mention) → AreTargets listed ms → m.place < length listed → m.var ≡ (demand_at listed m.place).target → AreTargets listed (ms ++ m ∷ [])
-targets-push listed ms m h within target = record {
-  within = λ front k rest e. elim (snoc-split ms m front k rest e) [
-    | inl is ↦ subst (λ (x : Mention). x.place < length listed) (sym is.2) within
-    | inr is ↦ h.within front k is.0 is.1
-  ];
-  target = λ front k rest e. elim (snoc-split ms m front k rest e) [
-    | inl is ↦ subst (λ (x : Mention). x.var ≡ (demand_at listed x.place).target) (sym is.2) target
-    | inr is ↦ h.target front k is.0 is.1
-  ];
-}
-
 -- marks
 
 pub marks-targets : {trail : List Choice} {marks : List Mark} {listed : List Demand} {active : List Mention} {s : Entries} → AreMarks trail marks listed active s → AreTargets listed active
@@ -79,18 +67,18 @@ marks-grow {listed = listed} {active = active} {s = s} more (on {front = front} 
     })
     (targets-grow listed more active targets)
 
-pub marks-push : {trail : List Choice} {marks : List Mark} {listed : List Demand} {active : List Mention} {s : Entries} (m : Mention)
-    → AreMarks trail marks listed active s → AreTargets listed (active ++ m ∷ []) → AreMarks trail marks listed (active ++ m ∷ []) s
-marks-push m (none before) targets = none targets
-marks-push {listed = listed} {active = active} {s = s} k (on {front = front} {less = less} c m levels e f is before) targets =
-    let same = sym (take-append-le m.active active (k ∷ []) is.active_within) in
+pub marks-push : {trail : List Choice} {marks : List Mark} {listed : List Demand} {active : List Mention} {s : Entries} (more : List Mention)
+    → AreMarks trail marks listed active s → AreTargets listed (active ++ more) → AreMarks trail marks listed (active ++ more) s
+marks-push more (none before) targets = none targets
+marks-push {listed = listed} {active = active} {s = s} more (on {front = front} {less = less} c m levels e f is before) targets =
+    let same = sym (take-append-le m.active active more is.active_within) in
     on {front = front} {less = less} c m (subst (λ (ms : List Mention). AreMarks front less (take m.listed listed) ms s) same levels) e f
     (record {
       new = is.new;
       asked = ap (λ (ms : List Mention). has (vars_at ms) c.var) (sym same) ∙ is.asked;
       held = subst (λ (ms : List Mention). IsHeld front c.var m.entry ms s) same is.held;
       listed_within = is.listed_within;
-      active_within = omega (arith, is.active_within, length-append active (k ∷ []));
+      active_within = omega (arith, is.active_within, length-append active more);
       watchers = is.watchers;
     })
     targets
@@ -211,25 +199,11 @@ waits-append n (x ∷ xs) ys =
     ap (λ ws. watchers_by n x.when ++ ws) (waits-append (suc n) xs ys) ∙ sym (append_assoc (watchers_by n x.when) (watchers_from (suc n) xs) (watchers_from (suc n + length xs) ys))
     ∙ ap (λ k. (watchers_by n x.when ++ watchers_from (suc n) xs) ++ watchers_from k ys) (omega arith)
 
-waits-push : (listed : List Demand) (d : Demand) → watchers_from 0 (listed ++ d ∷ []) ≡ watchers_from 0 listed ++ watchers_by (length listed) d.when
-waits-push listed d =
-    waits-append 0 listed (d ∷ []) ∙ ap (λ ws. watchers_from 0 listed ++ ws) (append-nil (watchers_by (0 + length listed) d.when))
-    ∙ ap (λ k. watchers_from 0 listed ++ watchers_by k d.when) (omega arith)
-
 waits-cut : (k : ℕ) (listed : List Demand) → take (length (watchers_from 0 (take k listed))) (watchers_from 0 listed) ≡ watchers_from 0 (take k listed)
 waits-cut k listed =
     ap (λ ds. take (length (watchers_from 0 (take k listed))) (watchers_from 0 ds)) (sym (take-append-drop k listed))
     ∙ ap (take (length (watchers_from 0 (take k listed)))) (waits-append 0 (take k listed) (drop k listed))
     ∙ take-append_seam (watchers_from 0 (take k listed)) (watchers_from (0 + length (take k listed)) (drop k listed))
-
-pub parts-list : (trail : List Choice) (marks : List Mark) (listed after : List Demand) (active watchers more : List Mention) (s : Entries) (d : Demand)
-    → AreParts trail marks listed active watchers s → after ≡ listed ++ d ∷ [] → more ≡ watchers ++ watchers_by (length listed) d.when
-    → AreParts trail marks after active more s
-parts-list trail marks listed after active watchers more s d h after_is more_is = record {
-  levels = subst (λ (ds : List Demand). AreMarks trail marks ds active s) (sym after_is) (marks-grow (d ∷ []) h.levels);
-  waiting = more_is ∙ ap (λ ws. ws ++ watchers_by (length listed) d.when) h.waiting ∙ sym (waits-push listed d) ∙ ap (watchers_from 0) (sym after_is);
-  opened = h.opened;
-}
 
 pub demands-grow : (listed more : List Demand) (ms : List Mention) → AreTargets listed ms → demands_at (listed ++ more) (places_of ms) ≡ demands_at listed (places_of ms)
 demands-grow listed more [] h = refl
@@ -237,20 +211,28 @@ demands-grow listed more (m ∷ ms) h =
     ap (λ d. d ∷ demands_at (listed ++ more) (places_of ms)) (get_or-append listed more no_demand m.place (h.within [] m ms refl))
     ∙ ap (λ ds. demand_at listed m.place ∷ ds) (demands-grow listed more ms (targets-tail listed m ms h))
 
--- one active demand more
-
-pub parts-ask : {E : Type 0} (r : Result (Unit {0}) E) (trail : List Choice) (marks : List Mark) (listed : List Demand) (active after watchers : List Mention) (s t : Entries) (m : Mention)
-    → AreParts trail marks listed active watchers s → m.place < length listed → m.var ≡ (demand_at listed m.place).target
-    → OnOk r (after ≡ active ++ m ∷ []) → OnErr r (after ≡ active) → AreOpen after trail t.linked → StayKept (is_chosen_in trail) s t
-    → AreParts trail marks listed after watchers t
-parts-ask (Ok u) trail marks listed active after watchers s t m h within target ok err opened stay = record {
-  levels = subst (λ (ms : List Mention). AreMarks trail marks listed ms t) (sym ok) (marks-push m (marks-keep t h.levels stay) (targets-push listed active m (marks-targets h.levels) within target));
+-- a stack stays so where entries are registered
+pub parts-keep : (trail : List Choice) (marks : List Mark) (listed : List Demand) (active watchers : List Mention) (s t : Entries)
+    → AreParts trail marks listed active watchers s → t.linked ≡ s.linked → StayKept any_var s t → AreParts trail marks listed active watchers t
+parts-keep trail marks listed active watchers s t h same stay = record {
+  levels = marks-keep t h.levels (λ n v sides chosen k. stay n v sides refl k);
   waiting = h.waiting;
-  opened = opened;
+  opened = λ v. ap (λ (vars : List Var). has vars v) same ∙ h.opened v;
 }
-parts-ask (Err e) trail marks listed active after watchers s t m h within target ok err opened stay = record {
-  levels = subst (λ (ms : List Mention). AreMarks trail marks listed ms t) (sym err) (marks-keep t h.levels stay);
-  waiting = h.waiting;
+
+-- more demands listed, and more active
+pub parts-grow : (trail : List Choice) (marks : List Mark) (listed after more : List Demand) (active asked above watchers waits : List Mention) (s t : Entries)
+    → AreParts trail marks listed active watchers s → after ≡ listed ++ more → above ≡ active ++ asked → waits ≡ watchers ++ watchers_from (length listed) more
+    → AreTargets (listed ++ more) (active ++ asked) → AreOpen above trail t.linked → StayKept (is_chosen_in trail) s t
+    → AreParts trail marks after above waits t
+parts-grow trail marks listed after more active asked above watchers waits s t h after_is above_is waits_is targets opened stay = record {
+  levels =
+      subst (λ (ds : List Demand). AreMarks trail marks ds above t) (sym after_is)
+      (subst (λ (ms : List Mention). AreMarks trail marks (listed ++ more) ms t) (sym above_is)
+      (marks-push asked (marks-keep t (marks-grow more h.levels) stay) targets));
+  waiting =
+      waits_is ∙ ap (λ ws. ws ++ watchers_from (length listed) more) h.waiting ∙ ap (λ n. watchers_from 0 listed ++ watchers_from n more) (omega arith)
+      ∙ sym (waits-append 0 listed more) ∙ ap (watchers_from 0) (sym after_is);
   opened = opened;
 }
 
@@ -368,19 +350,6 @@ undone-seen trail front marks less listed fewer active asked c m levels e f aske
     ∙ ap (λ n. take n (demands_at listed (places_of active))) (sym was_active))
     (sym (ap front_of listed_marks ∙ front-of (map (λ (k : Mark). k.listed) less) m.listed))
     (sym (ap front_of active_marks ∙ front-of (map (λ (k : Mark). k.active) less) m.active))
-
-pub listed-seen : (trail : List Choice) (listed after : List Demand) (active : List Mention) (n k : List ℕ) (d : Demand) → AreTargets listed active → after ≡ listed ++ d ∷ []
-    → seen trail after (demands_at after (places_of active)) n k ≡ with_listed (seen trail listed (demands_at listed (places_of active)) n k) (d ∷ [])
-listed-seen trail listed after active n k d h e =
-    ap (λ (x : List Demand). seen trail x (demands_at x (places_of active)) n k) e
-    ∙ ap (λ a. seen trail (listed ++ d ∷ []) a n k) (demands-grow listed (d ∷ []) active h)
-
-pub active-seen : (trail : List Choice) (listed : List Demand) (active after : List Mention) (n k : List ℕ) (m : Mention) → after ≡ active ++ m ∷ []
-    → seen trail listed (demands_at listed (places_of after)) n k ≡ with_active (seen trail listed (demands_at listed (places_of active)) n k) (demand_at listed m.place ∷ [])
-active-seen trail listed active after n k m e =
-    ap (λ (ms : List Mention). seen trail listed (demands_at listed (places_of ms)) n k) e
-    ∙ ap (λ (ps : List ℕ). seen trail listed (demands_at listed ps) n k) (map-append (λ (x : Mention). x.place) active (m ∷ []))
-    ∙ ap (λ a. seen trail listed a n k) (map-append (demand_at listed) (places_of active) (m.place ∷ []))
 
 pub length-active : (listed : List Demand) (ms : List Mention) → length (demands_at listed (places_of ms)) ≡ length ms
 length-active listed [] = refl

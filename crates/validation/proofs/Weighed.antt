@@ -191,28 +191,6 @@ module _ (s : View) (a : Addition) (woken fresh : List Demand) (count : ℕ) (h 
         ]
       ]
 
--- demands that are listed and made active one after another are so at once
-
-demands-more : (listed more : List Demand) (places : List ℕ) → AllBelow (length listed) places → demands_at (listed ++ more) places ≡ demands_at listed places
-demands-more listed more [] h = refl
-demands-more listed more (k ∷ places) h =
-    ap (λ d. d ∷ demands_at (listed ++ more) places) (get_or-append listed more no_demand k h.0)
-    ∙ ap (λ ds. demand_at listed k ∷ ds) (demands-more listed more places h.1)
-
-pub grown-is : (old l a b : View) (demands : List Demand) (first : ℕ) (woken fresh : List ℕ) → l ≡ with_listed old demands → a ≡ with_active l (demands_at l.listed woken)
-    → b ≡ with_active a (demands_at (drop first a.listed) fresh) → first ≡ length old.listed → AllBelow (length old.listed) woken → b ≡ grown old demands woken fresh
-grown-is old l a b demands first woken fresh e f g count below =
-    let before = demands_at old.listed woken in
-    let news = demands_at demands fresh in
-    let then : a ≡ with_active (with_listed old demands) before =
-    f ∙ ap (λ (x : View). with_active x (demands_at x.listed woken)) e ∙ ap (with_active (with_listed old demands)) (demands-more old.listed demands woken below) in
-    let rest : drop first a.listed ≡ demands =
-    ap (λ (x : View). drop first x.listed) then ∙ ap (λ n. drop n (old.listed ++ demands)) count ∙ drop-append_seam old.listed demands in
-    let with_all : List Demand → View = λ ds.
-    record { trail = old.trail; listed = old.listed ++ demands; active = ds; listed_before = old.listed_before; active_before = old.active_before } in
-    g ∙ ap (λ (ds : List Demand). with_active a (demands_at ds fresh)) rest ∙ ap (λ (x : View). with_active x news) then
-    ∙ ap with_all (append_assoc old.active before news)
-
 -- a choice owns its demands
 pub demands-owned : (p : Problem) (c : Choice) (demands : List Demand) → Lawful p → IsChoice p c → demands ≡ p.demands c → AreOwned c.var demands
 demands-owned p c demands lawful choice is d k =

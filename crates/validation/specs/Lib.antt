@@ -4,3 +4,4 @@ pub mod Open
 pub mod Stack
 pub mod Addition
 pub mod Pending
+pub mod Growth

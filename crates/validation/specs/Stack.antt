@@ -111,18 +111,6 @@ with_listed s more = record s { listed = s.listed ++ more }
 abbrev pub with_active : View → List Demand → View
 with_active s more = record s { active = s.active ++ more }
 
--- some demands more are listed
-abbrev pub HasListed : View → View → Type 0
-HasListed old new = (more : List Demand) × (new ≡ with_listed old more)
-
--- some demands more are active
-abbrev pub HasActivated : View → View → Type 0
-HasActivated old new = (more : List Demand) × (new ≡ with_active old more)
-
--- some demands more are listed, and some active
-abbrev pub HasGrown : View → View → Type 0
-HasGrown old new = (more : List Demand) × (asked : List Demand) × (new ≡ with_active (with_listed old more) asked)
-
 -- whether a demand's condition names a variable
 abbrev pub names : Var → Demand → Bool
 names v d = are_naming v d.when
@@ -138,10 +126,6 @@ place_turned trail v listed place = cond (is_turned trail v (demand_at listed pl
 -- the demands that name a variable and are Yes
 abbrev pub turned : List Choice → Var → List Demand → List Demand
 turned trail v listed = filter (is_turned trail v) listed
-
--- more demands are listed, and those at some places active: of those listed before, and of the new ones
-abbrev pub grown : View → List Demand → List ℕ → List ℕ → View
-grown s demands woken fresh = with_active (with_listed s demands) (demands_at s.listed woken ++ demands_at demands fresh)
 
 -- a choice made, with the demands that it owns, and those active that turn Yes
 abbrev pub made : View → Choice → List Demand → View

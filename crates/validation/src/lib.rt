@@ -4,7 +4,8 @@
 
 mod addition;
 mod checks;
-mod open;
+mod goals;
+mod growth;
 mod pending;
 mod picked;
 mod stack;

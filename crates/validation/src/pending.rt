@@ -155,7 +155,7 @@ impl<'a> Asked for Pending<'a> {
     }
 }
 
-fn push_range(places: &mut Vec<usize>, from: usize, to: usize) -> Result<(), NoMemory>
+pub(crate) fn push_range(places: &mut Vec<usize>, from: usize, to: usize) -> Result<(), NoMemory>
     ensures { OnOk result (places.new.items ≡ places.old.items ++ rising_from from (to - from)) }
 {
     for place in from..to {

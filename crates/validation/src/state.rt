@@ -43,9 +43,7 @@ impl State {
         ensures { IfOk result (λ state. Represents (C.problem choices.now) state × (state.trail ≡ [])) }
     {
         let roots = choices.roots(alloc)?;
-        let mut stack = Stack::new(alloc);
-        stack.list_all(roots)?;
-        stack.activate_listed()?;
+        let stack = Stack::of(alloc, roots)?;
         Ok(State { stack })
     }
 

@@ -14,7 +14,7 @@ use Rattle.validation.proofs.stack.Stack.is_open.Goals as goal
 pub returns : goal.returns
 returns c =
     let s = c.self.inside in
-    let targets = map (λ (d : Demand). d.target) (filter (is_waited_for s.trail) (demands_at s.listed (places_of s.active))) in
+    let targets = map (λ (d : Demand). d.target) (filter (is_waited_for s.trail) (demands_at s.listed.items (places_of s.goals.said))) in
     c.is_open.ensures
-    ∙ sym (has-set_of targets c.args.v ∙ waiting-has s.trail s.listed s.active c.args.v (marks-targets c.self.invariant.levels))
+    ∙ sym (has-set_of targets c.args.v ∙ waiting-has s.trail s.listed.items s.goals.said c.args.v (marks-targets c.self.invariant.levels))
     ∙ ap (λ (x : View). has (waiting x.trail x.active) c.args.v) c.self.view_is

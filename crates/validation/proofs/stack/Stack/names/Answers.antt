@@ -11,5 +11,5 @@ use Rattle.validation.proofs.stack.Stack.names.Goals as goal
 pub returns : goal.returns
 returns c =
     let s = c.self.inside in
-    c.names.ensures ∙ ap (λ (ms : List Mention). has (vars_at ms) c.args.v) c.self.invariant.waiting ∙ waits-has 0 c.args.v s.listed
+    c.names.ensures ∙ ap (λ (ms : List Mention). has (vars_at ms) c.args.v) c.self.invariant.waiting ∙ waits-has 0 c.args.v s.listed.items
     ∙ ap (λ (x : View). list_any (names c.args.v) x.listed) c.self.view_is

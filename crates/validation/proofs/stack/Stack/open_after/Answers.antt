@@ -11,14 +11,14 @@ use Rattle.validation.proofs.stack.Stack.open_after.Goals.{in-Some+else-is_open,
 pub returns-then-is_open : goal.returns-then-is_open
 returns-then-is_open c =
     let s = c.self.inside in
-    c.next.ensures.next ∙ ap (λ (o : Option Var). first_behind o s.opens.linked) (sym c.in-Some.is)
-    ∙ ap (first_behind c.args.v) (waiting-is s.trail s.listed s.active s.opens.linked (marks-targets c.self.invariant.levels) c.self.invariant.opened c.next.ensures.rising
+    c.next.ensures.next ∙ ap (λ (o : Option Var). first_behind o s.goals.row.linked) (sym c.in-Some.is)
+    ∙ ap (first_behind c.args.v) (waiting-is s.trail s.listed.items s.goals.said s.goals.row.linked (marks-targets c.self.invariant.levels) c.self.invariant.opened c.next.ensures.rising
     ∙ ap (λ (x : View). waiting x.trail x.active) c.self.view_is)
 
 pub returns : goal.returns
 returns c =
     let s = c.self.inside in
     let same : c.match-v.v ≡ c.args.v = elim c.match-v.branch [ in-Some+else-is_open w ↦ w.v-is ∙ sym w.in-Some.is | in_default w ↦ w.v-is ] in
-    c.after.ensures.after ∙ ap (λ (o : Option Var). first_behind o s.opens.linked) same
-    ∙ ap (first_behind c.args.v) (waiting-is s.trail s.listed s.active s.opens.linked (marks-targets c.self.invariant.levels) c.self.invariant.opened c.after.ensures.rising
+    c.after.ensures.after ∙ ap (λ (o : Option Var). first_behind o s.goals.row.linked) same
+    ∙ ap (first_behind c.args.v) (waiting-is s.trail s.listed.items s.goals.said s.goals.row.linked (marks-targets c.self.invariant.levels) c.self.invariant.opened c.after.ensures.rising
     ∙ ap (λ (x : View). waiting x.trail x.active) c.self.view_is)

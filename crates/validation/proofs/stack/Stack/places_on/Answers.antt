@@ -8,5 +8,5 @@ use Rattle.validation.proofs.stack.Stack.places_on.Goals as goal
 pub returns : goal.returns
 returns c =
     let s = c.self.inside in
-    c.in_ok-found.ensures ∙ mentions-places 0 c.args.v s.listed s.active (marks-targets c.self.invariant.levels)
+    c.in_ok-found.ensures ∙ mentions-places 0 c.args.v s.listed.items s.goals.said (marks-targets c.self.invariant.levels)
     ∙ ap (λ (x : View). places_on c.args.v x.active) c.self.view_is
