@@ -1,6 +1,5 @@
 -- What a choice makes of a stack: its demands listed, and those active that turn Yes.
-use Rattle.std.proofs.Common.{◌≡◌, ℕ, zero, suc, ◌+◌, ◌-◌, ◌<◌, arith, length, map, get_or, true, false, cond, ◌&&◌, ◌||◌, List, [], ◌∷◌, ◌++◌, None, refl, sym, ap, ◌∙◌, subst, length-append, append_assoc}
-use Rattle.std.specs.List.{filter}
+use Rattle.std.proofs.Common.{◌≡◌, ℕ, zero, suc, ◌+◌, ◌-◌, ◌<◌, arith, length, map, List, [], ◌∷◌, ◌++◌, refl, sym, ap, ◌∙◌, subst, length-append, append_assoc}
 use Rattle.std.proofs.lemmas.List.{map-append}
 use Rattle.std.proofs.lemmas.List.Elements.{filter-append}
 use Rattle.std.proofs.Math.ListN.{get_or-append}
@@ -14,7 +13,7 @@ use Rattle.validation.specs.declared.stack.Mark.{Mark}
 use Rattle.validation.specs.Addition.{IsAddition}
 use Rattle.validation.specs.Growth.{mentions_at}
 use Rattle.validation.specs.Pending.{rising_from}
-use Rattle.validation.specs.Stack.{AllBelow, AreTargets, AreParts, demand_at, demands_at, is_turned, made, no_demand, turned}
+use Rattle.validation.specs.Stack.{AllBelow, AreTargets, demand_at, demands_at, is_turned, made, no_demand, turned}
 use Rattle.validation.specs.View.{View}
 use Rattle.validation.proofs.Stacks.{demands-grow, length-active, seen-same, targets-grow, targets-tail}
 
@@ -32,7 +31,7 @@ targets-on listed m ms within target h = record {
   ] e;
 }
 
-targets-none : (listed : List Demand) → AreTargets listed []
+pub targets-none : (listed : List Demand) → AreTargets listed []
 targets-none listed = record {
   within = λ front k rest e. elim front as (λ f. [] ≡ f ++ k ∷ rest → k.place < length listed) [ [] ↦ λ i. absurd (cc i) | y ∷ ys ↦ λ i. absurd (cc i) ] e;
   target = λ front k rest e. elim front as (λ f. [] ≡ f ++ k ∷ rest → k.var ≡ (demand_at listed k.place).target) [ [] ↦ λ i. absurd (cc i) | y ∷ ys ↦ λ i. absurd (cc i) ] e;
@@ -84,16 +83,22 @@ below-all n zero top e = tt
 below-all n (suc count) top e = (omega (arith, e), below-all (suc n) count top (omega (arith, e)))
 
 pub all-demands : (roots : List Demand) → demands_at roots (rising_from 0 (length roots - 0)) ≡ roots
-all-demands roots = from [] roots roots refl
+all-demands roots = let all : length roots - 0 ≡ length roots = omega arith in ap (λ n. demands_at roots (rising_from 0 n)) all ∙ from [] roots roots refl
   where
-    from : (front rest all : List Demand) → all ≡ front ++ rest → demands_at all (rising_from (length front) (length rest - 0)) ≡ rest
+    from : (front rest all : List Demand) → all ≡ front ++ rest → demands_at all (rising_from (length front) (length rest)) ≡ rest
     from front [] all e = refl
     from front (d ∷ rest) all e =
         let at : demand_at all (length front) ≡ d = ap (λ (l : List Demand). demand_at l (length front)) e ∙ get_or-append_seam front d rest no_demand in
-        let count : length rest - 0 ≡ length rest = omega arith in
         let more : length (front ++ d ∷ []) ≡ suc (length front) = omega (arith, length-append front (d ∷ [])) in
         ap (λ x. x ∷ demands_at all (rising_from (suc (length front)) (length rest))) at
-        ∙ ap (λ l. d ∷ l) (ap (λ k. demands_at all (rising_from k (length rest - 0))) (sym more) ∙ from (front ++ d ∷ []) rest all (e ∙ sym (append_assoc front (d ∷ []) rest)))
+        ∙ ap (λ l. d ∷ l) (ap (λ k. demands_at all (rising_from k (length rest))) (sym more) ∙ from (front ++ d ∷ []) rest all (e ∙ sym (append_assoc front (d ∷ []) rest)))
+
+-- the same of lists that are equal
+pub asked-same : (listed ds more fs : List Demand) (woken ws fresh ns : List ℕ) → listed ≡ ds → more ≡ fs → woken ≡ ws → fresh ≡ ns
+    → mentions_at 0 listed woken ++ mentions_at (length listed) more fresh ≡ mentions_at 0 ds ws ++ mentions_at (length ds) fs ns
+asked-same listed ds more fs woken ws fresh ns l m w f =
+    ap (λ (x : List Demand). mentions_at 0 x woken ++ mentions_at (length x) more fresh) l ∙ ap (λ (x : List Demand). mentions_at 0 ds woken ++ mentions_at (length ds) x fresh) m
+    ∙ ap (λ (x : List ℕ). mentions_at 0 ds x ++ mentions_at (length ds) fs fresh) w ∙ ap (λ (x : List ℕ). mentions_at 0 ds ws ++ mentions_at (length ds) fs x) f
 
 -- the demands that a choice makes active
 
@@ -146,8 +151,8 @@ made-seen old a trail after marks above listed more active asked_all m targets h
     let active_is : demands_at listed (places_of active) ≡ old.active = ap (λ (x : View). x.active) view in
     let below : AllBelow (length listed) a.woken.items = subst (λ (ds : List Demand). AllBelow (length ds) a.woken.items) (sym listed_is) h.woken.within in
     let grown = grown-demands listed a.demands active a.woken.items a.fresh.items targets below h.fresh.within in
-    let marked : {f : Mark → ℕ} (ns : List ℕ) (k : ℕ) → map f marks ≡ ns → f m ≡ k → map f above ≡ ns ++ k ∷ [] =
-    λ {f} ns k e i. ap (map f) above_is ∙ map-append f marks (m ∷ []) ∙ ap (λ x. x ++ f m ∷ []) e ∙ ap (λ x. ns ++ x ∷ []) i in
+    let marked : (f : Mark → ℕ) (ns : List ℕ) (k : ℕ) → map f marks ≡ ns → f m ≡ k → map f above ≡ ns ++ k ∷ [] =
+    λ f ns k e i. ap (map f) above_is ∙ map-append f marks (m ∷ []) ∙ ap (λ x. x ++ f m ∷ []) e ∙ ap (λ x. ns ++ x ∷ []) i in
     seen-same after (old.trail ++ a.choice ∷ []) more (old.listed ++ a.demands) (demands_at more (places_of asked_all))
     (old.active ++ turned (old.trail ++ a.choice ∷ []) a.choice.var (old.listed ++ a.demands))
     (map (λ k. k.listed) above) (old.listed_before ++ length old.listed ∷ []) (map (λ k. k.active) above) (old.active_before ++ length old.active ∷ [])
@@ -157,5 +162,5 @@ made-seen old a trail after marks above listed more active asked_all m targets h
     ∙ ap (λ ds. ds ++ (demands_at listed a.woken.items ++ demands_at a.demands a.fresh.items)) active_is
     ∙ ap (λ ds. old.active ++ (demands_at ds a.woken.items ++ demands_at a.demands a.fresh.items)) listed_is
     ∙ ap (λ ds. old.active ++ ds) (addition-turned old a h))
-    (marked {λ k. k.listed} old.listed_before (length old.listed) (ap (λ (x : View). x.listed_before) view) (l ∙ ap length listed_is))
-    (marked {λ k. k.active} old.active_before (length old.active) (ap (λ (x : View). x.active_before) view) (n ∙ sym (length-active listed active) ∙ ap length active_is))
+    (marked (λ k. k.listed) old.listed_before (length old.listed) (ap (λ (x : View). x.listed_before) view) (l ∙ ap length listed_is))
+    (marked (λ k. k.active) old.active_before (length old.active) (ap (λ (x : View). x.active_before) view) (n ∙ sym (length-active listed active) ∙ ap length active_is))

@@ -1,5 +1,5 @@
 -- Open variables by their entries: what is registered, linked, taken out and put back, and a walk over what is linked.
-use Rattle.std.proofs.Common.{◌≡◌, ℕ, zero, suc, ◌<◌, length, MatchOption, IsSome, IfSome, true, false, not, cond, ◌&&◌, ◌||◌, List, [], ◌∷◌, ◌++◌, Option, Some, None, refl, sym, ap, ◌∙◌, subst}
+use Rattle.std.proofs.Common.{◌≡◌, ℕ, zero, suc, ◌<◌, length, MatchOption, IsSome, IfSome, true, false, not, cond, ◌&&◌, ◌||◌, List, [], ◌∷◌, Option, Some, None, refl, sym, ap, ◌∙◌, subst}
 use Rattle.std.specs.List.{Contains, slice_get, find}
 use Rattle.std.specs.Option.{option_map}
 use Rattle.std.proofs.Math.ListN.{set}
@@ -11,7 +11,7 @@ use Rattle.qualified_goals.specs.Variable.{is_before, same_var}
 use Rattle.qualified_goals.specs.SameVariable.{same_var-is, same_var-refl}
 use Rattle.qualified_goals.proofs.Order.{before-itself, before-back}
 use Rattle.choice_problem.specs.ConflictSet.{is_rising, has, without, first_behind}
-use Rattle.choice_problem.proofs.Sets.{same-back, before-not-same, has-contains, has-append, has-with_var, rising-with_var, rising-tail, rising-below, rising-same}
+use Rattle.choice_problem.proofs.Sets.{same-back, before-not-same, has-contains, has-with_var, rising-with_var, rising-tail, rising-below, rising-same}
 use Rattle.choice_problem.proofs.InOrder.{rising-without, has-without}
 use Rattle.goal_links.specs.Beside.{beside, behind_first, first_of, AreBeside}
 use Rattle.goal_links.specs.Links.{Entries, var_at, vars_behind, linked, unlinked, MayReturn}

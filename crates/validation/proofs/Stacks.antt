@@ -1,5 +1,5 @@
 -- Stacks: choices with their marks, and what opens.
-use Rattle.std.proofs.Common.{◌≡◌, ℕ, zero, suc, ◌+◌, ◌-◌, ◌<◌, arith, length, get_or, take, drop, true, false, not, cond, ◌&&◌, ◌||◌, List, [], ◌∷◌, ◌++◌, Some, None, is_none, is_some, Result, Ok, Err, OnOk, OnErr, map, refl, sym, ap, ◌∙◌, subst, inl, inr, append_assoc, append-nil, length-append}
+use Rattle.std.proofs.Common.{◌≡◌, ℕ, zero, suc, ◌+◌, ◌-◌, arith, length, get_or, take, drop, true, false, not, cond, ◌&&◌, ◌||◌, List, [], ◌∷◌, ◌++◌, Some, None, is_none, is_some, map, refl, sym, ap, ◌∙◌, subst, append_assoc, length-append}
 use Rattle.std.proofs.lemmas.List.{map-append, take-append-le, take-append-drop}
 use Rattle.std.proofs.Math.ListN.{get_or-append}
 use Rattle.std.proofs.lemmas.Bool.{false≢true}
@@ -20,9 +20,8 @@ use Rattle.choice_problem.proofs.TrailEnds.{snoc-none, snoc-same, value-push, va
 use Rattle.validation.specs.View.{View}
 use Rattle.validation.specs.Open.{Keeps, StayKept, MayComeBack, any_var, is_other, is_chosen_in}
 use Rattle.goal_links.specs.Mentions.{places_of, vars_at}
-use Rattle.validation.specs.Stack.{front_of, last_number, undone, with_listed, with_active, no_demand, demand_at, demands_at, watchers_by, watchers_from, AreTargets, AreOpen, IsHeld, IsMark, AreMarks, AreParts}
+use Rattle.validation.specs.Stack.{front_of, last_number, undone, no_demand, demand_at, demands_at, watchers_by, watchers_from, AreTargets, AreOpen, IsHeld, IsMark, AreMarks, AreParts}
 use Rattle.validation.specs.Stack.AreMarks.{none, on}
-use Rattle.goal_links.proofs.LastItems.{snoc-split}
 
 -- targets
 
@@ -193,7 +192,7 @@ parts-none trail marks listed active watchers s t m l a w v = record {
 
 -- demands that are listed, and what they wait for
 
-waits-append : (n : ℕ) (xs ys : List Demand) → watchers_from n (xs ++ ys) ≡ watchers_from n xs ++ watchers_from (n + length xs) ys
+pub waits-append : (n : ℕ) (xs ys : List Demand) → watchers_from n (xs ++ ys) ≡ watchers_from n xs ++ watchers_from (n + length xs) ys
 waits-append n [] ys = ap (λ k. watchers_from k ys) (omega arith)
 waits-append n (x ∷ xs) ys =
     ap (λ ws. watchers_by n x.when ++ ws) (waits-append (suc n) xs ys) ∙ sym (append_assoc (watchers_by n x.when) (watchers_from (suc n) xs) (watchers_from (suc n + length xs) ys))
@@ -219,6 +218,13 @@ parts-keep trail marks listed active watchers s t h same stay = record {
   waiting = h.waiting;
   opened = λ v. ap (λ (vars : List Var). has vars v) same ∙ h.opened v;
 }
+
+pub parts-same : (trail after : List Choice) (marks above : List Mark) (listed ds : List Demand) (active ms watchers ws : List Mention) (s : Entries)
+    → after ≡ trail → above ≡ marks → ds ≡ listed → ms ≡ active → ws ≡ watchers → AreParts trail marks listed active watchers s → AreParts after above ds ms ws s
+parts-same trail after marks above listed ds active ms watchers ws s t m l a w h =
+    subst (λ (x : List Choice). AreParts x above ds ms ws s) (sym t) (subst (λ (x : List Mark). AreParts trail x ds ms ws s) (sym m)
+    (subst (λ (x : List Demand). AreParts trail marks x ms ws s) (sym l) (subst (λ (x : List Mention). AreParts trail marks listed x ws s) (sym a)
+    (subst (λ (x : List Mention). AreParts trail marks listed active x s) (sym w) h))))
 
 -- more demands listed, and more active
 pub parts-grow : (trail : List Choice) (marks : List Mark) (listed after more : List Demand) (active asked above watchers waits : List Mention) (s t : Entries)

@@ -1,5 +1,5 @@
 -- What a choice would make of a stack: the demands that would turn Yes, and the edges of all that would be active.
-use Rattle.std.proofs.Common.{◌≡◌, ◌↔◌, ℕ, suc, ◌+◌, ◌<◌, arith, length, get_or, take, drop, Bool, true, false, cond, List, [], ◌∷◌, ◌++◌, Some, None, find, refl, sym, ap, ◌∙◌, subst, inl, inr, ◌⊎◌, length-append, append_assoc}
+use Rattle.std.proofs.Common.{◌≡◌, ◌↔◌, ℕ, suc, ◌+◌, ◌<◌, arith, length, get_or, take, drop, Bool, true, false, cond, List, [], ◌∷◌, ◌++◌, Some, None, find, refl, sym, ap, ◌∙◌, subst, inl, inr, ◌⊎◌, length-append}
 use Rattle.std.specs.List.{Contains, list_any, slice_get}
 use Rattle.std.specs.Option.{option_map}
 use Rattle.std.proofs.lemmas.Bool.{false≢true}
@@ -7,7 +7,6 @@ use Rattle.std.proofs.lemmas.Grind.{flat_map-append}
 use Rattle.std.proofs.lemmas.List.{map-append, take_more}
 use Rattle.std.proofs.lemmas.List.Elements.{filter-append, All-contains}
 use Rattle.std.proofs.lemmas.Option.{slice_get-get_or, slice_get-map}
-use Rattle.std.proofs.Math.ListN.{get_or-append}
 use Rattle.std.proofs.Math.Seq.{take-append_seam, drop-append_seam}
 use Rattle.qualified_goals.specs.declared.variable.Var.{Var}
 use Rattle.qualified_goals.specs.Variable.{same_var}
@@ -19,7 +18,7 @@ use Rattle.choice_problem.specs.Conflict.{Edge, edges_by, edges_of, is_broken, s
 use Rattle.common_laws.specs.Lists.{contains-head, contains-tail, contains-append, contains-left, contains-right, contains-filter}
 use Rattle.demand_cycles.specs.Cycles.{HasEdge}
 use Rattle.validation.specs.View.{View}
-use Rattle.validation.specs.Stack.{AllBelow, no_demand, demand_at, demands_at, front_of, grown, is_first, is_owned_by, is_turned, made, names, place_turned, targets_by, turned, with_active, with_listed}
+use Rattle.validation.specs.Stack.{AllBelow, no_demand, demand_at, demands_at, front_of, is_first, is_owned_by, is_turned, made, names, place_turned, targets_by, turned}
 use Rattle.validation.specs.declared.addition.Addition.{Addition}
 use Rattle.validation.specs.Pending.{ArePending, AreOwned, count_before, first_broken}
 use Rattle.validation.proofs.Below.{below-append}

@@ -1,6 +1,5 @@
 // What a choice adds to the demands of a stack: first all memory is taken that this wants, then what is ready is put on.
-ghost use Rattle.std.specs.Prelude.{◌≡◌, ◌+◌, ◌<◌, ◌≤◌, ◌++◌, IfOk, List, length, take, drop};
-ghost use Rattle.std.specs.Vec.{vec_capacity, vec_len};
+ghost use Rattle.std.specs.Prelude.{◌≡◌, ◌+◌, ◌<◌, ◌≤◌, ◌++◌, IfOk, List, length, take, drop, vec_capacity, vec_len};
 ghost use Rattle.goal_links.specs.Mentions.{mention_of};
 ghost use Rattle.validation.specs.Open.{StayKept, any_var, is_chosen_in};
 ghost use Rattle.validation.specs.Growth.{IsReady, mentions_at};
@@ -21,7 +20,7 @@ pub(crate) struct Ready {
 
 /// Takes the memory for more demands to be listed, and for those at some places to be active: of those that are listed, and
 /// of the new ones.
-pub(crate) fn ready(
+pub(crate) fn make_ready(
     listed: &mut Vec<Demand>,
     watchers: &mut Mentions,
     goals: &mut Goals,
@@ -58,10 +57,11 @@ fn ready_watchers(
     ensures within { IfOk result (λ count. count ≤ length watchers.new.spare) }
 {
     let mut count = 0;
-    let mut place = first;
-    for demand in demands {
+    let len = demands.len();
+    for index in 0..len {
+        let demand = demand_in(demands, index);
+        let place = sum(first, index)?;
         count = ready_watchers_of(watchers, count, place, demand.when.as_slice())?;
-        place = place.checked_add(1).ok_or(NoMemory)?;
     }
     Ok(count)
 }
@@ -118,9 +118,16 @@ fn mention_at(first: usize, demands: &[Demand], place: usize) -> Result<Mention,
     ensures { IfOk result (λ mention. mention ≡ mention_of (demand_at demands.now place).target (first + place)) }
 {
     let var = demand_in(demands, place).target;
-    // (a sum that is too large for a number is too large for memory)
-    match first.checked_add(place) {
-        Some(place) => Ok(Mention { var, place }),
+    let place = sum(first, place)?;
+    Ok(Mention { var, place })
+}
+
+// A sum that is too large for a number is too large for memory.
+fn sum(m: usize, n: usize) -> Result<usize, NoMemory>
+    ensures { IfOk result (λ sum. sum ≡ m + n) }
+{
+    match m.checked_add(n) {
+        Some(sum) => Ok(sum),
         None => Err(NoMemory),
     }
 }

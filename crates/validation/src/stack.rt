@@ -16,9 +16,11 @@ ghost use Rattle.goal_links.specs.Mentions.{vars_at};
 ghost use Rattle.validation.specs.Stack.{AreOpen, IsSettled, undone, names, AllBelow, turned, made, demands_at};
 
 use crate::addition::Addition;
-use crate::checks::{demand_in, first_refusing, owners_at, reason_at, set_at, targets_at, yes_among};
+use crate::checks::{
+    demand_in, first_refusing, owners_at, reason_at, set_at, targets_at, yes_among,
+};
 use crate::goals::Goals;
-use crate::growth::{activate, list_all, ready};
+use crate::growth::{activate, list_all, make_ready};
 use crate::pending::push_range;
 use choice_problem::{Choice, ConflictSet, Demand, Trail, Values, Var};
 use goal_links::Mentions;
@@ -77,7 +79,7 @@ impl Stack {
         let mut goals = Goals::new(alloc);
         let mut fresh = Vec::new(alloc);
         push_range(&mut fresh, 0, roots.len())?;
-        let ready = ready(
+        let ready = make_ready(
             &mut listed,
             &mut watchers,
             &mut goals,
@@ -160,7 +162,7 @@ impl Stack {
             woken,
             fresh,
         } = addition;
-        let ready = ready(
+        let ready = make_ready(
             &mut self.listed,
             &mut self.watchers,
             &mut self.goals,

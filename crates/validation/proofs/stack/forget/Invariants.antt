@@ -3,12 +3,12 @@ use Rattle.validation.specs.Open.{StayKept, is_chosen_in}
 use Rattle.validation.specs.Stack.{AreOpen}
 use Rattle.validation.proofs.stack.forget.Given as goal
 
-abbrev pub invariant-loop-active : goal.invariant-loop-active
-invariant-loop-active l = record {
-  first : take l.len l.active ≡ take l.len l.initial.active;
-  opened : AreOpen l.active l.trail l.opens.linked;
-  kept : StayKept (is_chosen_in l.trail) l.initial.opens l.opens;
+abbrev pub invariant-loop-goals : goal.invariant-loop-goals
+invariant-loop-goals l = record {
+  first : take l.len l.goals.said ≡ take l.len l.initial.goals.said;
+  opened : AreOpen l.goals.said l.trail l.goals.row.linked;
+  kept : StayKept (is_chosen_in l.trail) l.initial.goals.row l.goals.row;
 }
 
-abbrev pub decreases-loop-active : goal.decreases-loop-active
-decreases-loop-active l = length l.active
+abbrev pub decreases-loop-goals : goal.decreases-loop-goals
+decreases-loop-goals l = length l.goals.said

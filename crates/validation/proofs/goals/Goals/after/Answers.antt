@@ -1,5 +1,5 @@
 use Rattle.std.proofs.Common.{◌≡◌, ◌<◌, ◌∙◌, ℕ, Option, Some, true, false, cond, find, length, sym, ap, subst, arith}
-use Rattle.goal_links.specs.Links.{Entries, var_at, vars_behind}
+use Rattle.goal_links.specs.Links.{var_at, vars_behind}
 use Rattle.goal_links.specs.Mentions.{Mentioned}
 use Rattle.validation.specs.Open.{is_behind}
 use Rattle.validation.proofs.Opened.{vars_from, from-first, from-next, stands-at, behind-is}

@@ -1,7 +1,6 @@
 use Rattle.std.proofs.Common.{◌∙◌, sym, ap}
 use Rattle.std.specs.List.{slice_get}
 use Rattle.choice_problem.specs.ConflictSet.{has}
-use Rattle.goal_links.specs.Links.{Entries}
 use Rattle.goal_links.specs.Mentions.{Mentioned}
 use Rattle.validation.proofs.Opened.{found-some, found-at}
 use Rattle.validation.proofs.goals.Goals.entry.Goals as goal

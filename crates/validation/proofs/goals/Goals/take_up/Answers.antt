@@ -1,5 +1,4 @@
-use Rattle.std.proofs.Common.{◌∙◌, List, sym, ap, subst}
-use Rattle.qualified_goals.specs.declared.variable.Var.{Var}
+use Rattle.std.proofs.Common.{◌∙◌, ap, subst}
 use Rattle.goal_links.specs.Mentions.{Mentioned}
 use Rattle.validation.specs.Open.{StayKept, any_var}
 use Rattle.validation.proofs.Opened.{row-kept, row-order}

@@ -11,7 +11,7 @@ use Rattle.validation.proofs.stack.Stack.targets.Goals as goal
 pub targets_at-requires : goal.targets_at-requires
 targets_at-requires c =
     let now = c.args.self.now in
-    let listed : c.as_slice.result.now ≡ now.listed = c.as_slice.ensures ∙ ap (λ (x : View). x.listed) c.self.view_is in
+    let listed : c.as_slice.result.now ≡ now.listed = c.as_slice.ensures.value ∙ ap (λ (x : View). x.listed) c.self.view_is in
     subst (λ (ds : List Demand). AllBelow (length ds) c.as_slice-2.result.now) (sym listed)
     (subst (AllBelow (length now.listed)) (sym c.as_slice-2.ensures.value) c.in_ok-places.ensures.within)
 
@@ -19,7 +19,7 @@ pub returns : goal.returns
 returns c v =
     let now = c.args.self.now in
     let from = c.args.from in
-    let listed : c.as_slice.result.now ≡ now.listed = c.as_slice.ensures ∙ ap (λ (x : View). x.listed) c.self.view_is in
+    let listed : c.as_slice.result.now ≡ now.listed = c.as_slice.ensures.value ∙ ap (λ (x : View). x.listed) c.self.view_is in
     let found : c.from_vec.result ≡ targets_by from (turned now.trail from now.listed) =
     c.from_vec.ensures ∙ c.in_ok-targets.ensures ∙ ap (λ (ds : List Demand). targets_by from (demands_at ds c.as_slice-2.result.now)) listed
     ∙ ap (λ (ps : List ℕ). targets_by from (demands_at now.listed ps)) c.as_slice-2.ensures.value ∙ ap (targets_by from) c.in_ok-places.ensures.demands
