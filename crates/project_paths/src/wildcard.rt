@@ -1,9 +1,9 @@
 // Whether a pattern matches a name. It is cut at its stars: the first piece stands in front, the last one at the end, and each of
 // the others is looked for behind the one before it. Its first place leaves the most to those behind it.
-ghost use Rattle.std.specs.Prelude.{◌≡◌, ◌&&◌, not, map, true, false, if◌then◌else◌, IfOk};
+ghost use Rattle.std.specs.Prelude.{◌≡◌, ℕ, List, map, IfOk};
 ghost use Rattle.std.specs.Option.{option_copied};
 ghost use Rattle.plan_types.specs.Bytes.{begins_with};
-ghost use Rattle.project_paths.specs.Wildcards.{matches};
+ghost use Rattle.project_paths.specs.Wildcards.{fits, matches};
 ghost use Rattle.project_paths.specs.Pieces.{behind, behind_front, cut, ends_so, match_behind, match_pieces};
 
 use std::alloc::{AllocError, Global};
@@ -24,7 +24,7 @@ pub(crate) fn matches(pattern: &[u8], pieces: &[&str], name: &[u8]) -> bool
     if begins_with_point(name) && !begins_with_point(pattern) {
         return false;
     }
-    match_pieces(pieces, name)
+    fits(pieces, name)
 }
 
 fn begins_with_point(text: &[u8]) -> bool
@@ -34,6 +34,12 @@ fn begins_with_point(text: &[u8]) -> bool
         [] => false,
         [first, ..] => *first == b'.',
     }
+}
+
+fn fits(pieces: &[&str], name: &[u8]) -> bool
+    ensures { (pattern : List ℕ) → map (λ piece. piece.now) pieces.now ≡ cut pattern → result ≡ fits pattern name.now }
+{
+    match_pieces(pieces, name)
 }
 
 fn match_pieces(pieces: &[&str], name: &[u8]) -> bool
