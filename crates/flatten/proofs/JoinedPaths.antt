@@ -29,7 +29,7 @@ nothing : (number size : ℕ) → number ≡ capped size → number ≡ 0 → si
 nothing number size e none = omega arith
 
 -- a factor of a number that isn't 0 is no greater
-factor : (a b m : ℕ) → 1 ≤ a * b → a * b ≤ m → b ≤ m
+pub factor : (a b m : ℕ) → 1 ≤ a * b → a * b ≤ m → b ≤ m
 factor zero b m some le = absurd (omega arith)
 factor (suc a) b m some le = let more = suc-mul a b in omega (arith, more)
 

@@ -1,3 +1,4 @@
 mod FirstBeyond
 mod JoinedPaths
+mod Chains
 mod Counting

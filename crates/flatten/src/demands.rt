@@ -7,8 +7,8 @@ ghost use Rattle.plan_types.specs.declared.refusal.Cause.TheVariants.{TooManyPat
 ghost use Rattle.flatten.specs.Demands.{demands_of, demands_at, first_beyond, is_beyond, outward_of, outward_in, first_among, stanza_of, flat_of, literal_of};
 ghost use Rattle.flatten.specs.Ways.{ways_of};
 
-use crate::ways::{MOST_PATHS, Ways, ways_of};
-use conditionals::{count_paths, joined_paths, paths};
+use crate::ways::{MOST_PATHS, Ways, count_ways, some_paths, ways_of};
+use conditionals::joined_paths;
 use plan_types::{
     Cause, CompKind, Component, Dep, Description, Env, Fault, FlagSet, FlatDep, GuardedDep, List,
     Literal, NoMemory, PartName,
@@ -99,7 +99,7 @@ fn push_demands(
         × (line ≡ guarded.now.dep.line) × (is_beyond env.now (outward_of component.now guarded.now) ≡ true))) }
 {
     let when = guarded.when.get();
-    let number = ways.number.saturating_mul(count_paths(when, env, true));
+    let number = ways.number.saturating_mul(count_ways(when, env));
     if MOST_PATHS < number {
         return Err(Fault::At {
             line: guarded.dep.line,
@@ -109,7 +109,7 @@ fn push_demands(
     if number == 0 {
         return Ok(());
     }
-    let rest = paths(alloc, when, env, true)?;
+    let rest = some_paths(alloc, when, env)?;
     for path in joined_paths(alloc, &ways.paths, &rest)?.into_vec() {
         flat.push(flat_of(alloc, component.kind, path, &guarded.dep)?)?;
     }

@@ -1,13 +1,17 @@
 // The ways in which a condition holds.
 
-ghost use Rattle.std.specs.Prelude.{◌≡◌, IfOk};
+ghost use Rattle.std.specs.Prelude.{◌≡◌, ◌≢◌, ◌≤◌, ◌-◌, ◌^◌, [], length, min, true, IfOk, IsTrue};
+ghost use Rattle.conditionals.specs.Paths.{paths_of, clean_paths};
 ghost use Rattle.flatten.specs.Ways.{ways_of};
 
-use conditionals::{count_paths, paths};
+use conditionals::{count_paths, joined_paths, paths};
 use plan_types::{Cond, Env, FlagSet, List, NoMemory};
 use std::alloc::Global;
 
 pub const MOST_PATHS: u64 = 256;
+
+/// So many tests at the end of a chain are looked at before all of it is.
+const LAST_TESTS: usize = 16;
 
 /// The ways to set flags so that a condition is Yes.
 #[derive(Drop)]
@@ -21,7 +25,7 @@ pub struct Ways {
 pub fn ways_of(alloc: Global, cond: &Cond, env: &Env) -> Result<Ways, NoMemory>
     ensures { IfOk result (λ ways. ways ≡ ways_of env.now cond.now) }
 {
-    let number = count_paths(cond, env, true);
+    let number = count_ways(cond, env);
     if MOST_PATHS < number {
         return Ok(Ways {
             number,
@@ -30,4 +34,56 @@ pub fn ways_of(alloc: Global, cond: &Cond, env: &Env) -> Result<Ways, NoMemory>
     }
     let paths = paths(alloc, cond, env, true)?;
     Ok(Ways { number, paths })
+}
+
+/// How many ways there are, or the greatest number if there are more. The chain of an `elif` is as long as those before it are many,
+/// and its last test is most often the one that isn't met: then those in front of it aren't asked.
+pub fn count_ways(cond: &Cond, env: &Env) -> u64
+    ensures { result ≡ min (length (paths_of env.now cond.now true)) (2 ^ 64 - 1) }
+{
+    let mut number: u64 = 1;
+    let mut left = cond;
+    while let Cond::And(front, last) = left {
+        number = number.saturating_mul(count_paths(last.get(), env, true));
+        if number == 0 {
+            return 0;
+        }
+        left = front.get();
+    }
+    number.saturating_mul(count_paths(left, env, true))
+}
+
+/// The ways to set flags so that a condition is Yes, of which there are some, and no more than a dependency may have.
+pub fn some_paths(alloc: Global, cond: &Cond, env: &Env) -> Result<List<List<FlagSet>>, NoMemory>
+    requires some { length (paths_of env.now cond.now true) ≢ 0 }
+    requires few { length (paths_of env.now cond.now true) ≤ 256 }
+    ensures { IfOk result (λ paths. paths ≡ clean_paths (paths_of env.now cond.now true)) }
+{
+    if is_clash(alloc, cond, env)? {
+        return Ok(List::new(alloc));
+    }
+    paths(alloc, cond, env, true)
+}
+
+// Whether the last tests of a chain set a flag both ways, so that the others aren't asked.
+fn is_clash(alloc: Global, cond: &Cond, env: &Env) -> Result<bool, NoMemory>
+    requires some { length (paths_of env.now cond.now true) ≢ 0 }
+    requires few { length (paths_of env.now cond.now true) ≤ 256 }
+    ensures { IfOk result (λ yes. IsTrue yes → clean_paths (paths_of env.now cond.now true) ≡ []) }
+{
+    let mut rest = List::new(alloc);
+    rest.push(List::new(alloc))?;
+    let mut left = cond;
+    for _ in 0..LAST_TESTS {
+        let Cond::And(front, last) = left else {
+            return Ok(false);
+        };
+        let more = paths(alloc, last.get(), env, true)?;
+        rest = joined_paths(alloc, &more, &rest)?;
+        if rest.is_empty() {
+            return Ok(true);
+        }
+        left = front.get();
+    }
+    Ok(false)
 }

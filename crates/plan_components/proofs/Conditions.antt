@@ -1,6 +1,10 @@
 -- A dependency counts where its component is buildable and its branches are taken.
-use Rattle.std.proofs.Common.{◌≡◌, Bool, true, false, not, ◌&&◌, ◌||◌, List, [], flat_map, refl, ap, ◌∙◌}
+use Rattle.std.proofs.Common.{◌≡◌, ◌<◌, Bool, true, false, not, ◌&&◌, ◌||◌, List, [], flat_map, refl, sym, ap, ◌∙◌, arith}
+use Rattle.std.proofs.Math.Bool.{and-false, and-true}
 use Rattle.std.proofs.lemmas.Bool.{and_right}
+use Rattle.plan_types.specs.declared.condition.Cond.{Cond, size-Cond}
+use Rattle.plan_types.specs.declared.condition.Cond.TheVariants.{And}
+use Rattle.plan_types.specs.declared.condition.Cond.TheViews.{sized-And}
 use Rattle.plan_types.specs.declared.condition.Env.{Env}
 use Rattle.plan_types.specs.declared.condition.FlagSet.{FlagSet}
 use Rattle.plan_types.specs.declared.description.Component.{Component}
@@ -20,6 +24,21 @@ both-yes : (a b : Tri) → is_wanted true (and_then a b) ≡ (is_wanted true a &
 both-yes Yes b = refl
 both-yes No b = refl
 both-yes Unknown b = refl
+
+-- a chain is Yes where each of its sides is
+pub sides-hold : (env : Env) (flags : List FlagSet) (whole front last : Cond) → whole ≡ And front last → holds env flags whole ≡ (holds env flags front && holds env flags last)
+sides-hold env flags whole front last is =
+    ap (holds env flags) is ∙ ap (is_wanted true) (value-And env (flag_in flags) front last) ∙ both-yes (value env (flag_in flags) front) (value env (flag_in flags) last)
+
+-- where the last side is Yes, the others decide, and where it isn't, the whole isn't
+pub others-decide : (env : Env) (flags : List FlagSet) (whole front last : Cond) → whole ≡ And front last → holds env flags last ≡ true → holds env flags front ≡ holds env flags whole
+others-decide env flags whole front last is h = sym (sides-hold env flags whole front last is ∙ ap (λ b. holds env flags front && b) h ∙ and-true (holds env flags front))
+
+pub last-decides : (env : Env) (flags : List FlagSet) (whole front last : Cond) → whole ≡ And front last → holds env flags last ≡ false → false ≡ holds env flags whole
+last-decides env flags whole front last is h = sym (sides-hold env flags whole front last is ∙ ap (λ b. holds env flags front && b) h ∙ and-false (holds env flags front))
+
+pub goes-down : (whole front last : Cond) → whole ≡ And front last → size-Cond front < size-Cond whole
+goes-down whole front last is = let size = ap size-Cond is ∙ sized-And front last in omega (arith, size)
 
 whole-holds : (env : Env) (flags : List FlagSet) (component : Component) (guarded : GuardedDep)
     → holds env flags (whole_condition component guarded) ≡ (holds env flags component.buildable && holds env flags guarded.when)

@@ -139,8 +139,23 @@ impl<'a> Chosen<'a> {
         Ok(FlagSet { name, on })
     }
 
-    /// Whether a condition is Yes under some flags.
+    /// Whether a condition is Yes under some flags. A chain of `&&` is where each of its sides is: the last one is asked first, since
+    /// it is most often the one of an `elif` that isn't.
     pub fn holds(&self, flags: &List<FlagSet>, cond: &Cond) -> bool
+        requires { each_once flags.now ≡ true }
+        ensures { result ≡ holds self.now.env.now flags.now cond.now }
+    {
+        let mut left = cond;
+        while let Cond::And(front, last) = left {
+            if !self.is_met(flags, last.get()) {
+                return false;
+            }
+            left = front.get();
+        }
+        self.is_met(flags, left)
+    }
+
+    fn is_met(&self, flags: &List<FlagSet>, cond: &Cond) -> bool
         requires { each_once flags.now ≡ true }
         ensures { result ≡ holds self.now.env.now flags.now cond.now }
     {

@@ -1,5 +1,5 @@
 pub mod Kept
-pub mod Rows
+pub mod Pieces
 pub mod Texts
 pub mod Answered
 pub mod Paths

@@ -1,6 +1,6 @@
 pub mod Patterns
 pub mod Wildcards
-pub mod Rows
+pub mod Pieces
 pub mod Listings
 pub mod Places
 pub mod Spots

@@ -38,10 +38,18 @@ pub(crate) fn place_in(dir: &Text, name: &Name) -> Result<FolderPlace, NoMemory>
 pub(crate) fn path_in(dir: &Text, name: &Text) -> Result<Text, NoMemory>
     ensures { IfOk result (λ path. path ≡ path_in dir.now name.now) }
 {
+    let path = dir.copy()?;
+    longer_path(path, name)
+}
+
+/// The same, of the path of a directory that isn't used again: many names behind each other are put to one text.
+pub(crate) fn longer_path(dir: Text, name: &Text) -> Result<Text, NoMemory>
+    ensures { IfOk result (λ path. path ≡ path_in dir name.now) }
+{
     if dir.as_bytes().is_empty() {
         return name.copy();
     }
-    let mut path = dir.copy()?;
+    let mut path = dir;
     path.push_str("/")?;
     path.push_str(name.as_str())?;
     Ok(path)

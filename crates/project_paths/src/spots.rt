@@ -8,8 +8,8 @@ ghost use Rattle.project_paths.specs.Places.{below, is_matched, path_in, place_i
 ghost use Rattle.project_paths.specs.Spots.{Leads, Settled, dir_of, directory, is_literal, is_plain, path_of, seen};
 
 use crate::listings::Listings;
-use crate::places::{FolderPlace, path_in, place_in, root};
-use crate::wildcard::matches;
+use crate::places::{FolderPlace, longer_path, place_in, root};
+use crate::wildcard::{cut, matches};
 use outside_folder::{Folder, Name, Trouble};
 use plan_types::{List, NoMemory, Text};
 use std::alloc::Global;
@@ -48,6 +48,16 @@ impl Spot {
             Spot::Literal(path) => Some(path),
         }
     }
+
+    /// The same path, of a spot that isn't used again.
+    fn into_dir(self) -> Option<Text>
+        ensures { result ≡ dir_of self }
+    {
+        match self {
+            Spot::Listed(place) => { if place.folder { Some(place.path) } else { None } }
+            Spot::Literal(path) => Some(path),
+        }
+    }
 }
 
 /// The spots to which names lead from the root.
@@ -66,7 +76,7 @@ pub(crate) fn spots<F: Folder>(
 {
     let mut found = at_root(alloc)?;
     for name in names {
-        found = all_below(alloc, name, found.as_slice(), listings, folder)?;
+        found = all_below(alloc, name, found, listings, folder)?;
     }
     Ok(found)
 }
@@ -82,19 +92,19 @@ fn at_root(alloc: Global) -> Result<List<Spot>, NoMemory>
 fn all_below<F: Folder>(
     alloc: Global,
     pattern: &Text,
-    spots: &[Spot],
+    spots: List<Spot>,
     listings: &mut Listings,
     folder: &mut F,
 ) -> Result<List<Spot>, Trouble>
     requires { Agree (F.tells folder.old) listings.old }
     ensures told { IfSome (F.tells folder.old)
-        (λ files. IfOk result (λ found. Leads files found (flat_map (below files pattern.now) (flat_map (seen files) spots.now)))) }
-    ensures settled { IfSome (F.tells folder.old) (λ files. IfOk result (λ found. Settled files spots.now → Settled files found)) }
+        (λ files. IfOk result (λ found. Leads files found (flat_map (below files pattern.now) (flat_map (seen files) spots)))) }
+    ensures settled { IfSome (F.tells folder.old) (λ files. IfOk result (λ found. Settled files spots → Settled files found)) }
     ensures agree { OnOk result (Agree (F.tells folder.new) listings.new) }
     ensures folder { Leaves F.tells F.faults folder.old folder.new (IsErrOf result Trouble.Failed) }
 {
     let mut found = List::new(alloc);
-    for spot in spots {
+    for spot in spots.into_vec() {
         let mut more = below(alloc, pattern, spot, listings, folder)?;
         found.append(&mut more)?;
     }
@@ -104,18 +114,18 @@ fn all_below<F: Folder>(
 fn below<F: Folder>(
     alloc: Global,
     pattern: &Text,
-    spot: &Spot,
+    spot: Spot,
     listings: &mut Listings,
     folder: &mut F,
 ) -> Result<List<Spot>, Trouble>
     requires { Agree (F.tells folder.old) listings.old }
     ensures told { IfSome (F.tells folder.old)
-        (λ files. IfOk result (λ found. Leads files found (flat_map (below files pattern.now) (seen files spot.now)))) }
-    ensures settled { IfSome (F.tells folder.old) (λ files. IfOk result (λ found. Settled files (spot.now ∷ []) → Settled files found)) }
+        (λ files. IfOk result (λ found. Leads files found (flat_map (below files pattern.now) (seen files spot)))) }
+    ensures settled { IfSome (F.tells folder.old) (λ files. IfOk result (λ found. Settled files (spot ∷ []) → Settled files found)) }
     ensures agree { OnOk result (Agree (F.tells folder.new) listings.new) }
     ensures folder { Leaves F.tells F.faults folder.old folder.new (IsErrOf result Trouble.Failed) }
 {
-    match spot.dir() {
+    match spot.into_dir() {
         None => Ok(List::new(alloc)),
         Some(dir) => below_dir(alloc, pattern, dir, listings, folder),
     }
@@ -124,13 +134,13 @@ fn below<F: Folder>(
 fn below_dir<F: Folder>(
     alloc: Global,
     pattern: &Text,
-    dir: &Text,
+    dir: Text,
     listings: &mut Listings,
     folder: &mut F,
 ) -> Result<List<Spot>, Trouble>
     requires { Agree (F.tells folder.old) listings.old }
     ensures told { IfSome (F.tells folder.old)
-        (λ files. IfOk result (λ found. Leads files found (below files pattern.now (directory dir.now)))) }
+        (λ files. IfOk result (λ found. Leads files found (below files pattern.now (directory dir)))) }
     ensures settled { IfSome (F.tells folder.old) (λ files. IfOk result (Settled files)) }
     ensures agree { OnOk result (Agree (F.tells folder.new) listings.new) }
     ensures folder { Leaves F.tells F.faults folder.old folder.new (IsErrOf result Trouble.Failed) }
@@ -138,8 +148,8 @@ fn below_dir<F: Folder>(
     if is_literal(pattern) {
         return Ok(named(alloc, dir, pattern)?);
     }
-    listings.list(alloc, dir, folder)?;
-    let found = matched(alloc, pattern, dir, listings.names(dir))?;
+    listings.list(alloc, &dir, folder)?;
+    let found = matched(alloc, pattern, &dir, listings.names(&dir))?;
     Ok(found)
 }
 
@@ -164,11 +174,11 @@ fn is_plain(byte: u8) -> bool
     byte != b'*' && byte != b'/' && byte != 0
 }
 
-fn named(alloc: Global, dir: &Text, name: &Text) -> Result<List<Spot>, NoMemory>
-    ensures { IfOk result (λ found. found ≡ Spot.Literal (path_in dir.now name.now) ∷ []) }
+fn named(alloc: Global, dir: Text, name: &Text) -> Result<List<Spot>, NoMemory>
+    ensures { IfOk result (λ found. found ≡ Spot.Literal (path_in dir name.now) ∷ []) }
 {
     let mut found = List::new(alloc);
-    found.push(Spot::Literal(path_in(dir, name)?))?;
+    found.push(Spot::Literal(longer_path(dir, name)?))?;
     Ok(found)
 }
 
@@ -180,9 +190,10 @@ fn matched(
 ) -> Result<List<Spot>, NoMemory>
     ensures { IfOk result (λ found. found ≡ map (λ name. Spot.Listed (place_in dir.now name)) (filter (is_matched pattern.now) names.now)) }
 {
+    let pieces = cut(alloc, pattern.as_str())?;
     let mut found = List::new(alloc);
     for name in names {
-        if matches(alloc, pattern.as_bytes(), name.text.as_bytes())? {
+        if matches(pattern.as_bytes(), pieces.as_slice(), name.text.as_bytes()) {
             found.push(Spot::Listed(place_in(dir, name)?))?;
         }
     }

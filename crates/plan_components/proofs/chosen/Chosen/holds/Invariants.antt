@@ -1,0 +1,11 @@
+use Rattle.std.proofs.Common.{◌≡◌}
+use Rattle.plan_types.specs.declared.condition.Cond.{size-Cond}
+use Rattle.plan_components.specs.Chosen.{holds}
+use Rattle.plan_components.proofs.chosen.Chosen.holds.Given as goal
+
+-- where the last sides are Yes, what is left decides
+abbrev pub invariant-loop-left : goal.invariant-loop-left
+invariant-loop-left l = holds l.self.env.now l.flags l.left ≡ holds l.self.env.now l.flags l.cond
+
+abbrev pub decreases-loop-left : goal.decreases-loop-left
+decreases-loop-left l = size-Cond l.left
