@@ -8,13 +8,13 @@ use Rattle.std.proofs.lemmas.Option.{slice_get_within, get_or_from_slice_get}
 use Rattle.qualified_goals.specs.declared.variable.Var.{Var}
 use Rattle.choice_problem.specs.declared.problem.Choice.{Choice}
 use Rattle.choice_problem.specs.declared.problem.Demand.{Demand}
-use Rattle.choice_problem.specs.ConflictSet.{has, set_of}
+use Rattle.choice_problem.specs.ConflictSet.{set_of}
 use Rattle.choice_problem.specs.Conflict.{Edge, leads, edges_from, edges_by, edges_of, named_by, lies_on_cycle, circular, set_of_all}
 use Rattle.qualified_goals.specs.Variable.{same_var}
 use Rattle.qualified_goals.specs.SameVariable.{same_var-is, same_var-refl}
 use Rattle.common_laws.specs.Lists.{contains-head, contains-none, contains-cases, contains-append, contains-right, contains-flat_map, flat_map-contains, contains-filter, filter-none, filter-contains, any-from, any-at, drop_at}
 use Rattle.choice_problem.proofs.Paths.{Way, start, step, way-join, way-edge, leads-way, way-leads}
-use Rattle.demand_cycles.specs.Cycles.{HasEdge, AreAncestors, leads_to_any, first_of_condition, owner_of, owners_on_cycles}
+use Rattle.demand_cycles.specs.Cycles.{HasEdge, leads_to_any, first_of_condition, owner_of, owners_on_cycles}
 
 -- the edge of a condition and a target
 
@@ -110,19 +110,22 @@ ways first other all kinds v w (step e h k way) =
       | inr (f, two, a, b) ↦ inr (f, two, step e h k a, b)
     ]
 
--- an owner of a demand on a cycle to which a variable leads
-record Hit (edges : List Edge) (demands : List Demand) (v : Var) : Type 0 where
-  owner : Var
-  among : Contains (owners_on_cycles edges demands) owner
-  way : Way edges v owner
+-- an owner of a demand on a cycle, to which one variable leads and that leads to another
+pub record Hit (edges : List Edge) (demands : List Demand) (v u : Var) : Type 0 where
+  pub owner : Var
+  pub among : Contains (owners_on_cycles edges demands) owner
+  pub way : Way edges v owner
+  pub on : Way edges owner u
 
-hit-by : (edges : List Edge) (demands : List Demand) (d : Demand) (v : Var) → Contains demands d → (ring : Ring edges d) → Way edges v ring.edge.from → Hit edges demands v
-hit-by edges demands d v h ring way =
+hit-by : (edges : List Edge) (demands : List Demand) (d : Demand) (v u : Var) → Contains demands d → (ring : Ring edges d) → Way edges v ring.edge.from → Way edges ring.edge.from u
+    → Hit edges demands v u
+hit-by edges demands d v u h ring way on =
     let kept = filter-contains (lies_on_cycle edges) demands d h (ring-lies edges d ring) in
     record {
       owner = ring.edge.from;
       among = flat_map-contains (λ (x : Demand). option_to_list (owner_of x)) (filter (lies_on_cycle edges) demands) d ring.edge.from kept (edge-owner d.when d.target ring.edge ring.by);
       way = way;
+      on = on;
     }
 
 kind-of : (olds news : List Demand) (e : Edge) → Contains (edges_of (olds ++ news)) e → Contains (edges_of olds) e ⊎ Contains (edges_of news) e
@@ -133,48 +136,40 @@ kind-of olds news e h =
       | inr k ↦ inr (listed-edge news from.0 e k from.2)
     ]
 
-hit-joined : (olds news : List Demand) (d : Demand) → circular olds ≡ [] → Contains (olds ++ news) d → lies_on_cycle (edges_of (olds ++ news)) d ≡ true → Hit (edges_of (olds ++ news)) news d.target
+-- an owner of a demand, and one of a new demand on the same cycle
+abbrev pub HitBy : List Edge → List Demand → Demand → Type 0
+HitBy edges demands d = (u : Var) × Contains (option_to_list (owner_of d)) u × Hit edges demands d.target u
+
+hit-joined : (olds news : List Demand) (d : Demand) → circular olds ≡ [] → Contains (olds ++ news) d → lies_on_cycle (edges_of (olds ++ news)) d ≡ true → HitBy (edges_of (olds ++ news)) news d
 unfolding circular
 hit-joined olds news d none h lies =
     let all = edges_of (olds ++ news) in
     let ring = ring-of all d lies in
-    let to = edge-to d.when d.target ring.edge ring.by in
-    subst (λ v. Hit all news v) to (elim (ways (edges_of olds) (edges_of news) all (kind-of olds news) ring.edge.to ring.edge.from ring.back) [
-      | inl old ↦ elim (contains-append olds news d h) [
-        | inl k ↦ absurd (false≢true (
-            sym (filter-none (lies_on_cycle (edges_of olds)) olds none d k)
-            ∙ ring-lies (edges_of olds) d (record { edge = ring.edge; by = ring.by; back = old })))
-        | inr k ↦ hit-by all news d ring.edge.to k ring ring.back
-      ]
-      | inr (e, new, a, b) ↦
-          let from = contains-flat_map edges_by news e new in
-          let over : Way all ring.edge.from ring.edge.to = way-edge all ring.edge (listed-edge (olds ++ news) d ring.edge h ring.by) in
-          let back : Way all e.to e.from = way-join all e.to ring.edge.from e.from b (way-join all ring.edge.from ring.edge.to e.from over a) in
-          hit-by all news from.0 ring.edge.to from.1 (record { edge = e; by = from.2; back = back }) a
-    ])
+    let to = edge-to d.when d.target ring.edge ring.by in (
+      ring.edge.from,
+      edge-owner d.when d.target ring.edge ring.by,
+      subst (λ v. Hit all news v ring.edge.from) to (elim (ways (edges_of olds) (edges_of news) all (kind-of olds news) ring.edge.to ring.edge.from ring.back) [
+        | inl old ↦ elim (contains-append olds news d h) [
+          | inl k ↦ absurd (false≢true (
+              sym (filter-none (lies_on_cycle (edges_of olds)) olds none d k)
+              ∙ ring-lies (edges_of olds) d (record { edge = ring.edge; by = ring.by; back = old })))
+          | inr k ↦ hit-by all news d ring.edge.to ring.edge.from k ring ring.back (start refl)
+        ]
+        | inr (e, new, a, b) ↦
+            let from = contains-flat_map edges_by news e new in
+            let listed = listed-edge (olds ++ news) from.0 e (contains-right olds news from.0 from.1) from.2 in
+            let over : Way all ring.edge.from ring.edge.to = way-edge all ring.edge (listed-edge (olds ++ news) d ring.edge h ring.by) in
+            let back : Way all e.to e.from = way-join all e.to ring.edge.from e.from b (way-join all ring.edge.from ring.edge.to e.from over a) in
+            hit-by all news from.0 ring.edge.to ring.edge.from from.1 (record { edge = e; by = from.2; back = back }) a (step e listed refl b)
+      ]),
+    )
 
-hit-of : (demands : List Demand) (n : ℕ) (d : Demand) → circular (take n demands) ≡ [] → Contains (circular demands) d → Hit (edges_of demands) (drop n demands) d.target
-unfolding circular
-hit-of demands n d none h =
-    let found = contains-filter (lies_on_cycle (edges_of demands)) demands d h in
+pub hit-of : (demands : List Demand) (n : ℕ) (d : Demand) → circular (take n demands) ≡ [] → Contains demands d → lies_on_cycle (edges_of demands) d ≡ true
+    → HitBy (edges_of demands) (drop n demands) d
+hit-of demands n d none h lies =
     let e = take-append-drop n demands in
-    subst (λ l. Hit (edges_of l) (drop n demands) d.target) e
-    (hit-joined (take n demands) (drop n demands) d none (subst (λ l. Contains l d) (sym e) found.0) (subst (λ l. lies_on_cycle (edges_of l) d ≡ true) (sym e) found.1))
-
--- the targets of demands on cycles lead to the owners of new ones
-pub around-all : (demands : List Demand) (n : ℕ) (keys : List Var) → circular (take n demands) ≡ [] → AreAncestors (edges_of demands) (owners_on_cycles (edges_of demands) (drop n demands)) keys
-    → (d : Demand) → Contains (circular demands) d → has keys d.target ≡ true
-around-all demands n keys none all d h =
-    let hit = hit-of demands n d none h in
-    let edges = edges_of demands in
-    all d.target ∙ any-from (λ (w : Var). leads (length edges) edges d.target w) (owners_on_cycles edges (drop n demands)) hit.owner hit.among (way-leads edges d.target hit.owner hit.way)
-
--- a demand on a target that isn't around lies on no cycle
-pub lies-around : (demands : List Demand) (keys : List Var) → ((d : Demand) → Contains (circular demands) d → has keys d.target ≡ true)
-    → (d : Demand) → Contains demands d → has keys d.target ≡ false → lies_on_cycle (edges_of demands) d ≡ false
-unfolding circular
-lies-around demands keys all d h out = false_from_ne_true (lies_on_cycle (edges_of demands) d) (λ lies.
-    false≢true (sym out ∙ all d (filter-contains (lies_on_cycle (edges_of demands)) demands d h lies)))
+    subst (λ l. HitBy (edges_of l) (drop n demands) d) e
+    (hit-joined (take n demands) (drop n demands) d none (subst (λ l. Contains l d) (sym e) h) (subst (λ l. lies_on_cycle (edges_of l) d ≡ true) (sym e) lies))
 
 empty-by : {X : Type 0} (xs : List X) → ((x : X) → Contains xs x → ⊥) → xs ≡ []
 empty-by [] h = refl
@@ -182,9 +177,11 @@ empty-by (x ∷ xs) h = absurd (h x (contains-head x xs))
 
 pub no-set : (demands : List Demand) (n : ℕ) (owners : List Var) → circular (take n demands) ≡ [] → owners ≡ owners_on_cycles (edges_of demands) (drop n demands) → length owners ≡ 0
     → set_of_all (circular demands) ≡ None
+unfolding circular
 no-set demands n owners none e empty =
     ap set_of_all (empty-by (circular demands) (λ d h.
-    let hit = hit-of demands n d none h in
+    let found = contains-filter (lies_on_cycle (edges_of demands)) demands d h in
+    let hit = (hit-of demands n d none found.0 found.1).2 in
     let among = subst (λ l. Contains l hit.owner) (sym e) hit.among in
     omega (arith, among.1, empty)))
 

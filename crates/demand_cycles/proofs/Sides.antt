@@ -33,19 +33,19 @@ targets-reversed edges from targets all v = (
   λ h. (all v).1 (edge-reversed edges from v h),
 )
 
-reversed-way : (edges : List Edge) (v w : Var) → Way (reversed edges) v w → Way edges w v
+pub reversed-way : (edges : List Edge) (v w : Var) → Way (reversed edges) v w → Way edges w v
 reversed-way edges v w (start e) = start (sym e)
 reversed-way edges v w (step e h k way) =
     let found = contains-map reversed_edge edges e h in
     let to = ap (λ (x : Edge). x.from) found.2 ∙ k in
     way-join edges w e.to v (reversed-way edges e.to w way) (step found.0 found.1 (ap (λ (x : Edge). x.to) found.2) (start to))
 
-way-reversed : (edges : List Edge) (v w : Var) → Way edges v w → Way (reversed edges) w v
+pub way-reversed : (edges : List Edge) (v w : Var) → Way edges v w → Way (reversed edges) w v
 way-reversed edges v w (start e) = start (sym e)
 way-reversed edges v w (step e h k way) =
     way-join (reversed edges) w e.to v (way-reversed edges e.to w way) (step (reversed_edge e) (map-contains reversed_edge edges e h) refl (start k))
 
-one-of : (goal v : Var) → Contains (goal ∷ []) v → goal ≡ v
+pub one-of : (goal v : Var) → Contains (goal ∷ []) v → goal ≡ v
 one-of goal v h = elim (contains-cases goal [] v h) [ inl same ↦ same | inr none ↦ absurd (contains-none v none) ]
 
 leads-back : (edges : List Edge) (from end : Var) → leads_to_any (reversed edges) (from ∷ []) end ≡ true → leads_to_any edges (end ∷ []) from ≡ true

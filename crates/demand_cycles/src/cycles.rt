@@ -6,9 +6,11 @@ ghost use Rattle.choice_problem.specs.declared.problem.Demand.{Demand};
 ghost use Rattle.choice_problem.specs.ConflictSet.{has};
 ghost use Rattle.choice_problem.specs.Conflict.{Edge, edges_of, named_by, lies_on_cycle, circular, set_of_all};
 ghost use Rattle.demand_cycles.specs.Cycles.{HasEdge, AreAncestors, leads_to_any, owner_of, owners_on_cycles};
+ghost use Rattle.demand_cycles.specs.Ring.{AreRings, IsRingOf, Tells, closes_from};
 ghost use Rattle.demand_cycles.specs.Side.{IsSide, reversed};
 
-use crate::side::{Side, add_keys, are_apart, have_met, is_around};
+use crate::ring::{Ring, any_closes};
+use crate::side::{Side, add_keys, are_apart, have_met};
 use choice_problem::{ConflictSet, Demand, Var, is_same, push_named};
 use indexmap::IndexSet;
 use plan_types::{List, NoMemory};
@@ -53,8 +55,8 @@ pub fn cycle_set_of<G: Graph>(
     if owners.is_empty() {
         return Ok(None);
     }
-    let around = ancestors(alloc, graph, owners.as_slice())?;
-    let named = named_on_cycles(alloc, graph, &around)?;
+    let rings = rings_of(alloc, graph, owners.as_slice())?;
+    let named = named_on_cycles(alloc, graph, rings.as_slice())?;
     let set = ConflictSet::of(alloc, named.as_slice())?;
     Ok(Some(set))
 }
@@ -75,27 +77,50 @@ fn new_owners<G: Graph>(alloc: Global, graph: &G, before: usize) -> Result<Vec<V
     Ok(owners)
 }
 
-// What the demands on cycles name. The targets of all of these are around.
-fn named_on_cycles<G: Graph>(
-    alloc: Global,
-    graph: &G,
-    around: &IndexSet<Var>,
-) -> Result<Vec<Var>, NoMemory>
-    requires { (d : Demand) → Contains (circular (G.demands graph.now)) d → has around.now.keys d.target ≡ true }
+// What the demands on cycles name. The rings tell which these are.
+fn named_on_cycles<G: Graph>(alloc: Global, graph: &G, rings: &[Ring]) -> Result<Vec<Var>, NoMemory>
+    requires { Tells (G.demands graph.now) rings.now }
     ensures { IfOk result (λ named. named.items ≡ flat_map named_by (circular (G.demands graph.now))) }
 {
     let mut named = Vec::new(alloc);
-    let mut last = None;
     let count = graph.count();
     for place in 0..count {
         let demand = graph.demand(place);
-        if is_around(around, demand.target) {
-            if is_on_cycle(alloc, graph, &mut last, demand)? {
-                push_named(&mut named, demand)?;
-            }
+        if closes_from(rings, owner_of(demand), demand.target) {
+            push_named(&mut named, demand)?;
         }
     }
     Ok(named)
+}
+
+fn closes_from(rings: &[Ring], owner: Option<Var>, target: Var) -> bool
+    ensures { result ≡ closes_from rings.now owner target }
+{
+    match owner {
+        Some(owner) => any_closes(rings, owner, target),
+        None => false,
+    }
+}
+
+// Rings on which all of some variables are. One that is on a ring already has no other cycles.
+fn rings_of<G: Graph>(alloc: Global, graph: &G, vars: &[Var]) -> Result<Vec<Ring>, NoMemory>
+    ensures { IfOk result (λ rings. AreRings (edges_of (G.demands graph.now)) vars.now rings.items) }
+{
+    let mut rings = Vec::new(alloc);
+    for v in vars {
+        if !any_closes(rings.as_slice(), *v, *v) {
+            rings.push(ring_of(alloc, graph, *v)?)?;
+        }
+    }
+    Ok(rings)
+}
+
+fn ring_of<G: Graph>(alloc: Global, graph: &G, v: Var) -> Result<Ring, NoMemory>
+    ensures { IfOk result (IsRingOf (edges_of (G.demands graph.now)) v) }
+{
+    let ahead = descendants(alloc, graph, &[v])?;
+    let back = ancestors(alloc, graph, &[v])?;
+    Ok(Ring { ahead, back })
 }
 
 /// Puts the owner of a demand behind other variables, where it has one.
@@ -185,6 +210,21 @@ fn ancestors<G: Graph>(alloc: Global, graph: &G, goals: &[Var]) -> Result<IndexS
     while place < found.len() {
         let sources = graph.sources(alloc, found[place])?;
         add_keys(&mut found, sources.as_slice())?;
+        place += 1;
+    }
+    Ok(found)
+}
+
+// The variables that one of some leads to: these, and again and again what edges from those found enter.
+fn descendants<G: Graph>(alloc: Global, graph: &G, begun: &[Var]) -> Result<IndexSet<Var>, NoMemory>
+    ensures { IfOk result (λ found. AreAncestors (reversed (edges_of (G.demands graph.now))) begun.now found.keys) }
+{
+    let mut found = IndexSet::new(alloc);
+    add_keys(&mut found, begun)?;
+    let mut place = 0;
+    while place < found.len() {
+        let targets = graph.targets(alloc, found[place])?;
+        add_keys(&mut found, targets.as_slice())?;
         place += 1;
     }
     Ok(found)

@@ -5,3 +5,4 @@ pub mod Putting
 pub mod Turns
 pub mod Values
 pub mod Walk
+pub mod Naming

@@ -2,6 +2,7 @@ pub mod Apart
 pub mod Chosen
 pub mod Wanted
 pub mod Needs
+pub mod Known
 pub mod SameNode
 pub mod Plan
 pub mod Steps

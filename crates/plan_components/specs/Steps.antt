@@ -26,7 +26,7 @@ value_with A c v = first_value (A v) (cond (same_var c.var v) (Some c.val) None)
 
 -- whether a component is wanted of the package of a node
 abbrev pub wanted_of : Selection → Owner → Component → Bool
-wanted_of selection owner = is_wanted_under selection owner.node.qual owner.node.«package» owner.flags.now
+wanted_of selection owner = is_wanted_under selection owner.node.qual owner.node.«package» owner.known.now.flags
 
 -- whether wanted components are looked for among such
 abbrev pub is_among : Among → Component → Bool

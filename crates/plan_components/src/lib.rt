@@ -5,6 +5,7 @@
 
 mod chosen;
 mod components;
+mod known;
 mod lookups;
 mod needs;
 mod node;

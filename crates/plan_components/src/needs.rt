@@ -1,35 +1,44 @@
 // What a node needs.
-ghost use Rattle.std.specs.Prelude.{◌≡◌, ◌++◌, ◌&&◌, ◌||◌, IfOk, OnOk, flat_map, filter, map, not, slice_get, true};
+ghost use Rattle.std.specs.Prelude.{◌≡◌, ◌++◌, ◌&&◌, ◌||◌, IfOk, IfSome, OnOk, flat_map, filter, map, not, slice_get, true};
 ghost use Rattle.std.specs.List.{list_any};
 ghost use Rattle.std.specs.Option.{option_copied};
 ghost use Rattle.flatten.specs.OwnComponents.{is_exe, is_lib};
 ghost use Rattle.plan_components.specs.Apart.{are_apart};
-ghost use Rattle.plan_components.specs.Chosen.{body_at, chosen_flags, selection_of, holds};
+ghost use Rattle.plan_components.specs.Chosen.{body_at, selection_of, holds};
+ghost use Rattle.plan_components.specs.Known.{AreNamed, IsKnown, IsSourceOf, Names, asks_at};
 ghost use Rattle.plan_components.specs.Needs.{asked_pieces, asks, component_needs, counts, dep_needs, need_of, needs_by, needs_of, needs_under, one_needs, piece_needs, qual_of_dep, source_needs, unit_need, wanted_needs};
 ghost use Rattle.plan_components.specs.Wanted.{places};
 
 use crate::chosen::Chosen;
 use crate::components::{is_executable, is_lib};
+use crate::known::known_of;
 use crate::node::{Need, Node, Piece};
-use crate::owner::Owner;
+use crate::owner::{Known, Owner};
 use crate::pieces::{as_pieces, node_of, only_whole};
 use cabal_problem::{package_var, qual_for};
-use plan_types::{Body, Component, Dep, DepKind, Description, GuardedDep, List, NoMemory, Text};
+use plan_types::{
+    Body, Component, Dep, DepKind, Description, GuardedDep, LibName, List, NoMemory, Text,
+};
 use qualified_goals::Qual;
 use std::alloc::Global;
 
-/// What a node needs, in the order of its dependencies.
+/// What a node needs, in the order of its dependencies. What is known of the package of the last node serves again.
 pub(crate) fn needs_of(
     alloc: Global,
     chosen: &Chosen<'_>,
+    last: &mut Option<Known>,
     node: Node,
 ) -> Result<List<Need>, NoMemory>
-    ensures { IfOk result (λ needs. needs ≡ needs_of (selection_of chosen.now) node) }
+    requires { IfSome last.old (IsKnown (selection_of chosen.now)) }
+    ensures needs { IfOk result (λ needs. needs ≡ needs_of (selection_of chosen.now) node) }
+    ensures last { IfSome last.new (IsKnown (selection_of chosen.now)) }
 {
     match chosen.body(node.qual, node.package) {
         None => Ok(List::new(alloc)),
         Some(Body::Installed { needs, .. }) => unit_needs(alloc, chosen, node, needs.as_slice()),
-        Some(Body::Source { description, .. }) => source_needs(alloc, chosen, node, description),
+        Some(Body::Source { description, .. }) => {
+            source_needs(alloc, chosen, last, node, description)
+        }
     }
 }
 
@@ -72,18 +81,34 @@ fn need_of(kind: DepKind, qual: Qual, package: u64, piece: Piece) -> Need
 fn source_needs(
     alloc: Global,
     chosen: &Chosen<'_>,
+    last: &mut Option<Known>,
     node: Node,
     d: &Description,
 ) -> Result<List<Need>, NoMemory>
-    requires { are_apart (map (λ decl. decl.name) d.now.flags) ≡ true }
-    ensures { IfOk result (λ needs. needs ≡ source_needs (selection_of chosen.now) node d.now) }
+    requires apart { are_apart (map (λ decl. decl.name) d.now.flags) ≡ true }
+    requires source { IsSourceOf (selection_of chosen.now) node d.now }
+    requires last { IfSome last.old (IsKnown (selection_of chosen.now)) }
+    ensures needs { IfOk result (λ needs. needs ≡ source_needs (selection_of chosen.now) node d.now) }
+    ensures last { IfSome last.new (IsKnown (selection_of chosen.now)) }
+{
+    let known = known_of(alloc, chosen, last.take(), node, d)?;
+    let needs = piece_needs(alloc, chosen, node, &known, d)?;
+    *last = Some(known);
+    Ok(needs)
+}
+
+fn piece_needs(
+    alloc: Global,
+    chosen: &Chosen<'_>,
+    node: Node,
+    known: &Known,
+    d: &Description,
+) -> Result<List<Need>, NoMemory>
+    requires { IsKnown (selection_of chosen.now) known.now }
+    ensures { IfOk result (λ needs. needs ≡ piece_needs (selection_of chosen.now) node known.now.flags d.now node.piece) }
 {
     let mut needs = List::new(alloc);
-    let flags = chosen.flags(alloc, node.qual, node.package, d)?;
-    let owner = Owner {
-        node,
-        flags: &flags,
-    };
+    let owner = Owner { node, known };
     push_piece(alloc, &mut needs, chosen, &owner, d)?;
     Ok(needs)
 }
@@ -95,13 +120,14 @@ fn push_piece(
     owner: &Owner<'_>,
     d: &Description,
 ) -> Result<(), NoMemory>
+    requires { IsKnown (selection_of chosen.now) owner.now.known.now }
     ensures { OnOk result (needs.new ≡ needs.old
-        ++ piece_needs (selection_of chosen.now) owner.now.node owner.now.flags.now d.now owner.now.node.piece) }
+        ++ piece_needs (selection_of chosen.now) owner.now.node owner.now.known.now.flags d.now owner.now.node.piece) }
 {
     match owner.node.piece {
         Piece::Whole => {
             push_wanted(alloc, needs, chosen, owner, d.components.as_slice())?;
-            push_setup(alloc, needs, chosen, owner.node, d.setup.as_slice())
+            push_setup(alloc, needs, chosen, owner, d.setup.as_slice())
         }
         Piece::One(place) => {
             let component = d.components.as_slice().get(place as usize);
@@ -117,8 +143,9 @@ fn push_one(
     owner: &Owner<'_>,
     component: Option<&Component>,
 ) -> Result<(), NoMemory>
+    requires { IsKnown (selection_of chosen.now) owner.now.known.now }
     ensures { OnOk result (needs.new ≡ needs.old
-        ++ one_needs (selection_of chosen.now) owner.now.node owner.now.flags.now (option_copied component.entry)) }
+        ++ one_needs (selection_of chosen.now) owner.now.node owner.now.known.now.flags (option_copied component.entry)) }
 {
     match component {
         Some(component) => push_component(alloc, needs, chosen, owner, true, component),
@@ -134,8 +161,9 @@ fn push_wanted(
     owner: &Owner<'_>,
     components: &[Component],
 ) -> Result<(), NoMemory>
+    requires { IsKnown (selection_of chosen.now) owner.now.known.now }
     ensures { OnOk result (needs.new ≡ needs.old
-        ++ wanted_needs (selection_of chosen.now) owner.now.node owner.now.flags.now components.now) }
+        ++ wanted_needs (selection_of chosen.now) owner.now.node owner.now.known.now.flags components.now) }
 {
     for component in components {
         if owner.wants(chosen, component) {
@@ -149,13 +177,14 @@ fn push_setup(
     alloc: Global,
     needs: &mut List<Need>,
     chosen: &Chosen<'_>,
-    node: Node,
+    owner: &Owner<'_>,
     deps: &[Dep],
 ) -> Result<(), NoMemory>
-    ensures { OnOk result (needs.new ≡ needs.old ++ flat_map (dep_needs (selection_of chosen.now) node) deps.now) }
+    requires { IsKnown (selection_of chosen.now) owner.now.known.now }
+    ensures { OnOk result (needs.new ≡ needs.old ++ flat_map (dep_needs (selection_of chosen.now) owner.now.node) deps.now) }
 {
     for dep in deps {
-        push_dep(alloc, needs, chosen, node, dep)?;
+        push_dep(alloc, needs, chosen, owner, dep)?;
     }
     Ok(())
 }
@@ -169,10 +198,11 @@ fn push_component(
     own: bool,
     component: &Component,
 ) -> Result<(), NoMemory>
+    requires { IsKnown (selection_of chosen.now) owner.now.known.now }
     ensures { OnOk result (needs.new ≡ needs.old
-        ++ component_needs (selection_of chosen.now) owner.now.node owner.now.flags.now own component.now) }
+        ++ component_needs (selection_of chosen.now) owner.now.node owner.now.known.now.flags own component.now) }
 {
-    if chosen.holds(owner.flags, component.buildable.get()) {
+    if chosen.holds(&owner.known.flags, component.buildable.get()) {
         push_deps(alloc, needs, chosen, owner, own, component)?;
     }
     Ok(())
@@ -186,13 +216,14 @@ fn push_deps(
     own: bool,
     component: &Component,
 ) -> Result<(), NoMemory>
-    requires { holds chosen.now.env.now owner.now.flags.now component.now.buildable ≡ true }
+    requires known { IsKnown (selection_of chosen.now) owner.now.known.now }
+    requires built { holds chosen.now.env.now owner.now.known.now.flags component.now.buildable ≡ true }
     ensures { OnOk result (needs.new ≡ needs.old
-        ++ component_needs (selection_of chosen.now) owner.now.node owner.now.flags.now own component.now) }
+        ++ component_needs (selection_of chosen.now) owner.now.node owner.now.known.now.flags own component.now) }
 {
     for guarded in component.deps.as_slice() {
         if counts(chosen, owner, own, component, guarded) {
-            push_dep(alloc, needs, chosen, owner.node, &guarded.dep)?;
+            push_dep(alloc, needs, chosen, owner, &guarded.dep)?;
         }
     }
     Ok(())
@@ -206,24 +237,25 @@ fn counts(
     component: &Component,
     guarded: &GuardedDep,
 ) -> bool
-    requires { holds chosen.now.env.now owner.now.flags.now component.now.buildable ≡ true }
-    ensures { result ≡ counts (selection_of chosen.now) owner.now.flags.now own component.now guarded.now }
+    requires { holds chosen.now.env.now owner.now.known.now.flags component.now.buildable ≡ true }
+    ensures { result ≡ counts (selection_of chosen.now) owner.now.known.now.flags own component.now guarded.now }
 {
-    (own || !guarded.dep.internal) && chosen.holds(owner.flags, guarded.when.get())
+    (own || !guarded.dep.internal) && chosen.holds(&owner.known.flags, guarded.when.get())
 }
 
 fn push_dep(
     alloc: Global,
     needs: &mut List<Need>,
     chosen: &Chosen<'_>,
-    node: Node,
+    owner: &Owner<'_>,
     dep: &Dep,
 ) -> Result<(), NoMemory>
-    ensures { OnOk result (needs.new ≡ needs.old ++ dep_needs (selection_of chosen.now) node dep.now) }
+    requires { IsKnown (selection_of chosen.now) owner.now.known.now }
+    ensures { OnOk result (needs.new ≡ needs.old ++ dep_needs (selection_of chosen.now) owner.now.node dep.now) }
 {
     let package = chosen.number(&dep.package);
-    let qual = qual_of_dep(node, dep, package);
-    let pieces = asked_pieces(alloc, dep, chosen.body(qual, package))?;
+    let qual = qual_of_dep(owner.node, dep, package);
+    let pieces = asked_pieces(alloc, chosen, owner.known, dep, qual, package)?;
     push_pieces(needs, dep.kind, qual, package, pieces.as_slice())
 }
 
@@ -251,20 +283,116 @@ fn qual_of_dep(node: Node, dep: &Dep, package: u64) -> Qual
     qual_for(dep.kind, package_var(node.qual, node.package), package)
 }
 
-fn asked_pieces(alloc: Global, dep: &Dep, body: Option<&Body>) -> Result<List<Piece>, NoMemory>
-    ensures { IfOk result (λ pieces. pieces ≡ asked_pieces dep.now (option_copied body.entry)) }
+fn asked_pieces(
+    alloc: Global,
+    chosen: &Chosen<'_>,
+    known: &Known,
+    dep: &Dep,
+    qual: Qual,
+    package: u64,
+) -> Result<List<Piece>, NoMemory>
+    requires { IsKnown (selection_of chosen.now) known.now }
+    ensures { IfOk result (λ pieces. pieces ≡ asked_pieces dep.now (body_at (selection_of chosen.now) qual «package»)) }
 {
-    match body {
+    match chosen.body(qual, package) {
         None => Ok(List::new(alloc)),
         Some(Body::Installed { .. }) => only_whole(alloc),
         Some(Body::Source { description, .. }) => {
-            let places = asked_places(alloc, dep, description.components.as_slice())?;
+            let components = description.components.as_slice();
+            let own = known.is_of(qual, package);
+            let places = asked_places(alloc, known, own, dep, components)?;
             as_pieces(alloc, description.custom, places.as_slice())
         }
     }
 }
 
-fn asked_places(alloc: Global, dep: &Dep, components: &[Component]) -> Result<List<u64>, NoMemory>
+// Where the components are those that are known, and a dependency is on one name, components of other names aren't looked at.
+fn asked_places(
+    alloc: Global,
+    known: &Known,
+    own: bool,
+    dep: &Dep,
+    components: &[Component],
+) -> Result<List<u64>, NoMemory>
+    requires { own ≡ true → AreNamed components.now known.now.places }
+    ensures { IfOk result (λ found. found ≡ places (asks dep.now.kind dep.now) components.now) }
+{
+    if own {
+        if let Some(name) = asked_name(alloc, dep)? {
+            return asked_among(alloc, known, dep, components, &name);
+        }
+    }
+    all_asked(alloc, dep, components)
+}
+
+fn asked_among(
+    alloc: Global,
+    known: &Known,
+    dep: &Dep,
+    components: &[Component],
+    name: &Text,
+) -> Result<List<u64>, NoMemory>
+    requires names { Names (asks dep.now.kind dep.now) name.now }
+    requires named { AreNamed components.now known.now.places }
+    ensures { IfOk result (λ found. found ≡ places (asks dep.now.kind dep.now) components.now) }
+{
+    let found = asked_at(alloc, dep, components, known.named(name))?;
+    Ok(found)
+}
+
+fn asked_at(
+    alloc: Global,
+    dep: &Dep,
+    components: &[Component],
+    places: &[u64],
+) -> Result<List<u64>, NoMemory>
+    ensures { IfOk result (λ found. found ≡ filter (asks_at dep.now components.now) places.now) }
+{
+    let mut found = List::new(alloc);
+    for place in places {
+        if asks_at(dep, components, *place) {
+            found.push(*place)?;
+        }
+    }
+    Ok(found)
+}
+
+fn asks_at(dep: &Dep, components: &[Component], place: u64) -> bool
+    ensures { result ≡ asks_at dep.now components.now place }
+{
+    match components.get(place as usize) {
+        Some(component) => asks(dep, component),
+        None => false,
+    }
+}
+
+// The name that all components have for which a dependency asks, where it is on one alone.
+fn asked_name(alloc: Global, dep: &Dep) -> Result<Option<Text>, NoMemory>
+    ensures { IfOk result (λ name. IfSome name (Names (asks dep.now.kind dep.now))) }
+{
+    match dep.kind {
+        DepKind::Library => only_library(alloc, dep.libs.as_slice()),
+        DepKind::Tool => {
+            let name = dep.exe.copy()?;
+            Ok(Some(name))
+        }
+        DepKind::Setup => only_library(alloc, dep.libs.as_slice()),
+    }
+}
+
+fn only_library(alloc: Global, libs: &[LibName]) -> Result<Option<Text>, NoMemory>
+    ensures { IfOk result (λ name. IfSome name (Names (λ component. list_any (is_lib component) libs.now))) }
+{
+    match libs {
+        [lib] => {
+            let name = Text::from_str(alloc, lib.as_str())?;
+            Ok(Some(name))
+        }
+        _ => Ok(None),
+    }
+}
+
+fn all_asked(alloc: Global, dep: &Dep, components: &[Component]) -> Result<List<u64>, NoMemory>
     ensures { IfOk result (λ found. found ≡ places (asks dep.now.kind dep.now) components.now) }
 {
     let mut found = List::new(alloc);

@@ -1,14 +1,24 @@
-// A node whose package has a source.
+// A node whose package has a source, and what is known of that.
 ghost use Rattle.std.specs.Prelude.{◌≡◌, true};
 ghost use Rattle.conditionals.specs.Value.{each_once};
 
 use crate::node::Node;
-use plan_types::{FlagSet, List};
+use keyed_lists::Lists;
+use plan_types::{FlagSet, List, Text};
+use qualified_goals::Var;
 
-/// A node and the flags of its package.
+/// A package under a qualifier, the values of its flags, and the places of its components by their names.
+#[derive(Drop)]
+pub(crate) struct Known {
+    pub owner: Var,
+    pub flags: List<FlagSet>,
+    pub places: Lists<Text, u64>,
+    ghost once: { each_once flags ≡ true },
+}
+
+/// A node and what is known of its package.
 #[derive(Drop)]
 pub(crate) struct Owner<'a> {
     pub node: Node,
-    pub flags: &'a List<FlagSet>,
-    ghost once: { each_once flags.now ≡ true },
+    pub known: &'a Known,
 }

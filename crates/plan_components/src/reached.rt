@@ -1,6 +1,7 @@
 // The nodes of a plan are looked at one after the other, each once; behind them stand those that they need.
-ghost use Rattle.std.specs.Prelude.{◌≡◌, ◌<◌, [], IfOk, OnOk, length};
+ghost use Rattle.std.specs.Prelude.{◌≡◌, ◌<◌, [], IfOk, IfSome, OnOk, length};
 ghost use Rattle.plan_components.specs.Chosen.{selection_of};
+ghost use Rattle.plan_components.specs.Known.{IsKnown};
 ghost use Rattle.plan_components.specs.Needs.{needed_nodes, needs_of};
 ghost use Rattle.plan_components.specs.Plan.{AreReached};
 ghost use Rattle.plan_components.specs.SameNode.{place_of};
@@ -10,6 +11,7 @@ ghost use Rattle.plan_components.specs.Wanted.{first_nodes};
 use crate::chosen::Chosen;
 use crate::needs::needs_of;
 use crate::node::{Need, Node};
+use crate::owner::Known;
 use crate::put::{put_all, put_needed};
 use crate::wanted::first_nodes;
 use indexmap::IndexSet;
@@ -48,8 +50,9 @@ pub fn reach(alloc: Global, chosen: &Chosen<'_>) -> Result<Reached, NoMemory>
 {
     let mut set = first_set(alloc, chosen)?;
     let mut needs = List::new(alloc);
+    let mut last = None;
     while needs.len() < set.len() {
-        let needed = visit(alloc, chosen, &mut set, needs.len())?;
+        let needed = visit(alloc, chosen, &mut last, &mut set, needs.len())?;
         needs.push(needed)?;
     }
     Ok(Reached { set, needs })
@@ -68,15 +71,18 @@ fn first_set(alloc: Global, chosen: &Chosen<'_>) -> Result<IndexSet<Node>, NoMem
 fn visit(
     alloc: Global,
     chosen: &Chosen<'_>,
+    last: &mut Option<Known>,
     nodes: &mut IndexSet<Node>,
     place: usize,
 ) -> Result<List<Need>, NoMemory>
-    requires { place < length nodes.old.keys }
+    requires place { place < length nodes.old.keys }
+    requires last { IfSome last.old (IsKnown (selection_of chosen.now)) }
     ensures needs { IfOk result (λ needs. needs ≡ needs_of (selection_of chosen.now) (node_at nodes.old.keys place)) }
     ensures put { OnOk result (Puts (needed_nodes (selection_of chosen.now) (node_at nodes.old.keys place)) nodes.old.keys nodes.new.keys) }
+    ensures last { IfSome last.new (IsKnown (selection_of chosen.now)) }
 {
     let node = nodes[place];
-    let needs = needs_of(alloc, chosen, node)?;
+    let needs = needs_of(alloc, chosen, last, node)?;
     put_needed(nodes, needs.as_slice())?;
     Ok(needs)
 }

@@ -10,7 +10,7 @@ ghost use Rattle.plan_components.specs.Wanted.{first_nodes, first_of, first_piec
 use crate::chosen::Chosen;
 use crate::components::{is_executable, is_lib};
 use crate::node::{Node, Piece};
-use crate::owner::Owner;
+use crate::owner::{Known, Owner};
 use crate::pieces::{as_pieces, node_of, only_whole};
 use plan_types::{Body, Component, Description, LibName, List, NoMemory, Package};
 use qualified_goals::Qual;
@@ -97,10 +97,11 @@ fn source_pieces(
     requires { are_apart (map (λ decl. decl.name) d.now.flags) ≡ true }
     ensures { IfOk result (λ pieces. pieces ≡ source_pieces (selection_of chosen.now) local «package» d.now) }
 {
-    let flags = chosen.flags(alloc, Qual::Top, package, d)?;
+    let node = node_of(Qual::Top, package, Piece::Whole);
+    let known = Known::of(alloc, chosen, node, d)?;
     let owner = Owner {
-        node: node_of(Qual::Top, package, Piece::Whole),
-        flags: &flags,
+        node,
+        known: &known,
     };
     let places = first_places(alloc, chosen, &owner, local, d.components.as_slice())?;
     as_pieces(alloc, d.custom, places.as_slice())

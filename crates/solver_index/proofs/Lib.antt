@@ -10,3 +10,4 @@ mod Operators
 mod Calm
 mod Segments
 mod Blocked
+mod Wished

@@ -17,6 +17,7 @@ mod sources;
 mod tables;
 mod turning_places;
 mod units;
+mod wishes;
 
 pub use defaults::Defaults;
 pub use dependencies::{ConditionalDep, Dependencies, Need, Setting, Target};

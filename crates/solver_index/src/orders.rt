@@ -1,8 +1,10 @@
 // The orders in which the instances of packages are tried.
 ghost use Rattle.std.specs.Prelude.{◌≡◌, IfOk, map};
-ghost use Rattle.solver_index.specs.Orders.{AreOrders, IsOrderOf, is_extra, policy_of, ranges_for};
+ghost use Rattle.solver_index.specs.Orders.{AreOrders, IsOrderOf, policy_of};
+ghost use Rattle.solver_index.specs.Wishes.{AreWishes};
 
-use plan_types::{Entry, Instance, List, Named, NoMemory, Package, Project, Range, Text};
+use crate::wishes::{Wishes, wishes_of};
+use plan_types::{Entry, Instance, List, NoMemory, Package, Project};
 use preferences::{Policy, order};
 use std::alloc::Global;
 
@@ -14,19 +16,39 @@ pub(crate) fn orders_of(
 ) -> Result<List<List<u64>>, NoMemory>
     ensures { IfOk result (AreOrders project.now packages.now) }
 {
+    let wishes = wishes_of(alloc, project)?;
+    orders_by(alloc, packages, project, &wishes)
+}
+
+fn orders_by(
+    alloc: Global,
+    packages: &[Package],
+    project: &Project,
+    wishes: &Wishes,
+) -> Result<List<List<u64>>, NoMemory>
+    requires { AreWishes project.now wishes.now }
+    ensures { IfOk result (AreOrders project.now packages.now) }
+{
     let mut orders = List::new(alloc);
     for found in packages {
-        orders.push(instance_order(alloc, found, project)?)?;
+        orders.push(instance_order(alloc, found, project, wishes)?)?;
     }
     Ok(orders)
 }
 
-fn instance_order(alloc: Global, found: &Package, project: &Project) -> Result<List<u64>, NoMemory>
+fn instance_order(
+    alloc: Global,
+    found: &Package,
+    project: &Project,
+    wishes: &Wishes,
+) -> Result<List<u64>, NoMemory>
+    requires { AreWishes project.now wishes.now }
     ensures { IfOk result (IsOrderOf project.now found.now) }
 {
     let instances = instances_of(alloc, found.entries.as_slice())?;
-    let preferred = preferred_of(alloc, project.preferences.as_slice(), &found.name)?;
-    order(alloc, &instances, &preferred, policy_of(project, found))
+    let preferred = wishes.preferred(alloc, &found.name)?;
+    let policy = policy_of(project, wishes, found);
+    order(alloc, &instances, &preferred, policy)
 }
 
 fn instances_of(alloc: Global, entries: &[Entry]) -> Result<List<Instance>, NoMemory>
@@ -53,37 +75,15 @@ fn copied(alloc: Global, instance: &Instance) -> Result<Instance, NoMemory>
     })
 }
 
-// Every range that the preferences give for a name.
-fn preferred_of(alloc: Global, preferences: &[Named], name: &Text) -> Result<List<Range>, NoMemory>
-    ensures { IfOk result (λ ranges. ranges ≡ ranges_for name.now preferences.now) }
-{
-    let mut ranges = List::new(alloc);
-    for named in preferences {
-        if named.name == *name {
-            ranges.push(named.range.copy(alloc)?)?;
-        }
-    }
-    Ok(ranges)
-}
-
-fn policy_of(project: &Project, found: &Package) -> Policy
+fn policy_of(project: &Project, wishes: &Wishes, found: &Package) -> Policy
+    requires { AreWishes project.now wishes.now }
     ensures { result ≡ policy_of project.now found.now }
 {
     if project.prefer_oldest {
         Policy::Oldest
-    } else if found.local || is_extra(project, &found.name) {
+    } else if found.local || wishes.asks_for(&found.name) {
         Policy::Latest
     } else {
         Policy::Installed
     }
-}
-
-fn is_extra(project: &Project, name: &Text) -> bool
-    ensures { result ≡ is_extra project.now name.now }
-{
-    project
-        .extra
-        .as_slice()
-        .iter()
-        .any(|named| named.name == *name)
 }

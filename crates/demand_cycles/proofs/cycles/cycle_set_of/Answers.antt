@@ -3,8 +3,9 @@ use Rattle.std.proofs.lemmas.Bool.{eqb-true, eqb-false}
 use Rattle.std.specs.Prelude.{flat_map}
 use Rattle.choice_problem.specs.ConflictSet.{set_of}
 use Rattle.choice_problem.specs.Conflict.{edges_of, named_by, circular}
-use Rattle.demand_cycles.specs.Cycles.{AreAncestors}
-use Rattle.demand_cycles.proofs.Rings.{around-all, no-set, the-set}
+use Rattle.demand_cycles.specs.Ring.{AreRings, Tells}
+use Rattle.demand_cycles.proofs.Rings.{no-set, the-set}
+use Rattle.demand_cycles.proofs.Told.{rings-tell}
 use Rattle.demand_cycles.proofs.cycles.cycle_set_of.Goals as goal
 
 pub returns-then-is_empty : goal.returns-then-is_empty
@@ -16,13 +17,13 @@ returns-then-is_empty g c =
 pub named_on_cycles-requires : goal.named_on_cycles-requires
 named_on_cycles-requires g c =
     let demands = g.G.Graph.demands c.args.graph.now in
-    let keys = c.in_ok-around.around.keys in
     let owners = c.as_slice.ensures.value ∙ c.in_ok-owners.ensures in
-    around-all demands c.args.before keys c.requires (subst (λ l. AreAncestors (edges_of demands) l keys) owners c.in_ok-around.ensures)
+    let rings = subst (λ l. AreRings (edges_of demands) l c.in_ok-rings.rings.items) owners c.in_ok-rings.ensures in
+    subst (Tells demands) (sym c.as_slice-2.ensures.value) (rings-tell demands c.args.before c.in_ok-rings.rings.items c.requires rings)
 
 pub returns : goal.returns
 returns g c =
     let demands = g.G.Graph.demands c.args.graph.now in
     let items = c.in_ok-owners.owners.items in
-    let named : c.in_ok-set.set ≡ set_of (flat_map named_by (circular demands)) = c.in_ok-set.ensures ∙ ap set_of (c.as_slice-2.ensures.value ∙ c.in_ok-named.ensures) in
+    let named : c.in_ok-set.set ≡ set_of (flat_map named_by (circular demands)) = c.in_ok-set.ensures ∙ ap set_of (c.as_slice-3.ensures.value ∙ c.in_ok-named.ensures) in
     ap Some named ∙ sym (the-set demands c.args.before items c.in_ok-owners.ensures (λ empty. eqb-false _ _ (sym c.if-is_empty.ensures) (omega (arith, c.in_ok-owners.owners.ok, empty))))

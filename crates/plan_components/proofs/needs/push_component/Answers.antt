@@ -6,7 +6,7 @@ use Rattle.plan_components.proofs.needs.push_component.Goals as goal
 pub returns-else-holds : goal.returns-else-holds
 returns-else-holds c =
     let selection = selection_of c.args.chosen.now in
-    let flags = c.args.owner.now.flags.now in
+    let flags = c.args.owner.now.known.now.flags in
     let needs = c.args.needs.now in
     let false = sym (c.holds.ensures ∙ ap (holds selection.env flags) c.get.ensures) ∙ c.if-holds.false in
     sym (append-nil needs) ∙ ap (λ l. needs ++ l) (sym (no_needs selection flags c.args.own c.args.component.now c.args.owner.now.node false))

@@ -10,7 +10,7 @@ pub loop-guarded-preserved : goal.loop-guarded-preserved
 loop-guarded-preserved c =
     let selection = selection_of c.args.chosen.now in
     let node = c.args.owner.now.node in
-    let flags = c.args.owner.now.flags.now in
+    let flags = c.args.owner.now.known.now.flags in
     let items = c.as_slice-guarded-items.result.now in
     let test = counts selection flags c.args.own c.args.component.now in
     let of_one = λ (g : GuardedDep). dep_needs selection node g.dep in

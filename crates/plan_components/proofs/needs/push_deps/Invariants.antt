@@ -9,7 +9,7 @@ use Rattle.plan_components.proofs.needs.push_deps.Given as goal
 abbrev pub invariant-loop-guarded : goal.invariant-loop-guarded
 invariant-loop-guarded l =
     let selection = selection_of l.chosen in
-    let flags = l.owner.flags.now in
+    let flags = l.owner.known.now.flags in
     let behind = filter (counts selection flags l.own l.component) (drop l.guarded-index l.guarded-items) in
     l.needs ++ flat_map (λ (g : GuardedDep). dep_needs selection l.owner.node g.dep) behind
     ≡ l.fn.needs ++ component_needs selection l.owner.node flags l.own l.component

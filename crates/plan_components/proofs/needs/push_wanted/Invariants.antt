@@ -6,5 +6,5 @@ use Rattle.plan_components.proofs.needs.push_wanted.Given as goal
 
 abbrev pub invariant-loop-component : goal.invariant-loop-component
 invariant-loop-component l =
-    l.needs ++ wanted_needs (selection_of l.chosen) l.owner.node l.owner.flags.now (drop l.component-index l.components)
-    ≡ l.fn.needs ++ wanted_needs (selection_of l.chosen) l.owner.node l.owner.flags.now l.components
+    l.needs ++ wanted_needs (selection_of l.chosen) l.owner.node l.owner.known.now.flags (drop l.component-index l.components)
+    ≡ l.fn.needs ++ wanted_needs (selection_of l.chosen) l.owner.node l.owner.known.now.flags l.components

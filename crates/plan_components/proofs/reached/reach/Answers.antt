@@ -9,7 +9,7 @@ use Rattle.plan_components.proofs.reached.reach.Goals as goal
 pub loop-alloc-init : goal.loop-alloc-init
 loop-alloc-init c =
     let selection = selection_of c.args.chosen.now in
-    subst (Keeps selection c.in_ok-set.set.keys) (sym c.new-needs.ensures) (keeps_first selection c.in_ok-set.set.keys c.in_ok-set.ensures)
+    record { keeps = subst (Keeps selection c.in_ok-set.set.keys) (sym c.new-needs.ensures) (keeps_first selection c.in_ok-set.set.keys c.in_ok-set.ensures); last = tt }
 
 pub loop-alloc-preserved : goal.loop-alloc-preserved
 loop-alloc-preserved c =
@@ -22,10 +22,13 @@ loop-alloc-preserved c =
     let m = c.len-in-loop-alloc.ensures.len in
     let within : length needs < length nodes = omega (arith, test, l, m) in
     let place : c.len-in-loop-alloc-2.result ≡ length needs = c.len-in-loop-alloc-2.ensures in
-    subst (Keeps selection new) (sym c.in_ok-push.ensures.ok)
-    (keeps_next selection nodes new needs c.in_ok-needed.needed c.loop-alloc.invariant within
-    (c.in_ok-needed.ensures.needs ∙ ap (λ n. needs_of selection (node_at nodes n)) place)
-    (subst (λ n. Puts (needed_nodes selection (node_at nodes n)) nodes new) place c.in_ok-needed.ensures.put))
+    record {
+      keeps = subst (Keeps selection new) (sym c.in_ok-push.ensures.ok)
+          (keeps_next selection nodes new needs c.in_ok-needed.needed c.loop-alloc.invariant.keeps within
+          (c.in_ok-needed.ensures.needs ∙ ap (λ n. needs_of selection (node_at nodes n)) place)
+          (subst (λ n. Puts (needed_nodes selection (node_at nodes n)) nodes new) place c.in_ok-needed.ensures.put));
+      last = c.in_ok-needed.ensures.last;
+    }
 
 pub returns : goal.returns
 returns c =
@@ -36,6 +39,6 @@ returns c =
     let over : length c.loop-alloc.set.keys ≤ length c.loop-alloc.needs = omega (arith, test, l, m) in
     record {
       once = differ c.loop-alloc.set.keys c.len-in-loop-alloc.ensures.unique;
-      each = each_reached selection c.loop-alloc.set.keys c.loop-alloc.needs c.loop-alloc.invariant over;
-      needs = all_needs selection c.loop-alloc.set.keys c.loop-alloc.needs c.loop-alloc.invariant over;
+      each = each_reached selection c.loop-alloc.set.keys c.loop-alloc.needs c.loop-alloc.invariant.keeps over;
+      needs = all_needs selection c.loop-alloc.set.keys c.loop-alloc.needs c.loop-alloc.invariant.keeps over;
     }

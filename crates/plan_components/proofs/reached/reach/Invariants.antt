@@ -1,11 +1,15 @@
-use Rattle.std.proofs.Common.{◌-◌, ◌^◌, length}
+use Rattle.std.proofs.Common.{◌-◌, ◌^◌, length, IfSome}
 use Rattle.plan_components.proofs.Walk.{Keeps}
 use Rattle.plan_components.specs.Chosen.{selection_of}
+use Rattle.plan_components.specs.Known.{IsKnown}
 use Rattle.plan_components.proofs.reached.reach.Given as goal
 
--- what was looked at, and what is yet to be
+-- what was looked at, and what is yet to be; and what is known of the last package
 abbrev pub invariant-loop-alloc : goal.invariant-loop-alloc
-invariant-loop-alloc l = Keeps (selection_of l.chosen) l.set.keys l.needs
+invariant-loop-alloc l = record {
+  keeps : Keeps (selection_of l.chosen) l.set.keys l.needs;
+  last : IfSome l.last (IsKnown (selection_of l.chosen));
+}
 
 -- no more nodes than there are numbers
 abbrev pub decreases-loop-alloc : goal.decreases-loop-alloc

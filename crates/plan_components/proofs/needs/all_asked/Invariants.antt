@@ -2,7 +2,7 @@
 use Rattle.std.proofs.Common.{◌≡◌, ◌++◌, drop}
 use Rattle.plan_components.specs.Needs.{asks}
 use Rattle.plan_components.specs.Wanted.{places, places_from}
-use Rattle.plan_components.proofs.needs.asked_places.Given as goal
+use Rattle.plan_components.proofs.needs.all_asked.Given as goal
 
 abbrev pub invariant-loop-place : goal.invariant-loop-place
 invariant-loop-place l =

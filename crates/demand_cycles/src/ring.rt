@@ -1,0 +1,30 @@
+// The cycles through one variable.
+ghost use Rattle.std.specs.Prelude.{◌≡◌};
+ghost use Rattle.demand_cycles.specs.Ring.{any_closes, closes};
+
+use crate::side::is_around;
+use choice_problem::Var;
+use indexmap::IndexSet;
+
+/// What a variable leads to, and what leads to it. An edge lies on a cycle through the variable where that leads to the start
+/// of the edge, and the end of the edge to the variable.
+#[derive(Drop)]
+pub(crate) struct Ring {
+    pub(crate) ahead: IndexSet<Var>,
+    pub(crate) back: IndexSet<Var>,
+}
+
+impl Ring {
+    pub(crate) fn closes(&self, from: Var, to: Var) -> bool
+        ensures { result ≡ closes self.now from to }
+    {
+        is_around(&self.ahead, from) && is_around(&self.back, to)
+    }
+}
+
+/// Whether an edge lies on a cycle through the variable of one of some rings.
+pub(crate) fn any_closes(rings: &[Ring], from: Var, to: Var) -> bool
+    ensures { result ≡ any_closes rings.now from to }
+{
+    rings.iter().any(|ring| ring.closes(from, to))
+}

@@ -1,0 +1,75 @@
+// What a project asks of packages, by their names.
+ghost use Rattle.std.specs.Prelude.{◌≡◌, ◌++◌, IfOk, OnOk, List};
+ghost use Rattle.keyed_lists.specs.Lists.{items_at};
+ghost use Rattle.plan_types.specs.Bytes.{same_text};
+ghost use Rattle.plan_types.specs.declared.dependency.Named.{Named};
+ghost use Rattle.qualified_goals.specs.Names.{Name, is_listed};
+ghost use Rattle.solver_index.specs.Orders.{ranges_for};
+ghost use Rattle.solver_index.specs.Wishes.{AreWishes, is_named};
+
+use indexmap::{IndexMap, IndexSet};
+use keyed_lists::{Lists, items_at, push_at};
+use plan_types::{List, Named, NoMemory, Project, Range, Text};
+use std::alloc::Global;
+
+/// The packages that are asked for besides, and the ranges that are preferred.
+#[derive(Drop)]
+pub(crate) struct Wishes {
+    pub(crate) extra: IndexSet<Text>,
+    pub(crate) preferred: Lists<Text, Range>,
+}
+
+pub(crate) fn wishes_of(alloc: Global, project: &Project) -> Result<Wishes, NoMemory>
+    ensures { IfOk result (AreWishes project.now) }
+{
+    let extra = names_of(alloc, project.extra.as_slice())?;
+    let preferred = ranges_of(alloc, project.preferences.as_slice())?;
+    Ok(Wishes { extra, preferred })
+}
+
+fn names_of(alloc: Global, all: &[Named]) -> Result<IndexSet<Text>, NoMemory>
+    ensures { IfOk result (λ names. (name : Name) → is_listed names.keys name ≡ is_named all.now name) }
+{
+    let mut names = IndexSet::new(alloc);
+    for named in all {
+        names.insert(named.name.copy()?)?;
+    }
+    Ok(names)
+}
+
+fn ranges_of(alloc: Global, all: &[Named]) -> Result<Lists<Text, Range>, NoMemory>
+    ensures { IfOk result (λ ranges. (name : Name) → items_at same_text ranges name ≡ ranges_for name all.now) }
+{
+    let mut ranges = IndexMap::new(alloc);
+    for named in all {
+        let range = named.range.copy(alloc)?;
+        push_at(alloc, &mut ranges, named.name.copy()?, range)?;
+    }
+    Ok(ranges)
+}
+
+impl Wishes {
+    /// Whether a package is asked for besides.
+    pub(crate) fn asks_for(&self, name: &Text) -> bool
+        ensures { result ≡ is_listed self.now.extra.keys name.now }
+    {
+        self.extra.contains(name)
+    }
+
+    /// The ranges that are preferred for a name.
+    pub(crate) fn preferred(&self, alloc: Global, name: &Text) -> Result<List<Range>, NoMemory>
+        ensures { IfOk result (λ ranges. ranges ≡ items_at same_text self.now.preferred name.now) }
+    {
+        copies_of(alloc, items_at(&self.preferred, name))
+    }
+}
+
+fn copies_of(alloc: Global, ranges: &[Range]) -> Result<List<Range>, NoMemory>
+    ensures { IfOk result (λ copies. copies ≡ ranges.now) }
+{
+    let mut copies = List::new(alloc);
+    for range in ranges {
+        copies.push(range.copy(alloc)?)?;
+    }
+    Ok(copies)
+}
