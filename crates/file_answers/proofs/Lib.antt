@@ -1,0 +1,5 @@
+pub mod Readings
+pub mod Trees
+pub mod Records
+pub mod Sections
+pub mod Projects

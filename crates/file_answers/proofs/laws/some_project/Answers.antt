@@ -1,0 +1,5 @@
+use Rattle.file_answers.proofs.Projects as proof
+use Rattle.file_answers.proofs.laws.some_project.Goals as goal
+
+pub returns : goal.returns
+returns c = proof.some_project

@@ -1,0 +1,37 @@
+// Every file has an answer.
+ghost use Rattle.std.specs.Prelude.{◌⊎◌, ℕ, List, Option, Result};
+ghost use Rattle.plan_types.specs.declared.condition.Env.{Env};
+ghost use Rattle.plan_types.specs.declared.element.Element.{Element};
+ghost use Rattle.plan_types.specs.declared.index.UnitRecord.{UnitRecord};
+ghost use Rattle.plan_types.specs.declared.project.Project.{Project};
+ghost use Rattle.plan_types.specs.declared.range.Spec.{Spec};
+ghost use Rattle.plan_types.specs.declared.refusal.Cause.{Cause};
+ghost use Rattle.plan_types.specs.declared.refusal.Refusal.{Refusal};
+ghost use Rattle.cabal_lexer.specs.Fault.{IsTree, IsFault};
+ghost use Rattle.unit_record.specs.Record.{IsRecord};
+ghost use Rattle.section_syntax.specs.declared.part.File.{File};
+ghost use Rattle.section_syntax.specs.File.{IsFile};
+ghost use Rattle.project_file.specs.declared.read.ProjectText.{ProjectText};
+ghost use Rattle.project_file.specs.Read.{IsProject};
+
+/// Bytes have a tree, or a first fault.
+pub fn some_tree()
+    ensures { (bytes : List ℕ) → ((items : List Element) × IsTree bytes items)
+        ⊎ ((line : ℕ) × (cause : Cause) × IsFault bytes line cause) }
+{}
+
+/// Bytes are a record, or none, or can't be read at a line.
+pub fn some_record()
+    ensures { (bytes : List ℕ) → (found : Result (Option UnitRecord) ℕ) × IsRecord bytes found }
+{}
+
+/// Elements say something of a file.
+pub fn some_file()
+    ensures { (spec : Spec) (items : List Element) → (file : File) × IsFile spec items file }
+{}
+
+/// Project files have one project, or a first refusal.
+pub fn some_project()
+    ensures { (env : Env) (texts : List ProjectText)
+        → (outcome : Result Project Refusal) × IsProject env texts outcome }
+{}

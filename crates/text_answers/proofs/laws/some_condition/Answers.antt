@@ -1,0 +1,5 @@
+use Rattle.text_answers.proofs.Readings as proof
+use Rattle.text_answers.proofs.laws.some_condition.Goals as goal
+
+pub returns : goal.returns
+returns c spec = proof.some_condition spec 64

@@ -1,0 +1,5 @@
+use Rattle.text_answers.proofs.Readings as proof
+use Rattle.text_answers.proofs.laws.version_or_none.Goals as goal
+
+pub returns : goal.returns
+returns c = proof.version_or_none
