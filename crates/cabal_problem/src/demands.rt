@@ -27,9 +27,7 @@ pub(crate) fn part_beside(owner: Choice, part: Part) -> Var
 pub(crate) fn alone(alloc: Global, owner: Choice) -> Result<List<Choice>, NoMemory>
     ensures { IfOk result (λ when. when ≡ owner ∷ []) }
 {
-    let mut when = List::new(alloc);
-    when.push(owner)?;
-    Ok(when)
+    Ok(List::from_vec(Vec::from_slice(alloc, &[owner])?))
 }
 
 // Whether the stanzas of the owner's package have variables.

@@ -1,3 +1,4 @@
 pub mod ComponentName
 pub mod Line
+pub mod Plain
 pub mod Examples

@@ -1,10 +1,14 @@
 // What a plan tells of a node.
-ghost use Rattle.std.specs.Prelude.{◌≡◌, [], IfOk, map, slice_get, true};
+ghost use Rattle.std.specs.Prelude.{◌≡◌, ◌&&◌, [], IfOk, IsTrue, map, slice_get, true};
 ghost use Rattle.std.specs.Option.{option_copied};
 ghost use Rattle.plan_components.specs.Apart.{are_apart};
 ghost use Rattle.plan_components.specs.Chosen.{chosen_flags, selection_of};
 ghost use Rattle.conditionals.specs.Value.{each_once};
 ghost use Rattle.cabal_problem.specs.Variables.{is_top};
+ghost use Rattle.plan_nodes.specs.declared.node.NodeKind.TheVariants.{Local};
+ghost use Rattle.plan_types.specs.Packages.{package_at};
+ghost use Rattle.plan_types.specs.declared.condition.Cond.TheVariants.{Always};
+ghost use Rattle.plan_lines.specs.Plain.{AreOpen, IsOpenOne};
 ghost use Rattle.plan_lines.specs.Line.{is_barred_one, is_unbuildable, line_of, source_kind, source_line, source_with_id, unit_line};
 
 use crate::component_name::piece_name;
@@ -12,9 +16,10 @@ use crate::identifier::id_by;
 use crate::needed::Needed;
 use plan_components::{Chosen, Node, Piece};
 use plan_nodes::{NodeKind, PlanNode};
-use plan_types::{Body, Component, Description, FlagSet, List, NoMemory, Text, UnitRecord};
+use plan_types::{Body, Component, Cond, Description, FlagSet, List, NoMemory, Text, UnitRecord};
 use qualified_goals::Qual;
 use std::alloc::Global;
+use store_id::in_place_id;
 
 /// What is told of a node that needs these; nothing where no instance is chosen.
 pub fn line_of(
@@ -65,10 +70,66 @@ fn source_with_id(
     ensures { IfOk result (λ line. line ≡ source_with_id (selection_of chosen.now) node
         (chosen_flags (selection_of chosen.now) node.qual node.«package» d.now) d.now needed) }
 {
+    if is_in_place(chosen, node) && is_always_built(d.components.as_slice(), node.piece) {
+        return plain_line(alloc, chosen, node, d, needed);
+    }
     let flags = chosen.flags(alloc, node.qual, node.package, d)?;
     let mut line = source_line(alloc, chosen, node, &flags, d, needed)?;
     line.id = id_by(alloc, &line, d, &flags, chosen.env())?;
     Ok(line)
+}
+
+// No flag bears on the line of what is built in place under every flag.
+fn plain_line(
+    alloc: Global,
+    chosen: &Chosen<'_>,
+    node: Node,
+    d: &Description,
+    needed: Needed,
+) -> Result<PlanNode, NoMemory>
+    requires local { source_kind (selection_of chosen.now) node ≡ Local }
+    requires built { AreOpen d.now.components node.piece }
+    ensures { IfOk result (λ line. line ≡ source_with_id (selection_of chosen.now) node
+        (chosen_flags (selection_of chosen.now) node.qual node.«package» d.now) d.now needed) }
+{
+    let none = List::new(alloc);
+    let mut line = source_line(alloc, chosen, node, &none, d, needed)?;
+    line.id = in_place_id(alloc, &line)?;
+    Ok(line)
+}
+
+fn is_always_built(components: &[Component], piece: Piece) -> bool
+    ensures { IsTrue result → AreOpen components.now piece }
+{
+    match piece {
+        Piece::Whole => true,
+        Piece::One(place) => is_open_one(components.get(place as usize)),
+    }
+}
+
+fn is_open_one(component: Option<&Component>) -> bool
+    ensures { IsTrue result → IsOpenOne (option_copied component.entry) }
+{
+    match component {
+        None => true,
+        Some(component) => is_always(component.buildable.get()),
+    }
+}
+
+fn is_always(cond: &Cond) -> bool
+    ensures { IsTrue result → cond.now ≡ Always }
+{
+    match cond {
+        Cond::Always => true,
+        Cond::Never => false,
+        Cond::Flag(_) => false,
+        Cond::Os(_) => false,
+        Cond::Arch(_) => false,
+        Cond::Impl(_, _) => false,
+        Cond::Not(_) => false,
+        Cond::And(_, _) => false,
+        Cond::Or(_, _) => false,
+    }
 }
 
 // All but the identifier.
@@ -97,10 +158,16 @@ fn source_line(
     })
 }
 
+fn is_in_place(chosen: &Chosen<'_>, node: Node) -> bool
+    ensures { result ≡ is_top node.qual && (package_at (selection_of chosen.now).packages node.«package»).local }
+{
+    is_top(node.qual) && chosen.is_local(node.package)
+}
+
 fn source_kind(chosen: &Chosen<'_>, node: Node) -> NodeKind
     ensures { result ≡ source_kind (selection_of chosen.now) node }
 {
-    if is_top(node.qual) && chosen.is_local(node.package) {
+    if is_in_place(chosen, node) {
         NodeKind::Local
     } else {
         NodeKind::Store
