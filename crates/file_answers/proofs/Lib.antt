@@ -5,4 +5,5 @@ pub mod Sections
 pub mod Sorting
 pub mod Cycles
 pub mod Descriptions
+pub mod Sources
 pub mod Projects

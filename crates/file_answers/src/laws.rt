@@ -14,6 +14,8 @@ ghost use Rattle.section_syntax.specs.declared.part.File.{File};
 ghost use Rattle.section_syntax.specs.File.{IsFile};
 ghost use Rattle.description.specs.declared.fault_order.At.{At};
 ghost use Rattle.description.specs.Description.{Describes};
+ghost use Rattle.cabal_file.specs.declared.source.Source.{Source};
+ghost use Rattle.cabal_file.specs.Source.{IsSource};
 ghost use Rattle.project_file.specs.declared.read.ProjectText.{ProjectText};
 ghost use Rattle.project_file.specs.Read.{IsProject};
 
@@ -37,6 +39,11 @@ pub fn some_file()
 pub fn some_description()
     ensures { (items : List Element) (digest : List ℕ)
         → (outcome : Result Description At) × Describes items digest outcome }
+{}
+
+/// The bytes of a `.cabal` file come to a package as others see it, or to a first fault.
+pub fn some_source()
+    ensures { (env : Env) (bytes : List ℕ) → (outcome : Result Source At) × IsSource env bytes outcome }
 {}
 
 /// Project files have one project, or a first refusal.
