@@ -1,6 +1,7 @@
 // Every file has an answer.
 ghost use Rattle.std.specs.Prelude.{◌⊎◌, ℕ, List, Option, Result};
 ghost use Rattle.plan_types.specs.declared.condition.Env.{Env};
+ghost use Rattle.plan_types.specs.declared.description.Description.{Description};
 ghost use Rattle.plan_types.specs.declared.element.Element.{Element};
 ghost use Rattle.plan_types.specs.declared.index.UnitRecord.{UnitRecord};
 ghost use Rattle.plan_types.specs.declared.project.Project.{Project};
@@ -11,6 +12,10 @@ ghost use Rattle.cabal_lexer.specs.Fault.{IsTree, IsFault};
 ghost use Rattle.unit_record.specs.Record.{IsRecord};
 ghost use Rattle.section_syntax.specs.declared.part.File.{File};
 ghost use Rattle.section_syntax.specs.File.{IsFile};
+ghost use Rattle.description.specs.declared.fault_order.At.{At};
+ghost use Rattle.description.specs.Description.{Describes};
+ghost use Rattle.cabal_file.specs.declared.source.Source.{Source};
+ghost use Rattle.cabal_file.specs.Source.{IsSource};
 ghost use Rattle.project_file.specs.declared.read.ProjectText.{ProjectText};
 ghost use Rattle.project_file.specs.Read.{IsProject};
 
@@ -28,6 +33,17 @@ pub fn some_record()
 /// Elements say something of a file.
 pub fn some_file()
     ensures { (spec : Spec) (items : List Element) → (file : File) × IsFile spec items file }
+{}
+
+/// Elements have a description, or a first fault.
+pub fn some_description()
+    ensures { (items : List Element) (digest : List ℕ)
+        → (outcome : Result Description At) × Describes items digest outcome }
+{}
+
+/// The bytes of a `.cabal` file come to a package as others see it, or to a first fault.
+pub fn some_source()
+    ensures { (env : Env) (bytes : List ℕ) → (outcome : Result Source At) × IsSource env bytes outcome }
 {}
 
 /// Project files have one project, or a first refusal.

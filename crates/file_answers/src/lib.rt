@@ -5,4 +5,4 @@
 
 mod laws;
 
-pub use laws::{some_file, some_project, some_record, some_tree};
+pub use laws::{some_description, some_file, some_project, some_record, some_source, some_tree};

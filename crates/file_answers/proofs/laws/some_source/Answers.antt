@@ -1,0 +1,5 @@
+use Rattle.file_answers.proofs.Sources as proof
+use Rattle.file_answers.proofs.laws.some_source.Goals as goal
+
+pub returns : goal.returns
+returns c = proof.some_source
