@@ -1,0 +1,5 @@
+use Rattle.order_answers.proofs.Orders as proof
+use Rattle.order_answers.proofs.laws.some_order.Goals as goal
+
+pub returns : goal.returns
+returns c = proof.some_order
