@@ -172,7 +172,7 @@ fn library(alloc: Global, package: &[u8], name: &[u8]) -> Result<LibName, NoMemo
 fn single(alloc: Global, lib: LibName) -> Result<List<LibName>, NoMemory>
     ensures { IfOk result (λ libs. libs ≡ lib ∷ []) }
 {
-    let mut libs = List::new(alloc);
+    let mut libs = List::with_room(alloc, 1)?;
     libs.push(lib)?;
     Ok(libs)
 }

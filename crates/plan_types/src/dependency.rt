@@ -81,7 +81,7 @@ impl Dep {
 fn copy_libs(alloc: Global, libs: &List<LibName>) -> Result<List<LibName>, NoMemory>
     ensures { IfOk result (λ copied. copied ≡ libs.now) }
 {
-    let mut copied = List::new(alloc);
+    let mut copied = List::with_room(alloc, libs.len())?;
     for lib in libs.as_slice() {
         copied.push(lib.copy()?)?;
     }

@@ -36,6 +36,14 @@ impl<T> List<T> {
         }
     }
 
+    /// The empty list, with room for so many items.
+    pub fn with_room(alloc: Global, room: usize) -> Result<List<T>, NoMemory>
+        ensures { IfOk result (λ list. list ≡ []) }
+    {
+        let items = Vec::with_capacity(alloc, room)?;
+        Ok(List { items })
+    }
+
     pub fn from_vec(items: Vec<T>) -> List<T>
         ensures { result ≡ items.items }
     {
