@@ -125,7 +125,7 @@ fn push_dep(
 {
     if can_count(stanzas, flat) {
         let when = when_of(alloc, owner, dep.when.as_slice())?;
-        found.push(target_demand(alloc, owner, when, flat.dep.kind, &dep.target)?)?;
+        found.push(target_demand(alloc, owner, when, flat.dep.get().kind, &dep.target)?)?;
     }
     Ok(())
 }

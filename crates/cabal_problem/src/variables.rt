@@ -101,7 +101,8 @@ fn component_asks(names: &Names, t: u64, component: &Component) -> bool
 fn is_tool_of(names: &Names, t: u64, guarded: &GuardedDep) -> bool
     ensures { result ≡ is_tool_of names.now t guarded.now }
 {
-    !guarded.dep.internal && is_tool(guarded.dep.kind) && is_package(names, &guarded.dep.package, t)
+    let dep = guarded.dep.get();
+    !dep.internal && is_tool(dep.kind) && is_package(names, &dep.package, t)
 }
 
 fn is_tool(kind: DepKind) -> bool

@@ -11,7 +11,7 @@ use crate::ways::{MOST_PATHS, Ways, count_ways, some_paths, ways_of};
 use conditionals::joined_paths;
 use plan_types::{
     Cause, CompKind, Component, Dep, Description, Env, Fault, FlagSet, FlatDep, GuardedDep, List,
-    Literal, NoMemory, PartName,
+    Literal, NoMemory, PartName, Shared,
 };
 use std::alloc::Global;
 
@@ -56,7 +56,7 @@ fn asks_others(component: &Component) -> bool
         .deps
         .as_slice()
         .iter()
-        .any(|guarded| !guarded.dep.internal)
+        .any(|guarded| !guarded.dep.get().internal)
 }
 
 // What the dependencies of a component on other packages ask for, under the ways to build it.
@@ -75,7 +75,7 @@ fn push_outward(
         × (first_among env.now (outward_in component.now) ≡ Some line))) }
 {
     for guarded in component.deps.as_slice() {
-        if !guarded.dep.internal {
+        if !guarded.dep.get().internal {
             push_demands(alloc, flat, component, ways, guarded, env)?;
         }
     }
@@ -102,7 +102,7 @@ fn push_demands(
     let number = ways.number.saturating_mul(count_ways(when, env));
     if MOST_PATHS < number {
         return Err(Fault::At {
-            line: guarded.dep.line,
+            line: guarded.dep.get().line,
             cause: Cause::TooManyPaths,
         });
     }
@@ -121,13 +121,13 @@ fn flat_of(
     alloc: Global,
     kind: CompKind,
     path: List<FlagSet>,
-    dep: &Dep,
+    dep: &Shared<Dep>,
 ) -> Result<FlatDep, NoMemory>
     ensures { IfOk result (λ flat. flat ≡ flat_of kind dep.now path) }
 {
     let mut when = stanza_of(alloc, kind)?;
     push_settings(&mut when, path)?;
-    let dep = dep.copy(alloc)?;
+    let dep = dep.copy()?;
     Ok(FlatDep { when, dep })
 }
 

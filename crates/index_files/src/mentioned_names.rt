@@ -53,8 +53,8 @@ fn put_component(names: &mut IndexSet<Text>, component: &Component) -> Result<()
     ensures { OnOk result (names.new.keys ≡ put_all names.old.keys (map outward_name (outward_in component.now))) }
 {
     for guarded in component.deps.as_slice() {
-        if !guarded.dep.internal {
-            put(names, &guarded.dep.package)?;
+        if !guarded.dep.get().internal {
+            put(names, &guarded.dep.get().package)?;
         }
     }
     Ok(())

@@ -84,7 +84,7 @@ impl<'a> Numbers<'a> {
     {
         let mut found = List::new(alloc);
         for guarded in component.deps.as_slice() {
-            self.push_targets(&guarded.dep, &mut found)?;
+            self.push_targets(guarded.dep.get(), &mut found)?;
         }
         Ok(found)
     }

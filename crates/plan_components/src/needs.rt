@@ -223,7 +223,7 @@ fn push_deps(
 {
     for guarded in component.deps.as_slice() {
         if counts(chosen, owner, own, component, guarded) {
-            push_dep(alloc, needs, chosen, owner, &guarded.dep)?;
+            push_dep(alloc, needs, chosen, owner, guarded.dep.get())?;
         }
     }
     Ok(())
@@ -240,7 +240,7 @@ fn counts(
     requires { holds chosen.now.env.now owner.now.known.now.flags component.now.buildable ≡ true }
     ensures { result ≡ counts (selection_of chosen.now) owner.now.known.now.flags own component.now guarded.now }
 {
-    (own || !guarded.dep.internal) && chosen.holds(&owner.known.flags, guarded.when.get())
+    (own || !guarded.dep.get().internal) && chosen.holds(&owner.known.flags, guarded.when.get())
 }
 
 fn push_dep(

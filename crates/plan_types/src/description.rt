@@ -16,7 +16,7 @@ pub enum CompKind {
 pub struct GuardedDep {
     /// Shared by those that stand in the same place.
     pub when: Shared<Cond>,
-    pub dep: Dep,
+    pub dep: Shared<Dep>,
 }
 
 /// A component of a package.

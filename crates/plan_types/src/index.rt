@@ -1,7 +1,7 @@
 // The packages from which a plan is made.
 ghost use Rattle.std.specs.Prelude.{◌≡◌};
 
-use crate::{Cause, Dep, Description, FlagDecl, LibName, List, Text, Version};
+use crate::{Cause, Dep, Description, FlagDecl, LibName, List, Shared, Text, Version};
 
 /// A part of a package that is on or off.
 #[derive(Debug, PartialEq, Eq, Drop)]
@@ -22,7 +22,8 @@ pub struct Literal {
 #[derive(Debug, Drop)]
 pub struct FlatDep {
     pub when: List<Literal>,
-    pub dep: Dep,
+    /// Shared with its description.
+    pub dep: Shared<Dep>,
 }
 
 /// What others may use of a package.

@@ -108,7 +108,8 @@ impl<'a> Sources<'a> {
         ensures { IfOk result (λ dep. dep ≡ dep_in self.now owner.now flat.now) }
     {
         let when = settings(alloc, self.names, flat.when.as_slice())?;
-        let target = self.target(alloc, owner, flat.dep.kind, &flat.dep)?;
+        let dep = flat.dep.get();
+        let target = self.target(alloc, owner, dep.kind, dep)?;
         Ok(ConditionalDep { when, target })
     }
 

@@ -48,6 +48,7 @@ fn dependency(alloc: Global, line: u32, text: &str) -> Result<GuardedDep, TextFa
     };
     let when = read_cond(alloc, when.as_bytes(), Spec::V3_0)?;
     let when = Shared::new(alloc, when)?;
+    let dep = Shared::new(alloc, dep)?;
     Ok(GuardedDep { when, dep })
 }
 
@@ -113,7 +114,7 @@ fn description(alloc: Global, text: &str) -> Result<Description, TextFault> {
 }
 
 fn push_demand(text: &mut String, flat: &FlatDep) -> Result<(), NoMemory> {
-    text.push_str(flat.dep.package.as_str())?;
+    text.push_str(flat.dep.get().package.as_str())?;
     text.push_str(" [")?;
     for (at, literal) in flat.when.as_slice().iter().enumerate() {
         let gap = if at > 0 { " " } else { "" };

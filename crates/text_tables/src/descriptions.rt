@@ -43,7 +43,7 @@ fn deps_of(alloc: Global, description: &Description) -> Result<String, Fail> {
     for component in description.components.as_slice() {
         for guarded in component.deps.as_slice() {
             let gap = if text.is_empty() { "" } else { " " };
-            let (name, when) = (guarded.dep.package.as_str(), guarded.when.get());
+            let (name, when) = (guarded.dep.get().package.as_str(), guarded.when.get());
             write!(&mut text, "{gap}{name} {when:?}")?;
         }
     }
