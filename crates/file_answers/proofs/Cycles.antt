@@ -16,7 +16,8 @@ joined Edge u v w (more {w = x} e p) q = more e (joined Edge x v w p q)
 abbrev HasLeast : (ℕ → Bool) → ℕ → Type 0
 HasLeast test n = ((u : ℕ) × (test u ≡ true) × ((v : ℕ) → v < u → test v ≡ false)) ⊎ ((v : ℕ) → v < n → test v ≡ false)
 
-below_more : (test : ℕ → Bool) (n : ℕ) → ((v : ℕ) → v < n → test v ≡ false) → test n ≡ false → (v : ℕ) → v < suc n → test v ≡ false
+-- what fails below a number, and at it, fails below the next one
+pub below_more : (test : ℕ → Bool) (n : ℕ) → ((v : ℕ) → v < n → test v ≡ false) → test n ≡ false → (v : ℕ) → v < suc n → test v ≡ false
 below_more test n none q v l = by (v == n) refl
   where
     by : (t : Bool) → (v == n) ≡ t → test v ≡ false

@@ -8,6 +8,7 @@ use Rattle.std.proofs.lemmas.List.{length-map}
 use Rattle.common_laws.specs.Graphs.{IsMarked, Needs, marked_within, needs_within}
 use Rattle.common_laws.specs.Lists.{any-at, any-from}
 use Rattle.broken_units.specs.Leads.{Leads, here, over}
+use Rattle.file_answers.proofs.Cycles.{below_more}
 use Rattle.index_files.specs.declared.unit.Unit.{Unit}
 use Rattle.index_assembly.specs.Lacks.{AreLacking, lacks_one, needed_places}
 
@@ -15,13 +16,6 @@ use Rattle.index_assembly.specs.Lacks.{AreLacking, lacks_one, needed_places}
 
 abbrev Has : (ℕ → Bool) → ℕ → Type 0
 Has test n = ((u : ℕ) × (u < n) × (test u ≡ true)) ⊎ ((u : ℕ) → u < n → test u ≡ false)
-
-below_more : (test : ℕ → Bool) (n : ℕ) → ((u : ℕ) → u < n → test u ≡ false) → test n ≡ false → (u : ℕ) → u < suc n → test u ≡ false
-below_more test n none last u l = by (u == n) refl
-  where
-    by : (t : Bool) → (u == n) ≡ t → test u ≡ false
-    by true q = ap test (eqb-true u n q) ∙ last
-    by false q = let other = eqb-false u n q in none u (omega (arith, other, l))
 
 has_by : (test : ℕ → Bool) (n : ℕ) (t : Bool) → test n ≡ t → Has test n → Has test (suc n)
 has_by test n t q (inl found) = let l = found.1 in inl (found.0, omega (arith, l), found.2)

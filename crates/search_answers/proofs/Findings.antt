@@ -12,7 +12,7 @@ use Rattle.choice_problem.specs.declared.outcome.Outcome.TheVariants as outcome
 use Rattle.cabal_problem.specs.Problem.{problem_of}
 use Rattle.plan_search.specs.Blame.{blame_of}
 use Rattle.plan_search.specs.Finding.{IsFindingOf, guide_of}
-use Rattle.plan_search.specs.Meaning.{MeansOutcome, IsFirstTrail, AreToBlame}
+use Rattle.plan_search.specs.Meaning.{MeansOutcome, IsFirstTrail, IsWholeProblem, AreToBlame}
 use Rattle.plan_search.specs.declared.search.Finding.{Finding}
 use Rattle.plan_search.specs.declared.search.Picking.{Picking}
 use Rattle.plan_search.specs.declared.search.Picking.TheVariants.{Least}
@@ -43,11 +43,15 @@ MeansRight = (picking : Picking) (minimize : Bool) (index : Index) (settings : S
     → list_all (λ named. has_package index named.name) settings.project.extra ≡ true → IsFindingOf picking minimize index settings finding
     → MeansOutcome picking index settings finding.names finding.outcome
 
--- nothing in these but the limit is other
+-- the limit is no part of a problem
+problem_as : (index : Index) (settings : Settings) (names : NameTable) (problem : _) → IsWholeProblem index (unlimited settings) names problem
+    → IsWholeProblem index settings names problem
+problem_as index settings names problem h = record { numbers = h.numbers; orders = h.orders; orders_are = h.orders_are; problem_is = h.problem_is }
+
 trail_as : (index : Index) (settings : Settings) (names : NameTable) (trail : _) → IsFirstTrail index (unlimited settings) names trail → IsFirstTrail index settings names trail
 trail_as index settings names trail h = record {
   problem = h.problem;
-  problem_is = record { numbers = h.problem_is.numbers; orders = h.problem_is.orders; orders_are = h.problem_is.orders_are; problem_is = h.problem_is.problem_is };
+  problem_is = problem_as index settings names h.problem h.problem_is;
   new = h.new;
   first = h.first;
   trail_is = h.trail_is;
@@ -56,7 +60,7 @@ trail_as index settings names trail h = record {
 blame_as : (index : Index) (settings : Settings) (names : NameTable) (set : _) → AreToBlame index (unlimited settings) names set → AreToBlame index settings names set
 blame_as index settings names set h = record {
   problem = h.problem;
-  problem_is = record { numbers = h.problem_is.numbers; orders = h.problem_is.orders; orders_are = h.problem_is.orders_are; problem_is = h.problem_is.problem_is };
+  problem_is = problem_as index settings names h.problem h.problem_is;
   none = h.none;
   admits_none = h.admits_none;
 }
