@@ -44,13 +44,27 @@ pub fn count_ways(cond: &Cond, env: &Env) -> u64
     let mut number: u64 = 1;
     let mut left = cond;
     while let Cond::And(front, last) = left {
-        number = number.saturating_mul(count_paths(last.get(), env, true));
+        number = number.saturating_mul(count_test(last.get(), env));
         if number == 0 {
             return 0;
         }
         left = front.get();
     }
     number.saturating_mul(count_paths(left, env, true))
+}
+
+// How many ways there are to meet a test of a chain. Most ask a flag alone, and then there is one.
+fn count_test(test: &Cond, env: &Env) -> u64
+    ensures { result ≡ min (length (paths_of env.now test.now true)) (2 ^ 64 - 1) }
+{
+    match test {
+        Cond::Flag(_) => 1,
+        Cond::Not(inner) => match inner.get() {
+            Cond::Flag(_) => 1,
+            _ => count_paths(test, env, true),
+        },
+        _ => count_paths(test, env, true),
+    }
 }
 
 /// The ways to set flags so that a condition is Yes, of which there are some, and no more than a dependency may have.

@@ -8,7 +8,7 @@ pub returns-then-number-gt-MOST_PATHS-clause-refused :
     goal.returns-then-number-gt-MOST_PATHS-clause-refused
 returns-then-number-gt-MOST_PATHS-clause-refused c =
     let is = number_is c.args.env.now c.args.component.now c.args.guarded.now c.requires c.get-when.ensures c.count_ways.ensures c.saturating_mul-number.ensures in
-    (refl, refl, beyond c.args.env.now c.args.component.now c.args.guarded.now is c.if-number-gt-MOST_PATHS.true)
+    (refl, ap (λ dep. dep.line) c.get.ensures, beyond c.args.env.now c.args.component.now c.args.guarded.now is c.if-number-gt-MOST_PATHS.true)
 
 pub returns-then-number-eq0-clause-within : goal.returns-then-number-eq0-clause-within
 returns-then-number-eq0-clause-within c =
