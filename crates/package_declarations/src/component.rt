@@ -155,9 +155,9 @@ fn push_guarded(
 {
     for dep in found {
         let dep = declared.meant(alloc, dep)?;
-        let dep = Shared::new(alloc, dep)?;
+        let shared = Shared::new(alloc, dep)?;
         let when = when.copy()?;
-        deps.push(GuardedDep { when, dep })?;
+        deps.push(GuardedDep { when, dep: shared })?;
     }
     Ok(())
 }
