@@ -1,5 +1,6 @@
--- The nodes of a plan are among finitely many: the packages that they name have numbers below a bound.
-use Rattle.std.proofs.Common.{◌≡◌, ◌<◌, ⊎_elim, ℕ, ◌+◌, Bool, true, false, if◌then◌else◌, List, [], ◌∷◌, ◌++◌, length, map, Option, Some, None, slice_get, unwrap_or, refl, subst, arith}
+-- The nodes of a plan are among finitely many: the numbers of the packages that they name are below a bound, and each package has
+-- finitely many pieces.
+use Rattle.std.proofs.Common.{◌≡◌, ◌<◌, ⊎_elim, ℕ, ◌+◌, Bool, true, false, if◌then◌else◌, List, [], ◌++◌, length, map, Option, Some, None, slice_get, unwrap_or, refl, subst, arith}
 use Rattle.std.specs.List.{Contains, filter, flat_map}
 use Rattle.std.proofs.lemmas.List.Quantifiers.{position-Some}
 use Rattle.common_laws.specs.Lists.{contains-append, contains-flat_map, contains-head, contains-left, contains-map, contains-none, contains-right, contains-tail, flat_map-contains, map-contains}
@@ -50,6 +51,7 @@ module _ (selection : Selection) where
   abbrev quals : List Qual
   quals = all_quals numbers numbers
 
+  -- the packages that a node names have numbers below it, and its piece is one of those of its package
   record IsWithin (node : Node) : Type 0 where
     qual_is : Contains quals node.qual
     package_is : node.«package» < bound
@@ -165,9 +167,11 @@ module _ (selection : Selection) where
   abbrev under : Qual → List Node
   under q = flat_map (of_package q) numbers
 
+  -- all nodes below the bound
   pub all_nodes : List Node
   all_nodes = flat_map under quals
 
+  -- those of the plan are among them
   pub is_among : (node : Node) → IsInPlan selection node → Contains all_nodes node
   unfolding all_nodes
   is_among node plan =

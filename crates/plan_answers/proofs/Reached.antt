@@ -1,12 +1,14 @@
 -- The nodes of a plan are looked at one after the other, each once; since they are finitely many, that ends.
-use Rattle.std.proofs.Common.{BuildHasherDefault, FoldHasher, ◌≡◌, ◌≢◌, ◌<◌, ◌≤◌, ◌↔◌, inl, inr, ⊎_elim, ℕ, zero, suc, ◌+◌, true, false, if◌then◌else◌, List, [], ◌∷◌, ◌++◌, length, length-append, map, refl, ap, sym, ◌∙◌, subst, arith}
+use Rattle.std.proofs.Common.{BuildHasherDefault, FoldHasher, ◌≡◌, ◌≢◌, ◌≤◌, ◌↔◌, inl, inr, ℕ, zero, suc, ◌+◌, true, false, if◌then◌else◌, List, [], ◌∷◌, ◌++◌, length, length-append, map, refl, ap, sym, ◌∙◌, subst, arith}
 use Rattle.std.specs.Hash.FoldHasher.{initial}
-use Rattle.std.specs.List.{AllPairs, Contains, list_any}
-use Rattle.std.proofs.lemmas.Bool.{cases_lt, false≢true}
-use Rattle.std.proofs.lemmas.List.Elements.{Contains-push_cases}
+use Rattle.std.specs.List.{AllPairs, Contains, IsDistinct, list_any}
+use Rattle.std.proofs.lemmas.Bool.{cases_lt}
+use Rattle.std.proofs.lemmas.Map.Keys.{IsDistinct-push}
+use Rattle.std.proofs.lemmas.Map.Made.{length-le_from_is_member}
 use Rattle.indexmap.specs.IndexSet.{IndexSet, insert_all, insert_key}
 use Rattle.indexmap.specs.Layout.{hash_map, key_set}
-use Rattle.common_laws.specs.Lists.{any-from, contains-head, contains-none, contains-tail, once-head, once-tail, pairs-cons, pairs-nil, without}
+use Rattle.common_laws.specs.Lists.{any-at, any-from}
+use Rattle.plan_components.specs.contracts.node.NodeEq.TheImpl.Laws.{laws-law}
 use Rattle.plan_components.specs.contracts.node.NodePartialEq.TheImpl.{eq-value}
 use Rattle.plan_components.specs.declared.node.Need.{Need}
 use Rattle.plan_components.specs.declared.node.Node.{Node}
@@ -16,41 +18,26 @@ use Rattle.plan_components.specs.Needs.{needed_nodes, needs_of}
 use Rattle.plan_components.specs.Plan.{AreReached, IsInPlan}
 use Rattle.plan_components.specs.Steps.{Puts, node_at}
 use Rattle.plan_components.specs.Wanted.{first_nodes}
-use Rattle.plan_components.proofs.Nodes.{alike}
+use Rattle.plan_components.proofs.Nodes.{alike, differ, exact}
 use Rattle.plan_components.proofs.Putting.{puts_both, puts_key, puts_none}
 use Rattle.plan_components.proofs.Walk.{Keeps, all_needs, each_reached, keeps_first, keeps_next}
 use Rattle.plan_answers.proofs.Nodes.{all_nodes, is_among}
 
 -- ---- nodes, each once
 
+-- by the test by which a set of nodes is made
 abbrev Once : List Node → Type 0
-Once nodes = AllPairs (λ a b. a ≢ b) nodes
+Once nodes = IsDistinct eq-value.it nodes
 
--- items that stand in a list, each once, are no more than its
-no-more : (xs ys : List Node) → Once xs → ((x : Node) → Contains xs x → Contains ys x) → length xs ≤ length ys
-no-more [] ys once inside = omega arith
-no-more (x ∷ xs) ys once inside =
-    let rest = without ys x (inside x (contains-head x xs)) in
-    let one = rest.1 in
-    let more = no-more xs rest.0 (once-tail x xs once)
-    (λ y c. rest.2 y (inside y (contains-tail x xs y c)) (λ same. once-head x xs once (subst (Contains xs) (sym same) c))) in
-    omega (arith, one, more)
-
-once-push : (nodes : List Node) (n : Node) → Once nodes → (Contains nodes n → ⊥) → Once (nodes ++ n ∷ [])
-once-push [] n once new = pairs-cons (λ a b. a ≢ b) n [] (λ m c. absurd (contains-none m c)) once
-once-push (m ∷ nodes) n once new =
-    pairs-cons (λ a b. a ≢ b) m (nodes ++ n ∷ [])
-    (λ k c same. ⊎_elim
-    (λ old. once-head m nodes once (subst (Contains nodes) (sym same) old))
-    (λ last. new (subst (Contains (m ∷ nodes)) (same ∙ sym last) (contains-head m nodes)))
-    (Contains-push_cases nodes n k c))
-    (once-push nodes n (once-tail m nodes once) (λ c. new (contains-tail m nodes n c)))
+once-none : Once []
+unfolding IsDistinct
+once-none = tt
 
 once-key : (nodes : List Node) (n : Node) → Once nodes → Once (insert_key eq-value.it nodes n)
 once-key nodes n once =
     elim (list_any (eq-value.it n) nodes) as (λ b. list_any (eq-value.it n) nodes ≡ b → Once (if b then nodes else nodes ++ n ∷ [])) [
       | true ↦ λ e. once
-      | false ↦ λ e. once-push nodes n once (λ c. false≢true (sym e ∙ any-from (eq-value.it n) nodes n c (alike n)))
+      | false ↦ λ e. IsDistinct-push laws-law nodes n once e
     ] refl
 
 once-all : (nodes more : List Node) → Once nodes → Once (insert_all eq-value.it nodes more)
@@ -63,8 +50,15 @@ puts-all nodes (n ∷ more) =
     let next = insert_key eq-value.it nodes n in
     puts_both (n ∷ []) more nodes next (insert_all eq-value.it next more) (puts_key nodes n) (puts-all next more)
 
--- ---- a set of nodes
+-- nodes that stand among others, each once, are no more than those
+no-more : (nodes others : List Node) → Once nodes → ((n : Node) → Contains nodes n → Contains others n) → length nodes ≤ length others
+no-more nodes others once inside =
+    length-le_from_is_member laws-law nodes others once
+    (λ n h.
+    let found = any-at (eq-value.it n) nodes h in
+    any-from (eq-value.it n) others n (inside n (subst (Contains nodes) (sym (exact n found.0 found.2)) found.1)) (alike n))
 
+-- a set that holds these, with any room and hasher
 set_of : List Node → IndexSet Node (BuildHasherDefault FoldHasher)
 set_of nodes = key_set (hash_map (map (λ n. (n, n)) nodes) (record { initial = initial }) 0)
 
@@ -79,17 +73,18 @@ module _ (selection : Selection) where
   abbrev Found : Type 0
   Found = (reached : Reached) × AreReached selection reached
 
+  -- what all of them need is there
   ends : (nodes : List Node) (needs : List (List Need)) → Keeps selection nodes needs → Once nodes → length nodes ≤ length needs → Found
   ends nodes needs keeps once over = (
     record { set = set_of nodes; needs = needs },
     record {
-      once = subst Once (sym (set_has nodes)) once;
+      once = subst (AllPairs (λ a b. a ≢ b)) (sym (set_has nodes)) (differ nodes once);
       each = λ node. subst (λ l. Contains l node ↔ IsInPlan selection node) (sym (set_has nodes)) (each_reached selection nodes needs keeps over node);
       needs = all_needs selection nodes needs keeps over ∙ ap (map (needs_of selection)) (sym (set_has nodes));
     },
   )
 
-  -- so many turns are left at most
+  -- so many nodes at most are yet to be looked at
   goes : (fuel : ℕ) (nodes : List Node) (needs : List (List Need)) → Keeps selection nodes needs → Once nodes → length (all_nodes selection) ≤ fuel + length needs → Found
   goes zero nodes needs keeps once low =
       let fits = no-more nodes (all_nodes selection) once (λ node c. is_among selection node (keeps.reached node c)) in
@@ -107,8 +102,9 @@ module _ (selection : Selection) where
         | inr over ↦ ends nodes needs keeps once over
       ]
 
+  -- the nodes of the plan
   pub some_reached : Found
   some_reached =
       let nodes = insert_all eq-value.it [] (first_nodes selection) in
       goes (length (all_nodes selection)) nodes [] (keeps_first selection nodes (puts-all [] (first_nodes selection)))
-      (once-all [] (first_nodes selection) (pairs-nil (λ a b. a ≢ b))) (omega arith)
+      (once-all [] (first_nodes selection) once-none) (omega arith)
