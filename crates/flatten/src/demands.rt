@@ -105,7 +105,7 @@ fn push_demands(
     ensures refused { IfErr result (RefusesAt (λ line cause. (cause ≡ TooManyPaths)
         × (line ≡ guarded.now.dep.line) × (is_beyond env.now (outward_of component.now guarded.now) ≡ true))) }
 {
-    let met = ways_met(alloc, &guarded.when, env, known)?;
+    let met = ways_met(alloc, guarded, env, known)?;
     let number = ways.number.saturating_mul(met.ways.number);
     if MOST_PATHS < number {
         return Err(Fault::At {

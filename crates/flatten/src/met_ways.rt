@@ -4,46 +4,58 @@ ghost use Rattle.std.specs.Prelude.{◌≡◌, IfOk, IfSome, IsTrue};
 ghost use Rattle.flatten.specs.Ways.{ways_of};
 
 use crate::ways::{Ways, ways_of};
-use plan_types::{Cond, Env, NoMemory, Shared};
+use plan_types::{Cond, Env, GuardedDep, NoMemory, Shared};
 use std::alloc::Global;
 
 /// A condition, and the ways in which it holds.
 #[derive(Drop)]
 pub struct Met {
+    /// Of the dependency that stands under it.
+    line: u32,
     pub when: Shared<Cond>,
     pub ways: Ways,
 }
 
-/// The ways of a condition: those that are known, where they are of the same one.
+/// The ways to meet the condition of a dependency: those that are known, where they are of the same one. Only a dependency that
+/// stands in the same field or one directly below is compared: behind an `elif` it costs more than it saves.
 pub fn ways_met(
     alloc: Global,
-    when: &Shared<Cond>,
+    guarded: &GuardedDep,
     env: &Env,
     known: Option<Met>,
 ) -> Result<Met, NoMemory>
     requires { IfSome known (λ met. met.ways ≡ ways_of env.now met.when) }
-    ensures when { IfOk result (λ met. met.when ≡ when.now) }
-    ensures ways { IfOk result (λ met. met.ways ≡ ways_of env.now when.now) }
+    ensures when { IfOk result (λ met. met.when ≡ guarded.now.when) }
+    ensures ways { IfOk result (λ met. met.ways ≡ ways_of env.now guarded.now.when) }
 {
     match known {
         Some(met) => {
-            if is_same(met.when.get(), when.get()) {
-                Ok(met)
+            if is_known(&met, guarded) {
+                let line = guarded.dep.get().line;
+                Ok(Met { line, ..met })
             } else {
-                new_ways(alloc, when, env)
+                new_ways(alloc, guarded, env)
             }
         }
-        None => new_ways(alloc, when, env),
+        None => new_ways(alloc, guarded, env),
     }
 }
 
-fn new_ways(alloc: Global, when: &Shared<Cond>, env: &Env) -> Result<Met, NoMemory>
-    ensures when { IfOk result (λ met. met.when ≡ when.now) }
-    ensures ways { IfOk result (λ met. met.ways ≡ ways_of env.now when.now) }
+fn new_ways(alloc: Global, guarded: &GuardedDep, env: &Env) -> Result<Met, NoMemory>
+    ensures when { IfOk result (λ met. met.when ≡ guarded.now.when) }
+    ensures ways { IfOk result (λ met. met.ways ≡ ways_of env.now guarded.now.when) }
 {
-    let ways = ways_of(alloc, when.get(), env)?;
-    let when = when.copy()?;
-    Ok(Met { when, ways })
+    let line = guarded.dep.get().line;
+    let ways = ways_of(alloc, guarded.when.get(), env)?;
+    let when = guarded.when.copy()?;
+    Ok(Met { line, when, ways })
+}
+
+fn is_known(met: &Met, guarded: &GuardedDep) -> bool
+    ensures { IsTrue result → met.now.when ≡ guarded.now.when }
+{
+    let is_near = guarded.dep.get().line <= met.line.saturating_add(1);
+    is_near && is_same(met.when.get(), guarded.when.get())
 }
 
 // Whether two conditions are known to be the same. Of two tests of a compiler that isn't told.
