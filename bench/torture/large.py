@@ -123,6 +123,12 @@ FILES = {
     "`elif` of systems with a dependency each": lambda: library(
         filled("  if os(x)\n    build-depends: a\n", "  elif os(x)\n    build-depends: a\n", most=MOST - 200)
     ),
+    "`elif` of flags that differ with a dependency each": lambda: package(
+        HEAD
+        + "".join(f"flag f{it}\n" for it in range(19_000))
+        + "library\n  if flag(f0)\n"
+        + "  elif ".join(f"flag(f{it})\n    build-depends: a\n" for it in range(19_000))[len("flag(f0)\n") :]
+    ),
     "`if` of many tests over many dependencies": lambda: library(
         chained("  if ", "flag(f)", "&&")[: MOST // 2].rsplit("&&", 1)[0] + "\n" + "    build-depends: a\n" * 24_000
     ),
@@ -185,6 +191,7 @@ FILES = {
     "an entry of stars and letters": lambda: names_of_directory(chained("", "*a", "")[:-100]),
     "an entry of letters": lambda: names_of_directory(chained("*", "a", "")[:-100]),
     "entries of a star": lambda: names_of_directory(chained("", lambda it: f"*{it}", " ")[:-100]),
+    "entries of two stars": lambda: names_of_directory(chained("", lambda it: f"*{it}*", " ")[:-100]),
     "entries of a star each in a directory": lambda: project(
         chained("optional-packages: ", lambda it: f"d{it % 100}/*{it}", " ") + "\n", {**LOCAL, **{f"d{it}/{at}/x": "" for it in range(100) for at in range(10)}}
     ),

@@ -3,7 +3,6 @@ use Rattle.std.proofs.Common.{◌≡◌, ◌≢◌, ℕ, zero, suc, ◌*◌, ◌
 use Rattle.std.specs.Prelude.{filter}
 use Rattle.std.specs.List.{list_any}
 use Rattle.std.proofs.lemmas.List.{nil_from_length}
-use Rattle.plan_types.specs.declared.condition.Cond.{Cond}
 use Rattle.plan_types.specs.declared.condition.Env.{Env}
 use Rattle.plan_types.specs.declared.description.Component.{Component}
 use Rattle.plan_types.specs.declared.description.GuardedDep.{GuardedDep}
@@ -79,12 +78,8 @@ module _ (env : Env) (component : Component) (guarded : GuardedDep) where
   size_is : length (paths_at env at) ≡ length first * length second
   size_is = ap length paths_are ∙ length_followed first second
 
-  pub number_is : {ways : Ways} {when : Cond} {count number : ℕ} → ways ≡ ways_of env component.buildable → when ≡ guarded.when → count ≡ capped (length (paths_of env when true)) → number ≡ capped (ways.number * count) → number ≡ capped (length (paths_at env at))
-  number_is known of-when counted is =
-      is
-      ∙ (λ i. capped ((known i).number * (counted ∙ ap (λ when. capped (length (paths_of env when true))) of-when) i))
-      ∙ capped_product (length first) (length second)
-      ∙ ap capped (sym size_is)
+  pub number_is : {ways met : Ways} {number : ℕ} → ways ≡ ways_of env component.buildable → met ≡ ways_of env guarded.when → number ≡ capped (ways.number * met.number) → number ≡ capped (length (paths_at env at))
+  number_is known own is = is ∙ (λ i. capped ((known i).number * (own i).number)) ∙ capped_product (length first) (length second) ∙ ap capped (sym size_is)
 
   module _ {number : ℕ} (is : number ≡ capped (length (paths_at env at))) where
     pub beyond : 256 < number → is_beyond env at ≡ true
@@ -98,11 +93,11 @@ module _ (env : Env) (component : Component) (guarded : GuardedDep) where
         let nil = nil_from_length (paths_at env at) (nothing number (length (paths_at env at)) is none) in
         sym (ap (λ paths. flat ++ map (flat_of component.kind guarded.dep) (clean_paths paths)) nil ∙ append-nil flat)
 
-    pub joined_are : {ways : Ways} {when : Cond} {rest joined : List Path} → number ≤ 256 → number ≢ 0 → ways ≡ ways_of env component.buildable → when ≡ guarded.when → rest ≡ clean_paths (paths_of env when true) → joined ≡ clean_paths (followed ways.paths rest) → joined ≡ clean_paths (paths_at env at)
-    joined_are less some known of-when of-rest made =
+    pub joined_are : {ways met : Ways} {joined : List Path} → number ≤ 256 → number ≢ 0 → ways ≡ ways_of env component.buildable → met ≡ ways_of env guarded.when → joined ≡ clean_paths (followed ways.paths met.paths) → joined ≡ clean_paths (paths_at env at)
+    joined_are less some known own made =
         let each = both_few (length first) (length second) (length (paths_at env at)) number size_is is less some in
         let front = ap (λ w. w.paths) known ∙ few_are first each.0 in
-        let back = of-rest ∙ ap (λ when. clean_paths (paths_of env when true)) of-when in
+        let back = ap (λ w. w.paths) own ∙ few_are second each.1 in
         made
         ∙ (λ i. clean_paths (followed (front i) (back i)))
         ∙ cleaned_before_joined first second

@@ -1,13 +1,14 @@
 // The demands of a description on other packages.
 
-ghost use Rattle.std.specs.Prelude.{◌≡◌, ◌++◌, [], ◌∷◌, true, false, not, IfOk, IfErr, OnOk, Some, None, map, flat_map};
+ghost use Rattle.std.specs.Prelude.{◌≡◌, ◌++◌, [], ◌∷◌, true, false, not, IfOk, IfErr, IfSome, OnOk, Some, None, map, flat_map};
 ghost use Rattle.std.specs.List.{list_any};
 ghost use Rattle.plan_types.specs.Refusal.{RefusesAt};
 ghost use Rattle.plan_types.specs.declared.refusal.Cause.TheVariants.{TooManyPaths};
 ghost use Rattle.flatten.specs.Demands.{demands_of, demands_at, first_beyond, is_beyond, outward_of, outward_in, first_among, stanza_of, flat_of, literal_of};
 ghost use Rattle.flatten.specs.Ways.{ways_of};
 
-use crate::ways::{MOST_PATHS, Ways, count_ways, some_paths, ways_of};
+use crate::met_ways::{Met, ways_met};
+use crate::ways::{MOST_PATHS, Ways, ways_of};
 use conditionals::joined_paths;
 use plan_types::{
     Cause, CompKind, Component, Dep, Description, Env, Fault, FlagSet, FlatDep, GuardedDep, List,
@@ -74,15 +75,18 @@ fn push_outward(
     ensures refused { IfErr result (RefusesAt (λ line cause. (cause ≡ TooManyPaths)
         × (first_among env.now (outward_in component.now) ≡ Some line))) }
 {
+    let mut known = None;
     for guarded in component.deps.as_slice() {
         if !guarded.dep.get().internal {
-            push_demands(alloc, flat, component, ways, guarded, env)?;
+            let met = push_demands(alloc, flat, component, ways, guarded, env, known)?;
+            known = Some(met);
         }
     }
     Ok(())
 }
 
-// What one dependency asks for, under the ways to build its component.
+// What one dependency asks for, under the ways to build its component and to meet its own condition. These are given back, and
+// taken up again for the same condition.
 fn push_demands(
     alloc: Global,
     flat: &mut List<FlatDep>,
@@ -90,16 +94,19 @@ fn push_demands(
     ways: &Ways,
     guarded: &GuardedDep,
     env: &Env,
-) -> Result<(), Fault>
-    requires { ways.now ≡ ways_of env.now component.now.buildable }
-    ensures within { OnOk result (is_beyond env.now (outward_of component.now guarded.now) ≡ false) }
-    ensures demands { OnOk result (flat.new
+    known: Option<Met>,
+) -> Result<Met, Fault>
+    requires ways { ways.now ≡ ways_of env.now component.now.buildable }
+    requires known { IfSome known (λ met. met.ways ≡ ways_of env.now met.when) }
+    ensures known { IfOk result (λ met. met.ways ≡ ways_of env.now met.when) }
+    ensures within { IfOk result (λ _. is_beyond env.now (outward_of component.now guarded.now) ≡ false) }
+    ensures demands { IfOk result (λ _. flat.new
         ≡ flat.old ++ demands_at env.now (outward_of component.now guarded.now)) }
     ensures refused { IfErr result (RefusesAt (λ line cause. (cause ≡ TooManyPaths)
         × (line ≡ guarded.now.dep.line) × (is_beyond env.now (outward_of component.now guarded.now) ≡ true))) }
 {
-    let when = guarded.when.get();
-    let number = ways.number.saturating_mul(count_ways(when, env));
+    let met = ways_met(alloc, guarded, env, known)?;
+    let number = ways.number.saturating_mul(met.ways.number);
     if MOST_PATHS < number {
         return Err(Fault::At {
             line: guarded.dep.get().line,
@@ -107,13 +114,12 @@ fn push_demands(
         });
     }
     if number == 0 {
-        return Ok(());
+        return Ok(met);
     }
-    let rest = some_paths(alloc, when, env)?;
-    for path in joined_paths(alloc, &ways.paths, &rest)?.into_vec() {
+    for path in joined_paths(alloc, &ways.paths, &met.ways.paths)?.into_vec() {
         flat.push(flat_of(alloc, component.kind, path, &guarded.dep)?)?;
     }
-    Ok(())
+    Ok(met)
 }
 
 // A dependency under one way to set flags.

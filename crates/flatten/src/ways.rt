@@ -26,19 +26,19 @@ pub fn ways_of(alloc: Global, cond: &Cond, env: &Env) -> Result<Ways, NoMemory>
     ensures { IfOk result (λ ways. ways ≡ ways_of env.now cond.now) }
 {
     let number = count_ways(cond, env);
-    if MOST_PATHS < number {
+    if number == 0 || MOST_PATHS < number {
         return Ok(Ways {
             number,
             paths: List::new(alloc),
         });
     }
-    let paths = paths(alloc, cond, env, true)?;
+    let paths = some_paths(alloc, cond, env)?;
     Ok(Ways { number, paths })
 }
 
-/// How many ways there are, or the greatest number if there are more. The chain of an `elif` is as long as those before it are many,
-/// and its last test is most often the one that isn't met: then those in front of it aren't asked.
-pub fn count_ways(cond: &Cond, env: &Env) -> u64
+// How many ways there are, or the greatest number if there are more. The chain of an `elif` is as long as those before it are many,
+// and its last test is most often the one that isn't met: then those in front of it aren't asked.
+fn count_ways(cond: &Cond, env: &Env) -> u64
     ensures { result ≡ min (length (paths_of env.now cond.now true)) (2 ^ 64 - 1) }
 {
     let mut number: u64 = 1;
@@ -67,8 +67,8 @@ fn count_test(test: &Cond, env: &Env) -> u64
     }
 }
 
-/// The ways to set flags so that a condition is Yes, of which there are some, and no more than a dependency may have.
-pub fn some_paths(alloc: Global, cond: &Cond, env: &Env) -> Result<List<List<FlagSet>>, NoMemory>
+// The ways to set flags so that a condition is Yes, of which there are some, and no more than a dependency may have.
+fn some_paths(alloc: Global, cond: &Cond, env: &Env) -> Result<List<List<FlagSet>>, NoMemory>
     requires some { length (paths_of env.now cond.now true) ≢ 0 }
     requires few { length (paths_of env.now cond.now true) ≤ 256 }
     ensures { IfOk result (λ paths. paths ≡ clean_paths (paths_of env.now cond.now true)) }
