@@ -1,4 +1,4 @@
-use Rattle.std.proofs.Common.{◌++◌, sym, ◌∙◌}
+use Rattle.std.proofs.Common.{◌++◌, sym, ap, ◌∙◌}
 use Rattle.plan_types.specs.declared.description.GuardedDep.{GuardedDep}
 use Rattle.plan_components.specs.Chosen.{selection_of}
 use Rattle.plan_components.specs.Needs.{component_needs, counts, dep_needs}
@@ -18,7 +18,8 @@ loop-guarded-preserved c =
     elim c.if-counts.branch [
       | then-counts+in_ok-push_dep w ↦
           turn_yes of_one items c.loop-guarded.guarded-index c.guarded-item.result c.loop-guarded-test.true c.guarded-item.is test
-          c.loop-guarded.needs c.if-counts.needs total c.loop-guarded.invariant (sym c.counts.ensures ∙ w.if-counts.true) (w.needs-is ∙ w.in_ok-push_dep.ensures)
+          c.loop-guarded.needs c.if-counts.needs total c.loop-guarded.invariant (sym c.counts.ensures ∙ w.if-counts.true)
+          (w.needs-is ∙ w.in_ok-push_dep.ensures ∙ ap (λ dep. c.loop-guarded.needs ++ dep_needs selection node dep) w.get.ensures)
       | else-counts w ↦
           turn_no of_one items c.loop-guarded.guarded-index c.guarded-item.result c.loop-guarded-test.true c.guarded-item.is test
           c.loop-guarded.needs c.if-counts.needs total c.loop-guarded.invariant (sym c.counts.ensures ∙ w.if-counts.false) w.needs-is
