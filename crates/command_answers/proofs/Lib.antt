@@ -1,0 +1,4 @@
+mod Sorted
+mod GoalOrder
+mod Tasks
+mod Outputs
