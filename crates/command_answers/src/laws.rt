@@ -1,12 +1,17 @@
-// Every folder makes a task, or has a first refusal.
-ghost use Rattle.std.specs.Prelude.{Result};
+// Every folder and every list of words has an output.
+ghost use Rattle.std.specs.Prelude.{◌≡◌, List, Result};
 ghost use Rattle.plan_types.specs.declared.refusal.Refusal.{Refusal};
-ghost use Rattle.outside_folder.specs.Files.{Files};
+ghost use Rattle.outside_folder.specs.Files.{Bytes, Files};
 ghost use Rattle.command_line.specs.declared.reading.Options.{Options};
 ghost use Rattle.plan_task.specs.Task.{IsTask};
 ghost use Rattle.plan_task.specs.declared.task.Task.{Task};
+ghost use Rattle.plan_command.specs.Run.{IsOutputOf};
 
 use index_answers::{some_folder_index, some_folder_project};
+use plan_answers::some_plan;
+use plan_command::one_answer;
+use replay_answers::{some_event_list, some_replay};
+use search_answers::some_finding;
 
 /// The files of a folder and options make a task, or have a first refusal.
 pub fn some_task()
@@ -14,4 +19,17 @@ pub fn some_task()
 {
     some_folder_project();
     some_folder_index();
+}
+
+/// Whatever the words and the files of a folder are, there is exactly one output: one status and one text.
+pub fn the_answer()
+    ensures { (words : List Bytes) (files : Files) → (output : _) × IsOutputOf words files output
+        × ((other : _) → IsOutputOf words files other → other ≡ output) }
+{
+    some_task();
+    some_finding();
+    some_plan();
+    some_event_list();
+    some_replay();
+    one_answer();
 }
