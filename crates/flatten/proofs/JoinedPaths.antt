@@ -5,7 +5,7 @@ use Rattle.std.specs.List.{list_any}
 use Rattle.std.proofs.lemmas.List.{nil_from_length}
 use Rattle.plan_types.specs.declared.condition.Env.{Env}
 use Rattle.plan_types.specs.declared.description.Component.{Component}
-use Rattle.plan_types.specs.declared.description.GuardedDep.{GuardedDep}
+use Rattle.plan_types.specs.Guarded.{GuardedDep}
 use Rattle.plan_types.specs.declared.index.FlatDep.{FlatDep}
 use Rattle.conditionals.specs.Layers.{paths-And}
 use Rattle.conditionals.specs.Paths.{Path, paths_of, followed, clean_paths}

@@ -8,7 +8,7 @@ use Rattle.plan_types.specs.declared.description.CompKind.{CompKind}
 use Rattle.plan_types.specs.declared.description.CompKind.TheVariants.{Library, Executable, Test, Bench, Foreign}
 use Rattle.plan_types.specs.declared.description.Component.{Component}
 use Rattle.plan_types.specs.declared.description.Description.{Description}
-use Rattle.plan_types.specs.declared.description.GuardedDep.{GuardedDep}
+use Rattle.plan_types.specs.Guarded.{GuardedDep}
 use Rattle.plan_types.specs.declared.index.FlatDep.{FlatDep}
 use Rattle.plan_types.specs.declared.index.Literal.{Literal}
 use Rattle.plan_types.specs.declared.index.PartName.TheVariants.{Flag, Tests, Benches}

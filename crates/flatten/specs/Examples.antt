@@ -11,7 +11,7 @@ use Rattle.plan_types.specs.declared.dependency.LibName.TheVariants.{Main, Named
 use Rattle.plan_types.specs.declared.description.CompKind.{CompKind}
 use Rattle.plan_types.specs.declared.description.CompKind.TheVariants.{Library, Executable, Test}
 use Rattle.plan_types.specs.declared.description.Component.{Component}
-use Rattle.plan_types.specs.declared.description.GuardedDep.{GuardedDep}
+use Rattle.plan_types.specs.Guarded.{GuardedDep}
 use Rattle.plan_types.specs.declared.index.Index.{Index}
 use Rattle.plan_types.specs.declared.index.Literal.{Literal}
 use Rattle.plan_types.specs.declared.index.Package.{Package}

@@ -4,7 +4,7 @@ use Rattle.plan_types.specs.declared.condition.Cond.{Cond}
 use Rattle.plan_types.specs.declared.condition.Cond.TheVariants.{Not}
 use Rattle.plan_types.specs.declared.description.CompKind.{CompKind}
 use Rattle.plan_types.specs.declared.description.Component.{Component}
-use Rattle.plan_types.specs.declared.description.GuardedDep.{GuardedDep}
+use Rattle.plan_types.specs.Guarded.{GuardedDep}
 use Rattle.section_syntax.specs.Branch.{all_of}
 use Rattle.section_syntax.specs.declared.part.File.{File}
 use Rattle.section_syntax.specs.declared.part.SectionPart.{SectionPart}

@@ -8,7 +8,7 @@ use Rattle.plan_types.specs.declared.condition.Cond.TheViews.{sized-And}
 use Rattle.plan_types.specs.declared.condition.Env.{Env}
 use Rattle.plan_types.specs.declared.condition.FlagSet.{FlagSet}
 use Rattle.plan_types.specs.declared.description.Component.{Component}
-use Rattle.plan_types.specs.declared.description.GuardedDep.{GuardedDep}
+use Rattle.plan_types.specs.Guarded.{GuardedDep}
 use Rattle.conditionals.specs.declared.value.Tri.{Tri}
 use Rattle.conditionals.specs.declared.value.Tri.TheVariants.{Yes, No, Unknown}
 use Rattle.conditionals.specs.Layers.{value-And}

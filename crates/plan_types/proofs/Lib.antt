@@ -1,2 +1,3 @@
 pub mod Orders
 pub mod Rebuilt
+pub mod Singles

@@ -6,3 +6,5 @@ pub mod Refusal
 pub mod Range
 pub mod Format
 pub mod Packages
+pub mod Single
+pub mod Guarded

@@ -1,5 +1,9 @@
 // What a `.cabal` file says of its package.
-use crate::{Cond, Dep, List, Shared, Spec, Text, Version};
+ghost use Rattle.std.specs.Prelude.{◌≡◌};
+ghost use Rattle.plan_types.specs.Guarded.{in_groups};
+
+use crate::{Dep, Guard, List, Shared, Spec, Text, Version};
+use std::marker::Model;
 
 /// What a component is.
 #[derive(Clone, Copy, Debug, PartialEq, Eq)]
@@ -11,12 +15,46 @@ pub enum CompKind {
     Foreign,
 }
 
-/// A dependency, and the condition of the branches in which it stands.
+/// Dependencies, and the condition of the branches in which they stand.
 #[derive(Debug, Drop)]
-pub struct GuardedDep {
-    /// Shared by those that stand in the same place.
-    pub when: Shared<Cond>,
-    pub dep: Shared<Dep>,
+pub struct DepGroup {
+    pub when: Guard,
+    pub deps: List<Shared<Dep>>,
+}
+
+/// Dependencies in file order, each under a condition, which a contract sees one by one. Those that stand beside each other in the
+/// same place are held together.
+#[derive(Debug, Drop)]
+pub struct GuardedDeps {
+    groups: List<DepGroup>,
+}
+
+impl Model for GuardedDeps {
+    ghost use Rattle.std.specs.Prelude.{List};
+    ghost use Rattle.std.specs.Coded.{codes};
+    ghost use Rattle.plan_types.specs.contracts.condition.Cond as conditions;
+    ghost use Rattle.plan_types.specs.contracts.range.Range as ranges;
+    ghost use Rattle.plan_types.specs.Guarded.{GuardedDep, in_groups};
+
+    ghost Value = { List GuardedDep };
+
+    ghost coded = { Prim.hlevel (codes, conditions.the_row.coded, ranges.the_row.coded) };
+
+    ghost view = { λ d. in_groups d.groups };
+}
+
+impl GuardedDeps {
+    pub fn new(groups: List<DepGroup>) -> GuardedDeps
+        ensures { result ≡ in_groups groups }
+    {
+        GuardedDeps { groups }
+    }
+
+    pub fn groups(&self) -> &[DepGroup]
+        ensures { in_groups result.now ≡ self.now }
+    {
+        self.groups.as_slice()
+    }
 }
 
 /// A component of a package.
@@ -29,9 +67,9 @@ pub struct Component {
     pub name: Text,
     /// Whether it is a library with a name of its own that others may use.
     pub public: bool,
-    pub buildable: Shared<Cond>,
+    pub buildable: Guard,
     /// In file order, imported ones in front.
-    pub deps: List<GuardedDep>,
+    pub deps: GuardedDeps,
 }
 
 /// A flag that a package declares. Its name is in lower case.

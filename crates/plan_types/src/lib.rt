@@ -8,6 +8,7 @@ mod constraint;
 mod dependency;
 mod description;
 mod element;
+mod guard;
 mod index;
 mod limit;
 mod list;
@@ -25,8 +26,9 @@ pub use boxed::Boxed;
 pub use condition::{Cond, Env, FlagSet};
 pub use constraint::{Constraint, Scope, What};
 pub use dependency::{Dep, DepKind, LibName, Named, Relax, RelaxOwner};
-pub use description::{CompKind, Component, Description, FlagDecl, GuardedDep};
+pub use description::{CompKind, Component, DepGroup, Description, FlagDecl, GuardedDeps};
 pub use element::{Element, joined_text};
+pub use guard::Guard;
 pub use index::{
     Body, Entry, Exposed, FlatDep, Index, Instance, Literal, Origin, Package, PartName, Places,
     Skipped, UnitRecord, Warning,

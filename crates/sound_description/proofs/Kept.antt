@@ -7,7 +7,7 @@ use Rattle.plan_types.specs.declared.condition.Cond.TheVariants.{Not}
 use Rattle.plan_types.specs.declared.dependency.Dep.{Dep}
 use Rattle.plan_types.specs.declared.description.CompKind.{CompKind}
 use Rattle.plan_types.specs.declared.description.Component.{Component}
-use Rattle.plan_types.specs.declared.description.GuardedDep.{GuardedDep}
+use Rattle.plan_types.specs.Guarded.{GuardedDep}
 use Rattle.plan_types.specs.declared.range.Spec.{Spec}
 use Rattle.plan_types.specs.declared.refusal.Cause.TheVariants as causes
 use Rattle.section_syntax.specs.Branch.{all_of}

@@ -10,7 +10,7 @@ use Rattle.plan_types.specs.declared.dependency.DepKind.TheVariants.{Library, To
 use Rattle.plan_types.specs.declared.dependency.LibName.{LibName}
 use Rattle.plan_types.specs.declared.dependency.LibName.TheVariants as lib
 use Rattle.plan_types.specs.declared.description.Component.{Component}
-use Rattle.plan_types.specs.declared.description.GuardedDep.{GuardedDep}
+use Rattle.plan_types.specs.Guarded.{GuardedDep}
 use Rattle.component_cycle.specs.Cycle.{IsFirstOnCycle}
 use Rattle.common_laws.specs.Graphs.{Needs, IsPath, last, more}
 use Rattle.package_declarations.specs.Cycles as numbers

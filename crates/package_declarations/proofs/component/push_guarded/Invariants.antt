@@ -1,6 +1,6 @@
 use Rattle.std.proofs.Common.{◌≡◌, ◌++◌, drop, map}
 use Rattle.plan_types.specs.declared.dependency.Dep.{Dep}
-use Rattle.plan_types.specs.declared.description.GuardedDep.{GuardedDep}
+use Rattle.plan_types.specs.Guarded.{GuardedDep}
 use Rattle.section_syntax.specs.declared.part.File.{File}
 use Rattle.package_declarations.specs.Declarations.{meant}
 use Rattle.package_declarations.specs.DeclaredNames.{Tells}

@@ -1,7 +1,7 @@
 -- the needs so far, and those of the dependencies behind
 use Rattle.std.proofs.Common.{◌≡◌, ◌++◌, drop, flat_map}
 use Rattle.std.specs.Prelude.{filter}
-use Rattle.plan_types.specs.declared.description.GuardedDep.{GuardedDep}
+use Rattle.plan_types.specs.Guarded.{GuardedDep}
 use Rattle.plan_components.specs.Needs.{component_needs, counts, dep_needs}
 use Rattle.plan_components.specs.Chosen.{selection_of}
 use Rattle.plan_components.proofs.needs.push_deps.Given as goal
