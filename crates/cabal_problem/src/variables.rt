@@ -8,7 +8,7 @@ ghost use Rattle.cabal_problem.specs.Variables.{asks_for_tool, body_has_kind, co
 ghost use Rattle.plan_types.specs.Packages.{declared_by, package_at};
 
 use plan_types::{
-    Body, CompKind, Component, DepKind, Description, Entry, FlagDecl, GuardedDep, Package, Text,
+    Body, CompKind, Component, Dep, DepGroup, DepKind, Description, Entry, FlagDecl, Package, Text,
 };
 use qualified_goals::{Names, Part, Qual, Var};
 
@@ -93,15 +93,24 @@ fn component_asks(names: &Names, t: u64, component: &Component) -> bool
 {
     component
         .deps
-        .as_slice()
+        .groups()
         .iter()
-        .any(|guarded| is_tool_of(names, t, guarded))
+        .any(|group| group_asks(names, t, group))
 }
 
-fn is_tool_of(names: &Names, t: u64, guarded: &GuardedDep) -> bool
-    ensures { result ≡ is_tool_of names.now t guarded.now }
+fn group_asks(names: &Names, t: u64, group: &DepGroup) -> bool
+    ensures { result ≡ list_any (is_tool_of names.now t) (of_group group.now) }
 {
-    let dep = guarded.dep.get();
+    group
+        .deps
+        .as_slice()
+        .iter()
+        .any(|dep| is_tool_of(names, t, dep.get()))
+}
+
+fn is_tool_of(names: &Names, t: u64, dep: &Dep) -> bool
+    ensures { (when : Cond) → result ≡ is_tool_of names.now t (record { when = when; dep = dep.now }) }
+{
     !dep.internal && is_tool(dep.kind) && is_package(names, &dep.package, t)
 }
 

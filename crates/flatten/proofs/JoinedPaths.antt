@@ -1,5 +1,5 @@
 -- The paths of a dependency, by those on which its component is built and those of its own condition.
-use Rattle.std.proofs.Common.{◌≡◌, ◌≢◌, ℕ, zero, suc, ◌*◌, ◌<◌, ◌≤◌, Bool, true, false, not, ◌||◌, cond, None, List, [], ◌∷◌, ◌++◌, length, map, flat_map, refl, sym, ap, ◌∙◌, append-nil, suc-mul, mul_comm, lt-ltb, le-ltb, arith}
+use Rattle.std.proofs.Common.{◌≡◌, ◌≢◌, ℕ, zero, suc, ◌*◌, ◌<◌, ◌≤◌, Bool, true, false, not, ◌||◌, nat_eq, cond, None, List, [], ◌∷◌, ◌++◌, length, map, flat_map, refl, sym, ap, ◌∙◌, append-nil, suc-mul, mul_comm, lt-ltb, le-ltb, arith}
 use Rattle.std.specs.Prelude.{filter}
 use Rattle.std.specs.List.{list_any}
 use Rattle.std.proofs.lemmas.List.{nil_from_length}
@@ -13,7 +13,7 @@ use Rattle.conditionals.proofs.Joining.{cleaned_before_joined}
 use Rattle.common_laws.specs.Small.{capped}
 use Rattle.conditionals.proofs.Numbers.{capped_product, length_followed}
 use Rattle.flatten.specs.Demands.{Outward, outward_of, outward_in, paths_at, demands_at, flat_of, is_beyond, first_among}
-use Rattle.flatten.specs.Ways.{few_paths, ways_of}
+use Rattle.flatten.specs.Ways.{few_paths, number_of_both, paths_of_both, ways_of}
 use Rattle.flatten.specs.declared.ways.Ways.{Ways}
 
 -- ---- numbers
@@ -42,7 +42,7 @@ few_are paths less = ap (λ b. cond b [] (clean_paths paths)) (le-ltb 256 (lengt
 
 -- ---- a component that asks for no other package
 
-filter_none : {A : Type 0} (test : A → Bool) (xs : List A) → list_any test xs ≡ false → filter test xs ≡ []
+pub filter_none : {A : Type 0} (test : A → Bool) (xs : List A) → list_any test xs ≡ false → filter test xs ≡ []
 filter_none test [] e = refl
 filter_none test (x ∷ xs) e = by (test x) e (λ f. filter_none test xs f)
   where
@@ -61,6 +61,9 @@ module _ (env : Env) (component : Component) (none : list_any (λ guarded. not g
   nothing_asked flat = sym (ap (λ all. flat ++ flat_map (demands_at env) all) nothing_outward ∙ append-nil flat)
 
 -- ---- one dependency
+
+not-zero : (n : ℕ) → nat_eq (suc n) 0 ≡ false
+not-zero n = grind arith
 
 module _ (env : Env) (component : Component) (guarded : GuardedDep) where
   abbrev at : Outward
@@ -102,3 +105,24 @@ module _ (env : Env) (component : Component) (guarded : GuardedDep) where
         ∙ (λ i. clean_paths (followed (front i) (back i)))
         ∙ cleaned_before_joined first second
         ∙ ap clean_paths (sym paths_are)
+
+  pub within-both : {ways met : Ways} → ways ≡ ways_of env component.buildable → met ≡ ways_of env guarded.when → number_of_both ways met ≤ 256 → is_beyond env at ≡ false
+  within-both known own less = within (number_is known own refl) less
+
+  pub beyond-both : {ways met : Ways} → ways ≡ ways_of env component.buildable → met ≡ ways_of env guarded.when → 256 < number_of_both ways met → is_beyond env at ≡ true
+  beyond-both known own more = beyond (number_is known own refl) more
+
+  pub asked-both : {ways met : Ways} → ways ≡ ways_of env component.buildable → met ≡ ways_of env guarded.when → number_of_both ways met ≤ 256
+      → map (flat_of component.kind guarded.dep) (paths_of_both ways met) ≡ demands_at env at
+  asked-both {ways} {met} known own less = ap (map (flat_of component.kind guarded.dep)) (by (number_of_both ways met) refl)
+    where
+      is : number_of_both ways met ≡ capped (length (paths_at env at))
+      is = number_is known own refl
+
+      by : (n : ℕ) → number_of_both ways met ≡ n → paths_of_both ways met ≡ clean_paths (paths_at env at)
+      by zero e =
+          ap (λ n. cond (nat_eq n 0) [] (clean_paths (followed ways.paths met.paths))) e
+          ∙ sym (ap clean_paths (nil_from_length (paths_at env at) (nothing (number_of_both ways met) (length (paths_at env at)) is e)))
+      by (suc n) e =
+          ap (λ b. cond b [] (clean_paths (followed ways.paths met.paths))) (ap (λ n. nat_eq n 0) e ∙ not-zero n)
+          ∙ joined_are is less (λ none. absurd (cc (sym e ∙ none))) known own refl

@@ -2,3 +2,5 @@ mod FirstBeyond
 mod JoinedPaths
 mod Chains
 mod Counting
+pub mod Groups
+mod Singles

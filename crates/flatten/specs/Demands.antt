@@ -28,9 +28,13 @@ outward_of component guarded = record { component = component; guarded = guarded
 abbrev pub external : List GuardedDep → List GuardedDep
 external = filter (λ guarded. not guarded.dep.internal)
 
--- the dependencies of a component on other packages
+-- those of these dependencies of a component that are on other packages
+abbrev pub outward_among : Component → List GuardedDep → List Outward
+outward_among component deps = map (outward_of component) (external deps)
+
+-- all dependencies of a component on other packages
 abbrev pub outward_in : Component → List Outward
-outward_in component = map (outward_of component) (external component.deps)
+outward_in component = outward_among component component.deps
 
 -- all dependencies on other packages, in file order of the components
 abbrev pub outward : Description → List Outward

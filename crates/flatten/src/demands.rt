@@ -1,18 +1,19 @@
 // The demands of a description on other packages.
 
-ghost use Rattle.std.specs.Prelude.{◌≡◌, ◌++◌, [], ◌∷◌, true, false, not, IfOk, IfErr, IfSome, OnOk, Some, None, map, flat_map};
+ghost use Rattle.std.specs.Prelude.{◌≡◌, ◌++◌, [], ◌∷◌, true, false, not, length, ◌≤◌, ◌<◌, IsTrue, IfOk, IfErr, OnOk, Some, None, map, flat_map};
 ghost use Rattle.std.specs.List.{list_any};
 ghost use Rattle.plan_types.specs.Refusal.{RefusesAt};
 ghost use Rattle.plan_types.specs.declared.refusal.Cause.TheVariants.{TooManyPaths};
-ghost use Rattle.flatten.specs.Demands.{demands_of, demands_at, first_beyond, is_beyond, outward_of, outward_in, first_among, stanza_of, flat_of, literal_of};
-ghost use Rattle.flatten.specs.Ways.{ways_of};
+ghost use Rattle.flatten.specs.Demands.{demands_of, demands_at, first_beyond, outward_among, outward_in, first_among, stanza_of, flat_of, literal_of};
+ghost use Rattle.flatten.specs.Ways.{number_of_both, paths_of_both, ways_of};
+ghost use Rattle.plan_types.specs.Guarded.{of_group};
+ghost use Rattle.conditionals.specs.Paths.{paths_of, clean_paths};
 
-use crate::met_ways::{Met, ways_met};
-use crate::ways::{MOST_PATHS, Ways, ways_of};
+use crate::ways::{MOST_PATHS, Ways, is_clash, ways_of};
 use conditionals::joined_paths;
 use plan_types::{
-    Cause, CompKind, Component, Dep, Description, Env, Fault, FlagSet, FlatDep, GuardedDep, List,
-    Literal, NoMemory, PartName, Shared,
+    Cause, CompKind, Component, Dep, DepGroup, Description, Env, Fault, FlagSet, FlatDep, Guard,
+    List, Literal, NoMemory, PartName, Shared,
 };
 use std::alloc::Global;
 
@@ -53,11 +54,19 @@ fn push_component(
 fn asks_others(component: &Component) -> bool
     ensures { result ≡ list_any (λ guarded. not guarded.dep.internal) component.now.deps }
 {
-    component
-        .deps
-        .as_slice()
-        .iter()
-        .any(|guarded| !guarded.dep.get().internal)
+    some_has_others(component.deps.groups())
+}
+
+fn some_has_others(groups: &[DepGroup]) -> bool
+    ensures { result ≡ list_any (λ group. list_any (λ dep. not dep.internal) group.deps) groups.now }
+{
+    groups.iter().any(|group| has_others(group))
+}
+
+fn has_others(group: &DepGroup) -> bool
+    ensures { result ≡ list_any (λ dep. not dep.internal) group.now.deps }
+{
+    group.deps.as_slice().iter().any(|dep| !dep.get().internal)
 }
 
 // What the dependencies of a component on other packages ask for, under the ways to build it.
@@ -75,51 +84,84 @@ fn push_outward(
     ensures refused { IfErr result (RefusesAt (λ line cause. (cause ≡ TooManyPaths)
         × (first_among env.now (outward_in component.now) ≡ Some line))) }
 {
-    let mut known = None;
-    for guarded in component.deps.as_slice() {
-        if !guarded.dep.get().internal {
-            let met = push_demands(alloc, flat, component, ways, guarded, env, known)?;
-            known = Some(met);
+    for group in component.deps.groups() {
+        push_group(alloc, flat, component, ways, group, env)?;
+    }
+    Ok(())
+}
+
+// The same of those that stand in one place. Their condition is looked at once.
+fn push_group(
+    alloc: Global,
+    flat: &mut List<FlatDep>,
+    component: &Component,
+    ways: &Ways,
+    group: &DepGroup,
+    env: &Env,
+) -> Result<(), Fault>
+    requires { ways.now ≡ ways_of env.now component.now.buildable }
+    ensures none_beyond { OnOk result (first_among env.now (outward_among component.now (of_group group.now)) ≡ None) }
+    ensures demands { OnOk result (flat.new
+        ≡ flat.old ++ flat_map (demands_at env.now) (outward_among component.now (of_group group.now))) }
+    ensures refused { IfErr result (RefusesAt (λ line cause. (cause ≡ TooManyPaths)
+        × (first_among env.now (outward_among component.now (of_group group.now)) ≡ Some line))) }
+{
+    if !has_others(group) {
+        return Ok(());
+    }
+    if never_counts(alloc, ways, &group.when, env)? {
+        return Ok(());
+    }
+    let met = ways_of(alloc, group.when.get(), env)?;
+    for dep in group.deps.as_slice() {
+        if !dep.get().internal {
+            push_demands(alloc, flat, component.kind, ways, &met, dep)?;
         }
     }
     Ok(())
 }
 
-// What one dependency asks for, under the ways to build its component and to meet its own condition. These are given back, and
-// taken up again for the same condition.
+// Whether the last tests of a condition tell that what stands under it never counts, and isn't refused.
+fn never_counts(alloc: Global, ways: &Ways, when: &Guard, env: &Env) -> Result<bool, NoMemory>
+    ensures { IfOk result (λ yes. IsTrue yes → (ways.now.number ≤ 256) × (length (paths_of env.now when.now true) ≤ 1)
+        × (clean_paths (paths_of env.now when.now true) ≡ [])) }
+{
+    if ways.number <= MOST_PATHS && when.meets_once() {
+        let clash = is_clash(alloc, when.get(), env)?;
+        Ok(clash)
+    } else {
+        Ok(false)
+    }
+}
+
+// What one dependency asks for, under the ways to build its component and to meet its own condition.
 fn push_demands(
     alloc: Global,
     flat: &mut List<FlatDep>,
-    component: &Component,
+    kind: CompKind,
     ways: &Ways,
-    guarded: &GuardedDep,
-    env: &Env,
-    known: Option<Met>,
-) -> Result<Met, Fault>
-    requires ways { ways.now ≡ ways_of env.now component.now.buildable }
-    requires known { IfSome known (λ met. met.ways ≡ ways_of env.now met.when) }
-    ensures known { IfOk result (λ met. met.ways ≡ ways_of env.now met.when) }
-    ensures within { IfOk result (λ _. is_beyond env.now (outward_of component.now guarded.now) ≡ false) }
-    ensures demands { IfOk result (λ _. flat.new
-        ≡ flat.old ++ demands_at env.now (outward_of component.now guarded.now)) }
-    ensures refused { IfErr result (RefusesAt (λ line cause. (cause ≡ TooManyPaths)
-        × (line ≡ guarded.now.dep.line) × (is_beyond env.now (outward_of component.now guarded.now) ≡ true))) }
+    met: &Ways,
+    dep: &Shared<Dep>,
+) -> Result<(), Fault>
+    ensures within { OnOk result (number_of_both ways.now met.now ≤ 256) }
+    ensures demands { OnOk result (flat.new ≡ flat.old ++ map (flat_of kind dep.now) (paths_of_both ways.now met.now)) }
+    ensures refused { IfErr result (RefusesAt (λ line cause. (cause ≡ TooManyPaths) × (line ≡ dep.now.line)
+        × (256 < number_of_both ways.now met.now))) }
 {
-    let met = ways_met(alloc, guarded, env, known)?;
-    let number = ways.number.saturating_mul(met.ways.number);
+    let number = ways.number.saturating_mul(met.number);
     if MOST_PATHS < number {
         return Err(Fault::At {
-            line: guarded.dep.get().line,
+            line: dep.get().line,
             cause: Cause::TooManyPaths,
         });
     }
     if number == 0 {
-        return Ok(met);
+        return Ok(());
     }
-    for path in joined_paths(alloc, &ways.paths, &met.ways.paths)?.into_vec() {
-        flat.push(flat_of(alloc, component.kind, path, &guarded.dep)?)?;
+    for path in joined_paths(alloc, &ways.paths, &met.paths)?.into_vec() {
+        flat.push(flat_of(alloc, kind, path, dep)?)?;
     }
-    Ok(met)
+    Ok(())
 }
 
 // A dependency under one way to set flags.

@@ -7,7 +7,6 @@
 mod demands;
 mod exposure;
 mod laws;
-mod met_ways;
 mod ways;
 
 pub use demands::demands_of;

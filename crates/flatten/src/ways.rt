@@ -67,10 +67,9 @@ fn count_test(test: &Cond, env: &Env) -> u64
     }
 }
 
-// The ways to set flags so that a condition is Yes, of which there are some, and no more than a dependency may have.
+// The ways to set flags so that a condition is Yes, of which there are no more than a dependency may have.
 fn some_paths(alloc: Global, cond: &Cond, env: &Env) -> Result<List<List<FlagSet>>, NoMemory>
-    requires some { length (paths_of env.now cond.now true) ≢ 0 }
-    requires few { length (paths_of env.now cond.now true) ≤ 256 }
+    requires { length (paths_of env.now cond.now true) ≤ 256 }
     ensures { IfOk result (λ paths. paths ≡ clean_paths (paths_of env.now cond.now true)) }
 {
     if is_clash(alloc, cond, env)? {
@@ -79,10 +78,8 @@ fn some_paths(alloc: Global, cond: &Cond, env: &Env) -> Result<List<List<FlagSet
     paths(alloc, cond, env, true)
 }
 
-// Whether the last tests of a chain set a flag both ways, so that the others aren't asked.
-fn is_clash(alloc: Global, cond: &Cond, env: &Env) -> Result<bool, NoMemory>
-    requires some { length (paths_of env.now cond.now true) ≢ 0 }
-    requires few { length (paths_of env.now cond.now true) ≤ 256 }
+/// Whether the last tests of a chain set a flag both ways, so that the others needn't be asked.
+pub fn is_clash(alloc: Global, cond: &Cond, env: &Env) -> Result<bool, NoMemory>
     ensures { IfOk result (λ yes. IsTrue yes → clean_paths (paths_of env.now cond.now true) ≡ []) }
 {
     let mut rest = List::new(alloc);
@@ -92,7 +89,11 @@ fn is_clash(alloc: Global, cond: &Cond, env: &Env) -> Result<bool, NoMemory>
         let Cond::And(front, last) = left else {
             return Ok(false);
         };
-        let more = paths(alloc, last.get(), env, true)?;
+        let last = last.get();
+        if MOST_PATHS < count_test(last, env) {
+            return Ok(false);
+        }
+        let more = paths(alloc, last, env, true)?;
         rest = joined_paths(alloc, &more, &rest)?;
         if rest.is_empty() {
             return Ok(true);

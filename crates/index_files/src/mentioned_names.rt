@@ -1,6 +1,8 @@
 // The names that descriptions and releases ask for.
 ghost use Rattle.std.specs.Prelude.{◌≡◌, map, flat_map, OnOk};
-ghost use Rattle.flatten.specs.Demands.{outward_in};
+ghost use Rattle.flatten.specs.Demands.{outward_among, outward_in};
+ghost use Rattle.plan_types.specs.Guarded.{of_group};
+ghost use Rattle.plan_types.specs.declared.description.Component.{Component};
 ghost use Rattle.flatten.specs.Sound.{asked_packages};
 ghost use Rattle.index_files.specs.Releases.{asked_by, asked_in, outward_name};
 ghost use Rattle.index_files.specs.Names.{put_all};
@@ -8,7 +10,7 @@ ghost use Rattle.index_files.specs.Names.{put_all};
 use crate::names::put;
 use crate::release::{Judged, Release};
 use indexmap::IndexSet;
-use plan_types::{Component, Dep, Description, NoMemory, Text};
+use plan_types::{Component, Dep, DepGroup, Description, NoMemory, Text};
 
 /// Puts the names that releases ask for.
 pub(crate) fn put_asked(names: &mut IndexSet<Text>, releases: &[Release]) -> Result<(), NoMemory>
@@ -52,9 +54,19 @@ fn put_outward(names: &mut IndexSet<Text>, components: &[Component]) -> Result<(
 fn put_component(names: &mut IndexSet<Text>, component: &Component) -> Result<(), NoMemory>
     ensures { OnOk result (names.new.keys ≡ put_all names.old.keys (map outward_name (outward_in component.now))) }
 {
-    for guarded in component.deps.as_slice() {
-        if !guarded.dep.get().internal {
-            put(names, &guarded.dep.get().package)?;
+    for group in component.deps.groups() {
+        put_group(names, group)?;
+    }
+    Ok(())
+}
+
+fn put_group(names: &mut IndexSet<Text>, group: &DepGroup) -> Result<(), NoMemory>
+    ensures { OnOk result ((component : Component)
+        → names.new.keys ≡ put_all names.old.keys (map outward_name (outward_among component (of_group group.now)))) }
+{
+    for dep in group.deps.as_slice() {
+        if !dep.get().internal {
+            put(names, &dep.get().package)?;
         }
     }
     Ok(())

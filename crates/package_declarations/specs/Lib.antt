@@ -6,3 +6,4 @@ pub mod Cycles
 pub mod Numbers
 pub mod DeclaredNames
 pub mod AskedSections
+pub mod Gathering

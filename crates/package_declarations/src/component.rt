@@ -1,17 +1,17 @@
 // The components of a package.
 
 ghost use Rattle.std.specs.Prelude.{◌≡◌, ℕ, List, ◌∷◌, [], ◌++◌, map, flat_map, Option, unwrap_or, IfOk, OnOk};
-ghost use Rattle.plan_types.specs.declared.dependency.Dep.{Dep};
 ghost use Rattle.section_syntax.specs.Branch.{all_of};
 ghost use Rattle.section_syntax.specs.declared.part.File.{File};
 ghost use Rattle.section_syntax.specs.declared.part.Section.{Section};
 ghost use Rattle.package_declarations.specs.Components.{barrier, buildable, component, components, guarded, is_public, unbuildable_said, visibility_of};
-ghost use Rattle.package_declarations.specs.Declarations.{meant};
+ghost use Rattle.section_syntax.specs.Nested.{AreNested};
 ghost use Rattle.stanza_imports.specs.Bodies.{table, built_component, placed_part, Stand};
 ghost use Rattle.package_declarations.specs.DeclaredNames.{Tells};
 
 use crate::declarations::Declared;
-use plan_types::{Component, Cond, Dep, GuardedDep, List, NoMemory, Shared};
+use crate::gathered::Gathered;
+use plan_types::{Component, Guard, GuardedDeps, List, NoMemory};
 use section_syntax::{Said, all_of};
 use stanza_imports::{Bodies, Built, Placed, Stanzas};
 use std::alloc::Global;
@@ -23,7 +23,7 @@ pub fn components(
     bodies: &Bodies,
 ) -> Result<List<Component>, NoMemory>
     ensures { IfOk result (λ found. (file : File) → Tells declared.now file → Stand file.sections bodies.now
-        → found ≡ components file) }
+        → All (λ section. AreNested section.parts) file.sections → found ≡ components file) }
 {
     let mut components = List::new(alloc);
     for one in bodies.built.as_slice() {
@@ -39,6 +39,7 @@ fn component<'a>(
     built: &Built<'a>,
 ) -> Result<Component, NoMemory>
     ensures { IfOk result (λ found. (file : File) → Tells declared.now file
+        → AreNested (built_component (table stanzas.now.bodies.items) built.now).section.parts
         → found ≡ component file (built_component (table stanzas.now.bodies.items) built.now).section built.now.kind) }
 {
     let placed = stanzas.replaced(alloc, &built.body)?;
@@ -78,7 +79,7 @@ fn visibility(placed: &Placed, public: bool) -> bool
 }
 
 /// No branch with `buildable: False` is taken.
-fn buildable(alloc: Global, placed: &[Placed]) -> Result<Shared<Cond>, NoMemory>
+fn buildable(alloc: Global, placed: &[Placed]) -> Result<Guard, NoMemory>
     ensures { IfOk result (λ cond. cond ≡ buildable (map placed_part placed.now)) }
 {
     let mut conds = List::new(alloc);
@@ -88,17 +89,12 @@ fn buildable(alloc: Global, placed: &[Placed]) -> Result<Shared<Cond>, NoMemory>
     all_of(alloc, conds.as_slice())
 }
 
-fn push_barrier(
-    alloc: Global,
-    conds: &mut List<Shared<Cond>>,
-    placed: &Placed,
-) -> Result<(), NoMemory>
+fn push_barrier(alloc: Global, conds: &mut List<Guard>, placed: &Placed) -> Result<(), NoMemory>
     ensures { OnOk result (conds.new ≡ conds.old ++ barrier (placed_part placed.now)) }
 {
     if is_unbuildable(&placed.part.said) {
         let branches = all_of(alloc, placed.branches.as_slice())?;
-        let barrier = Shared::new(alloc, Cond::Not(branches))?;
-        conds.push(barrier)?;
+        conds.push(branches.negated(alloc)?)?;
     }
     Ok(())
 }
@@ -112,52 +108,13 @@ fn is_unbuildable(said: &Said) -> bool
     }
 }
 
-fn deps(alloc: Global, declared: &Declared, placed: &[Placed]) -> Result<List<GuardedDep>, NoMemory>
-    ensures { IfOk result (λ deps. (file : File) → Tells declared.now file
+fn deps(alloc: Global, declared: &Declared, placed: &[Placed]) -> Result<GuardedDeps, NoMemory>
+    ensures { IfOk result (λ deps. (file : File) → Tells declared.now file → AreNested (map placed_part placed.now)
         → deps ≡ flat_map (guarded file) (map placed_part placed.now)) }
 {
-    let mut deps = List::new(alloc);
+    let mut gathered = Gathered::new(alloc);
     for one in placed {
-        push_deps(alloc, &mut deps, declared, one)?;
+        gathered = gathered.with(alloc, declared, one)?;
     }
-    Ok(deps)
-}
-
-fn push_deps(
-    alloc: Global,
-    deps: &mut List<GuardedDep>,
-    declared: &Declared,
-    placed: &Placed,
-) -> Result<(), NoMemory>
-    ensures { OnOk result ((file : File) → Tells declared.now file
-        → deps.new ≡ deps.old ++ guarded file (placed_part placed.now)) }
-{
-    let Said::Depends(said) = &placed.part.said else {
-        return Ok(());
-    };
-    let Ok(found) = said else {
-        return Ok(());
-    };
-    let when = all_of(alloc, placed.branches.as_slice())?;
-    push_guarded(alloc, deps, declared, found.as_slice(), &when)?;
-    Ok(())
-}
-
-fn push_guarded(
-    alloc: Global,
-    deps: &mut List<GuardedDep>,
-    declared: &Declared,
-    found: &[Dep],
-    when: &Shared<Cond>,
-) -> Result<(), NoMemory>
-    ensures { OnOk result ((file : File) → Tells declared.now file
-        → deps.new ≡ deps.old ++ map (λ dep. record { when = when.now; dep = meant file dep }) found.now) }
-{
-    for dep in found {
-        let dep = declared.meant(alloc, dep)?;
-        let shared = Shared::new(alloc, dep)?;
-        let when = when.copy()?;
-        deps.push(GuardedDep { when, dep: shared })?;
-    }
-    Ok(())
+    gathered.into_deps()
 }

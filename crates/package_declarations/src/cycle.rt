@@ -5,10 +5,11 @@ ghost use Rattle.component_cycle.specs.Cycle.{IsFirstOnCycle};
 ghost use Rattle.package_declarations.specs.Cycles.{needs};
 ghost use Rattle.stanza_imports.specs.Names.{has, with_name};
 ghost use Rattle.package_declarations.specs.Numbers.{Numbered, number_at, number_beside, needs_by, targets_by};
+ghost use Rattle.plan_types.specs.Guarded.{of_group};
 ghost use Rattle.plan_types.specs.Packages.{library_name};
 
 use component_cycle::first_on_cycle;
-use plan_types::{Component, Dep, DepKind, LibName, List, NoMemory};
+use plan_types::{Component, Dep, DepGroup, DepKind, LibName, List, NoMemory};
 use stanza_imports::NameSet;
 use std::alloc::Global;
 
@@ -83,10 +84,19 @@ impl<'a> Numbers<'a> {
         ensures { IfOk result (λ found. found ≡ needs_by (number_at self.now) component.now) }
     {
         let mut found = List::new(alloc);
-        for guarded in component.deps.as_slice() {
-            self.push_targets(guarded.dep.get(), &mut found)?;
+        for group in component.deps.groups() {
+            self.push_group(group, &mut found)?;
         }
         Ok(found)
+    }
+
+    fn push_group(&self, group: &DepGroup, found: &mut List<usize>) -> Result<(), NoMemory>
+        ensures { OnOk result (found.new ≡ found.old ++ flat_map (λ guarded. targets_by (number_at self.now) guarded.dep) (of_group group.now)) }
+    {
+        for dep in group.deps.as_slice() {
+            self.push_targets(dep.get(), found)?;
+        }
+        Ok(())
     }
 
     fn push_targets(&self, dep: &Dep, found: &mut List<usize>) -> Result<(), NoMemory>

@@ -6,6 +6,7 @@ mod component;
 mod cycle;
 mod declarations;
 mod flag_list;
+mod gathered;
 mod setup;
 
 pub use component::components;

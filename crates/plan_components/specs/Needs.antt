@@ -63,10 +63,14 @@ abbrev pub counts : Selection → List FlagSet → Bool → Component → Guarde
 counts selection flags own component guarded =
     (own || not guarded.dep.internal) && holds selection.env flags (whole_condition component guarded)
 
--- what a node needs for the dependencies of a component that count
+-- what a node needs for those of these dependencies of a component that count
+abbrev pub needs_among : Selection → Node → List FlagSet → Bool → Component → List GuardedDep → List Need
+needs_among selection node flags own component deps =
+    flat_map (λ guarded. dep_needs selection node guarded.dep) (filter (counts selection flags own component) deps)
+
+-- and for all of them
 abbrev pub component_needs : Selection → Node → List FlagSet → Bool → Component → List Need
-component_needs selection node flags own component =
-    flat_map (λ guarded. dep_needs selection node guarded.dep) (filter (counts selection flags own component) component.deps)
+component_needs selection node flags own component = needs_among selection node flags own component component.deps
 
 -- what a package that is built as a whole needs for its wanted components
 abbrev pub wanted_needs : Selection → Node → List FlagSet → List Component → List Need

@@ -17,7 +17,7 @@ use crate::owner::{Known, Owner};
 use crate::pieces::{as_pieces, node_of, only_whole};
 use cabal_problem::{package_var, qual_for};
 use plan_types::{
-    Body, Component, Dep, DepKind, Description, GuardedDep, LibName, List, NoMemory, Text,
+    Body, Component, Dep, DepGroup, DepKind, Description, LibName, List, NoMemory, Text,
 };
 use qualified_goals::Qual;
 use std::alloc::Global;
@@ -221,26 +221,36 @@ fn push_deps(
     ensures { OnOk result (needs.new ≡ needs.old
         ++ component_needs (selection_of chosen.now) owner.now.node owner.now.known.now.flags own component.now) }
 {
-    for guarded in component.deps.as_slice() {
-        if counts(chosen, owner, own, component, guarded) {
-            push_dep(alloc, needs, chosen, owner, guarded.dep.get())?;
-        }
+    for group in component.deps.groups() {
+        push_group(alloc, needs, chosen, owner, own, component, group)?;
     }
     Ok(())
 }
 
-// The component is buildable, so that its branches alone decide.
-fn counts(
+// The component is buildable, so that the branches alone decide, which are the same for all of a group.
+fn push_group(
+    alloc: Global,
+    needs: &mut List<Need>,
     chosen: &Chosen<'_>,
     owner: &Owner<'_>,
     own: bool,
     component: &Component,
-    guarded: &GuardedDep,
-) -> bool
-    requires { holds chosen.now.env.now owner.now.known.now.flags component.now.buildable ≡ true }
-    ensures { result ≡ counts (selection_of chosen.now) owner.now.known.now.flags own component.now guarded.now }
+    group: &DepGroup,
+) -> Result<(), NoMemory>
+    requires known { IsKnown (selection_of chosen.now) owner.now.known.now }
+    requires built { holds chosen.now.env.now owner.now.known.now.flags component.now.buildable ≡ true }
+    ensures { OnOk result (needs.new ≡ needs.old
+        ++ needs_among (selection_of chosen.now) owner.now.node owner.now.known.now.flags own component.now (of_group group.now)) }
 {
-    (own || !guarded.dep.get().internal) && chosen.holds(&owner.known.flags, guarded.when.get())
+    if !chosen.holds(&owner.known.flags, group.when.get()) {
+        return Ok(());
+    }
+    for dep in group.deps.as_slice() {
+        if own || !dep.get().internal {
+            push_dep(alloc, needs, chosen, owner, dep.get())?;
+        }
+    }
+    Ok(())
 }
 
 fn push_dep(

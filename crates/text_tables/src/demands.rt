@@ -5,8 +5,8 @@ use crate::shared::{environment, shown};
 use condition_text::read_cond;
 use flatten::{demands_of, exposed};
 use plan_types::{
-    Cause, CompKind, Component, Dep, DepKind, Description, Env, FlatDep, GuardedDep, LibName, List,
-    NoMemory, PartName, Range, Shared, Spec, Text, TextFault, Version,
+    Cause, CompKind, Component, Dep, DepGroup, DepKind, Description, Env, FlatDep, Guard,
+    GuardedDeps, LibName, List, NoMemory, PartName, Range, Shared, Spec, Text, TextFault, Version,
 };
 use std::alloc::Global;
 use std::test::Fail;
@@ -31,7 +31,7 @@ library - if true,w if true,x if (flag(a) || flag(b)) && (flag(c) || flag(d)) &&
 library - if true,=x if (flag(a) || flag(b)) && (flag(c) || flag(d)) && (flag(e) || flag(f)) && (flag(g) || flag(h)) && (flag(i) || flag(j)) && (flag(k) || flag(l)) && (flag(m) || flag(n)) && (flag(o) || flag(p)) && (flag(q) || flag(r)) => | Exposed { libs: [Main], exes: [] }\n\
 library - if true,x if true;exe e if flag(a) || flag(b),y if (flag(a) || flag(b)) && (flag(a) || flag(b)) && (flag(a) || flag(b)) && (flag(a) || flag(b)) && (flag(a) || flag(b)) && (flag(a) || flag(b)) && (flag(a) || flag(b)) && (flag(a) || flag(b)) => At { line: 4, cause: TooManyPaths } | Exposed { libs: [Main], exes: [e] }\n";
 
-fn dependency(alloc: Global, line: u32, text: &str) -> Result<GuardedDep, TextFault> {
+fn dependency(alloc: Global, line: u32, text: &str) -> Result<DepGroup, TextFault> {
     let Some((name, when)) = text.split_once(" if ") else {
         return Err(TextFault::Bad(Cause::BadDepend));
     };
@@ -47,12 +47,18 @@ fn dependency(alloc: Global, line: u32, text: &str) -> Result<GuardedDep, TextFa
         internal: name.starts_with('='),
     };
     let when = read_cond(alloc, when.as_bytes(), Spec::V3_0)?;
-    let when = Shared::new(alloc, when)?;
-    let dep = Shared::new(alloc, dep)?;
-    Ok(GuardedDep { when, dep })
+    let when = Guard::new(alloc, when)?;
+    let mut deps = List::new(alloc);
+    deps.push(Shared::new(alloc, dep)?)?;
+    Ok(DepGroup { when, deps })
 }
 
-fn component(alloc: Global, line: u32, text: &str) -> Result<Component, TextFault> {
+fn component(
+    alloc: Global,
+    line: u32,
+    text: &str,
+    groups: List<DepGroup>,
+) -> Result<Component, TextFault> {
     let Some((head, buildable)) = text.split_once(" if ") else {
         return Err(TextFault::Bad(Cause::BadField));
     };
@@ -71,8 +77,8 @@ fn component(alloc: Global, line: u32, text: &str) -> Result<Component, TextFaul
         },
         name: Text::from_str(alloc, if name == "-" { "" } else { name })?,
         public: kind == "public",
-        buildable: Shared::new(alloc, buildable)?,
-        deps: List::new(alloc),
+        buildable: Guard::new(alloc, buildable)?,
+        deps: GuardedDeps::new(groups),
     })
 }
 
@@ -85,14 +91,15 @@ fn components(alloc: Global, text: &str) -> Result<List<Component>, TextFault> {
             Some(found) => found,
         };
         line = line.saturating_add(1);
-        let mut component = component(alloc, line, head)?;
+        let section = line;
+        let mut groups = List::new(alloc);
         for dep in deps.split(',') {
             if !dep.is_empty() {
                 line = line.saturating_add(1);
-                component.deps.push(dependency(alloc, line, dep)?)?;
+                groups.push(dependency(alloc, line, dep)?)?;
             }
         }
-        components.push(component)?;
+        components.push(component(alloc, section, head, groups)?)?;
     }
     Ok(components)
 }

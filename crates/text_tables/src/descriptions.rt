@@ -2,7 +2,7 @@
 // `doubled`: so many stanzas which each import the one before twice, so that the dependencies would fill any machine.
 use cabal_lexer::read_elements;
 use description::read_description;
-use plan_types::{Description, Fault, Text};
+use plan_types::{DepGroup, Description, Fault, Text};
 use std::alloc::Global;
 use std::test::Fail;
 
@@ -41,13 +41,21 @@ fn described(alloc: Global, text: &str) -> Result<Description, Fault> {
 fn deps_of(alloc: Global, description: &Description) -> Result<String, Fail> {
     let mut text = String::new(alloc);
     for component in description.components.as_slice() {
-        for guarded in component.deps.as_slice() {
-            let gap = if text.is_empty() { "" } else { " " };
-            let (name, when) = (guarded.dep.get().package.as_str(), guarded.when.get());
-            write!(&mut text, "{gap}{name} {when:?}")?;
+        for group in component.deps.groups() {
+            write_group(&mut text, group)?;
         }
     }
     Ok(text)
+}
+
+fn write_group(text: &mut String, group: &DepGroup) -> Result<(), Fail> {
+    let when = group.when.get();
+    for dep in group.deps.as_slice() {
+        let gap = if text.is_empty() { "" } else { " " };
+        let name = dep.get().package.as_str();
+        write!(text, "{gap}{name} {when:?}")?;
+    }
+    Ok(())
 }
 
 fn read(alloc: Global, text: &str) -> Result<String, Fail> {
