@@ -14,7 +14,7 @@ ghost use Rattle.package_declarations.specs.DeclaredNames.{Tells};
 use crate::fault_order::{At, earlier};
 use package_declarations::Declared;
 use plan_types::{
-    Cause, CompKind, Cond, Dep, List, NoMemory, Shared, Text, is_component_name, is_flag_name,
+    Cause, CompKind, Dep, Guard, List, NoMemory, Text, is_component_name, is_flag_name,
 };
 use section_syntax::{File, Head, HeadField, Said, Section, SectionKind, SectionPart};
 use stanza_imports::NameSet;
@@ -179,7 +179,7 @@ fn are_known(deps: &[Dep], declared: &Declared) -> bool
 
 fn of_branch(
     line: u32,
-    condition: &Result<Shared<Cond>, Cause>,
+    condition: &Result<Guard, Cause>,
     fits: bool,
     declared: &Declared,
 ) -> Option<At>
@@ -190,11 +190,7 @@ fn of_branch(
     earlier(condition, place)
 }
 
-fn of_condition(
-    line: u32,
-    condition: &Result<Shared<Cond>, Cause>,
-    declared: &Declared,
-) -> Option<At>
+fn of_condition(line: u32, condition: &Result<Guard, Cause>, declared: &Declared) -> Option<At>
     ensures { (file : File) → Tells declared.now file → result ≡ first (at line (of_condition file.sections condition.now)) }
 {
     match condition {

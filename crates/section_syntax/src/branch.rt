@@ -5,14 +5,14 @@ ghost use Rattle.section_syntax.specs.Branch.{all_of, bare, branch_of, condition
 
 use crate::words::BranchWord;
 use condition_text::read_cond;
-use plan_types::{Cause, Cond, List, NoMemory, Shared, Spec, Text, TextFault};
+use plan_types::{Cause, Cond, Guard, List, NoMemory, Spec, Text, TextFault};
 use std::alloc::Global;
 
 /// A branch: the condition of being in it, and that of not being in any branch of its chain so far. Nothing stands behind an `else`.
 #[derive(Drop)]
 pub struct Branch {
-    pub condition: Shared<Cond>,
-    pub chain: Option<Shared<Cond>>,
+    pub condition: Guard,
+    pub chain: Option<Guard>,
 }
 
 impl Branch {
@@ -20,8 +20,8 @@ impl Branch {
     pub fn of(
         alloc: Global,
         word: BranchWord,
-        chain: Option<Shared<Cond>>,
-        own: &Result<Shared<Cond>, Cause>,
+        chain: Option<Guard>,
+        own: &Result<Guard, Cause>,
     ) -> Result<Branch, NoMemory>
         ensures { IfOk result (λ branch. branch ≡ branch_of word chain own.now) }
     {
@@ -36,13 +36,13 @@ impl Branch {
 /// A branch with a condition of its own.
 fn tried(
     alloc: Global,
-    chain: Option<Shared<Cond>>,
-    own: &Result<Shared<Cond>, Cause>,
+    chain: Option<Guard>,
+    own: &Result<Guard, Cause>,
 ) -> Result<Branch, NoMemory>
     ensures { IfOk result (λ branch. branch ≡ tried chain (or_never own.now)) }
 {
     let own = or_never(alloc, own)?;
-    let other = Shared::new(alloc, Cond::Not(own.copy()?))?;
+    let other = own.negated(alloc)?;
     let condition = tried_behind(alloc, &chain, own)?;
     let chain = tried_behind(alloc, &chain, other)?;
     Ok(Branch {
@@ -52,12 +52,12 @@ fn tried(
 }
 
 /// An `else`.
-fn last(alloc: Global, chain: Option<Shared<Cond>>) -> Result<Branch, NoMemory>
+fn last(alloc: Global, chain: Option<Guard>) -> Result<Branch, NoMemory>
     ensures { IfOk result (λ branch. branch ≡ last chain) }
 {
     let condition = match chain {
         Some(tried) => tried,
-        None => Shared::new(alloc, Cond::Always)?,
+        None => Guard::new(alloc, Cond::Always)?,
     };
     Ok(Branch {
         condition,
@@ -65,24 +65,20 @@ fn last(alloc: Global, chain: Option<Shared<Cond>>) -> Result<Branch, NoMemory>
     })
 }
 
-fn tried_behind(
-    alloc: Global,
-    chain: &Option<Shared<Cond>>,
-    cond: Shared<Cond>,
-) -> Result<Shared<Cond>, NoMemory>
+fn tried_behind(alloc: Global, chain: &Option<Guard>, cond: Guard) -> Result<Guard, NoMemory>
     ensures { IfOk result (λ found. found ≡ tried_behind chain.now cond) }
 {
     match chain {
         None => Ok(cond),
         Some(tried) => {
             let left = tried.copy()?;
-            Ok(Shared::new(alloc, Cond::And(left, cond))?)
+            left.and(alloc, cond)
         }
     }
 }
 
 /// The conditions of branches.
-pub fn conditions(alloc: Global, branches: &[Branch]) -> Result<List<Shared<Cond>>, NoMemory>
+pub fn conditions(alloc: Global, branches: &[Branch]) -> Result<List<Guard>, NoMemory>
     ensures { IfOk result (λ conds. conds ≡ map condition branches.now) }
 {
     let mut conds = List::new(alloc);
@@ -93,15 +89,15 @@ pub fn conditions(alloc: Global, branches: &[Branch]) -> Result<List<Shared<Cond
 }
 
 /// Conditions joined by `&&`, from the left; `true` where there is none.
-pub fn all_of(alloc: Global, conds: &[Shared<Cond>]) -> Result<Shared<Cond>, NoMemory>
+pub fn all_of(alloc: Global, conds: &[Guard]) -> Result<Guard, NoMemory>
     ensures { IfOk result (λ all. all ≡ all_of conds.now) }
 {
     let [first, rest @ ..] = conds else {
-        return Shared::new(alloc, Cond::Always);
+        return Guard::new(alloc, Cond::Always);
     };
     let mut all = first.copy()?;
     for cond in rest {
-        all = Shared::new(alloc, Cond::And(all, cond.copy()?))?;
+        all = all.and(alloc, cond.copy()?)?;
     }
     Ok(all)
 }
@@ -112,21 +108,21 @@ pub fn own_condition(
     spec: Spec,
     word: BranchWord,
     args: &Text,
-) -> Result<Result<Shared<Cond>, Cause>, NoMemory>
+) -> Result<Result<Guard, Cause>, NoMemory>
     ensures { IfOk result (OwnCondition spec word args.now) }
 {
     let read = match word {
         BranchWord::Else => bare(args.as_bytes()),
         BranchWord::If | BranchWord::Elif => outcome(read_cond(alloc, args.as_bytes(), spec))?,
     };
-    shared(alloc, read)
+    guarded(alloc, read)
 }
 
-fn shared(alloc: Global, read: Result<Cond, Cause>) -> Result<Result<Shared<Cond>, Cause>, NoMemory>
+fn guarded(alloc: Global, read: Result<Cond, Cause>) -> Result<Result<Guard, Cause>, NoMemory>
     ensures { IfOk result (λ found. found ≡ read) }
 {
     match read {
-        Ok(cond) => Ok(Ok(Shared::new(alloc, cond)?)),
+        Ok(cond) => Ok(Ok(Guard::new(alloc, cond)?)),
         Err(cause) => Ok(Err(cause)),
     }
 }
@@ -154,14 +150,11 @@ pub fn outcome<T: Drop>(read: Result<T, TextFault>) -> Result<Result<T, Cause>, 
 }
 
 /// What stands for the condition where it can't be read.
-fn or_never(
-    alloc: Global,
-    condition: &Result<Shared<Cond>, Cause>,
-) -> Result<Shared<Cond>, NoMemory>
+fn or_never(alloc: Global, condition: &Result<Guard, Cause>) -> Result<Guard, NoMemory>
     ensures { IfOk result (λ cond. cond ≡ or_never condition.now) }
 {
     match condition {
         Ok(cond) => cond.copy(),
-        Err(_) => Shared::new(alloc, Cond::Never),
+        Err(_) => Guard::new(alloc, Cond::Never),
     }
 }

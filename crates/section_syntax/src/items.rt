@@ -15,7 +15,7 @@ use crate::branch::{Branch, conditions, own_condition};
 use crate::field::said_by;
 use crate::part::{Said, SectionKind, SectionPart};
 use crate::words::{BranchWord, FieldWord, InnerWord, field_word, inner_word};
-use plan_types::{Cond, Element, List, NoMemory, Shared, Spec, Text};
+use plan_types::{Element, Guard, List, NoMemory, Spec, Text};
 use std::alloc::Global;
 
 /// What is known of a section while its items are gone through.
@@ -31,7 +31,7 @@ struct Before {
     /// Whether an import may stand here.
     fits: bool,
     /// The conditions of a chain of branches, where one of it stands directly before.
-    chain: Option<Shared<Cond>>,
+    chain: Option<Guard>,
 }
 
 /// The parts of a section.
@@ -170,10 +170,10 @@ fn read_section(
     line: u32,
     args: &Text,
     items: &[Element],
-    chain: Option<Shared<Cond>>,
+    chain: Option<Guard>,
     branches: &mut List<Branch>,
     parts: &mut List<SectionPart>,
-) -> Result<Option<Shared<Cond>>, NoMemory>
+) -> Result<Option<Guard>, NoMemory>
     ensures parts { IfOk result (λ left.
         ReadsSection inside word line args.now (tree_of items.now) branches.old chain left parts.old parts.new) }
     ensures branches { IfOk result (λ _. branches.new ≡ branches.old) }
@@ -210,7 +210,7 @@ fn open_branch(
     word: BranchWord,
     line: u32,
     args: &Text,
-    chain: Option<Shared<Cond>>,
+    chain: Option<Guard>,
     branches: &[Branch],
     parts: &mut List<SectionPart>,
 ) -> Result<Branch, NoMemory>
@@ -230,7 +230,7 @@ fn open_branch(
 }
 
 /// The chain of the branch that ends here.
-fn close_branch(branches: &mut List<Branch>) -> Option<Shared<Cond>>
+fn close_branch(branches: &mut List<Branch>) -> Option<Guard>
     ensures { (outer : List Branch) (branch : Branch) → branches.old ≡ outer ++ branch ∷ []
         → (result ≡ chain_of branch) × (branches.new ≡ outer) }
 {

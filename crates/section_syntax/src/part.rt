@@ -1,6 +1,6 @@
 // What a file says, as data.
 
-use plan_types::{Cause, CompKind, Cond, Dep, List, Shared, Spec, Text, Version};
+use plan_types::{Cause, CompKind, Dep, Guard, List, Spec, Text, Version};
 
 /// What a field or a section inside a section says.
 #[derive(Debug, Drop)]
@@ -24,7 +24,7 @@ pub enum Said {
     BuildTools,
     /// `if`, `elif` or `else`: its own condition, and whether it is an `if` or directly behind one or an `elif`.
     Branch {
-        condition: Result<Shared<Cond>, Cause>,
+        condition: Result<Guard, Cause>,
         fits: bool,
     },
     /// Any other section.
@@ -37,7 +37,7 @@ pub struct SectionPart {
     /// From 1.
     pub line: u32,
     /// The conditions of the branches in which it stands, the outermost first. What can't be read stands as `false`.
-    pub branches: List<Shared<Cond>>,
+    pub branches: List<Guard>,
     pub said: Said,
 }
 

@@ -13,7 +13,7 @@ ghost use Rattle.stanza_imports.specs.Walk.{left_parts, frames_parts, costs, lef
 ghost use Rattle.stanza_imports.specs.Parts.{is_named_library, bad_visibility, bad_visibilities};
 
 use crate::name_set::NameSet;
-use plan_types::{CompKind, Cond, List, NoMemory, Shared, Text};
+use plan_types::{CompKind, Guard, List, NoMemory, Text};
 use section_syntax::{Said, Section, SectionKind, SectionPart};
 use std::alloc::Global;
 
@@ -23,7 +23,7 @@ enum Step<'a> {
     Part(&'a SectionPart),
     Import {
         stanza: usize,
-        branches: &'a List<Shared<Cond>>,
+        branches: &'a List<Guard>,
     },
 }
 
@@ -74,7 +74,7 @@ impl Summary {
     }
 
     /// Of the same parts in these branches.
-    fn under(self, branches: &[Shared<Cond>]) -> Summary
+    fn under(self, branches: &[Guard]) -> Summary
         ensures { result ≡ summary_under branches.now self }
     {
         match branches {
@@ -97,14 +97,14 @@ pub struct Stanzas<'a> {
 /// A part, and the conditions of the branches in which it stands once imports are replaced.
 #[derive(Drop)]
 pub struct Placed<'a> {
-    pub branches: List<Shared<Cond>>,
+    pub branches: List<Guard>,
     pub part: &'a SectionPart,
 }
 
 /// What is left of a section or stanza, under these conditions, and the stanzas before it.
 #[derive(Drop)]
 struct Frame<'b, 'a> {
-    branches: List<Shared<Cond>>,
+    branches: List<Guard>,
     stanzas: &'b [Body<'a>],
     steps: &'b [Step<'a>],
 }
@@ -164,7 +164,7 @@ impl<'a> Stanzas<'a> {
         &self,
         body: &mut Body<'a>,
         names: &[Text],
-        branches: &'a List<Shared<Cond>>,
+        branches: &'a List<Guard>,
     ) -> Result<(), NoMemory>
         ensures { OnOk result (Grows self.now body.old body.new (λ known. flat_map (imported known branches.now) names.now)) }
     {
@@ -179,7 +179,7 @@ impl<'a> Stanzas<'a> {
         &self,
         body: &mut Body<'a>,
         name: &Text,
-        branches: &'a List<Shared<Cond>>,
+        branches: &'a List<Guard>,
     ) -> Result<(), NoMemory>
         ensures { OnOk result (Grows self.now body.old body.new (λ known. imported known branches.now name.now)) }
     {
@@ -227,7 +227,7 @@ impl<'a> Stanzas<'a> {
 // stanza that it imports.
 fn go_on<'b, 'a>(
     alloc: Global,
-    branches: List<Shared<Cond>>,
+    branches: List<Guard>,
     stanzas: &'b [Body<'a>],
     steps: &'b [Step<'a>],
     frames: &mut Vec<Frame<'b, 'a>>,
@@ -275,7 +275,7 @@ fn enter<'b, 'a>(
     frames: &mut Vec<Frame<'b, 'a>>,
     stanzas: &'b [Body<'a>],
     stanza: usize,
-    branches: List<Shared<Cond>>,
+    branches: List<Guard>,
 ) -> Result<(), NoMemory>
     ensures parts { OnOk result (frames_parts frames.new.items
         ≡ map (under branches) (get_or (table stanzas.now) stanza []) ++ frames_parts frames.old.items) }
@@ -306,7 +306,7 @@ impl<'a> Body<'a> {
         &mut self,
         stanza: usize,
         imported: &Body<'a>,
-        branches: &'a List<Shared<Cond>>,
+        branches: &'a List<Guard>,
     ) -> Result<(), NoMemory>
         ensures { OnOk result ((stanzas : List Body) (said parts : List SectionPart) → Means stanzas self.old said → stanza < length stanzas
             → get_or (table stanzas) stanza [] ≡ parts → imported.now.summary ≡ summary parts
@@ -351,11 +351,7 @@ fn lesser(one: Option<u32>, other: Option<u32>) -> Option<u32>
 }
 
 /// The conditions of outer branches, and then those of inner ones.
-fn joined(
-    alloc: Global,
-    outer: &List<Shared<Cond>>,
-    inner: &List<Shared<Cond>>,
-) -> Result<List<Shared<Cond>>, NoMemory>
+fn joined(alloc: Global, outer: &List<Guard>, inner: &List<Guard>) -> Result<List<Guard>, NoMemory>
     ensures { IfOk result (λ conds. conds ≡ outer.now ++ inner.now) }
 {
     let mut conds = List::new(alloc);
@@ -364,7 +360,7 @@ fn joined(
     Ok(conds)
 }
 
-fn push_copies(conds: &mut List<Shared<Cond>>, more: &[Shared<Cond>]) -> Result<(), NoMemory>
+fn push_copies(conds: &mut List<Guard>, more: &[Guard]) -> Result<(), NoMemory>
     ensures { OnOk result (conds.new ≡ conds.old ++ more.now) }
 {
     for cond in more {
