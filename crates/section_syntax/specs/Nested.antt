@@ -1,5 +1,5 @@
 -- How the parts of a section stand to each other: branches end between two parts, and begin at a part that says so.
-use Rattle.std.specs.Prelude.{◌≡◌, Bool, true, false, List, [], ◌∷◌, ◌++◌, Unit}
+use Rattle.std.specs.Prelude.{◌≡◌, Bool, true, false, List, [], ◌∷◌, ◌++◌}
 use Rattle.plan_types.specs.declared.condition.Cond.{Cond}
 use Rattle.section_syntax.specs.declared.part.SectionPart.{SectionPart}
 use Rattle.section_syntax.specs.declared.part.Said.{Said}
