@@ -1,5 +1,5 @@
 -- What is added to the parts for one element.
-use Rattle.std.proofs.Common.{◌≡◌, ℕ, Bool, ◌&&◌, true, false, ◌+◌, ◌<◌, length, List, [], ◌∷◌, ◌++◌, map, get_or, drop, sym, subst, ap, ◌∙◌, refl, append_assoc}
+use Rattle.std.proofs.Common.{◌≡◌, ℕ, Bool, ◌&&◌, false, ◌+◌, ◌<◌, length, List, [], ◌∷◌, ◌++◌, map, get_or, drop, sym, subst, ap, ◌∙◌, refl, append_assoc}
 use Rattle.std.specs.Prelude.{Option, None, Some}
 use Rattle.std.specs.declared.result.Result.{Result}
 use Rattle.std.proofs.lemmas.List.{map-append}
