@@ -25,7 +25,7 @@ returns-in-Some-2-clause-fault c =
     c.as_slice-in-Some-2.result.now c.in_ok-number.field-0 number
     (sym tells.name ∙ ap shown c.in-Some.is)
     (ap version_of (sym c.as_slice.ensures) ∙ sym c.version_of.ensures ∙ ap shown_version c.in-Some-version_of.is)
-    (c.in_ok-described.ensures (c.in_ok-components.ensures file tells stand))
+    (c.in_ok-described.ensures (c.in_ok-components.ensures file tells stand c.requires))
     c.as_slice-in-Some-2.ensures
     (subst (λ cs. IsFirstOnCycle (needs cs) c.in_ok-number.field-0) (c.as_slice-2.ensures ∙ sym c.as_slice-in-Some-2.ensures) c.in_ok-number.ensures)
     c.in-Some-2.is)
