@@ -1,5 +1,5 @@
 -- What bodies stand for whose imports are numbers.
-use Rattle.std.specs.Prelude.{◌≡◌, ℕ, length, List, [], ◌∷◌, ◌++◌, map, flat_map, get_or, sum_by, ◌+◌, ◌-◌, ◌^◌, min, Option}
+use Rattle.std.specs.Prelude.{◌≡◌, ℕ, length, List, [], ◌∷◌, ◌++◌, map, flat_map, get_or, sum_by, ◌+◌, Option}
 use Rattle.plan_types.specs.declared.description.CompKind.{CompKind}
 use Rattle.common_laws.specs.Small.{capped}
 use Rattle.section_syntax.specs.declared.part.SectionPart.{SectionPart}
