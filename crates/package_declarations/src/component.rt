@@ -1,6 +1,6 @@
 // The components of a package.
 
-ghost use Rattle.std.specs.Prelude.{◌≡◌, ℕ, List, ◌∷◌, [], ◌++◌, map, flat_map, Option, unwrap_or, IfOk, OnOk};
+ghost use Rattle.std.specs.Prelude.{◌≡◌, ℕ, List, ◌∷◌, [], ◌++◌, map, flat_map, All, Option, unwrap_or, IfOk, OnOk};
 ghost use Rattle.section_syntax.specs.Branch.{all_of};
 ghost use Rattle.section_syntax.specs.declared.part.File.{File};
 ghost use Rattle.section_syntax.specs.declared.part.Section.{Section};

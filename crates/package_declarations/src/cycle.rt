@@ -5,7 +5,6 @@ ghost use Rattle.component_cycle.specs.Cycle.{IsFirstOnCycle};
 ghost use Rattle.package_declarations.specs.Cycles.{needs};
 ghost use Rattle.stanza_imports.specs.Names.{has, with_name};
 ghost use Rattle.package_declarations.specs.Numbers.{Numbered, number_at, number_beside, needs_by, targets_by};
-ghost use Rattle.plan_types.specs.Guarded.{of_group};
 ghost use Rattle.plan_types.specs.Packages.{library_name};
 
 use component_cycle::first_on_cycle;
@@ -91,7 +90,7 @@ impl<'a> Numbers<'a> {
     }
 
     fn push_group(&self, group: &DepGroup, found: &mut List<usize>) -> Result<(), NoMemory>
-        ensures { OnOk result (found.new ≡ found.old ++ flat_map (λ guarded. targets_by (number_at self.now) guarded.dep) (of_group group.now)) }
+        ensures { OnOk result (found.new ≡ found.old ++ flat_map (targets_by (number_at self.now)) group.now.deps) }
     {
         for dep in group.deps.as_slice() {
             self.push_targets(dep.get(), found)?;

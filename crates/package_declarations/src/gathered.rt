@@ -1,9 +1,8 @@
 // The dependencies of a component, gathered part by part.
 
-ghost use Rattle.std.specs.Prelude.{◌≡◌, ◌×◌, ℕ, length, List, ◌++◌, map, flat_map, false, IfOk, IfSome};
+ghost use Rattle.std.specs.Prelude.{◌≡◌, List, [], ◌++◌, map, false, IfOk, IfSome};
 ghost use Rattle.plan_types.specs.Guarded.{GuardedDep, in_groups, of_group};
 ghost use Rattle.plan_types.specs.declared.condition.Cond.{Cond};
-ghost use Rattle.plan_types.specs.declared.dependency.Dep.{Dep};
 ghost use Rattle.section_syntax.specs.Branch.{all_of};
 ghost use Rattle.section_syntax.specs.Nested.{begins_branch};
 ghost use Rattle.section_syntax.specs.declared.part.File.{File};
@@ -12,6 +11,7 @@ ghost use Rattle.package_declarations.specs.Declarations.{meant};
 ghost use Rattle.package_declarations.specs.DeclaredNames.{Tells};
 ghost use Rattle.package_declarations.specs.Gathering.{AreGathered, IsOuter, in_group, under};
 ghost use Rattle.stanza_imports.specs.Bodies.{placed_part};
+ghost use Rattle.stanza_imports.specs.Parts.{deps_said};
 
 use crate::declarations::Declared;
 use plan_types::{Dep, DepGroup, GuardedDeps, List, NoMemory, Shared};
@@ -59,43 +59,43 @@ impl Gathered {
         ensures begins { IfOk result (λ after. after.begins ≡ begins_branch (placed_part placed.now).said) }
     {
         let here = self.moved(placed)?;
-        match &placed.part.said {
-            Said::Depends(Ok(found)) => {
-                let deps = meant(alloc, declared, found.as_slice())?;
-                let group = extended(alloc, here.current, placed, deps)?;
-                Ok(Gathered {
-                    current: Some(group),
-                    ..here
-                })
-            }
-            _ => Ok(here),
+        let found = asked(&placed.part.said);
+        if found.is_empty() {
+            return Ok(here);
         }
+        let deps = meant(alloc, declared, found)?;
+        let group = extended(alloc, here.current, placed, deps)?;
+        Ok(Gathered {
+            closed: here.closed,
+            current: Some(group),
+            depth: here.depth,
+            begins: here.begins,
+        })
     }
 
-    // At the next part, before what it asks for: the group of the part before ends where that stands in other branches.
+    // At the next part, before what it asks for: the group of the part before ends where this one stands in other branches.
     fn moved(self, placed: &Placed) -> Result<Gathered, NoMemory>
         ensures gathered { IfOk result (λ after. (deps : List GuardedDep) (before : List Cond)
             → AreGathered self deps before → IsOuter self.begins before (placed_part placed.now).branches
             → AreGathered after deps (placed_part placed.now).branches) }
         ensures begins { IfOk result (λ after. after.begins ≡ begins_branch (placed_part placed.now).said) }
     {
-        let Gathered {
-            closed,
-            current,
-            depth,
-            begins,
-        } = self;
-        let goes_on = !begins && depth == placed.branches.len();
-        let (closed, current) = if goes_on {
-            (closed, current)
-        } else {
-            (with_group(closed, current)?, None)
-        };
+        let depth = placed.branches.len();
+        let begins = begins_branch(&placed.part.said);
+        if !self.begins && self.depth == depth {
+            return Ok(Gathered {
+                closed: self.closed,
+                current: self.current,
+                depth,
+                begins,
+            });
+        }
+        let closed = with_group(self.closed, self.current)?;
         Ok(Gathered {
             closed,
-            current,
-            depth: placed.branches.len(),
-            begins: begins_branch(&placed.part.said),
+            current: None,
+            depth,
+            begins,
         })
     }
 
@@ -127,9 +127,8 @@ fn extended(
     placed: &Placed,
     mut deps: List<Shared<Dep>>,
 ) -> Result<DepGroup, NoMemory>
-    requires { IfSome group (λ g. g.when ≡ all_of placed.now.branches) }
-    ensures when { IfOk result (λ all. all.when ≡ all_of placed.now.branches) }
-    ensures deps { IfOk result (λ all. of_group all ≡ in_group group ++ map (under (all_of placed.now.branches)) deps) }
+    ensures { IfOk result (λ all. IfSome group (λ g. g.when ≡ all_of placed.now.branches)
+        → (all.when ≡ all_of placed.now.branches) × (of_group all ≡ in_group group ++ map (under (all_of placed.now.branches)) deps)) }
 {
     match group {
         Some(mut group) => {
@@ -140,6 +139,16 @@ fn extended(
             let when = all_of(alloc, placed.branches.as_slice())?;
             Ok(DepGroup { when, deps })
         }
+    }
+}
+
+// The dependencies that a part states.
+fn asked(said: &Said) -> &[Dep]
+    ensures { result.now ≡ deps_said said.now }
+{
+    match said {
+        Said::Depends(Ok(deps)) => deps.as_slice(),
+        _ => &[],
     }
 }
 

@@ -1,5 +1,6 @@
 use Rattle.std.proofs.Common.{arith, ap, ◌∙◌, map, subst, sym}
 use Rattle.std.specs.List.{All}
+use Rattle.std.proofs.lemmas.List.Elements.{All-get_or}
 use Rattle.plan_types.specs.declared.description.Component.{Component}
 use Rattle.package_declarations.specs.Components.{component}
 use Rattle.section_syntax.specs.Nested.{AreNested}
@@ -14,7 +15,8 @@ pub loop-one-preserved : goal.loop-one-preserved
 loop-one-preserved c file tells nested =
     one_pushed (λ (built : Built). component file (built_component (table c.args.bodies.now.stanzas.bodies.items) built).section built.kind)
     c.as_slice-one-items.result.now c.loop-one.one-index c.one-item.result _ c.loop-one.components (omega arith) c.one-item.is
-    (c.in_ok-component.ensures file tells ?) c.in_ok-push.ensures.ok (c.loop-one.invariant file tells nested)
+    (c.in_ok-component.ensures file tells (subst (λ (built : Built). AreNested (body_parts (table c.args.bodies.now.stanzas.bodies.items) built.body)) (sym c.one-item.is)
+    (All-get_or (λ (built : Built). AreNested (body_parts (table c.args.bodies.now.stanzas.bodies.items) built.body)) c.as_slice-one-items.result.now c.loop-one.one-index c.one-item.result (omega arith) nested))) c.in_ok-push.ensures.ok (c.loop-one.invariant file tells nested)
 
 pub returns : goal.returns
 returns c file tells stand sections =
