@@ -54,11 +54,7 @@ impl<'a> Picked<'a> {
     }
 
     /// The set of the first that the choices break.
-    pub fn broken(
-        &self,
-        alloc: Global,
-        trail: &Values<'_>,
-    ) -> Result<Option<ConflictSet>, NoMemory>
+    pub fn broken(&self, alloc: Global, trail: &Values<'_>) -> Result<Option<ConflictSet>, NoMemory>
         ensures { IfOk result (λ set. set ≡ set_of_first (find (is_broken trail.now) self.now)) }
     {
         let first = first_broken(self.listed, self.places, trail);
@@ -90,7 +86,7 @@ fn place_at(places: &[usize], index: usize) -> usize
     places[index]
 }
 
-/// Adds the places from one on, up to another.
+/// Adds the places from one on, up to another. Where memory is wanting, some of them are added.
 pub fn push_range(places: &mut Vec<usize>, from: usize, to: usize) -> Result<(), NoMemory>
     ensures { OnOk result (places.new.items ≡ places.old.items ++ rising_from from (to - from)) }
 {
