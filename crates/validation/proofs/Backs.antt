@@ -21,8 +21,8 @@ use Rattle.choice_problem.proofs.Pairs.{clash-front}
 use Rattle.choice_problem.proofs.Trails.{value_in-kept}
 use Rattle.choice_problem.proofs.TrailEnds.{new-split, new-front}
 use Rattle.validation.specs.View.{View, Represents, listed_counts, counts_before, view_of}
-use Rattle.validation.specs.Stack.{undone, front_of, last_number}
-use Rattle.validation.proofs.Stacks.{front-of, last-number, seen-same}
+use Rattle.choice_stack.specs.Stack.{undone, front_of, last_number}
+use Rattle.choice_stack.proofs.Stacks.{front-of, last-number, seen-same}
 use Rattle.choice_problem.proofs.Conflicts.{all-front}
 use Rattle.validation.proofs.Views.{after-push, counts-push, listed-push}
 

@@ -18,28 +18,17 @@ use Rattle.common_laws.specs.Lists.{contains-head, contains-tail, contains-left,
 use Rattle.choice_problem.proofs.Active.{yes-kept}
 use Rattle.choice_problem.proofs.Pairs.{disagree-are, are-disagreeing, none-apart}
 use Rattle.choice_problem.proofs.TrailEnds.{value-push}
-use Rattle.goal_links.specs.declared.mentions.Mention.{Mention}
-use Rattle.goal_links.specs.Mentions.{indices_from, places_of}
 use Rattle.goal_links.proofs.Mapped.{get-contains}
 use Rattle.demand_agreement.specs.Places.{no_demand, places_from, places_on}
 use Rattle.demand_agreement.specs.Clashes.{AreSuspects}
 use Rattle.demand_agreement.proofs.Below.{places-below}
 use Rattle.demand_agreement.proofs.Members.{place-there}
-use Rattle.validation.specs.declared.addition.Addition.{Addition}
+use Rattle.choice_stack.specs.declared.addition.Addition.{Addition}
 use Rattle.validation.specs.View.{View}
-use Rattle.validation.specs.Pending.{ArePending, place_if, rising_from}
-use Rattle.validation.specs.Stack.{AllBelow, AreTargets, demand_at, demands_at, is_turned, made, names, turned}
-use Rattle.validation.proofs.Below.{below-more, below-append}
-use Rattle.validation.proofs.Stacks.{targets-tail}
+use Rattle.validation.specs.Pending.{ArePending, place_if}
+use Rattle.choice_stack.specs.Stack.{AllBelow, is_turned, made, names, rising_from, turned}
+use Rattle.choice_stack.proofs.Below.{below-more, below-append}
 use Rattle.validation.proofs.Weighed.{pending-active, pending-count}
-
--- the mentions of a variable stand where the demands on it do
-pub mentions-places : (n : ℕ) (v : Var) (listed : List Demand) (ms : List Mention) → AreTargets listed ms → indices_from n v ms ≡ places_from n v (demands_at listed (places_of ms))
-mentions-places n v listed [] h = refl
-mentions-places n v listed (m ∷ ms) h =
-    let later = indices_from (suc n) v ms in
-    ap (λ w. cond (same_var w v) (n ∷ later) later) (h.target [] m ms refl)
-    ∙ ap (λ l. cond (same_var (demand_at listed m.place).target v) (n ∷ l) l) (mentions-places (suc n) v listed ms (targets-tail listed m ms h))
 
 -- what stands at a place of the first of two lists
 get-left : {X : Type 0} (xs ys : List X) (i : ℕ) (x : X) → i < length xs → slice_get (xs ++ ys) i ≡ Some x → slice_get xs i ≡ Some x

@@ -1,14 +1,6 @@
-pub mod Opened
-pub mod Stacks
-pub mod Asked
-pub mod Below
-pub mod Turned
-pub mod Queries
-pub mod Graphs
 pub mod Views
 pub mod Verdicts
 pub mod Settles
 pub mod Backs
 pub mod Weighed
 pub mod Disagreeing
-pub mod Grown

@@ -8,7 +8,7 @@ use Rattle.choice_problem.specs.Active.{active}
 use Rattle.choice_problem.proofs.Active.{active-is, yes-active}
 use Rattle.choice_problem.proofs.Trails.{demand-after}
 use Rattle.validation.specs.View.{View, Represents}
-use Rattle.validation.specs.Stack.{IsSettled}
+use Rattle.choice_stack.specs.Stack.{IsSettled}
 
 pub settled : (p : Problem) (x : View) → Lawful p → Represents p x → IsSettled x
 settled p x lawful h d =

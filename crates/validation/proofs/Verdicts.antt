@@ -18,9 +18,9 @@ use Rattle.choice_problem.proofs.Rules.{front-some, front-none, rest-none}
 pub use Rattle.demand_agreement.proofs.Members.{none-from}
 use Rattle.validation.specs.View.{View, Represents, listed_counts, counts_before, view_of}
 use Rattle.validation.specs.Pending.{count_before}
-use Rattle.validation.specs.Stack.{made, turned}
+use Rattle.choice_stack.specs.Stack.{made, turned}
 use Rattle.validation.specs.Verdict.{set_after}
-use Rattle.validation.proofs.Stacks.{seen-same}
+use Rattle.choice_stack.proofs.Stacks.{seen-same}
 use Rattle.validation.proofs.Weighed.{before-is}
 use Rattle.validation.proofs.Views.{after-push, made-turned, counts-push, listed-push, known-open}
 

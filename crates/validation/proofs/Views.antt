@@ -20,7 +20,7 @@ use Rattle.choice_problem.proofs.Active.{active-demand, open-plain}
 use Rattle.choice_problem.proofs.Trails.{next-open}
 use Rattle.choice_problem.proofs.Sets.{same-back, contains-has}
 use Rattle.validation.specs.View.{listed_counts, counts_before}
-use Rattle.validation.specs.Stack.{are_naming, names, turned}
+use Rattle.choice_stack.specs.Stack.{are_naming, names, turned}
 use Rattle.choice_problem.proofs.TrailEnds.{value-push}
 
 -- demands that a choice makes active name its variable

@@ -1,12 +1,9 @@
 -- What a choice would make of a stack: the demands that would turn Yes, and the edges of all that would be active.
-use Rattle.std.proofs.Common.{◌≡◌, ◌↔◌, ℕ, suc, ◌+◌, ◌<◌, arith, length, get_or, take, drop, Bool, true, false, cond, List, [], ◌∷◌, ◌++◌, Some, None, find, refl, sym, ap, ◌∙◌, subst, inl, inr, ◌⊎◌, length-append}
+use Rattle.std.proofs.Common.{◌≡◌, ◌↔◌, ℕ, ◌+◌, length, take, drop, Bool, true, false, cond, List, [], ◌∷◌, ◌++◌, Some, None, find, refl, sym, ap, ◌∙◌, subst, inl, inr, ◌⊎◌, length-append}
 use Rattle.std.specs.List.{Contains, list_any, slice_get}
-use Rattle.std.specs.Option.{option_map}
 use Rattle.std.proofs.lemmas.Bool.{false≢true}
 use Rattle.std.proofs.lemmas.Grind.{flat_map-append}
-use Rattle.std.proofs.lemmas.List.{map-append, take_more}
 use Rattle.std.proofs.lemmas.List.Elements.{filter-append, All-contains}
-use Rattle.std.proofs.lemmas.Option.{slice_get-get_or, slice_get-map}
 use Rattle.std.proofs.Math.Seq.{take-append_seam, drop-append_seam}
 use Rattle.qualified_goals.specs.declared.variable.Var.{Var}
 use Rattle.qualified_goals.specs.Variable.{same_var}
@@ -18,41 +15,12 @@ use Rattle.choice_problem.specs.Conflict.{Edge, edges_by, edges_of, is_broken, s
 use Rattle.common_laws.specs.Lists.{contains-head, contains-tail, contains-append, contains-left, contains-right, contains-filter}
 use Rattle.demand_cycles.specs.Cycles.{HasEdge}
 use Rattle.validation.specs.View.{View}
-use Rattle.validation.specs.Stack.{AllBelow, no_demand, demand_at, demands_at, front_of, is_first, is_owned_by, is_turned, made, names, place_turned, targets_by, turned}
-use Rattle.validation.specs.declared.addition.Addition.{Addition}
+use Rattle.choice_stack.specs.Stack.{front_of, is_first, is_owned_by, is_turned, made, names, targets_by, turned}
+use Rattle.choice_stack.specs.declared.addition.Addition.{Addition}
 use Rattle.validation.specs.Pending.{ArePending, AreOwned, count_before, first_broken}
-use Rattle.validation.proofs.Below.{below-append}
-use Rattle.validation.proofs.Graphs.{edge-names, edge-owned}
-use Rattle.validation.proofs.Opened.{get-front}
-use Rattle.validation.proofs.Stacks.{front-of, last-number}
-
--- demands that turn Yes, one after another
-
-pub turned-next : (trail : List Choice) (v : Var) (listed : List Demand) (found : List ℕ) (n : ℕ) → n < length listed → demands_at listed found ≡ turned trail v (take n listed)
-    → demands_at listed (found ++ place_turned trail v listed n) ≡ turned trail v (take (n + 1) listed)
-turned-next trail v listed found n within h =
-    let d = demand_at listed n in
-    let one : demands_at listed (place_turned trail v listed n) ≡ cond (is_turned trail v d) (d ∷ []) [] =
-    elim (is_turned trail v d) as (λ b. demands_at listed (cond b (n ∷ []) []) ≡ cond b (d ∷ []) []) [ true ↦ refl | false ↦ refl ] in
-    map-append (demand_at listed) found (place_turned trail v listed n)
-    ∙ ap (λ l. l ++ demands_at listed (place_turned trail v listed n)) h
-    ∙ ap (λ l. turned trail v (take n listed) ++ l) one
-    ∙ sym (ap (turned trail v) (take_more listed n no_demand within) ∙ filter-append (is_turned trail v) (take n listed) (d ∷ []))
-
-pub below-next : (trail : List Choice) (v : Var) (listed : List Demand) (found : List ℕ) (n : ℕ) → n < length listed → AllBelow (length listed) found
-    → AllBelow (length listed) (found ++ place_turned trail v listed n)
-below-next trail v listed found n within h =
-    below-append (length listed) found (place_turned trail v listed n) h
-    (elim (is_turned trail v (demand_at listed n)) as (λ b. AllBelow (length listed) (cond b (n ∷ []) [])) [ true ↦ (within, tt) | false ↦ tt ])
-
-pub demands-get : (listed : List Demand) (places : List ℕ) (k d : ℕ) → k < length places → slice_get (demands_at listed places) k ≡ Some (demand_at listed (get_or places k d))
-demands-get listed places k d h = slice_get-map (demand_at listed) places k ∙ ap (option_map (demand_at listed)) (slice_get-get_or places k d h)
-
--- what stands at a place of the second of two lists
-
-pub get-right : {X : Type 0} (xs ys : List X) (n : ℕ) → slice_get (xs ++ ys) (length xs + n) ≡ slice_get ys n
-get-right [] ys n = let none : 0 + n ≡ n = omega arith in ap (slice_get ys) none
-get-right (x ∷ xs) ys n = let on : suc (length xs) + n ≡ suc (length xs + n) = omega arith in ap (slice_get (x ∷ xs ++ ys)) on ∙ get-right xs ys n
+use Rattle.choice_stack.proofs.Graphs.{edge-names, edge-owned}
+use Rattle.choice_stack.proofs.Opened.{get-front, get-right}
+use Rattle.choice_stack.proofs.Stacks.{front-of, last-number}
 
 -- the first that is broken
 

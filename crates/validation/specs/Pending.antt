@@ -1,14 +1,14 @@
 -- What a choice would make of a stack.
-use Rattle.std.specs.Prelude.{◌≡◌, ℕ, zero, suc, ◌+◌, true, cond, List, [], ◌∷◌, ◌++◌, length, drop, find, Option, None}
+use Rattle.std.specs.Prelude.{◌≡◌, ℕ, ◌+◌, true, cond, List, [], ◌∷◌, ◌++◌, length, drop, find, Option, None}
 use Rattle.std.specs.List.{Contains}
 use Rattle.qualified_goals.specs.declared.variable.Var.{Var}
 use Rattle.choice_problem.specs.declared.problem.Demand.{Demand}
 use Rattle.choice_problem.specs.Active.{asks_for}
 use Rattle.choice_problem.specs.Conflict.{is_broken}
 use Rattle.choice_problem.specs.Trail.{value_in}
-use Rattle.validation.specs.declared.addition.Addition.{Addition}
+use Rattle.choice_stack.specs.declared.addition.Addition.{Addition}
 use Rattle.validation.specs.View.{View}
-use Rattle.validation.specs.Stack.{IsSettled, is_owned_by, last_number, turned}
+use Rattle.choice_stack.specs.Stack.{IsSettled, is_owned_by, last_number, turned}
 
 -- each of some demands is owned by the variable
 abbrev pub AreOwned : Var → List Demand → Type 0
@@ -34,8 +34,3 @@ pub record ArePending (s : View) (a : Addition) (woken fresh : List Demand) (cou
 -- the place of a demand, where it is on a variable
 abbrev pub place_if : ℕ → Var → Demand → List ℕ
 place_if place v d = cond (asks_for v d) (place ∷ []) []
-
--- so many places from one on
-abbrev pub rising_from : ℕ → ℕ → List ℕ
-rising_from n zero = []
-rising_from n (suc count) = n ∷ rising_from (suc n) count

@@ -1,23 +1,11 @@
 -- What a state stands for: choices of a problem, with the demands so far and those that are active.
 use Rattle.std.specs.Prelude.{◌≡◌, ℕ, List, [], ◌∷◌, ◌++◌, length, All, None}
 use Rattle.choice_problem.specs.declared.problem.Choice.{Choice}
-use Rattle.choice_problem.specs.declared.problem.Demand.{Demand}
 use Rattle.choice_problem.specs.Problem.{Problem, IsChoice}
 use Rattle.choice_problem.specs.Trail.{AreNew, demands_after}
 use Rattle.choice_problem.specs.Active.{active}
 use Rattle.choice_problem.specs.Conflict.{lasting_set}
-
--- what contracts see of a state, and of its stack
-pub record View : Type 0 where
-  -- the choices, in the order in which they were made
-  pub trail : List Choice
-  -- the roots, and the demands that the choices own
-  pub listed : List Demand
-  -- those of them that are active, in the order in which they became so
-  pub active : List Demand
-  -- for each choice, how many were listed before it, and how many active
-  pub listed_before : List ℕ
-  pub active_before : List ℕ
+pub use Rattle.choice_stack.specs.View.{View}
 
 -- how many demands were listed before each of some choices, which come after others
 abbrev pub listed_counts : Problem → List Choice → List Choice → List ℕ

@@ -2,13 +2,7 @@
 //! answered with the set of its conflict, and the last accepted choice can be taken back.
 #![tactic(auto)]
 
-mod addition;
-mod checks;
-mod goals;
-mod growth;
 mod pending;
-mod picked;
-mod stack;
 mod state;
 mod verdict;
 

@@ -1,15 +1,13 @@
 // What a choice would make of a stack.
-ghost use Rattle.std.specs.Prelude.{◌≡◌, ◌+◌, ◌-◌, ◌++◌, None, IfOk, OnOk, take};
+ghost use Rattle.std.specs.Prelude.{◌≡◌, ◌+◌, ◌++◌, None, IfOk, OnOk, take};
 ghost use Rattle.choice_problem.specs.Conflict.{agreement_set, first_clash, set_of_first};
 ghost use Rattle.choice_problem.specs.Trail.{value_in};
-ghost use Rattle.validation.specs.Addition.{IsAddition};
-ghost use Rattle.validation.specs.Pending.{AreOwned, count_before, first_broken, place_if, rising_from};
-ghost use Rattle.validation.specs.Stack.{IsSettled, front_of, made, targets_by};
+ghost use Rattle.choice_stack.specs.Addition.{IsAddition};
+ghost use Rattle.validation.specs.Pending.{AreOwned, count_before, first_broken, place_if};
+ghost use Rattle.choice_stack.specs.Stack.{IsSettled, front_of, made, targets_by};
 
-use crate::addition::Addition;
-use crate::picked::Picked;
-use crate::stack::Stack;
 use choice_problem::{ConflictSet, Demand, Var, is_same};
+use choice_stack::{Addition, Picked, Stack, push_range};
 use demand_agreement::{Asked, agreement_set_of};
 use demand_cycles::Graph;
 use plan_types::{List, NoMemory};
@@ -31,7 +29,7 @@ pub(crate) struct Pending<'a> {
 impl<'a> Model for Pending<'a> {
     ghost use Rattle.validation.specs.View.{View};
     ghost use Rattle.validation.specs.Pending.{ArePending};
-    ghost use Rattle.validation.specs.Stack.{made};
+    ghost use Rattle.choice_stack.specs.Stack.{made};
 
     ghost Value = { View };
 
@@ -153,15 +151,6 @@ impl<'a> Asked for Pending<'a> {
         }
         Ok(found)
     }
-}
-
-pub(crate) fn push_range(places: &mut Vec<usize>, from: usize, to: usize) -> Result<(), NoMemory>
-    ensures { OnOk result (places.new.items ≡ places.old.items ++ rising_from from (to - from)) }
-{
-    for place in from..to {
-        places.push(place)?;
-    }
-    Ok(())
 }
 
 fn push_on(found: &mut Vec<usize>, d: &Demand, place: usize, v: Var) -> Result<(), NoMemory>

@@ -6,17 +6,16 @@ ghost use Rattle.choice_problem.specs.Active.{is_open, least_open, open_after, r
 ghost use Rattle.choice_problem.specs.Conflict.{lasting_set, conflict};
 ghost use Rattle.choice_problem.specs.ConflictSet.{set_of};
 ghost use Rattle.choice_problem.specs.Trail.{value_in};
-ghost use Rattle.validation.specs.Addition.{IsAddition};
+ghost use Rattle.choice_stack.specs.Addition.{IsAddition};
 ghost use Rattle.validation.specs.Pending.{AreOwned, count_before};
 ghost use Rattle.validation.specs.View.{View, Represents, view_of};
-ghost use Rattle.validation.specs.Stack.{front_of, made, IsSettled};
+ghost use Rattle.choice_stack.specs.Stack.{front_of, made, IsSettled};
 ghost use Rattle.validation.specs.Verdict.{verdict_of, Leaves, set_before, set_after};
 
 use crate::Verdict;
-use crate::addition::Addition;
 use crate::pending::Pending;
-use crate::stack::Stack;
 use choice_problem::{Choice, Choices, ConflictSet, Steps, Trail, Var};
+use choice_stack::{Addition, Stack};
 use demand_cycles::cycle_set_of;
 use plan_types::{List, NoMemory};
 use std::alloc::Global;

@@ -3,7 +3,7 @@ use Rattle.qualified_goals.specs.declared.variable.Var.{Var}
 use Rattle.choice_problem.specs.Conflict.{first_set, lasting_sets, lasting_set}
 use Rattle.validation.specs.View.{View}
 use Rattle.validation.specs.Pending.{count_before}
-use Rattle.validation.specs.Stack.{front_of}
+use Rattle.choice_stack.specs.Stack.{front_of}
 use Rattle.validation.specs.Verdict.{set_after}
 use Rattle.validation.proofs.Weighed.{weighed-lasting}
 use Rattle.validation.proofs.state.fault_after.Goals as goal

@@ -3,7 +3,7 @@ use Rattle.qualified_goals.specs.declared.variable.Var.{Var}
 use Rattle.choice_problem.specs.Conflict.{circular, first_set, agreement_set}
 use Rattle.choice_problem.proofs.Conflicts.{lasting-agree, lasting-circular}
 use Rattle.validation.specs.Pending.{count_before}
-use Rattle.validation.specs.Stack.{front_of}
+use Rattle.choice_stack.specs.Stack.{front_of}
 use Rattle.validation.proofs.state.lasting_fault.Goals as goal
 
 pub cycle_set_of-requires : goal.cycle_set_of-requires

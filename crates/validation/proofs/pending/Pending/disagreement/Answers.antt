@@ -7,8 +7,8 @@ use Rattle.choice_problem.specs.Trail.{value_in}
 use Rattle.demand_agreement.specs.Clashes.{AreSuspects}
 use Rattle.demand_agreement.specs.Places.{places_on}
 use Rattle.validation.specs.View.{View}
-use Rattle.validation.specs.Pending.{count_before, rising_from}
-use Rattle.validation.specs.Stack.{AllBelow, front_of, made}
+use Rattle.validation.specs.Pending.{count_before}
+use Rattle.choice_stack.specs.Stack.{AllBelow, front_of, made, rising_from}
 use Rattle.validation.proofs.Weighed.{weighed-clash}
 use Rattle.validation.proofs.Disagreeing.{pending-yes, suspected, suspected-below, are-suspected}
 use Rattle.validation.proofs.pending.Pending.disagreement.Goals as goal

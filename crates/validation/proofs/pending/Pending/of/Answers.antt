@@ -1,6 +1,6 @@
 use Rattle.std.proofs.Common.{◌∙◌, ℕ, ◌+◌, List, sym, ap, subst, length}
 use Rattle.choice_problem.specs.declared.problem.Demand.{Demand}
-use Rattle.validation.specs.Stack.{AllBelow, demands_at}
+use Rattle.choice_stack.specs.Stack.{AllBelow, demands_at}
 use Rattle.validation.proofs.pending.Pending.of.Goals as goal
 
 pub of-woken-requires : goal.of-woken-requires

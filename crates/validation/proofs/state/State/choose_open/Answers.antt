@@ -5,7 +5,7 @@ use Rattle.choice_problem.specs.ConflictSet.{has}
 use Rattle.choice_problem.specs.Trail.{value_in}
 use Rattle.validation.specs.View.{View}
 use Rattle.validation.specs.Pending.{AreOwned, count_before}
-use Rattle.validation.specs.Stack.{made}
+use Rattle.choice_stack.specs.Stack.{made}
 use Rattle.validation.specs.Verdict.{verdict_of, set_after}
 use Rattle.validation.proofs.Verdicts.{ready, none-from, early, conflict-early, conflict-weighed, none-lasting, stands-made}
 use Rattle.validation.proofs.Settles.{settled}

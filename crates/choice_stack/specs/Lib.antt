@@ -1,0 +1,5 @@
+pub mod View
+pub mod Open
+pub mod Stack
+pub mod Addition
+pub mod Growth

@@ -1,0 +1,176 @@
+// What a choice adds to the demands of a stack: first all memory is taken that this wants, then what is ready is put on.
+ghost use Rattle.std.specs.Prelude.{◌≡◌, ◌+◌, ◌<◌, ◌≤◌, ◌++◌, IfOk, List, length, take, drop, vec_capacity, vec_len};
+ghost use Rattle.goal_links.specs.Mentions.{mention_of};
+ghost use Rattle.choice_stack.specs.Open.{StayKept, any_var, is_chosen_in};
+ghost use Rattle.choice_stack.specs.Growth.{IsReady, mentions_at};
+ghost use Rattle.choice_stack.specs.Stack.{AllBelow, AreOpen, demand_at, watchers_by, watchers_from};
+
+use crate::checks::{are_naming, demand_in};
+use crate::goals::Goals;
+use choice_problem::{Choice, Demand, Trail};
+use goal_links::{Mention, Mentions};
+use plan_types::{List, NoMemory};
+
+/// How many mentions are ready: of variables that demands wait for, and of targets of demands that become active.
+#[derive(Clone, Copy, Debug, Drop)]
+pub(crate) struct Ready {
+    pub(crate) waiting: usize,
+    pub(crate) active: usize,
+}
+
+/// Takes the memory for more demands to be listed, and for those at some places to be active: of those that are listed, and
+/// of the new ones.
+pub(crate) fn make_ready(
+    listed: &mut Vec<Demand>,
+    watchers: &mut Mentions,
+    goals: &mut Goals,
+    demands: &[Demand],
+    woken: &[usize],
+    fresh: &[usize],
+) -> Result<Ready, NoMemory>
+    requires woken { AllBelow (length listed.old.items) woken.now }
+    requires fresh { AllBelow (length demands.now) fresh.now }
+    ensures listed { listed.new.items ≡ listed.old.items }
+    ensures watchers { watchers.new.said ≡ watchers.old.said }
+    ensures said { goals.new.said ≡ goals.old.said }
+    ensures linked { goals.new.row.linked ≡ goals.old.row.linked }
+    ensures kept { StayKept any_var goals.old.row goals.new.row }
+    ensures ready { IfOk result (IsReady listed.new.items watchers.new.spare goals.new.spare demands.now woken.now fresh.now) }
+    ensures room { IfOk result (λ ready. vec_len listed.new + length demands.now ≤ vec_capacity listed.new) }
+{
+    let first = listed.len();
+    listed.reserve(demands.len())?;
+    let waiting = ready_watchers(watchers, first, demands)?;
+    let known = ready_goals(goals, 0, 0, listed.as_slice(), woken)?;
+    let active = ready_goals(goals, known, first, demands, fresh)?;
+    Ok(Ready { waiting, active })
+}
+
+// Makes ready how demands wait for the variables of their conditions, which will be listed behind others; how many mentions that are.
+fn ready_watchers(
+    watchers: &mut Mentions,
+    first: usize,
+    demands: &[Demand],
+) -> Result<usize, NoMemory>
+    ensures said { watchers.new.said ≡ watchers.old.said }
+    ensures waiting { IfOk result (λ count. take count watchers.new.spare ≡ watchers_from first demands.now) }
+    ensures within { IfOk result (λ count. count ≤ length watchers.new.spare) }
+{
+    let mut count = 0;
+    let len = demands.len();
+    for index in 0..len {
+        let demand = demand_in(demands, index);
+        let place = sum(first, index)?;
+        count = ready_watchers_of(watchers, count, place, demand.when.as_slice())?;
+    }
+    Ok(count)
+}
+
+// Makes ready behind some mentions how a demand waits for each variable of its condition, once.
+fn ready_watchers_of(
+    watchers: &mut Mentions,
+    before: usize,
+    place: usize,
+    when: &[Choice],
+) -> Result<usize, NoMemory>
+    requires { before ≤ length watchers.old.spare }
+    ensures said { watchers.new.said ≡ watchers.old.said }
+    ensures waiting { IfOk result (λ count. take count watchers.new.spare ≡ take before watchers.old.spare ++ watchers_by place when.now) }
+    ensures within { IfOk result (λ count. count ≤ length watchers.new.spare) }
+{
+    let mut count = before;
+    let mut rest = when;
+    while let [c, tail @ ..] = rest {
+        if !are_naming(tail, c.var) {
+            count = watchers.prepare(count, Mention { var: c.var, place })?;
+        }
+        rest = tail;
+    }
+    Ok(count)
+}
+
+// Makes the targets of the demands at some places ready behind some mentions. The demands are counted from a place on.
+fn ready_goals(
+    goals: &mut Goals,
+    before: usize,
+    first: usize,
+    demands: &[Demand],
+    places: &[usize],
+) -> Result<usize, NoMemory>
+    requires before { before ≤ length goals.old.spare }
+    requires within { AllBelow (length demands.now) places.now }
+    ensures said { goals.new.said ≡ goals.old.said }
+    ensures linked { goals.new.row.linked ≡ goals.old.row.linked }
+    ensures kept { StayKept any_var goals.old.row goals.new.row }
+    ensures active { IfOk result (λ count. take count goals.new.spare ≡ take before goals.old.spare ++ mentions_at first demands.now places.now) }
+    ensures within { IfOk result (λ count. count ≤ length goals.new.spare) }
+{
+    let mut count = before;
+    for place in places {
+        let mention = mention_at(first, demands, *place)?;
+        count = goals.prepare(count, mention)?;
+    }
+    Ok(count)
+}
+
+fn mention_at(first: usize, demands: &[Demand], place: usize) -> Result<Mention, NoMemory>
+    requires { place < length demands.now }
+    ensures { IfOk result (λ mention. mention ≡ mention_of (demand_at demands.now place).target (first + place)) }
+{
+    let var = demand_in(demands, place).target;
+    let place = sum(first, place)?;
+    Ok(Mention { var, place })
+}
+
+// A sum that is too large for a number is too large for memory.
+fn sum(m: usize, n: usize) -> Result<usize, NoMemory>
+    ensures { IfOk result (λ sum. sum ≡ m + n) }
+{
+    match m.checked_add(n) {
+        Some(sum) => Ok(sum),
+        None => Err(NoMemory),
+    }
+}
+
+/// Lists more demands where there is room.
+pub(crate) fn list_all(listed: &mut Vec<Demand>, demands: List<Demand>)
+    requires { vec_len listed.old + length demands ≤ vec_capacity listed.old }
+    ensures { listed.new.items ≡ listed.old.items ++ demands }
+{
+    for d in demands.into_vec() {
+        let _ = listed.push(d);
+    }
+}
+
+/// Makes the demands active whose mentions are ready, and opens each target that has no value and isn't open.
+pub(crate) fn activate(goals: &mut Goals, trail: &Trail, count: usize)
+    requires ready { count ≤ length goals.old.spare }
+    requires opened { AreOpen goals.old.said trail.now goals.old.row.linked }
+    ensures active { goals.new.said ≡ goals.old.said ++ take count goals.old.spare }
+    ensures opened { AreOpen goals.new.said trail.now goals.new.row.linked }
+    ensures kept { StayKept (is_chosen_in trail.now) goals.old.row goals.new.row }
+{
+    for _ in 0..count {
+        activate_next(goals, trail);
+    }
+}
+
+fn activate_next(goals: &mut Goals, trail: &Trail)
+    requires ready { 0 < length goals.old.spare }
+    requires opened { AreOpen goals.old.said trail.now goals.old.row.linked }
+    ensures active { goals.new.said ≡ goals.old.said ++ take 1 goals.old.spare }
+    ensures spare { goals.new.spare ≡ drop 1 goals.old.spare }
+    ensures opened { AreOpen goals.new.said trail.now goals.new.row.linked }
+    ensures kept { StayKept (is_chosen_in trail.now) goals.old.row goals.new.row }
+{
+    let entry = goals.entry_at(goals.len());
+    let is_named = goals.names_entry(entry);
+    goals.take_up();
+    if is_named {
+        return;
+    }
+    if trail.has(goals.var_of(entry)) {
+        return;
+    }
+    goals.add(entry);
+}

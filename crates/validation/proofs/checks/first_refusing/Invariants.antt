@@ -1,7 +1,0 @@
-use Rattle.std.proofs.Common.{◌≡◌, drop, find}
-use Rattle.choice_problem.specs.Conflict.{refuses}
-use Rattle.validation.specs.Stack.{demands_at}
-use Rattle.validation.proofs.checks.first_refusing.Given as goal
-
-abbrev pub invariant-loop-place : goal.invariant-loop-place
-invariant-loop-place l = find (refuses l.c) (demands_at l.listed l.places) ≡ find (refuses l.c) (demands_at l.listed (drop l.place-index l.places))

@@ -1,5 +1,0 @@
-use Rattle.validation.proofs.Below.{below-at}
-use Rattle.validation.proofs.checks.yes_among.Goals as goal
-
-pub demand_in-requires : goal.demand_in-requires
-demand_in-requires c = below-at _ c.args.places.now c.loop-place.place-index c.requires c.loop-place-test.true
