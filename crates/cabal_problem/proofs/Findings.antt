@@ -148,7 +148,7 @@ module _ (index : Index) (names : NameTable) (numbers : AreNumbers index.package
       → is_tool guarded.dep.kind ≡ true → is_number (number_of names.packages guarded.dep.«package») t ≡ true → list_any (component_asks names t) d.components ≡ true
   tool-asked d guarded component t h k out tool is =
       any-from (component_asks names t) d.components component h
-      (any-from (is_tool_of names t) component.deps guarded k
+      (any-from (λ (g : GuardedDep). is_tool_of names t g.dep) component.deps guarded k
       (and_from (not guarded.dep.internal && is_tool guarded.dep.kind) (is_number (number_of names.packages guarded.dep.«package») t) (and_from (not guarded.dep.internal) (is_tool guarded.dep.kind) out tool) is))
 
   -- a qualifier under which the dependency's package has variables

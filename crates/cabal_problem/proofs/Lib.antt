@@ -10,3 +10,4 @@ mod WholeLaws
 mod OneTable
 mod OneOrders
 mod OneProblem
+mod Groups

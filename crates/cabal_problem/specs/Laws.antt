@@ -33,6 +33,7 @@ use Rattle.common_laws.specs.Lists.{contains-head, contains-tail, contains-none,
 use Rattle.constraint_set.specs.Bars.{is_number}
 use Rattle.solver_index.specs.Places.{rising, entry_at, no_entry, number, flag_number}
 use Rattle.solver_index.specs.AllowedVersions.{allowed_versions}
+use Rattle.plan_types.specs.Guarded.{GuardedDep}
 use Rattle.cabal_problem.specs.Variables.{is_qual, is_part, is_known, domain_of, is_tool, is_tool_of, component_asks, asks_for_tool, is_custom, declares, has_kind, is_suite, is_benchmark, body_has_kind, is_top}
 use Rattle.choice_problem.specs.Twins.{is_whole, is_of_package}
 use Rattle.cabal_problem.specs.Reuse.{others-ordered, reused-of, reused-once}
@@ -80,7 +81,7 @@ module _ (packages : List Package) (names : NameTable) where
   tool-below : (t : ℕ) (body : Body) → asks_for_tool names t body ≡ true → t < length names.packages
   tool-below t (Source d flats exposed) h =
       let component = any-at (component_asks names t) d.components h in
-      let guarded = any-at (is_tool_of names t) component.0.deps component.2 in
+      let guarded = any-at (λ (g : GuardedDep). is_tool_of names t g.dep) component.0.deps component.2 in
       let test = is_number (number_of names.packages guarded.0.dep.«package») t in
       position-below (same_text guarded.0.dep.«package») names.packages t ((and_parts (not guarded.0.dep.internal && is_tool guarded.0.dep.kind) test guarded.2).1)
   tool-below t (Installed unit needs) h = absurd (false≢true h)

@@ -5,9 +5,9 @@ use Rattle.plan_types.specs.declared.dependency.DepKind.{DepKind}
 use Rattle.plan_types.specs.declared.dependency.DepKind.TheVariants.{Library, Tool, Setup as SetupDep}
 use Rattle.plan_types.specs.declared.description.CompKind.{CompKind}
 use Rattle.plan_types.specs.declared.description.CompKind.TheVariants as kind
+use Rattle.plan_types.specs.declared.dependency.Dep.{Dep}
 use Rattle.plan_types.specs.declared.description.Component.{Component}
 use Rattle.plan_types.specs.declared.description.Description.{Description}
-use Rattle.plan_types.specs.Guarded.{GuardedDep}
 use Rattle.plan_types.specs.declared.index.Body.{Body}
 use Rattle.plan_types.specs.declared.index.Body.TheVariants.{Source, Installed}
 use Rattle.plan_types.specs.declared.index.Package.{Package}
@@ -40,12 +40,12 @@ is_tool Tool = true
 is_tool SetupDep = false
 
 -- a dependency on an executable of the package with this number
-abbrev pub is_tool_of : NameTable → ℕ → GuardedDep → Bool
-is_tool_of names t guarded = not guarded.dep.internal && is_tool guarded.dep.kind && is_number (number_of names.packages guarded.dep.«package») t
+abbrev pub is_tool_of : NameTable → ℕ → Dep → Bool
+is_tool_of names t dep = not dep.internal && is_tool dep.kind && is_number (number_of names.packages dep.«package») t
 
 -- whether a component depends on such a tool
 abbrev pub component_asks : NameTable → ℕ → Component → Bool
-component_asks names t component = list_any (is_tool_of names t) component.deps
+component_asks names t component = list_any (λ guarded. is_tool_of names t guarded.dep) component.deps
 
 -- a source instance that depends on such a tool, under whatever condition
 abbrev pub asks_for_tool : NameTable → ℕ → Body → Bool

@@ -91,15 +91,17 @@ fn some_component_asks(names: &Names, t: u64, d: &Description) -> bool
 fn component_asks(names: &Names, t: u64, component: &Component) -> bool
     ensures { result ≡ component_asks names.now t component.now }
 {
-    component
-        .deps
-        .groups()
-        .iter()
-        .any(|group| group_asks(names, t, group))
+    some_group_asks(names, t, component.deps.groups())
+}
+
+fn some_group_asks(names: &Names, t: u64, groups: &[DepGroup]) -> bool
+    ensures { result ≡ list_any (λ group. list_any (is_tool_of names.now t) group.deps) groups.now }
+{
+    groups.iter().any(|group| group_asks(names, t, group))
 }
 
 fn group_asks(names: &Names, t: u64, group: &DepGroup) -> bool
-    ensures { result ≡ list_any (is_tool_of names.now t) (of_group group.now) }
+    ensures { result ≡ list_any (is_tool_of names.now t) group.now.deps }
 {
     group
         .deps
@@ -109,7 +111,7 @@ fn group_asks(names: &Names, t: u64, group: &DepGroup) -> bool
 }
 
 fn is_tool_of(names: &Names, t: u64, dep: &Dep) -> bool
-    ensures { (when : Cond) → result ≡ is_tool_of names.now t (record { when = when; dep = dep.now }) }
+    ensures { result ≡ is_tool_of names.now t dep.now }
 {
     !dep.internal && is_tool(dep.kind) && is_package(names, &dep.package, t)
 }
