@@ -1,5 +1,8 @@
 -- A dependency counts where its component is buildable and its branches are taken.
-use Rattle.std.proofs.Common.{◌≡◌, ◌<◌, Bool, true, false, not, ◌&&◌, ◌||◌, List, [], flat_map, refl, sym, ap, ◌∙◌, arith}
+use Rattle.std.proofs.Common.{◌≡◌, ◌<◌, Bool, true, false, not, ◌&&◌, ◌||◌, cond, List, [], ◌∷◌, ◌++◌, map, flat_map, refl, sym, ap, ◌∙◌, arith}
+use Rattle.std.specs.Prelude.{filter}
+use Rattle.std.proofs.lemmas.List.Concat.{flat_map-append}
+use Rattle.std.proofs.lemmas.List.Elements.{filter-append}
 use Rattle.std.proofs.Math.Bool.{and-false, and-true}
 use Rattle.std.proofs.lemmas.Bool.{and_right}
 use Rattle.plan_types.specs.declared.condition.Cond.{Cond, size-Cond}
@@ -7,6 +10,7 @@ use Rattle.plan_types.specs.declared.condition.Cond.TheVariants.{And}
 use Rattle.plan_types.specs.declared.condition.Cond.TheViews.{sized-And}
 use Rattle.plan_types.specs.declared.condition.Env.{Env}
 use Rattle.plan_types.specs.declared.condition.FlagSet.{FlagSet}
+use Rattle.plan_types.specs.declared.dependency.Dep.{Dep}
 use Rattle.plan_types.specs.declared.description.Component.{Component}
 use Rattle.plan_types.specs.Guarded.{GuardedDep}
 use Rattle.conditionals.specs.declared.value.Tri.{Tri}
@@ -18,7 +22,8 @@ use Rattle.flatten.specs.WholeCondition.{whole_condition}
 use Rattle.common_laws.specs.Lists.{filter-nothing}
 use Rattle.plan_components.specs.declared.node.Node.{Node}
 use Rattle.plan_components.specs.Chosen.{Selection, holds}
-use Rattle.plan_components.specs.Needs.{component_needs, counts, dep_needs}
+use Rattle.plan_components.specs.declared.node.Need.{Need}
+use Rattle.plan_components.specs.Needs.{component_needs, counts, dep_needs, is_asked, needs_among}
 
 both-yes : (a b : Tri) → is_wanted true (and_then a b) ≡ (is_wanted true a && is_wanted true b)
 both-yes Yes b = refl
@@ -52,6 +57,41 @@ module _ (selection : Selection) (flags : List FlagSet) (own : Bool) (component 
       → counts selection flags own component guarded ≡ ((own || not guarded.dep.internal) && holds selection.env flags guarded.when)
   by_branches guarded h =
       ap (λ b. (own || not guarded.dep.internal) && b) (whole-holds selection.env flags component guarded ∙ ap (λ b. b && holds selection.env flags guarded.when) h)
+
+  -- the dependencies of a place, where its branches are taken, and where they aren't
+  module _ (built : holds selection.env flags component.buildable ≡ true) (when : Cond) (node : Node) where
+    abbrev here : Dep → GuardedDep
+    here dep = record { when = when; dep = dep }
+
+    abbrev counted : Bool → Dep → List GuardedDep → List GuardedDep
+    counted b dep deps = cond b (here dep ∷ filter (counts selection flags own component) deps) (filter (counts selection flags own component) deps)
+
+    abbrev needed : GuardedDep → List Need
+    needed guarded = dep_needs selection node guarded.dep
+
+    pub all-among : holds selection.env flags when ≡ true → (deps : List Dep)
+        → needs_among selection node flags own component (map here deps) ≡ flat_map (dep_needs selection node) (filter (is_asked own) deps)
+    all-among h [] = refl
+    all-among h (dep ∷ deps) =
+        ap (λ b. flat_map needed (counted b dep (map here deps))) (by_branches (here dep) built ∙ ap (λ b. is_asked own dep && b) h ∙ and-true (is_asked own dep))
+        ∙ by (is_asked own dep) (all-among h deps)
+      where
+        by : (b : Bool) → needs_among selection node flags own component (map here deps) ≡ flat_map (dep_needs selection node) (filter (is_asked own) deps)
+            → flat_map needed (counted b dep (map here deps)) ≡ flat_map (dep_needs selection node) (cond b (dep ∷ filter (is_asked own) deps) (filter (is_asked own) deps))
+        by true more = ap (λ l. dep_needs selection node dep ++ l) more
+        by false more = more
+
+    pub none-among : holds selection.env flags when ≡ false → (deps : List Dep) → needs_among selection node flags own component (map here deps) ≡ []
+    none-among h [] = refl
+    none-among h (dep ∷ deps) =
+        ap (λ b. flat_map needed (counted b dep (map here deps))) (by_branches (here dep) built ∙ ap (λ b. is_asked own dep && b) h ∙ and-false (is_asked own dep))
+        ∙ none-among h deps
+
+  pub among-append : (node : Node) (front rest : List GuardedDep)
+      → needs_among selection node flags own component (front ++ rest) ≡ needs_among selection node flags own component front ++ needs_among selection node flags own component rest
+  among-append node front rest =
+      ap (flat_map (λ (g : GuardedDep). dep_needs selection node g.dep)) (filter-append (counts selection flags own component) front rest)
+      ∙ flat_map-append (λ (g : GuardedDep). dep_needs selection node g.dep) (filter (counts selection flags own component) front) (filter (counts selection flags own component) rest)
 
   -- and where it isn't, nothing counts
   none-counts : (guarded : GuardedDep) → holds selection.env flags component.buildable ≡ false → counts selection flags own component guarded ≡ false

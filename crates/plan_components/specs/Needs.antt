@@ -58,10 +58,14 @@ dep_needs selection node dep =
 
 -- ---- a component, or a package as a whole
 
--- A dependency counts where its whole condition is Yes. Those on the own package may be left aside.
+-- dependencies on the own package may be left aside
+abbrev pub is_asked : Bool → Dep → Bool
+is_asked own dep = own || not dep.internal
+
+-- a dependency counts where its whole condition is Yes
 abbrev pub counts : Selection → List FlagSet → Bool → Component → GuardedDep → Bool
 counts selection flags own component guarded =
-    (own || not guarded.dep.internal) && holds selection.env flags (whole_condition component guarded)
+    is_asked own guarded.dep && holds selection.env flags (whole_condition component guarded)
 
 -- what a node needs for those of these dependencies of a component that count
 abbrev pub needs_among : Selection → Node → List FlagSet → Bool → Component → List GuardedDep → List Need

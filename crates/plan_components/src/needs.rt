@@ -6,8 +6,9 @@ ghost use Rattle.flatten.specs.OwnComponents.{is_exe, is_lib};
 ghost use Rattle.plan_components.specs.Apart.{are_apart};
 ghost use Rattle.plan_components.specs.Chosen.{body_at, selection_of, holds};
 ghost use Rattle.plan_components.specs.Known.{AreNamed, IsKnown, IsSourceOf, Names, asks_at};
-ghost use Rattle.plan_components.specs.Needs.{asked_pieces, asks, component_needs, counts, dep_needs, need_of, needs_by, needs_of, needs_under, one_needs, piece_needs, qual_of_dep, source_needs, unit_need, wanted_needs};
+ghost use Rattle.plan_components.specs.Needs.{asked_pieces, asks, component_needs, dep_needs, is_asked, need_of, needs_among, needs_by, needs_of, needs_under, one_needs, piece_needs, qual_of_dep, source_needs, unit_need, wanted_needs};
 ghost use Rattle.plan_components.specs.Wanted.{places};
+ghost use Rattle.plan_types.specs.Guarded.{of_group};
 
 use crate::chosen::Chosen;
 use crate::components::{is_executable, is_lib};
@@ -17,7 +18,7 @@ use crate::owner::{Known, Owner};
 use crate::pieces::{as_pieces, node_of, only_whole};
 use cabal_problem::{package_var, qual_for};
 use plan_types::{
-    Body, Component, Dep, DepGroup, DepKind, Description, LibName, List, NoMemory, Text,
+    Body, Component, Dep, DepGroup, DepKind, Description, LibName, List, NoMemory, Shared, Text,
 };
 use qualified_goals::Qual;
 use std::alloc::Global;
@@ -242,15 +243,37 @@ fn push_group(
     ensures { OnOk result (needs.new ≡ needs.old
         ++ needs_among (selection_of chosen.now) owner.now.node owner.now.known.now.flags own component.now (of_group group.now)) }
 {
-    if !chosen.holds(&owner.known.flags, group.when.get()) {
-        return Ok(());
+    if chosen.holds(&owner.known.flags, group.when.get()) {
+        push_asked(alloc, needs, chosen, owner, own, group.deps.as_slice())?;
     }
-    for dep in group.deps.as_slice() {
-        if own || !dep.get().internal {
+    Ok(())
+}
+
+fn push_asked(
+    alloc: Global,
+    needs: &mut List<Need>,
+    chosen: &Chosen<'_>,
+    owner: &Owner<'_>,
+    own: bool,
+    deps: &[Shared<Dep>],
+) -> Result<(), NoMemory>
+    requires { IsKnown (selection_of chosen.now) owner.now.known.now }
+    ensures { OnOk result (needs.new ≡ needs.old
+        ++ flat_map (dep_needs (selection_of chosen.now) owner.now.node) (filter (is_asked own) deps.now)) }
+{
+    for dep in deps {
+        if is_asked(own, dep.get()) {
             push_dep(alloc, needs, chosen, owner, dep.get())?;
         }
     }
     Ok(())
+}
+
+// Dependencies on the own package may be left aside.
+fn is_asked(own: bool, dep: &Dep) -> bool
+    ensures { result ≡ is_asked own dep.now }
+{
+    own || !dep.internal
 }
 
 fn push_dep(
