@@ -12,3 +12,4 @@ pub mod Recording
 pub mod Records
 pub mod Turns
 pub mod Visiting
+mod Groups
