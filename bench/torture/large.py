@@ -123,6 +123,9 @@ FILES = {
     "`elif` of systems with a dependency each": lambda: library(
         filled("  if os(x)\n    build-depends: a\n", "  elif os(x)\n    build-depends: a\n", most=MOST - 200)
     ),
+    "`elif` of two tests with a dependency each": lambda: library(
+        filled("  if flag(f) && os(linux)\n    build-depends: a\n", "  elif flag(f) && os(linux)\n    build-depends: a\n", most=MOST - 200)
+    ),
     "`elif` of flags that differ with a dependency each": lambda: package(
         HEAD
         + "".join(f"flag f{it}\n" for it in range(19_000))
