@@ -74,7 +74,7 @@ said-unknown before known are (said.Visibility value) = refl
 said-unknown before known are (said.Default value) = refl
 said-unknown before known are (said.Manual value) = refl
 said-unknown before known are said.BuildTools = refl
-said-unknown before known are (said.Branch condition fits) = refl
+said-unknown before known are (said.Branch word condition fits) = refl
 said-unknown before known are said.Misplaced = refl
 
 parts-unknown : (before : List Section) (known : List (List ℕ)) → AreNames Common before known → (parts : List SectionPart) →

@@ -69,7 +69,7 @@ is_build_tools (said.Visibility value) line = []
 is_build_tools (said.Default value) line = []
 is_build_tools (said.Manual value) line = []
 is_build_tools said.BuildTools line = line
-is_build_tools (said.Branch condition fits) line = []
+is_build_tools (said.Branch word condition fits) line = []
 is_build_tools said.Misplaced line = []
 
 -- the line of a field that is accepted unread

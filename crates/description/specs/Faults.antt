@@ -85,7 +85,7 @@ of_said file (said.Visibility value) = []
 of_said file (said.Default value) = unless_some value causes.BadField
 of_said file (said.Manual value) = unless_some value causes.BadField
 of_said file said.BuildTools = []
-of_said file (said.Branch condition fits) = of_condition file.sections condition ++ unless fits causes.ElseWithoutIf
+of_said file (said.Branch word condition fits) = of_condition file.sections condition ++ unless fits causes.ElseWithoutIf
 of_said file said.Misplaced = causes.BadField ∷ []
 
 -- the faults of a part
@@ -134,7 +134,7 @@ unknown_said before (said.Visibility value) = []
 unknown_said before (said.Default value) = []
 unknown_said before (said.Manual value) = []
 unknown_said before said.BuildTools = []
-unknown_said before (said.Branch condition fits) = []
+unknown_said before (said.Branch word condition fits) = []
 unknown_said before said.Misplaced = []
 
 -- such imports of a section

@@ -60,7 +60,7 @@ module _ (spec : Spec) where
       let own = own_condition word args in
       let inside = within (branches ++ condition (branch_of word chain own.0) ∷ []) in
       let others = behind (chain_of (branch_of word chain own.0)) in (
-        record { line = line; branches = branches; said = said.Branch own.0 (branch_fits word chain) } ∷ inside.0 ++ others.0,
+        record { line = line; branches = branches; said = said.Branch word own.0 (branch_fits word chain) } ∷ inside.0 ++ others.0,
         record { own = own.0; within = inside.0; behind = others.0; reads = own.1; inside = inside.1; others = others.1; are = refl },
       )
   section_says inner.Misplaced line args branches chain Within Behind within behind =

@@ -31,7 +31,7 @@ unbuildable_said (said.Visibility value) = false
 unbuildable_said (said.Default value) = false
 unbuildable_said (said.Manual value) = false
 unbuildable_said said.BuildTools = false
-unbuildable_said (said.Branch condition fits) = false
+unbuildable_said (said.Branch word condition fits) = false
 unbuildable_said said.Misplaced = false
 
 -- then the branches in which it stands aren't taken
@@ -51,7 +51,7 @@ visibility_said (said.Visibility value) = value
 visibility_said (said.Default value) = None
 visibility_said (said.Manual value) = None
 visibility_said said.BuildTools = None
-visibility_said (said.Branch condition fits) = None
+visibility_said (said.Branch word condition fits) = None
 visibility_said said.Misplaced = None
 
 -- it counts outside of branches

@@ -19,7 +19,7 @@ default_said (said.Visibility value) = None
 default_said (said.Default value) = value
 default_said (said.Manual value) = None
 default_said said.BuildTools = None
-default_said (said.Branch condition fits) = None
+default_said (said.Branch word condition fits) = None
 default_said said.Misplaced = None
 
 -- what a part says of whether a flag is manual
@@ -31,7 +31,7 @@ manual_said (said.Visibility value) = None
 manual_said (said.Default value) = None
 manual_said (said.Manual value) = value
 manual_said said.BuildTools = None
-manual_said (said.Branch condition fits) = None
+manual_said (said.Branch word condition fits) = None
 manual_said said.Misplaced = None
 
 -- the flag that a section declares; what is said last counts

@@ -43,7 +43,7 @@ is_dependency (said.Visibility value) = false
 is_dependency (said.Default value) = false
 is_dependency (said.Manual value) = false
 is_dependency said.BuildTools = false
-is_dependency (said.Branch condition fits) = false
+is_dependency (said.Branch word condition fits) = false
 is_dependency said.Misplaced = false
 
 -- the parts of the setup sections

@@ -1,3 +1,5 @@
 pub mod Orders
 pub mod Rebuilt
-pub mod Singles
+pub mod Tables
+pub mod Groups
+pub mod Outcomes

@@ -1,5 +1,5 @@
 -- Dependencies under conditions, one by one.
-use Rattle.std.specs.Prelude.{List, map, flat_map}
+use Rattle.std.specs.Prelude.{◌≡◌, List, All, Some, map, flat_map, slice_get}
 use Rattle.plan_types.specs.declared.condition.Cond.{Cond}
 use Rattle.plan_types.specs.declared.dependency.Dep.{Dep}
 use Rattle.plan_types.specs.declared.description.DepGroup.{DepGroup}
@@ -9,9 +9,17 @@ pub record GuardedDep : Type 0 where
   pub when : Cond
   pub dep : Dep
 
+-- a dependency under a condition
+abbrev pub under : Cond → Dep → GuardedDep
+under when dep = record { when = when; dep = dep }
+
 -- those of a group stand under its condition
 abbrev pub of_group : DepGroup → List GuardedDep
-of_group group = map (λ dep. record { when = group.when; dep = dep }) group.deps
+of_group group = map (under group.when) group.deps
 
 abbrev pub in_groups : List DepGroup → List GuardedDep
 in_groups = flat_map of_group
+
+-- the condition of each group stands in this table
+abbrev pub AreTabled : List Cond → List DepGroup → Type 0
+AreTabled conds = All (λ group. slice_get conds group.number ≡ Some group.when)

@@ -1,8 +1,8 @@
 // What a `.cabal` file says of its package.
-ghost use Rattle.std.specs.Prelude.{◌≡◌};
-ghost use Rattle.plan_types.specs.Guarded.{in_groups};
+ghost use Rattle.std.specs.Prelude.{◌≡◌, All};
+ghost use Rattle.plan_types.specs.Guarded.{AreTabled, in_groups};
 
-use crate::{Dep, Guard, List, Shared, Spec, Text, Version};
+use crate::{Conditions, Dep, Guard, List, Shared, Spec, TabledCond, Text, Version};
 use std::marker::Model;
 
 /// What a component is.
@@ -19,13 +19,16 @@ pub enum CompKind {
 #[derive(Debug, Drop)]
 pub struct DepGroup {
     pub when: Guard,
+    /// Of the condition in the table of its component.
+    pub number: usize,
     pub deps: List<Shared<Dep>>,
 }
 
 /// Dependencies in file order, each under a condition, which a contract sees one by one. Those that stand beside each other in the
-/// same place are held together.
+/// same place are held together, and their conditions stand in a table.
 #[derive(Debug, Drop)]
 pub struct GuardedDeps {
+    conds: Shared<Conditions>,
     groups: List<DepGroup>,
 }
 
@@ -34,26 +37,39 @@ impl Model for GuardedDeps {
     ghost use Rattle.std.specs.Coded.{codes};
     ghost use Rattle.plan_types.specs.contracts.condition.Cond as conditions;
     ghost use Rattle.plan_types.specs.contracts.range.Range as ranges;
-    ghost use Rattle.plan_types.specs.Guarded.{GuardedDep, in_groups};
+    ghost use Rattle.plan_types.specs.Guarded.{AreTabled, GuardedDep, in_groups};
 
     ghost Value = { List GuardedDep };
 
     ghost coded = { Prim.hlevel (codes, conditions.the_row.coded, ranges.the_row.coded) };
 
     ghost view = { λ d. in_groups d.groups };
+
+    ghost invariant = { λ d. AreTabled d.conds d.groups };
 }
 
 impl GuardedDeps {
-    pub fn new(groups: List<DepGroup>) -> GuardedDeps
+    /// Groups whose conditions stand in a table.
+    pub fn new(conds: Shared<Conditions>, groups: List<DepGroup>) -> GuardedDeps
+        requires { AreTabled conds groups }
         ensures { result ≡ in_groups groups }
     {
-        GuardedDeps { groups }
+        GuardedDeps { conds, groups }
     }
 
+    /// The dependencies, place by place.
     pub fn groups(&self) -> &[DepGroup]
         ensures { in_groups result.now ≡ self.now }
     {
         self.groups.as_slice()
+    }
+
+    /// The table of their conditions as well.
+    pub fn tabled(&self) -> (&Conditions, &[DepGroup])
+        ensures groups { in_groups result.1.now ≡ self.now }
+        ensures tabled { AreTabled result.0.now result.1.now }
+    {
+        (self.conds.get(), self.groups.as_slice())
     }
 }
 
@@ -67,7 +83,7 @@ pub struct Component {
     pub name: Text,
     /// Whether it is a library with a name of its own that others may use.
     pub public: bool,
-    pub buildable: Guard,
+    pub buildable: TabledCond,
     /// In file order, imported ones in front.
     pub deps: GuardedDeps,
 }

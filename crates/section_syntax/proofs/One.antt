@@ -89,7 +89,7 @@ one_section : (spec : Spec) (word : InnerWord) (line : ℕ) (args : List ℕ) (b
     (a b : List SectionPart) → SectionSays spec word line args branches chain Within Behind a → SectionSays spec word line args branches chain Within Behind b → a ≡ b
 one_section spec (inner.Branch word) line args branches chain Within Behind within behind a b p q =
     let own = one_own spec word args p.own q.own p.reads q.reads in
-    let part : Result Cond Cause → SectionPart = λ c. record { line = line; branches = branches; said = said.Branch c (branch_fits word chain) } in
+    let part : Result Cond Cause → SectionPart = λ c. record { line = line; branches = branches; said = said.Branch word c (branch_fits word chain) } in
     let here = within (branches ++ condition (branch_of word chain q.own) ∷ []) p.within q.within
     (subst (λ c. Within (branches ++ condition (branch_of word chain c) ∷ []) p.within) own p.inside) q.inside in
     let there = behind (chain_of (branch_of word chain q.own)) p.behind q.behind (subst (λ c. Behind (chain_of (branch_of word chain c)) p.behind) own p.others) q.others in

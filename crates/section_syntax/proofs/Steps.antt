@@ -110,12 +110,12 @@ module _ (spec : Spec) (kind : SectionKind) where
   pub branch_goes : {word : InnerWord} (branch-word : BranchWord) (line : ℕ) (args : List ℕ) (outer : List Branch) {pushed : List Branch} (chain : Option Cond) (items : Tree) (Behind : Option Cond → List SectionPart → Type 0)
       (old more within : List SectionPart) {opened new : List SectionPart} (own : Result Cond Cause) {branch : Branch} {left : Option Cond} →
       word ≡ inner.Branch branch-word → OwnCondition spec branch-word args own → branch ≡ branch_of branch-word chain own →
-      opened ≡ old ++ placed line (map condition outer) (Some (said.Branch own (branch_fits branch-word chain))) →
+      opened ≡ old ++ placed line (map condition outer) (Some (said.Branch branch-word own (branch_fits branch-word chain))) →
       pushed ≡ outer ++ branch ∷ [] → Items spec kind end items (map condition pushed) None within → new ≡ opened ++ within →
       left ≡ chain_of branch → Behind left more →
       Goes (λ x. SectionSays spec word line args (map condition outer) chain (λ inside said. Items spec kind end items inside None said) Behind x) old new more
   branch_goes branch-word line args outer {pushed = pushed} chain items Behind old more within {opened = opened} own {branch = branch} is reads branch-is opened-is pushed-is inside new-is left-is rest =
-      let head = placed line (map condition outer) (Some (said.Branch own (branch_fits branch-word chain))) in
+      let head = placed line (map condition outer) (Some (said.Branch branch-word own (branch_fits branch-word chain))) in
       let all = head ++ within ++ more in
       let under : map condition pushed ≡ map condition outer ++ condition (branch_of branch-word chain own) ∷ [] =
       ap (map condition) pushed-is ∙ map-append condition outer (branch ∷ []) ∙ ap (λ b. map condition outer ++ condition b ∷ []) branch-is in (

@@ -93,7 +93,7 @@ pub record BranchSays (spec : Spec) (word : BranchWord) (line : ℕ) (args : Lis
   pub reads : OwnCondition spec word args own
   pub inside : Within (branches ++ condition (branch_of word chain own) ∷ []) within
   pub others : Behind (chain_of (branch_of word chain own)) behind
-  pub are : parts ≡ record { line = line; branches = branches; said = said.Branch own (branch_fits word chain) } ∷ within ++ behind
+  pub are : parts ≡ record { line = line; branches = branches; said = said.Branch word own (branch_fits word chain) } ∷ within ++ behind
 
 -- a section, and what stands behind it
 abbrev pub SectionSays : Spec → InnerWord → ℕ → List ℕ → List Cond → Option Cond → (List Cond → List SectionPart → Type 0) → (Option Cond → List SectionPart → Type 0) → List SectionPart → Type 0

@@ -4,4 +4,4 @@ pub mod Items
 pub mod Readings
 pub mod File
 pub mod Examples
-pub mod Nested
+pub mod Chained

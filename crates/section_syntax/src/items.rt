@@ -223,7 +223,11 @@ fn open_branch(
         alloc,
         branches,
         line,
-        Said::Branch { condition, fits },
+        Said::Branch {
+            word,
+            condition,
+            fits,
+        },
         parts,
     )?;
     Ok(branch)

@@ -16,3 +16,4 @@ pub use branch::all_of;
 pub use file::read_file;
 pub use laws::one_file;
 pub use part::{File, Head, HeadField, Said, Section, SectionKind, SectionPart};
+pub use words::BranchWord;

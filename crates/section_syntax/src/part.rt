@@ -1,5 +1,6 @@
 // What a file says, as data.
 
+use crate::words::BranchWord;
 use plan_types::{Cause, CompKind, Dep, Guard, List, Spec, Text, Version};
 
 /// What a field or a section inside a section says.
@@ -22,8 +23,9 @@ pub enum Said {
     Manual(Option<bool>),
     /// `build-tools`, which is accepted unread.
     BuildTools,
-    /// `if`, `elif` or `else`: its own condition, and whether it is an `if` or directly behind one or an `elif`.
+    /// `if`, `elif` or `else`: which of them, its own condition, and whether it is an `if` or directly behind one or an `elif`.
     Branch {
+        word: BranchWord,
         condition: Result<Guard, Cause>,
         fits: bool,
     },

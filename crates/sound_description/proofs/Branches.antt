@@ -92,7 +92,7 @@ module _ (file : File) (known : List ℕ → Bool) (found : (name : List ℕ) �
   section-good : (spec : Spec) (word : InnerWord) (line : ℕ) (args : List ℕ) (branches : List Cond) (chain : Option Cond) (Within : List Cond → List SectionPart → Type 0) (Behind : Option Cond → List SectionPart → Type 0)
       → GoodWithin Within → GoodBehind Behind → Good branches → GoodChain chain → (parts : List SectionPart) → Sound parts → SectionSays spec word line args branches chain Within Behind parts → list_all is_good parts ≡ true
   section-good spec (inner.Branch word) line args branches chain Within Behind within behind good tried_good parts sound says =
-      let here : SectionPart = record { line = line; branches = branches; said = said.Branch says.own (branch_fits word chain) } in
+      let here : SectionPart = record { line = line; branches = branches; said = said.Branch word says.own (branch_fits word chain) } in
       let all_sound : Sound (here ∷ says.within ++ says.behind) = subst Sound says.are sound in
       let faults = none-front (of_condition file.sections says.own) (unless (branch_fits word chain) causes.ElseWithoutIf) all_sound.0 in
       let own_good = own-good spec word args says.own says.reads faults in

@@ -66,7 +66,7 @@ module _ (asks : Cond → Bool) (fits : Dep → Bool) where
       by (said.Default value) is = kept (rw is refl)
       by (said.Manual value) is = kept (rw is refl)
       by said.BuildTools is = kept (rw is refl)
-      by (said.Branch condition stands) is = kept (rw is refl)
+      by (said.Branch word condition stands) is = kept (rw is refl)
       by said.Misplaced is = kept (rw is refl)
 
   all-replaced-well : (stanzas : Stanzas) → list_all are_well stanzas ≡ true → (parts : List SectionPart) → list_all is_well parts ≡ true → list_all is_well (all_replaced stanzas parts) ≡ true

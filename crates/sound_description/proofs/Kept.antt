@@ -46,7 +46,7 @@ said-known file (said.Visibility value) none = refl
 said-known file (said.Default value) none = refl
 said-known file (said.Manual value) none = refl
 said-known file said.BuildTools none = refl
-said-known file (said.Branch condition fits) none = refl
+said-known file (said.Branch word condition fits) none = refl
 said-known file said.Misplaced none = refl
 
 parts-known : (file : File) (parts : List SectionPart) → AllByRecursion (λ part. of_said file part.said ≡ []) parts → list_all (λ part. list_all (is_known file) (deps_said part.said)) parts ≡ true

@@ -40,7 +40,7 @@ itself known part (said.Visibility value) is other = rw is refl
 itself known part (said.Default value) is other = rw is refl
 itself known part (said.Manual value) is other = rw is refl
 itself known part said.BuildTools is other = rw is refl
-itself known part (said.Branch condition fits) is other = rw is refl
+itself known part (said.Branch word condition fits) is other = rw is refl
 itself known part said.Misplaced is other = rw is refl
 
 table-push : (bodies : List Body) (body : Body) → table (bodies ++ body ∷ []) ≡ table bodies ++ body_parts (table bodies) body ∷ []

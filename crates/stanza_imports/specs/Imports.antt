@@ -35,7 +35,7 @@ parts_for of_stanza part = elim part.said [
   | said.Default value ↦ part ∷ []
   | said.Manual value ↦ part ∷ []
   | said.BuildTools ↦ part ∷ []
-  | said.Branch condition fits ↦ part ∷ []
+  | said.Branch word condition fits ↦ part ∷ []
   | said.Misplaced ↦ part ∷ []
 ]
 

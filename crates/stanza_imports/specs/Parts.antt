@@ -20,7 +20,7 @@ deps_said (said.Visibility value) = []
 deps_said (said.Default value) = []
 deps_said (said.Manual value) = []
 deps_said said.BuildTools = []
-deps_said (said.Branch condition fits) = []
+deps_said (said.Branch word condition fits) = []
 deps_said said.Misplaced = []
 
 -- a library with a name of its own
@@ -42,7 +42,7 @@ bad_visibility_said (said.Visibility (Some value)) = false
 bad_visibility_said (said.Default value) = false
 bad_visibility_said (said.Manual value) = false
 bad_visibility_said said.BuildTools = false
-bad_visibility_said (said.Branch condition fits) = false
+bad_visibility_said (said.Branch word condition fits) = false
 bad_visibility_said said.Misplaced = false
 
 -- the line of a part outside of branches that says nothing of its form of who may use a library

@@ -86,5 +86,5 @@ read_section-returns-in_ok-read_items-in-Branch-clause-parts t c front behind mo
     let closed = c.close_branch-left.ensures c.args.branches.now c.in_ok-branch-in-Branch.branch (c.in_ok-read_items-in-Branch.ensures.branches ∙ c.in_ok-push-in-Branch.ensures.ok) in
     branch_goes c.args.inside.spec c.args.inside.kind c.in-Branch.word c.args.line c.args.args.now c.args.branches.now c.args.chain (tree_of c.args.items.now) _ c.args.parts.now more read.0 opened.0
     c.in-Branch.is opened.1 opened.2
-    (opened.3 ∙ ap (λ b. c.args.parts.now ++ placed c.args.line (map condition b) (Some (said.Branch opened.0 (branch_fits c.in-Branch.word c.args.chain)))) c.as_slice-in-Branch.ensures)
+    (opened.3 ∙ ap (λ b. c.args.parts.now ++ placed c.args.line (map condition b) (Some (said.Branch c.in-Branch.word opened.0 (branch_fits c.in-Branch.word c.args.chain)))) c.as_slice-in-Branch.ensures)
     c.in_ok-push-in-Branch.ensures.ok read.1 read.2 closed.0 rest

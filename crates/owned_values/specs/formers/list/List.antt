@@ -14,10 +14,10 @@ use Rattle.std.specs.formers.vec.Vec as vec
 use Rattle.std.specs.declared.alloc.Global.{Global}
 use Rattle.std.specs.contracts.alloc.Global as heap
 use Rattle.std.specs.contracts.impls.GlobalAllocator.TheImpl.{ghosts}
-use Rattle.plan_types.specs.declared.list.List.TheInside.{Inside}
-use Rattle.plan_types.specs.declared.list.List.TheView.{view, invariant}
-use Rattle.plan_types.specs.contracts.list.List as C
-use Rattle.plan_types.specs.contracts.list.List.TheInside as I
+use Rattle.owned_values.specs.declared.list.List.TheInside.{Inside}
+use Rattle.owned_values.specs.declared.list.List.TheView.{view, invariant}
+use Rattle.owned_values.specs.contracts.list.List as C
+use Rattle.owned_values.specs.contracts.list.List.TheInside as I
 
 abbrev pub the_former : Former {0} → Former {0}
 the_former g = list g

@@ -17,10 +17,10 @@ use Rattle.std.specs.contracts.rc.Rc as rc
 use Rattle.std.specs.declared.alloc.Global.{Global}
 use Rattle.std.specs.contracts.alloc.Global as heap
 use Rattle.std.specs.contracts.impls.GlobalAllocator.TheImpl.{ghosts}
-use Rattle.plan_types.specs.declared.shared.Shared.TheInside.{Inside}
-use Rattle.plan_types.specs.declared.shared.Shared.TheView.{view, invariant}
-use Rattle.plan_types.specs.contracts.shared.Shared as C
-use Rattle.plan_types.specs.contracts.shared.Shared.TheInside as I
+use Rattle.owned_values.specs.declared.shared.Shared.TheInside.{Inside}
+use Rattle.owned_values.specs.declared.shared.Shared.TheView.{view, invariant}
+use Rattle.owned_values.specs.contracts.shared.Shared as C
+use Rattle.owned_values.specs.contracts.shared.Shared.TheInside as I
 
 abbrev pub the_former : Former {0} → Former {0}
 the_former g = g

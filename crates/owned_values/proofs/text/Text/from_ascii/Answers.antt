@@ -1,7 +1,7 @@
 use Rattle.std.proofs.Common.{Result, Ok, Err, refl}
 use Rattle.std.specs.Result.{MatchResult, IsOk}
 use Rattle.std.proofs.lemmas.Str.{IsUtf8-from_ascii}
-use Rattle.plan_types.proofs.text.Text.from_ascii.Goals as goal
+use Rattle.owned_values.proofs.text.Text.from_ascii.Goals as goal
 
 ok_from_cases : {T E : Type 0} (r : Result T E) (P : T → Type 0) (Q : Type 0) (R : E → Type 0) → MatchResult r P (λ e. ¬ Q × R e) → Q → IsOk r
 ok_from_cases (Ok x) P Q R h q = refl

@@ -17,10 +17,10 @@ use Rattle.std.specs.contracts.boxed.Box as box
 use Rattle.std.specs.declared.alloc.Global.{Global}
 use Rattle.std.specs.contracts.alloc.Global as heap
 use Rattle.std.specs.contracts.impls.GlobalAllocator.TheImpl.{ghosts}
-use Rattle.plan_types.specs.declared.boxed.Boxed.TheInside.{Inside}
-use Rattle.plan_types.specs.declared.boxed.Boxed.TheView.{view, invariant}
-use Rattle.plan_types.specs.contracts.boxed.Boxed as C
-use Rattle.plan_types.specs.contracts.boxed.Boxed.TheInside as I
+use Rattle.owned_values.specs.declared.boxed.Boxed.TheInside.{Inside}
+use Rattle.owned_values.specs.declared.boxed.Boxed.TheView.{view, invariant}
+use Rattle.owned_values.specs.contracts.boxed.Boxed as C
+use Rattle.owned_values.specs.contracts.boxed.Boxed.TheInside as I
 
 abbrev pub the_former : Former {0} → Former {0}
 the_former g = g

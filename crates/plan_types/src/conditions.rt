@@ -1,0 +1,128 @@
+// Conditions that are put together of each other.
+ghost use Rattle.std.specs.Prelude.{◌≡◌, ◌++◌, [], ◌∷◌, Some, length, slice_get, IfOk, OnOk};
+ghost use Rattle.plan_types.specs.Conditions.{cond_of, conds_of};
+
+use crate::{Cond, Guard, List, NoMemory, Shared};
+use std::alloc::Global;
+use std::marker::Model;
+
+/// How a condition is put together of those with these numbers, which stand before it.
+#[derive(Debug, Drop)]
+pub enum Row {
+    /// Of its own tests.
+    Own(Guard),
+    /// `!` of one of them.
+    Negated(usize),
+    /// `&&` of two.
+    Both(usize, usize),
+}
+
+/// Conditions, each by its number, which a contract sees as a list of them. What is counted of all of them is so counted row by
+/// row, where the conditions of a chain of branches would be as long together as the square of the chain.
+#[derive(Debug, Drop)]
+pub struct Conditions {
+    rows: List<Row>,
+}
+
+impl Model for Conditions {
+    ghost use Rattle.std.specs.Prelude.{List};
+    ghost use Rattle.std.specs.Coded.{codes};
+    ghost use Rattle.plan_types.specs.contracts.condition.Cond as conditions;
+    ghost use Rattle.plan_types.specs.declared.condition.Cond.{Cond};
+    ghost use Rattle.plan_types.specs.Conditions.{conds_of};
+
+    ghost Value = { List Cond };
+
+    ghost coded = { Prim.hlevel (codes, conditions.the_row.coded) };
+
+    ghost view = { λ c. conds_of c.rows };
+}
+
+impl Conditions {
+    /// None so far.
+    pub fn new(alloc: Global) -> Conditions
+        ensures { result ≡ [] }
+    {
+        Conditions {
+            rows: List::new(alloc),
+        }
+    }
+
+    /// Adds a condition. Its number is told.
+    pub fn push(&mut self, row: Row) -> Result<usize, NoMemory>
+        ensures added { OnOk result (self.new ≡ self.old ++ cond_of self.old row ∷ []) }
+        ensures number { IfOk result (λ number. number ≡ length self.old) }
+    {
+        let number = self.rows.len();
+        self.rows.push(row)?;
+        Ok(number)
+    }
+
+    /// How each is put together.
+    pub fn rows(&self) -> &[Row]
+        ensures { conds_of result.now ≡ self.now }
+    {
+        self.rows.as_slice()
+    }
+}
+
+/// A condition, and where it stands in a table, which a contract sees as the condition itself.
+#[derive(Debug, Drop)]
+pub struct TabledCond {
+    cond: Guard,
+    number: usize,
+    conds: Shared<Conditions>,
+}
+
+impl Model for TabledCond {
+    ghost use Rattle.std.specs.Prelude.{◌≡◌, Some, slice_get};
+    ghost use Rattle.std.specs.Coded.{codes};
+    ghost use Rattle.plan_types.specs.contracts.condition.Cond as conditions;
+    ghost use Rattle.plan_types.specs.declared.condition.Cond.{Cond};
+
+    ghost Value = { Cond };
+
+    ghost coded = { Prim.hlevel (codes, conditions.the_row.coded) };
+
+    ghost view = { λ t. t.cond };
+
+    ghost invariant = { λ t. slice_get t.conds t.number ≡ Some t.cond };
+}
+
+impl TabledCond {
+    /// A condition that stands in a table.
+    pub fn new(cond: Guard, number: usize, conds: Shared<Conditions>) -> TabledCond
+        requires { slice_get conds number ≡ Some cond }
+        ensures { result ≡ cond }
+    {
+        TabledCond {
+            cond,
+            number,
+            conds,
+        }
+    }
+
+    /// A condition that is a table of its own.
+    pub fn alone(alloc: Global, cond: Guard) -> Result<TabledCond, NoMemory>
+        ensures { IfOk result (λ alone. alone ≡ cond) }
+    {
+        let mut conds = Conditions::new(alloc);
+        let number = conds.push(Row::Own(cond.copy()?))?;
+        let conds = Shared::new(alloc, conds)?;
+        Ok(TabledCond::new(cond, number, conds))
+    }
+
+    /// The condition itself.
+    pub fn get(&self) -> &Cond
+        ensures { result.now ≡ self.now }
+    {
+        self.cond.get()
+    }
+
+    /// The table, and the condition's number in it.
+    pub fn place(&self) -> (&Conditions, usize)
+        ensures { slice_get result.0.now result.1 ≡ Some self.now }
+    {
+        (self.conds.get(), self.number)
+    }
+}

@@ -1,0 +1,38 @@
+-- How the parts of a section stand to each other: a part that begins a branch tells in which branches those behind it stand.
+use Rattle.std.specs.Prelude.{◌≡◌, ℕ, Bool, if◌then◌else◌, List, [], ◌∷◌, ◌++◌, length, map, take, slice_get, Option, None, Some}
+use Rattle.plan_types.specs.declared.condition.Cond.{Cond}
+use Rattle.section_syntax.specs.Branch.{branch_of, condition}
+use Rattle.section_syntax.specs.declared.branch.Branch.{Branch}
+use Rattle.section_syntax.specs.declared.part.SectionPart.{SectionPart}
+use Rattle.section_syntax.specs.declared.part.Said.{Said}
+use Rattle.section_syntax.specs.declared.part.Said.TheVariants as said
+
+-- the chain that a branch leaves, where there is one
+abbrev pub left_by : Option Branch → Option Cond
+left_by None = None
+left_by (Some branch) = branch.chain
+
+-- the branch that begins with a part, behind the one that ended last in the same place
+abbrev pub begun : Said → Option Branch → List Branch
+begun (said.Import names fits) before = []
+begun (said.Depends deps) before = []
+begun (said.Buildable value) before = []
+begun (said.Visibility value) before = []
+begun (said.Default value) before = []
+begun (said.Manual value) before = []
+begun said.BuildTools before = []
+begun (said.Branch word own fits) before = branch_of word (if fits then left_by before else None) own ∷ []
+begun said.Misplaced before = []
+
+-- the branches in which a part may stand that comes behind this one, the outermost first: those that are open, and where one ended, that one
+abbrev pub branches_behind : List Branch → SectionPart → List Branch
+branches_behind open part = take (length part.branches) open ++ begun part.said (slice_get open (length part.branches))
+
+-- each part stands in the outermost of these branches
+unfoldable pub AreChained : List Branch → List SectionPart → Type 0
+AreChained open [] = Unit {0}
+AreChained open (part ∷ parts) = (part.branches ≡ map condition (take (length part.branches) open)) × AreChained (branches_behind open part) parts
+
+-- the parts of a section, of which the first one stands in no branch
+abbrev pub StandInBranches : List SectionPart → Type 0
+StandInBranches parts = AreChained [] parts
