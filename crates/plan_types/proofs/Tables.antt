@@ -1,5 +1,5 @@
 -- Tables of conditions that grow.
-use Rattle.std.proofs.Common.{◌≡◌, ℕ, ◌+◌, zero, suc, List, [], ◌∷◌, ◌++◌, Some, length, slice_get, refl, ap, arith}
+use Rattle.std.proofs.Common.{◌≡◌, ℕ, zero, suc, List, [], ◌∷◌, ◌++◌, Some, length, slice_get, refl}
 use Rattle.plan_types.specs.Conditions.{cond_of, conds_behind}
 use Rattle.plan_types.specs.declared.condition.Cond.{Cond}
 use Rattle.plan_types.specs.declared.conditions.Row.{Row}
@@ -7,17 +7,6 @@ use Rattle.plan_types.specs.declared.conditions.Row.{Row}
 pub pushed-row : (before : List Cond) (rows : List Row) (row : Row) → conds_behind before (rows ++ row ∷ []) ≡ conds_behind before rows ++ cond_of (conds_behind before rows) row ∷ []
 pushed-row before [] row = refl
 pushed-row before (first ∷ rows) row = pushed-row (before ++ cond_of before first ∷ []) rows row
-
-length-snoc : {X : Type 0} (xs : List X) (x : X) → length (xs ++ x ∷ []) ≡ suc (length xs)
-length-snoc [] x = refl
-length-snoc (y ∷ xs) x = ap suc (length-snoc xs x)
-
-pub length-conds : (before : List Cond) (rows : List Row) → length (conds_behind before rows) ≡ length before + length rows
-length-conds before [] = omega arith
-length-conds before (row ∷ rows) =
-    let rest = length-conds (before ++ cond_of before row ∷ []) rows in
-    let one = length-snoc before (cond_of before row) in
-    omega (arith, rest, one)
 
 -- what stands in a table stands in it where it has grown
 pub get-front : {X : Type 0} (xs ys : List X) (i : ℕ) (x : X) → slice_get xs i ≡ Some x → slice_get (xs ++ ys) i ≡ Some x

@@ -1,6 +1,6 @@
 // Conditions that are put together of each other.
-ghost use Rattle.std.specs.Prelude.{◌≡◌, ◌++◌, [], ◌∷◌, Some, length, slice_get, IfOk, OnOk};
-ghost use Rattle.plan_types.specs.Conditions.{cond_of, conds_of};
+ghost use Rattle.std.specs.Prelude.{◌≡◌, ◌++◌, [], ◌∷◌, Some, length, slice_get, IfOk, OnErr, OnOk};
+ghost use Rattle.plan_types.specs.Conditions.{cond_of, conds_of, numbered};
 
 use crate::{Cond, Guard, List, NoMemory, Shared};
 use std::alloc::Global;
@@ -22,10 +22,12 @@ pub enum Row {
 #[derive(Debug, Drop)]
 pub struct Conditions {
     rows: List<Row>,
+    /// What the rows stand for.
+    guards: List<Guard>,
 }
 
 impl Model for Conditions {
-    ghost use Rattle.std.specs.Prelude.{List};
+    ghost use Rattle.std.specs.Prelude.{◌≡◌, List};
     ghost use Rattle.std.specs.Coded.{codes};
     ghost use Rattle.plan_types.specs.contracts.condition.Cond as conditions;
     ghost use Rattle.plan_types.specs.declared.condition.Cond.{Cond};
@@ -35,7 +37,9 @@ impl Model for Conditions {
 
     ghost coded = { Prim.hlevel (codes, conditions.the_row.coded) };
 
-    ghost view = { λ c. conds_of c.rows };
+    ghost view = { λ c. c.guards };
+
+    ghost invariant = { λ c. conds_of c.rows ≡ c.guards };
 }
 
 impl Conditions {
@@ -45,17 +49,50 @@ impl Conditions {
     {
         Conditions {
             rows: List::new(alloc),
+            guards: List::new(alloc),
         }
     }
 
     /// Adds a condition. Its number is told.
-    pub fn push(&mut self, row: Row) -> Result<usize, NoMemory>
+    pub fn push(&mut self, alloc: Global, row: Row) -> Result<usize, NoMemory>
         ensures added { OnOk result (self.new ≡ self.old ++ cond_of self.old row ∷ []) }
+        ensures same { OnErr result (self.new ≡ self.old) }
         ensures number { IfOk result (λ number. number ≡ length self.old) }
     {
-        let number = self.rows.len();
-        self.rows.push(row)?;
-        Ok(number)
+        let number = self.guards.len();
+        let guard = self.guard_of(alloc, &row)?;
+        self.guards.push(guard)?;
+        match self.rows.push(row) {
+            Ok(()) => Ok(number),
+            Err(wanting) => {
+                self.guards.pop();
+                Err(wanting)
+            }
+        }
+    }
+
+    fn guard_of(&self, alloc: Global, row: &Row) -> Result<Guard, NoMemory>
+        ensures { IfOk result (λ guard. guard ≡ cond_of self.now row.now) }
+    {
+        match row {
+            Row::Own(guard) => guard.copy(),
+            Row::Negated(inner) => self.guard(alloc, *inner)?.negated(alloc),
+            Row::Both(front, last) => {
+                let front = self.guard(alloc, *front)?;
+                let last = self.guard(alloc, *last)?;
+                front.and(alloc, last)
+            }
+        }
+    }
+
+    /// The condition with this number, held once more; `true` where there is none.
+    pub fn guard(&self, alloc: Global, number: usize) -> Result<Guard, NoMemory>
+        ensures { IfOk result (λ guard. guard ≡ numbered self.now number) }
+    {
+        match self.guards.as_slice().get(number) {
+            Some(guard) => guard.copy(),
+            None => Guard::new(alloc, Cond::Always),
+        }
     }
 
     /// How each is put together.
@@ -107,7 +144,7 @@ impl TabledCond {
         ensures { IfOk result (λ alone. alone ≡ cond) }
     {
         let mut conds = Conditions::new(alloc);
-        let number = conds.push(Row::Own(cond.copy()?))?;
+        let number = conds.push(alloc, Row::Own(cond.copy()?))?;
         let conds = Shared::new(alloc, conds)?;
         Ok(TabledCond::new(cond, number, conds))
     }
