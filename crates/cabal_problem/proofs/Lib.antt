@@ -10,4 +10,3 @@ mod WholeLaws
 mod OneTable
 mod OneOrders
 mod OneProblem
-mod Groups

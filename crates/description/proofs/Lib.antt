@@ -4,4 +4,3 @@ pub mod FirstFaults
 pub mod OneOutcome
 pub mod OnlyOutcome
 pub mod RepeatedNames
-pub mod TurnedOutcomes

@@ -4,6 +4,7 @@ ghost use Rattle.std.specs.Prelude.{◌≡◌, ◌&&◌, ℕ, true, not, List, [
 ghost use Rattle.std.specs.List.{list_all};
 ghost use Rattle.section_syntax.specs.declared.part.File.{File};
 ghost use Rattle.section_syntax.specs.declared.part.Section.{Section};
+ghost use Rattle.section_syntax.specs.declared.words.BranchWord.{BranchWord};
 ghost use Rattle.package_declarations.specs.Declarations.{is_known, is_library, own_name};
 ghost use Rattle.description.specs.Faults.{at, class_of, file_faults, has_good_name, in_head, in_part, in_section, is_class, of_condition, of_name, of_said, repeated, unknown_stanzas, unless};
 ghost use Rattle.description.specs.NamesBefore.{again, names_behind, unknown_of};
@@ -148,7 +149,11 @@ fn in_part(part: &SectionPart, declared: &Declared) -> Option<At>
         Said::Default(value) => unless(line, value.is_some(), Cause::BadField),
         Said::Manual(value) => unless(line, value.is_some(), Cause::BadField),
         Said::BuildTools => None,
-        Said::Branch { condition, fits } => of_branch(line, condition, *fits, declared),
+        Said::Branch {
+            word: _,
+            condition,
+            fits,
+        } => of_branch(line, condition, *fits, declared),
         Said::Misplaced => unless(line, false, Cause::BadField),
     }
 }
@@ -183,7 +188,8 @@ fn of_branch(
     fits: bool,
     declared: &Declared,
 ) -> Option<At>
-    ensures { (file : File) → Tells declared.now file → result ≡ first (at line (of_said file (Said.Branch condition.now fits))) }
+    ensures { (file : File) (word : BranchWord) → Tells declared.now file
+        → result ≡ first (at line (of_said file (Said.Branch word condition.now fits))) }
 {
     let condition = of_condition(line, condition, declared);
     let place = unless(line, fits, Cause::ElseWithoutIf);
@@ -303,6 +309,7 @@ fn unknown(part: &SectionPart, known: &NameSet) -> Option<At>
         Said::Manual(_) => None,
         Said::BuildTools => None,
         Said::Branch {
+            word: _,
             condition: _,
             fits: _,
         } => None,

@@ -7,7 +7,7 @@ ghost use Rattle.std.specs.declared.result.Result.TheVariants.{Ok, Err};
 ghost use Rattle.plan_types.specs.Refusal.{RefusesAt};
 ghost use Rattle.cabal_lexer.specs.Tree.{Tree, in_front, tree_of};
 ghost use Rattle.section_syntax.specs.declared.part.File.{File};
-ghost use Rattle.section_syntax.specs.Nested.{AreNested};
+ghost use Rattle.section_syntax.specs.Chained.{StandInBranches};
 ghost use Rattle.section_syntax.specs.declared.part.Section.{Section};
 ghost use Rattle.package_declarations.specs.Declarations.{own_name};
 ghost use Rattle.package_declarations.specs.Components.{components, components as components_of};
@@ -119,7 +119,7 @@ fn spec_of(line: u32, text: &str) -> Result<Spec, Fault>
 }
 
 fn described(alloc: Global, file: &File, digest: Text) -> Result<Description, Fault>
-    requires { All (λ section. AreNested section.parts) file.now.sections }
+    requires { All (λ section. StandInBranches section.parts) file.now.sections }
     ensures description { IfOk result (λ d. ComesTo file.now digest (first (faults file.now)) (Ok d)) }
     ensures fault { IfErr result (RefusesAt (λ line cause. ComesTo file.now digest (first (faults file.now)) (Err (is_at line cause)))) }
 {
@@ -136,7 +136,7 @@ fn judged(
     declared: &Declared,
     bodies: &Bodies,
 ) -> Result<Description, Fault>
-    requires { All (λ section. AreNested section.parts) file.now.sections }
+    requires { All (λ section. StandInBranches section.parts) file.now.sections }
     ensures description { IfOk result (λ d. Tells declared.now file.now → Stand file.now.sections bodies.now
         → ComesTo file.now digest (first (faults file.now)) (Ok d)) }
     ensures fault { IfErr result (RefusesAt (λ line cause. Tells declared.now file.now → Stand file.now.sections bodies.now
@@ -185,7 +185,7 @@ fn faultless(
     declared: &Declared,
     bodies: &Bodies,
 ) -> Result<Description, Fault>
-    requires { All (λ section. AreNested section.parts) file.now.sections }
+    requires { All (λ section. StandInBranches section.parts) file.now.sections }
     ensures description { IfOk result (λ d. Tells declared.now file.now → Stand file.now.sections bodies.now
         → Comes file.now digest (own_name file.now.heads) (version_of file.now.heads) (Ok d)) }
     ensures fault { IfErr result (RefusesAt (λ line cause. Tells declared.now file.now → Stand file.now.sections bodies.now
@@ -211,7 +211,7 @@ fn components_in(
     bodies: &Bodies,
 ) -> Result<List<Component>, NoMemory>
     ensures { IfOk result (λ found. (file : File) → Tells declared.now file → Stand file.sections bodies.now
-        → All (λ section. AreNested section.parts) file.sections → found ≡ components file) }
+        → All (λ section. StandInBranches section.parts) file.sections → found ≡ components file) }
 {
     room(alloc, total_weight(bodies))?;
     let found = components(alloc, declared, bodies)?;

@@ -1,4 +1,5 @@
 pub mod FlagOrder
+pub mod Levels
 pub mod FlagFolds
 pub mod LastValues
 pub mod LastNames

@@ -1,27 +1,48 @@
--- Dependencies that are gathered part by part.
-use Rattle.std.specs.Prelude.{◌≡◌, Bool, false, length, List, [], ◌++◌, Option, None, Some, IfSome}
-use Rattle.plan_types.specs.Guarded.{GuardedDep, in_groups, of_group}
+-- What is gathered of a component, part by part.
+use Rattle.std.specs.Prelude.{◌≡◌, ℕ, if◌then◌else◌, length, List, [], ◌∷◌, ◌++◌, map, take, slice_get, Option, None, Some, IfSome}
+use Rattle.plan_types.specs.Guarded.{AreTabled, GuardedDep, in_groups, of_group}
 use Rattle.plan_types.specs.declared.condition.Cond.{Cond}
-use Rattle.plan_types.specs.declared.dependency.Dep.{Dep}
+use Rattle.plan_types.specs.declared.condition.Cond.TheVariants.{Always, Not}
 use Rattle.plan_types.specs.declared.description.DepGroup.{DepGroup}
-use Rattle.section_syntax.specs.Branch.{all_of}
+use Rattle.section_syntax.specs.Branch.{all_of, condition}
+use Rattle.section_syntax.specs.declared.branch.Branch.{Branch}
+use Rattle.section_syntax.specs.declared.part.Said.{Said}
+use Rattle.section_syntax.specs.declared.part.SectionPart.{SectionPart}
+use Rattle.package_declarations.specs.Components.{unbuildable_said}
+use Rattle.package_declarations.specs.Levels.{AreLevels, IsNumbered}
 use Rattle.package_declarations.specs.declared.gathered.Gathered.{Gathered}
-
--- a dependency under a condition
-abbrev pub under : Cond → Dep → GuardedDep
-under when dep = record { when = when; dep = dep }
+use Rattle.package_declarations.specs.declared.gathered.Groups.{Groups}
 
 -- those of a group, where there is one
 abbrev pub in_group : Option DepGroup → List GuardedDep
 in_group None = []
 in_group (Some group) = of_group group
 
--- the next part stands in the outermost of these branches, unless one begins between
-abbrev pub IsOuter : Bool → List Cond → List Cond → Type 0
-IsOuter begins before branches = begins ≡ false → (ended : List Cond) × (before ≡ branches ++ ended)
+-- the dependencies that are gathered
+abbrev pub deps_in : Groups → List GuardedDep
+deps_in groups = in_groups groups.closed ++ in_group groups.current
 
--- these dependencies are gathered, of parts of which the last one stands in these branches
-pub record AreGathered (gathered : Gathered) (deps : List GuardedDep) (branches : List Cond) : Type 0 where
-  pub all : in_groups gathered.closed ++ in_group gathered.current ≡ deps
-  pub depth : gathered.depth ≡ length branches
-  pub here : IfSome gathered.current (λ group. group.when ≡ all_of branches)
+-- the condition of each group stands in this table
+pub record GroupsTabled (conds : List Cond) (groups : Groups) : Type 0 where
+  pub closed : AreTabled conds groups.closed
+  pub current : IfSome groups.current (λ group. slice_get conds group.number ≡ Some group.when)
+
+-- all of these hold, where there are any
+abbrev pub joined_some : List Cond → Option Cond
+joined_some [] = None
+joined_some (cond ∷ conds) = Some (all_of (cond ∷ conds))
+
+-- what a part bars that stands where this is so
+abbrev pub bars : Said → Cond → List Cond
+bars said place = if unbuildable_said said then Not place ∷ [] else []
+
+-- the condition under which a part counts, of which the branches are the outermost of these
+abbrev pub place_in : List Branch → SectionPart → Cond
+place_in open part = all_of (map condition (take (length part.branches) open))
+
+-- what is gathered, where these branches are open or ended last, and this was barred
+pub record Stands (gathered : Gathered) (open : List Branch) (barred : List Cond) : Type 0 where
+  pub root : slice_get gathered.conds 0 ≡ Some Always
+  pub levels : AreLevels gathered.conds [] gathered.levels open
+  pub groups : GroupsTabled gathered.conds gathered.groups
+  pub barred : IsNumbered gathered.conds gathered.barred (joined_some barred)

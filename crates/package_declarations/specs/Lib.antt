@@ -6,4 +6,5 @@ pub mod Cycles
 pub mod Numbers
 pub mod DeclaredNames
 pub mod AskedSections
+pub mod Levels
 pub mod Gathering

@@ -1,49 +1,67 @@
-// The dependencies of a component, gathered part by part.
+// What the parts of a component say of its dependencies and of when it is buildable, gathered part by part.
 
-ghost use Rattle.std.specs.Prelude.{◌≡◌, List, [], ◌++◌, map, false, IfOk, IfSome};
-ghost use Rattle.plan_types.specs.Guarded.{GuardedDep, in_groups, of_group};
+ghost use Rattle.std.specs.Prelude.{◌≡◌, List, [], ◌∷◌, ◌++◌, map, take, length, slice_get, Some, IfOk, OnOk};
+ghost use Rattle.plan_types.specs.Guarded.{AreTabled, in_groups, under};
 ghost use Rattle.plan_types.specs.declared.condition.Cond.{Cond};
 ghost use Rattle.section_syntax.specs.Branch.{all_of};
-ghost use Rattle.section_syntax.specs.Nested.{begins_branch};
+ghost use Rattle.section_syntax.specs.Chained.{branches_behind};
+ghost use Rattle.section_syntax.specs.declared.branch.Branch.{Branch};
 ghost use Rattle.section_syntax.specs.declared.part.File.{File};
-ghost use Rattle.package_declarations.specs.Components.{guarded};
+ghost use Rattle.package_declarations.specs.Components.{unbuildable_said};
 ghost use Rattle.package_declarations.specs.Declarations.{meant};
 ghost use Rattle.package_declarations.specs.DeclaredNames.{Tells};
-ghost use Rattle.package_declarations.specs.Gathering.{AreGathered, IsOuter, in_group, under};
+ghost use Rattle.package_declarations.specs.Gathering.{GroupsTabled, Stands, bars, deps_in, joined_some, place_in};
+ghost use Rattle.package_declarations.specs.Levels.{Grown, IsNumbered};
 ghost use Rattle.stanza_imports.specs.Bodies.{placed_part};
 ghost use Rattle.stanza_imports.specs.Parts.{deps_said};
 
+use crate::branches::{Level, added, behind, enter, leave, number_at};
 use crate::declarations::Declared;
-use plan_types::{Dep, DepGroup, GuardedDeps, List, NoMemory, Shared};
-use section_syntax::{Said, all_of};
+use plan_types::{
+    Cond, Conditions, Dep, DepGroup, Guard, GuardedDeps, List, NoMemory, Row, Shared, TabledCond,
+};
+use section_syntax::Said;
 use stanza_imports::Placed;
 use std::alloc::Global;
 
-/// The dependencies of the parts so far, and where the last of these stands. Between two parts branches end alone, unless the first
-/// one says that a branch begins: so where it doesn't, and both stand in as many branches, they stand in the same ones.
+/// What the parts so far say.
 #[derive(Drop)]
 pub struct Gathered {
+    /// The first one is `true`.
+    conds: Conditions,
+    /// The branches that are open, and those that ended last, each inside of the one before it.
+    levels: List<Level>,
+    groups: Groups,
+    /// The number of the condition that no part so far bars the component, where one says `buildable: False`.
+    barred: Option<usize>,
+}
+
+/// Dependencies by the places in which they stand.
+#[derive(Drop)]
+pub struct Groups {
     closed: List<DepGroup>,
-    /// In the branches of the last part.
+    /// Where the last dependency stands.
     current: Option<DepGroup>,
-    /// The number of these branches.
-    depth: usize,
-    /// Whether a branch begins behind it.
-    begins: bool,
 }
 
 impl Gathered {
     /// Before the first part.
-    pub fn new(alloc: Global) -> Gathered
-        ensures stand { AreGathered result [] [] }
-        ensures begins { result.begins ≡ false }
+    pub fn new(alloc: Global) -> Result<Gathered, NoMemory>
+        ensures stands { IfOk result (λ gathered. Stands gathered [] []) }
+        ensures deps { IfOk result (λ gathered. deps_in gathered.groups ≡ []) }
     {
-        Gathered {
+        let mut conds = Conditions::new(alloc);
+        conds.push(alloc, Row::Own(Guard::new(alloc, Cond::Always)?))?;
+        let groups = Groups {
             closed: List::new(alloc),
             current: None,
-            depth: 0,
-            begins: false,
-        }
+        };
+        Ok(Gathered {
+            conds,
+            levels: List::new(alloc),
+            groups,
+            barred: None,
+        })
     }
 
     /// With the next part.
@@ -53,92 +71,128 @@ impl Gathered {
         declared: &Declared,
         placed: &Placed,
     ) -> Result<Gathered, NoMemory>
-        ensures gathered { IfOk result (λ after. (file : File) → Tells declared.now file → (deps : List GuardedDep) (before : List Cond)
-            → AreGathered self deps before → IsOuter self.begins before (placed_part placed.now).branches
-            → AreGathered after (deps ++ guarded file (placed_part placed.now)) (placed_part placed.now).branches) }
-        ensures begins { IfOk result (λ after. after.begins ≡ begins_branch (placed_part placed.now).said) }
+        ensures stands { IfOk result (λ after. (open : List Branch) (barred : List Cond) → Stands self open barred
+            → Stands after (branches_behind open (placed_part placed.now))
+            (barred ++ bars (placed_part placed.now).said (place_in open (placed_part placed.now)))) }
+        ensures deps { IfOk result (λ after. (file : File) → Tells declared.now file → (open : List Branch) (barred : List Cond)
+            → Stands self open barred → deps_in after.groups ≡ deps_in self.groups
+            ++ map (under (place_in open (placed_part placed.now))) (map (meant file) (deps_said (placed_part placed.now).said))) }
     {
-        let here = self.moved(placed)?;
-        let found = asked(&placed.part.said);
-        if found.is_empty() {
-            return Ok(here);
-        }
-        let deps = meant(alloc, declared, found)?;
-        let group = extended(alloc, here.current, placed, deps)?;
+        let Gathered {
+            mut conds,
+            mut levels,
+            groups,
+            barred,
+        } = self;
+        let said = &placed.part.said;
+        let chain = leave(&mut levels, placed.branches.len());
+        let here = number_at(levels.as_slice());
+        let deps = meant(alloc, declared, asked(said))?;
+        let groups = groups.with(alloc, &conds, here, deps)?;
+        let barred = with_bar(alloc, &mut conds, barred, here, said)?;
+        enter(alloc, &mut conds, &mut levels, said, chain)?;
         Ok(Gathered {
-            closed: here.closed,
-            current: Some(group),
-            depth: here.depth,
-            begins: here.begins,
+            conds,
+            levels,
+            groups,
+            barred,
         })
     }
 
-    // At the next part, before what it asks for: the group of the part before ends where this one stands in other branches.
-    fn moved(self, placed: &Placed) -> Result<Gathered, NoMemory>
-        ensures gathered { IfOk result (λ after. (deps : List GuardedDep) (before : List Cond)
-            → AreGathered self deps before → IsOuter self.begins before (placed_part placed.now).branches
-            → AreGathered after deps (placed_part placed.now).branches) }
-        ensures begins { IfOk result (λ after. after.begins ≡ begins_branch (placed_part placed.now).said) }
+    /// When the component is buildable, and all dependencies.
+    pub fn into_parts(self, alloc: Global) -> Result<(TabledCond, GuardedDeps), NoMemory>
+        requires { (open : List Branch) × (barred : List Cond) × Stands self open barred }
+        ensures buildable { IfOk result (λ parts. (open : List Branch) (barred : List Cond) → Stands self open barred
+            → parts.0 ≡ all_of barred) }
+        ensures deps { IfOk result (λ parts. parts.1 ≡ deps_in self.groups) }
     {
-        let depth = placed.branches.len();
-        let begins = begins_branch(&placed.part.said);
-        if !self.begins && self.depth == depth {
-            return Ok(Gathered {
-                closed: self.closed,
-                current: self.current,
-                depth,
-                begins,
-            });
+        let groups = self.groups.into_list()?;
+        let free = match self.barred {
+            Some(number) => number,
+            None => 0,
+        };
+        let cond = self.conds.guard(alloc, free)?;
+        let conds = Shared::new(alloc, self.conds)?;
+        let buildable = TabledCond::new(cond, free, conds.copy()?);
+        Ok((buildable, GuardedDeps::new(conds, groups)))
+    }
+}
+
+impl Groups {
+    // With dependencies that stand under the condition with this number.
+    fn with(
+        self,
+        alloc: Global,
+        conds: &Conditions,
+        number: usize,
+        mut deps: List<Shared<Dep>>,
+    ) -> Result<Groups, NoMemory>
+        ensures tabled { IfOk result (λ after. (place : Cond) → slice_get conds.now number ≡ Some place → GroupsTabled conds.now self
+            → GroupsTabled conds.now after) }
+        ensures deps { IfOk result (λ after. (place : Cond) → slice_get conds.now number ≡ Some place → GroupsTabled conds.now self
+            → deps_in after ≡ deps_in self ++ map (under place) deps) }
+    {
+        if deps.is_empty() {
+            return Ok(self);
         }
-        let closed = with_group(self.closed, self.current)?;
-        Ok(Gathered {
-            closed,
-            current: None,
-            depth,
-            begins,
-        })
+        let Groups {
+            mut closed,
+            current,
+        } = self;
+        if let Some(mut group) = current {
+            if group.number == number {
+                group.deps.append(&mut deps)?;
+                return Ok(Groups {
+                    closed,
+                    current: Some(group),
+                });
+            }
+            closed.push(group)?;
+        }
+        let when = conds.guard(alloc, number)?;
+        let current = Some(DepGroup { when, number, deps });
+        Ok(Groups { closed, current })
     }
 
-    /// All of them.
-    pub fn into_deps(self) -> Result<GuardedDeps, NoMemory>
-        ensures { IfOk result (λ found. (deps : List GuardedDep) (before : List Cond) → AreGathered self deps before → found ≡ deps) }
+    // All of them.
+    fn into_list(self) -> Result<List<DepGroup>, NoMemory>
+        ensures tabled { IfOk result (λ groups. (conds : List Cond) → GroupsTabled conds self → AreTabled conds groups) }
+        ensures deps { IfOk result (λ groups. in_groups groups ≡ deps_in self) }
     {
-        let groups = with_group(self.closed, self.current)?;
-        Ok(GuardedDeps::new(groups))
+        let mut groups = self.closed;
+        if let Some(group) = self.current {
+            groups.push(group)?;
+        }
+        Ok(groups)
     }
 }
 
-fn with_group(
-    mut groups: List<DepGroup>,
-    group: Option<DepGroup>,
-) -> Result<List<DepGroup>, NoMemory>
-    ensures { IfOk result (λ all. in_groups all ≡ in_groups groups ++ in_group group) }
-{
-    if let Some(group) = group {
-        groups.push(group)?;
-    }
-    Ok(groups)
-}
-
-// A group with more dependencies, or a new one, of those that stand where this part does.
-fn extended(
+// The condition that no part bars the component, with what this one bars, which stands under the condition with this number.
+fn with_bar(
     alloc: Global,
-    group: Option<DepGroup>,
-    placed: &Placed,
-    mut deps: List<Shared<Dep>>,
-) -> Result<DepGroup, NoMemory>
-    ensures { IfOk result (λ all. IfSome group (λ g. g.when ≡ all_of placed.now.branches)
-        → (all.when ≡ all_of placed.now.branches) × (of_group all ≡ in_group group ++ map (under (all_of placed.now.branches)) deps)) }
+    conds: &mut Conditions,
+    barred: Option<usize>,
+    here: usize,
+    said: &Said,
+) -> Result<Option<usize>, NoMemory>
+    ensures grown { OnOk result (Grown conds.old conds.new) }
+    ensures { IfOk result (λ after. (before : List Cond) (place : Cond) → IsNumbered conds.old barred (joined_some before)
+        → slice_get conds.old here ≡ Some place → IsNumbered conds.new after (joined_some (before ++ bars said.now place))) }
 {
-    match group {
-        Some(mut group) => {
-            group.deps.append(&mut deps)?;
-            Ok(group)
-        }
-        None => {
-            let when = all_of(alloc, placed.branches.as_slice())?;
-            Ok(DepGroup { when, deps })
-        }
+    if !is_unbuildable(said) {
+        return Ok(barred);
+    }
+    let bar = added(alloc, conds, Row::Negated(here))?;
+    let free = behind(alloc, conds, barred, bar)?;
+    Ok(Some(free))
+}
+
+fn is_unbuildable(said: &Said) -> bool
+    ensures { result ≡ unbuildable_said said.now }
+{
+    match said {
+        Said::Buildable(Some(value)) => !*value,
+        _ => false,
     }
 }
 
@@ -163,16 +217,4 @@ fn meant(alloc: Global, declared: &Declared, found: &[Dep]) -> Result<List<Share
         deps.push(shared)?;
     }
     Ok(deps)
-}
-
-fn begins_branch(said: &Said) -> bool
-    ensures { result ≡ begins_branch said.now }
-{
-    match said {
-        Said::Branch {
-            condition: _,
-            fits: _,
-        } => true,
-        _ => false,
-    }
 }

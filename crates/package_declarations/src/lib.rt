@@ -2,6 +2,7 @@
 //! itself means. Faults are the crate's above.
 #![tactic(auto)]
 
+mod branches;
 mod component;
 mod cycle;
 mod declarations;

@@ -1,7 +1,7 @@
 // Branches: the conditions under which what stands in them counts.
 
 ghost use Rattle.std.specs.Prelude.{◌≡◌, IfOk, map};
-ghost use Rattle.section_syntax.specs.Branch.{all_of, bare, branch_of, condition, last, or_never, tried, tried_behind, OwnCondition, IsOutcome};
+ghost use Rattle.section_syntax.specs.Branch.{bare, branch_of, condition, last, or_never, tried, tried_behind, OwnCondition, IsOutcome};
 
 use crate::words::BranchWord;
 use condition_text::read_cond;
@@ -88,20 +88,6 @@ pub fn conditions(alloc: Global, branches: &[Branch]) -> Result<List<Guard>, NoM
     Ok(conds)
 }
 
-/// Conditions joined by `&&`, from the left; `true` where there is none.
-pub fn all_of(alloc: Global, conds: &[Guard]) -> Result<Guard, NoMemory>
-    ensures { IfOk result (λ all. all ≡ all_of conds.now) }
-{
-    let [first, rest @ ..] = conds else {
-        return Guard::new(alloc, Cond::Always);
-    };
-    let mut all = first.copy()?;
-    for cond in rest {
-        all = all.and(alloc, cond.copy()?)?;
-    }
-    Ok(all)
-}
-
 /// The condition of a branch itself.
 pub fn own_condition(
     alloc: Global,
@@ -150,7 +136,7 @@ pub fn outcome<T: Drop>(read: Result<T, TextFault>) -> Result<Result<T, Cause>, 
 }
 
 /// What stands for the condition where it can't be read.
-fn or_never(alloc: Global, condition: &Result<Guard, Cause>) -> Result<Guard, NoMemory>
+pub fn or_never(alloc: Global, condition: &Result<Guard, Cause>) -> Result<Guard, NoMemory>
     ensures { IfOk result (λ cond. cond ≡ or_never condition.now) }
 {
     match condition {

@@ -12,7 +12,7 @@ mod laws;
 mod part;
 mod words;
 
-pub use branch::all_of;
+pub use branch::or_never;
 pub use file::read_file;
 pub use laws::one_file;
 pub use part::{File, Head, HeadField, Said, Section, SectionKind, SectionPart};

@@ -1,12 +1,17 @@
 // The components of a description, and behind `=>` what they ask for, a bar, and what the package offers. A component is its
 // kind, its name and when it is buildable, and then its dependencies with their branches, of which those on
 // the package itself begin with `=`. Each component and each dependency is a line of its file.
+
+ghost use Rattle.std.specs.Prelude.{OnOk};
+ghost use Rattle.plan_types.specs.Guarded.{AreTabled};
+
 use crate::shared::{environment, shown};
 use condition_text::read_cond;
 use flatten::{demands_of, exposed};
 use plan_types::{
-    Cause, CompKind, Component, Dep, DepGroup, DepKind, Description, Env, FlatDep, Guard,
-    GuardedDeps, LibName, List, NoMemory, PartName, Range, Shared, Spec, Text, TextFault, Version,
+    Cause, CompKind, Component, Conditions, Dep, DepGroup, DepKind, Description, Env, FlatDep, Guard,
+    GuardedDeps, LibName, List, NoMemory, PartName, Range, Row, Shared, Spec, TabledCond, Text,
+    TextFault, Version,
 };
 use std::alloc::Global;
 use std::test::Fail;
@@ -31,7 +36,15 @@ library - if true,w if true,x if (flag(a) || flag(b)) && (flag(c) || flag(d)) &&
 library - if true,=x if (flag(a) || flag(b)) && (flag(c) || flag(d)) && (flag(e) || flag(f)) && (flag(g) || flag(h)) && (flag(i) || flag(j)) && (flag(k) || flag(l)) && (flag(m) || flag(n)) && (flag(o) || flag(p)) && (flag(q) || flag(r)) => | Exposed { libs: [Main], exes: [] }\n\
 library - if true,x if true;exe e if flag(a) || flag(b),y if (flag(a) || flag(b)) && (flag(a) || flag(b)) && (flag(a) || flag(b)) && (flag(a) || flag(b)) && (flag(a) || flag(b)) && (flag(a) || flag(b)) && (flag(a) || flag(b)) && (flag(a) || flag(b)) => At { line: 4, cause: TooManyPaths } | Exposed { libs: [Main], exes: [e] }\n";
 
-fn dependency(alloc: Global, line: u32, text: &str) -> Result<DepGroup, TextFault> {
+fn push_dependency(
+    alloc: Global,
+    line: u32,
+    text: &str,
+    conds: &mut Conditions,
+    groups: &mut List<DepGroup>,
+) -> Result<(), TextFault>
+    ensures { OnOk result (AreTabled conds.old groups.old → AreTabled conds.new groups.new) }
+{
     let Some((name, when)) = text.split_once(" if ") else {
         return Err(TextFault::Bad(Cause::BadDepend));
     };
@@ -50,14 +63,40 @@ fn dependency(alloc: Global, line: u32, text: &str) -> Result<DepGroup, TextFaul
     let when = Guard::new(alloc, when)?;
     let mut deps = List::new(alloc);
     deps.push(Shared::new(alloc, dep)?)?;
-    Ok(DepGroup { when, deps })
+    let number = conds.push(alloc, Row::Own(when.copy()?))?;
+    groups.push(DepGroup { when, number, deps })?;
+    Ok(())
+}
+
+// The dependencies that stand in lines behind this one.
+fn dependencies(alloc: Global, section: u32, text: &str) -> Result<GuardedDeps, TextFault> {
+    let mut line = section;
+    let mut conds = Conditions::new(alloc);
+    let mut groups = List::new(alloc);
+    for dep in text.split(',') {
+        if !dep.is_empty() {
+            line = line.saturating_add(1);
+            push_dependency(alloc, line, dep, &mut conds, &mut groups)?;
+        }
+    }
+    Ok(GuardedDeps::new(Shared::new(alloc, conds)?, groups))
+}
+
+fn lines_of(deps: &str) -> u32 {
+    let mut lines = 0u32;
+    for dep in deps.split(',') {
+        if !dep.is_empty() {
+            lines = lines.saturating_add(1);
+        }
+    }
+    lines
 }
 
 fn component(
     alloc: Global,
     line: u32,
     text: &str,
-    groups: List<DepGroup>,
+    deps: &str,
 ) -> Result<Component, TextFault> {
     let Some((head, buildable)) = text.split_once(" if ") else {
         return Err(TextFault::Bad(Cause::BadField));
@@ -77,8 +116,8 @@ fn component(
         },
         name: Text::from_str(alloc, if name == "-" { "" } else { name })?,
         public: kind == "public",
-        buildable: Guard::new(alloc, buildable)?,
-        deps: GuardedDeps::new(groups),
+        buildable: TabledCond::alone(alloc, Guard::new(alloc, buildable)?)?,
+        deps: dependencies(alloc, line, deps)?,
     })
 }
 
@@ -91,15 +130,8 @@ fn components(alloc: Global, text: &str) -> Result<List<Component>, TextFault> {
             Some(found) => found,
         };
         line = line.saturating_add(1);
-        let section = line;
-        let mut groups = List::new(alloc);
-        for dep in deps.split(',') {
-            if !dep.is_empty() {
-                line = line.saturating_add(1);
-                groups.push(dependency(alloc, line, dep)?)?;
-            }
-        }
-        components.push(component(alloc, section, head, groups)?)?;
+        components.push(component(alloc, line, head, deps)?)?;
+        line = line.saturating_add(lines_of(deps));
     }
     Ok(components)
 }

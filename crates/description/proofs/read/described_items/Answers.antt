@@ -1,5 +1,5 @@
-use Rattle.section_syntax.proofs.Nested.{file-nested}
+use Rattle.section_syntax.proofs.Chained.{file-chained}
 use Rattle.description.proofs.read.described_items.Goals as goal
 
 pub described-requires : goal.described-requires
-described-requires c = file-nested c.in_ok-spec.spec c.as_slice-2.result.now c.in_ok-file.file c.in_ok-file.ensures
+described-requires c = file-chained c.in_ok-spec.spec c.as_slice-2.result.now c.in_ok-file.file c.in_ok-file.ensures

@@ -1,0 +1,55 @@
+-- Branches by the numbers of their conditions in a table.
+use Rattle.std.specs.Prelude.{◌≡◌, ℕ, List, [], ◌∷◌, ◌++◌, Option, None, Some, slice_get, unwrap_or}
+use Rattle.plan_types.specs.declared.condition.Cond.{Cond}
+use Rattle.section_syntax.specs.Branch.{all_of}
+use Rattle.section_syntax.specs.declared.branch.Branch.{Branch}
+use Rattle.package_declarations.specs.declared.branches.Level.{Level}
+
+-- a table that has grown
+abbrev pub Grown : List Cond → List Cond → Type 0
+Grown before after = (more : List Cond) × (after ≡ before ++ more)
+
+-- the number of a condition, where there is one
+abbrev pub IsNumbered : List Cond → Option ℕ → Option Cond → Type 0
+IsNumbered conds None None = Unit {0}
+IsNumbered conds None (Some cond) = ⊥
+IsNumbered conds (Some number) None = ⊥
+IsNumbered conds (Some number) (Some cond) = slice_get conds number ≡ Some cond
+
+-- a branch without those around it
+pub record IsBranch (conds : List Cond) (level : Level) (branch : Branch) : Type 0 where
+  pub taken : slice_get conds level.taken ≡ Some branch.condition
+  pub chain : IsNumbered conds level.chain branch.chain
+
+-- a branch inside of these
+pub record IsLevel (conds around : List Cond) (level : Level) (branch : Branch) : Type 0 where
+  pub taken : slice_get conds level.taken ≡ Some (all_of (around ++ branch.condition ∷ []))
+  pub chain : IsNumbered conds level.chain branch.chain
+
+-- branches inside of these, each inside of the one before it
+abbrev pub AreLevels : List Cond → List Cond → List Level → List Branch → Type 0
+AreLevels conds around [] [] = Unit {0}
+AreLevels conds around [] (branch ∷ branches) = ⊥
+AreLevels conds around (level ∷ levels) [] = ⊥
+AreLevels conds around (level ∷ levels) (branch ∷ branches) = IsLevel conds around level branch × AreLevels conds (around ++ branch.condition ∷ []) levels branches
+
+-- the chain of the branch in this place
+abbrev pub chain_of_level : Option Level → Option ℕ
+chain_of_level None = None
+chain_of_level (Some level) = level.chain
+
+abbrev pub chain_at : List Level → ℕ → Option ℕ
+chain_at levels depth = chain_of_level (slice_get levels depth)
+
+-- the number of the innermost branch, where there is one
+abbrev pub innermost_behind : ℕ → List Level → ℕ
+innermost_behind number [] = number
+innermost_behind number (level ∷ levels) = innermost_behind level.taken levels
+
+abbrev pub innermost : List Level → Option ℕ
+innermost [] = None
+innermost (level ∷ levels) = Some (innermost_behind level.taken levels)
+
+-- where there is none, that of `true`, which comes first
+abbrev pub number_at : List Level → ℕ
+number_at levels = unwrap_or (innermost levels) 0

@@ -1,0 +1,188 @@
+// The branches of a component, whose conditions are put together in a table.
+
+ghost use Rattle.std.specs.Prelude.{◌≡◌, List, [], ◌∷◌, ◌++◌, Option, Some, slice_get, take, IfOk, OnOk};
+ghost use Rattle.plan_types.specs.Conditions.{cond_of};
+ghost use Rattle.plan_types.specs.declared.condition.Cond.{Cond};
+ghost use Rattle.plan_types.specs.declared.condition.Cond.TheVariants.{Always};
+ghost use Rattle.section_syntax.specs.Branch.{branch_of, last, or_never, tried, tried_behind};
+ghost use Rattle.section_syntax.specs.Chained.{begun, left_by};
+ghost use Rattle.section_syntax.specs.declared.branch.Branch.{Branch};
+ghost use Rattle.package_declarations.specs.Levels.{AreLevels, Grown, IsBranch, IsNumbered, chain_at, innermost, number_at};
+
+use plan_types::{Cause, Cond, Conditions, Guard, List, NoMemory, Row};
+use section_syntax::{BranchWord, Said, or_never};
+use std::alloc::Global;
+
+/// A branch that is open, or that ended last in its place, by the numbers of conditions in a table.
+#[derive(Clone, Copy, Debug)]
+pub struct Level {
+    /// It is taken, and so are all those around it.
+    pub taken: usize,
+    /// None of the branches of its chain so far is taken. Nothing stands behind an `else`.
+    pub chain: Option<usize>,
+}
+
+/// Leaves the branches in which a part doesn't stand. What is told is the chain of the one that ended last in its place.
+pub(crate) fn leave(levels: &mut List<Level>, depth: usize) -> Option<usize>
+    ensures levels { levels.new ≡ take depth levels.old }
+    ensures chain { result ≡ chain_at levels.old depth }
+{
+    let chain = match levels.as_slice().get(depth) {
+        Some(level) => level.chain,
+        None => None,
+    };
+    levels.truncate(depth);
+    chain
+}
+
+/// The number of the condition that all of these branches are taken. That of `true` comes first in the table.
+pub(crate) fn number_at(levels: &[Level]) -> usize
+    ensures { result ≡ number_at levels.now }
+{
+    innermost(levels).unwrap_or(0)
+}
+
+fn innermost(levels: &[Level]) -> Option<usize>
+    ensures { result ≡ innermost levels.now }
+{
+    match levels {
+        [] => None,
+        [.., last] => Some(last.taken),
+    }
+}
+
+/// Enters the branch that begins with a part, where one does.
+pub(crate) fn enter(
+    alloc: Global,
+    conds: &mut Conditions,
+    levels: &mut List<Level>,
+    said: &Said,
+    chain: Option<usize>,
+) -> Result<(), NoMemory>
+    ensures grown { OnOk result (Grown conds.old conds.new) }
+    ensures levels { OnOk result ((open : List Branch) (before : Option Branch) → AreLevels conds.old [] levels.old open
+        → IsNumbered conds.old chain (left_by before) → AreLevels conds.new [] levels.new (open ++ begun said.now before)) }
+{
+    match said {
+        Said::Branch {
+            word,
+            condition,
+            fits,
+        } => {
+            let chain = if *fits { chain } else { None };
+            let branch = branch_of(alloc, conds, *word, condition, chain)?;
+            push_branch(alloc, conds, levels, branch)
+        }
+        Said::Import { names: _, fits: _ } => Ok(()),
+        Said::Depends(_) => Ok(()),
+        Said::Buildable(_) => Ok(()),
+        Said::Visibility(_) => Ok(()),
+        Said::Default(_) => Ok(()),
+        Said::Manual(_) => Ok(()),
+        Said::BuildTools => Ok(()),
+        Said::Misplaced => Ok(()),
+    }
+}
+
+// A branch inside those that are open.
+fn push_branch(
+    alloc: Global,
+    conds: &mut Conditions,
+    levels: &mut List<Level>,
+    branch: Level,
+) -> Result<(), NoMemory>
+    ensures grown { OnOk result (Grown conds.old conds.new) }
+    ensures levels { OnOk result ((open : List Branch) (one : Branch) → AreLevels conds.old [] levels.old open
+        → IsBranch conds.old branch one → AreLevels conds.new [] levels.new (open ++ one ∷ [])) }
+{
+    let around = innermost(levels.as_slice());
+    let taken = behind(alloc, conds, around, branch.taken)?;
+    levels.push(Level {
+        taken,
+        chain: branch.chain,
+    })
+}
+
+// A branch behind what was tried before it in its chain, without those around it.
+fn branch_of(
+    alloc: Global,
+    conds: &mut Conditions,
+    word: BranchWord,
+    own: &Result<Guard, Cause>,
+    chain: Option<usize>,
+) -> Result<Level, NoMemory>
+    ensures grown { OnOk result (Grown conds.old conds.new) }
+    ensures { IfOk result (λ level. (left : Option Cond) → IsNumbered conds.old chain left → IsBranch conds.new level (branch_of word left own.now)) }
+{
+    match word {
+        BranchWord::If => tried(alloc, conds, None, own),
+        BranchWord::Elif => tried(alloc, conds, chain, own),
+        BranchWord::Else => last(alloc, conds, chain),
+    }
+}
+
+fn tried(
+    alloc: Global,
+    conds: &mut Conditions,
+    chain: Option<usize>,
+    own: &Result<Guard, Cause>,
+) -> Result<Level, NoMemory>
+    ensures grown { OnOk result (Grown conds.old conds.new) }
+    ensures { IfOk result (λ level. (left : Option Cond) → IsNumbered conds.old chain left
+        → IsBranch conds.new level (tried left (or_never own.now))) }
+{
+    let own = or_never(alloc, own)?;
+    let own = added(alloc, conds, Row::Own(own))?;
+    let other = added(alloc, conds, Row::Negated(own))?;
+    let taken = behind(alloc, conds, chain, own)?;
+    let left = behind(alloc, conds, chain, other)?;
+    Ok(Level {
+        taken,
+        chain: Some(left),
+    })
+}
+
+fn last(
+    alloc: Global,
+    conds: &mut Conditions,
+    chain: Option<usize>,
+) -> Result<Level, NoMemory>
+    ensures grown { OnOk result (Grown conds.old conds.new) }
+    ensures { IfOk result (λ level. (left : Option Cond) → IsNumbered conds.old chain left → IsBranch conds.new level (last left)) }
+{
+    let taken = match chain {
+        Some(left) => left,
+        None => added(alloc, conds, Row::Own(Guard::new(alloc, Cond::Always)?))?,
+    };
+    Ok(Level { taken, chain: None })
+}
+
+/// A condition behind another one, where there is one.
+pub(crate) fn behind(
+    alloc: Global,
+    conds: &mut Conditions,
+    front: Option<usize>,
+    last: usize,
+) -> Result<usize, NoMemory>
+    ensures grown { OnOk result (Grown conds.old conds.new) }
+    ensures { IfOk result (λ number. (left : Option Cond) (cond : Cond) → IsNumbered conds.old front left
+        → slice_get conds.old last ≡ Some cond → slice_get conds.new number ≡ Some (tried_behind left cond)) }
+{
+    match front {
+        Some(front) => added(alloc, conds, Row::Both(front, last)),
+        None => Ok(last),
+    }
+}
+
+/// Adds a condition to the table.
+pub(crate) fn added(
+    alloc: Global,
+    conds: &mut Conditions,
+    row: Row,
+) -> Result<usize, NoMemory>
+    ensures grown { OnOk result (Grown conds.old conds.new) }
+    ensures { IfOk result (λ number. slice_get conds.new number ≡ Some (cond_of conds.old row)) }
+{
+    let number = conds.push(alloc, row)?;
+    Ok(number)
+}
