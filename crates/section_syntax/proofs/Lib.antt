@@ -2,4 +2,4 @@ pub mod Trees
 pub mod Steps
 pub mod Files
 pub mod One
-pub mod Nested
+pub mod Chained

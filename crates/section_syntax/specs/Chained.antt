@@ -1,11 +1,15 @@
 -- How the parts of a section stand to each other: a part that begins a branch tells in which branches those behind it stand.
-use Rattle.std.specs.Prelude.{◌≡◌, ℕ, Bool, if◌then◌else◌, List, [], ◌∷◌, ◌++◌, length, map, take, slice_get, Option, None, Some}
+use Rattle.std.specs.Prelude.{◌≡◌, ℕ, Bool, true, if◌then◌else◌, List, [], ◌∷◌, ◌++◌, length, map, take, slice_get, Option, None, Some}
+use Rattle.std.specs.declared.result.Result.{Result}
 use Rattle.plan_types.specs.declared.condition.Cond.{Cond}
+use Rattle.plan_types.specs.declared.refusal.Cause.{Cause}
 use Rattle.section_syntax.specs.Branch.{branch_of, condition}
+use Rattle.section_syntax.specs.Items.{branch_fits}
 use Rattle.section_syntax.specs.declared.branch.Branch.{Branch}
 use Rattle.section_syntax.specs.declared.part.SectionPart.{SectionPart}
 use Rattle.section_syntax.specs.declared.part.Said.{Said}
 use Rattle.section_syntax.specs.declared.part.Said.TheVariants as said
+use Rattle.section_syntax.specs.declared.words.BranchWord.{BranchWord}
 
 -- the chain that a branch leaves, where there is one
 abbrev pub left_by : Option Branch → Option Cond
@@ -26,12 +30,18 @@ begun said.Misplaced before = []
 
 -- the branches in which a part may stand that comes behind this one, the outermost first: those that are open, and where one ended, that one
 abbrev pub branches_behind : List Branch → SectionPart → List Branch
-branches_behind open part = take (length part.branches) open ++ begun part.said (slice_get open (length part.branches))
+branches_behind opened part = take (length part.branches) opened ++ begun part.said (slice_get opened (length part.branches))
 
--- each part stands in the outermost of these branches
+-- a branch that is said to fit stands where one of its word may, behind the one that ended last in the same place
+abbrev pub FitsBehind : Said → Option Branch → Type 0
+FitsBehind one before = (word : BranchWord) (own : Result Cond Cause) → one ≡ said.Branch word own true → branch_fits word (left_by before) ≡ true
+
+-- each part stands in the outermost of these branches, and where it is said to fit, it does
 unfoldable pub AreChained : List Branch → List SectionPart → Type 0
-AreChained open [] = Unit {0}
-AreChained open (part ∷ parts) = (part.branches ≡ map condition (take (length part.branches) open)) × AreChained (branches_behind open part) parts
+AreChained opened [] = Unit {0}
+AreChained opened (part ∷ parts) =
+    (part.branches ≡ map condition (take (length part.branches) opened)) × AreChained (branches_behind opened part) parts
+    × FitsBehind part.said (slice_get opened (length part.branches))
 
 -- the parts of a section, of which the first one stands in no branch
 abbrev pub StandInBranches : List SectionPart → Type 0

@@ -7,6 +7,7 @@ use Rattle.plan_types.specs.declared.description.CompKind.TheVariants.{Library}
 use Rattle.plan_types.specs.declared.range.Spec.TheVariants.{V2_4, V3_0}
 use Rattle.plan_types.specs.declared.refusal.Cause.TheVariants.{BadField}
 use Rattle.section_syntax.specs.Branch.{all_of, bare, branch_of, chain_of, condition}
+use Rattle.section_syntax.specs.Chained.{AreChained, begun, branches_behind}
 use Rattle.section_syntax.specs.File.{section_name}
 use Rattle.section_syntax.specs.Items.{Items, branch_fits, import_fits, visible}
 use Rattle.cabal_lexer.specs.Tree.{end, field, section}
@@ -76,6 +77,13 @@ a_lone_elif = refl
 else_with_a_condition : bare (codes "x") ≡ Err BadField
 else_with_a_condition = refl
 
+-- an `elif` directly behind `if flag(a)`, and one that doesn't stand there
+elif_begins : branches_behind (branch_of If None (Ok a) ∷ []) (record { line = 5; branches = []; said = said.Branch Elif (Ok b) true }) ≡ record { condition = And (Not a) b; chain = Some (And (Not a) (Not b)) } ∷ []
+elif_begins = refl
+
+elif_without_if : begun (said.Branch Elif (Ok b) false) (Some (branch_of If None (Ok a))) ≡ record { condition = b; chain = Some (Not b) } ∷ []
+elif_without_if = refl
+
 -- an import fits behind another and behind nothing else; in a branch from 3.0 on
 behind_an_import : import_fits V2_4 (Component Library) (field 4 (codes "import") [] end) [] ≡ true
 behind_an_import = refl
@@ -94,3 +102,10 @@ two_parts : Items V3_0 (Component Library) end (field 5 (codes "buildable") (cod
     (record { line = 5; branches = a ∷ []; said = said.Buildable (Some false) } ∷ record { line = 6; branches = a ∷ []; said = said.Misplaced } ∷ [])
 unfolding Items
 two_parts = (Some (said.Buildable (Some false)), record { line = 6; branches = a ∷ []; said = said.Misplaced } ∷ [], refl, ([], refl, refl), refl)
+
+-- a field in an `else` behind `if flag(a)`
+three_parts : AreChained []
+    (record { line = 4; branches = []; said = said.Branch If (Ok a) true } ∷ record { line = 6; branches = []; said = said.Branch Else (Ok Always) true }
+    ∷ record { line = 7; branches = Not a ∷ []; said = said.BuildTools } ∷ [])
+unfolding AreChained
+three_parts = (refl, (refl, (refl, tt, λ word own is. absurd (cc is)), λ word own is. cc is), λ word own is. cc is)

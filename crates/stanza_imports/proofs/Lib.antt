@@ -9,4 +9,4 @@ pub mod PushedParts
 pub mod BodyTurns
 pub mod WalkSteps
 pub mod Weights
-pub mod Nested
+pub mod Chained
