@@ -33,69 +33,69 @@ branch-kept a b grown level branch is = record {
   chain = numbered-kept a b grown level.chain branch.chain is.chain;
 }
 
-pub levels-kept : (a b : List Cond) → Grown a b → (around : List Cond) (levels : List Level) (open : List Branch) → AreLevels a around levels open → AreLevels b around levels open
+pub levels-kept : (a b : List Cond) → Grown a b → (around : List Cond) (levels : List Level) (opened : List Branch) → AreLevels a around levels opened → AreLevels b around levels opened
 levels-kept a b grown around [] [] are = tt
-levels-kept a b grown around [] (branch ∷ open) are = are
+levels-kept a b grown around [] (branch ∷ opened) are = are
 levels-kept a b grown around (level ∷ levels) [] are = are
-levels-kept a b grown around (level ∷ levels) (branch ∷ open) are = (
+levels-kept a b grown around (level ∷ levels) (branch ∷ opened) are = (
   record {
     taken = kept a b grown level.taken (all_of (around ++ branch.condition ∷ [])) are.0.taken;
     chain = numbered-kept a b grown level.chain branch.chain are.0.chain;
   },
-  levels-kept a b grown (around ++ branch.condition ∷ []) levels open are.1,
+  levels-kept a b grown (around ++ branch.condition ∷ []) levels opened are.1,
 )
 
 -- ---- the innermost branches
 
 module _ (conds : List Cond) where
-  pub levels-taken : (around : List Cond) (depth : ℕ) (levels : List Level) (open : List Branch) → AreLevels conds around levels open → AreLevels conds around (take depth levels) (take depth open)
+  pub levels-taken : (around : List Cond) (depth : ℕ) (levels : List Level) (opened : List Branch) → AreLevels conds around levels opened → AreLevels conds around (take depth levels) (take depth opened)
   levels-taken around zero [] [] are = tt
-  levels-taken around zero [] (branch ∷ open) are = absurd are
+  levels-taken around zero [] (branch ∷ opened) are = absurd are
   levels-taken around zero (level ∷ levels) [] are = absurd are
-  levels-taken around zero (level ∷ levels) (branch ∷ open) are = tt
+  levels-taken around zero (level ∷ levels) (branch ∷ opened) are = tt
   levels-taken around (suc depth) [] [] are = tt
-  levels-taken around (suc depth) [] (branch ∷ open) are = absurd are
+  levels-taken around (suc depth) [] (branch ∷ opened) are = absurd are
   levels-taken around (suc depth) (level ∷ levels) [] are = absurd are
-  levels-taken around (suc depth) (level ∷ levels) (branch ∷ open) are = (are.0, levels-taken (around ++ branch.condition ∷ []) depth levels open are.1)
+  levels-taken around (suc depth) (level ∷ levels) (branch ∷ opened) are = (are.0, levels-taken (around ++ branch.condition ∷ []) depth levels opened are.1)
 
-  pub chain-numbered : (around : List Cond) (depth : ℕ) (levels : List Level) (open : List Branch) → AreLevels conds around levels open → IsNumbered conds (chain_at levels depth) (left_by (slice_get open depth))
+  pub chain-numbered : (around : List Cond) (depth : ℕ) (levels : List Level) (opened : List Branch) → AreLevels conds around levels opened → IsNumbered conds (chain_at levels depth) (left_by (slice_get opened depth))
   chain-numbered around depth [] [] are = tt
-  chain-numbered around depth [] (branch ∷ open) are = absurd are
+  chain-numbered around depth [] (branch ∷ opened) are = absurd are
   chain-numbered around depth (level ∷ levels) [] are = absurd are
-  chain-numbered around zero (level ∷ levels) (branch ∷ open) are = are.0.chain
-  chain-numbered around (suc depth) (level ∷ levels) (branch ∷ open) are = chain-numbered (around ++ branch.condition ∷ []) depth levels open are.1
+  chain-numbered around zero (level ∷ levels) (branch ∷ opened) are = are.0.chain
+  chain-numbered around (suc depth) (level ∷ levels) (branch ∷ opened) are = chain-numbered (around ++ branch.condition ∷ []) depth levels opened are.1
 
-  behind-numbered : (around : List Cond) (number : ℕ) (levels : List Level) (open : List Branch) → slice_get conds number ≡ Some (all_of around) → AreLevels conds around levels open →
-      slice_get conds (innermost_behind number levels) ≡ Some (all_of (around ++ map condition open))
+  behind-numbered : (around : List Cond) (number : ℕ) (levels : List Level) (opened : List Branch) → slice_get conds number ≡ Some (all_of around) → AreLevels conds around levels opened →
+      slice_get conds (innermost_behind number levels) ≡ Some (all_of (around ++ map condition opened))
   behind-numbered around number [] [] is are = is ∙ ap (λ l. Some (all_of l)) (sym (append-nil around))
-  behind-numbered around number [] (branch ∷ open) is are = absurd are
+  behind-numbered around number [] (branch ∷ opened) is are = absurd are
   behind-numbered around number (level ∷ levels) [] is are = absurd are
-  behind-numbered around number (level ∷ levels) (branch ∷ open) is are =
-      behind-numbered (around ++ branch.condition ∷ []) level.taken levels open are.0.taken are.1
-      ∙ ap (λ l. Some (all_of l)) (append_assoc around (branch.condition ∷ []) (map condition open))
+  behind-numbered around number (level ∷ levels) (branch ∷ opened) is are =
+      behind-numbered (around ++ branch.condition ∷ []) level.taken levels opened are.0.taken are.1
+      ∙ ap (λ l. Some (all_of l)) (append_assoc around (branch.condition ∷ []) (map condition opened))
 
   -- the innermost of them, where there is one
-  pub innermost-numbered : (levels : List Level) (open : List Branch) → AreLevels conds [] levels open → IsNumbered conds (innermost levels) (joined_some (map condition open))
+  pub innermost-numbered : (levels : List Level) (opened : List Branch) → AreLevels conds [] levels opened → IsNumbered conds (innermost levels) (joined_some (map condition opened))
   innermost-numbered [] [] are = tt
-  innermost-numbered [] (branch ∷ open) are = absurd are
+  innermost-numbered [] (branch ∷ opened) are = absurd are
   innermost-numbered (level ∷ levels) [] are = absurd are
-  innermost-numbered (level ∷ levels) (branch ∷ open) are = behind-numbered (branch.condition ∷ []) level.taken levels open are.0.taken are.1
+  innermost-numbered (level ∷ levels) (branch ∷ opened) are = behind-numbered (branch.condition ∷ []) level.taken levels opened are.0.taken are.1
 
-  pub place-numbered : (levels : List Level) (open : List Branch) → slice_get conds 0 ≡ Some (all_of []) → AreLevels conds [] levels open → slice_get conds (number_at levels) ≡ Some (all_of (map condition open))
+  pub place-numbered : (levels : List Level) (opened : List Branch) → slice_get conds 0 ≡ Some (all_of []) → AreLevels conds [] levels opened → slice_get conds (number_at levels) ≡ Some (all_of (map condition opened))
   place-numbered [] [] root are = root
-  place-numbered [] (branch ∷ open) root are = absurd are
+  place-numbered [] (branch ∷ opened) root are = absurd are
   place-numbered (level ∷ levels) [] root are = absurd are
-  place-numbered (level ∷ levels) (branch ∷ open) root are = behind-numbered (branch.condition ∷ []) level.taken levels open are.0.taken are.1
+  place-numbered (level ∷ levels) (branch ∷ opened) root are = behind-numbered (branch.condition ∷ []) level.taken levels opened are.0.taken are.1
 
-  pub levels-pushed : (around : List Cond) (levels : List Level) (open : List Branch) (level : Level) (branch : Branch) → AreLevels conds around levels open →
-      IsLevel conds (around ++ map condition open) level branch → AreLevels conds around (levels ++ level ∷ []) (open ++ branch ∷ [])
+  pub levels-pushed : (around : List Cond) (levels : List Level) (opened : List Branch) (level : Level) (branch : Branch) → AreLevels conds around levels opened →
+      IsLevel conds (around ++ map condition opened) level branch → AreLevels conds around (levels ++ level ∷ []) (opened ++ branch ∷ [])
   levels-pushed around [] [] level branch are is = (subst (λ l. IsLevel conds l level branch) (append-nil around) is, tt)
-  levels-pushed around [] (first ∷ open) level branch are is = absurd are
+  levels-pushed around [] (first ∷ opened) level branch are is = absurd are
   levels-pushed around (one ∷ levels) [] level branch are is = absurd are
-  levels-pushed around (one ∷ levels) (first ∷ open) level branch are is = (
+  levels-pushed around (one ∷ levels) (first ∷ opened) level branch are is = (
     are.0,
-    levels-pushed (around ++ first.condition ∷ []) levels open level branch are.1
-        (subst (λ l. IsLevel conds l level branch) (sym (append_assoc around (first.condition ∷ []) (map condition open))) is),
+    levels-pushed (around ++ first.condition ∷ []) levels opened level branch are.1
+        (subst (λ l. IsLevel conds l level branch) (sym (append_assoc around (first.condition ∷ []) (map condition opened))) is),
   )
 
 -- ---- conditions joined one after the other

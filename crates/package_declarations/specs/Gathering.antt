@@ -38,11 +38,11 @@ bars said place = if unbuildable_said said then Not place ∷ [] else []
 
 -- the condition under which a part counts, of which the branches are the outermost of these
 abbrev pub place_in : List Branch → SectionPart → Cond
-place_in open part = all_of (map condition (take (length part.branches) open))
+place_in opened part = all_of (map condition (take (length part.branches) opened))
 
 -- what is gathered, where these branches are open or ended last, and this was barred
-pub record Stands (gathered : Gathered) (open : List Branch) (barred : List Cond) : Type 0 where
+pub record Stands (gathered : Gathered) (opened : List Branch) (barred : List Cond) : Type 0 where
   pub root : slice_get gathered.conds 0 ≡ Some Always
-  pub levels : AreLevels gathered.conds [] gathered.levels open
+  pub levels : AreLevels gathered.conds [] gathered.levels opened
   pub groups : GroupsTabled gathered.conds gathered.groups
   pub barred : IsNumbered gathered.conds gathered.barred (joined_some barred)

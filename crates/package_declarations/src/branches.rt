@@ -60,8 +60,8 @@ pub(crate) fn enter(
     chain: Option<usize>,
 ) -> Result<(), NoMemory>
     ensures grown { OnOk result (Grown conds.old conds.new) }
-    ensures levels { OnOk result ((open : List Branch) (before : Option Branch) → AreLevels conds.old [] levels.old open
-        → IsNumbered conds.old chain (left_by before) → AreLevels conds.new [] levels.new (open ++ begun said.now before)) }
+    ensures levels { OnOk result ((opened : List Branch) (before : Option Branch) → AreLevels conds.old [] levels.old opened
+        → IsNumbered conds.old chain (left_by before) → AreLevels conds.new [] levels.new (opened ++ begun said.now before)) }
 {
     match said {
         Said::Branch {
@@ -92,8 +92,8 @@ fn push_branch(
     branch: Level,
 ) -> Result<(), NoMemory>
     ensures grown { OnOk result (Grown conds.old conds.new) }
-    ensures levels { OnOk result ((open : List Branch) (one : Branch) → AreLevels conds.old [] levels.old open
-        → IsBranch conds.old branch one → AreLevels conds.new [] levels.new (open ++ one ∷ [])) }
+    ensures levels { OnOk result ((opened : List Branch) (one : Branch) → AreLevels conds.old [] levels.old opened
+        → IsBranch conds.old branch one → AreLevels conds.new [] levels.new (opened ++ one ∷ [])) }
 {
     let around = innermost(levels.as_slice());
     let taken = behind(alloc, conds, around, branch.taken)?;

@@ -86,9 +86,9 @@ fn gathered(
     declared: &Declared,
     placed: &[Placed],
 ) -> Result<Gathered, NoMemory>
-    ensures stands { IfOk result (λ gathered. (open : List Branch) × (barred : List Cond) × Stands gathered open barred) }
+    ensures stands { IfOk result (λ gathered. (opened : List Branch) × (barred : List Cond) × Stands gathered opened barred) }
     ensures barred { IfOk result (λ gathered. StandInBranches (map placed_part placed.now)
-        → (open : List Branch) × Stands gathered open (flat_map barrier (map placed_part placed.now))) }
+        → (opened : List Branch) × Stands gathered opened (flat_map barrier (map placed_part placed.now))) }
     ensures deps { IfOk result (λ gathered. (file : File) → Tells declared.now file → StandInBranches (map placed_part placed.now)
         → deps_in gathered.groups ≡ flat_map (guarded file) (map placed_part placed.now)) }
 {

@@ -71,12 +71,12 @@ impl Gathered {
         declared: &Declared,
         placed: &Placed,
     ) -> Result<Gathered, NoMemory>
-        ensures stands { IfOk result (λ after. (open : List Branch) (barred : List Cond) → Stands self open barred
-            → Stands after (branches_behind open (placed_part placed.now))
-            (barred ++ bars (placed_part placed.now).said (place_in open (placed_part placed.now)))) }
-        ensures deps { IfOk result (λ after. (file : File) → Tells declared.now file → (open : List Branch) (barred : List Cond)
-            → Stands self open barred → deps_in after.groups ≡ deps_in self.groups
-            ++ map (under (place_in open (placed_part placed.now))) (map (meant file) (deps_said (placed_part placed.now).said))) }
+        ensures stands { IfOk result (λ after. (opened : List Branch) (barred : List Cond) → Stands self opened barred
+            → Stands after (branches_behind opened (placed_part placed.now))
+            (barred ++ bars (placed_part placed.now).said (place_in opened (placed_part placed.now)))) }
+        ensures deps { IfOk result (λ after. (file : File) → Tells declared.now file → (opened : List Branch) (barred : List Cond)
+            → Stands self opened barred → deps_in after.groups ≡ deps_in self.groups
+            ++ map (under (place_in opened (placed_part placed.now))) (map (meant file) (deps_said (placed_part placed.now).said))) }
     {
         let Gathered {
             mut conds,
@@ -101,8 +101,8 @@ impl Gathered {
 
     /// When the component is buildable, and all dependencies.
     pub fn into_parts(self, alloc: Global) -> Result<(TabledCond, GuardedDeps), NoMemory>
-        requires { (open : List Branch) × (barred : List Cond) × Stands self open barred }
-        ensures buildable { IfOk result (λ parts. (open : List Branch) (barred : List Cond) → Stands self open barred
+        requires { (opened : List Branch) × (barred : List Cond) × Stands self opened barred }
+        ensures buildable { IfOk result (λ parts. (opened : List Branch) (barred : List Cond) → Stands self opened barred
             → parts.0 ≡ all_of barred) }
         ensures deps { IfOk result (λ parts. parts.1 ≡ deps_in self.groups) }
     {
