@@ -1,5 +1,6 @@
 pub mod Layers
-pub mod Numbers
+pub mod Counting
+mod Rows
 pub mod Followed
 pub mod Finishing
 pub mod Cleaning

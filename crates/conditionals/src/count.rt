@@ -5,10 +5,12 @@ ghost use Rattle.conditionals.specs.Paths.{paths_of, fixed};
 use crate::environment::{is_compiler, is_processor, is_system};
 use plan_types::{Cond, Env};
 
-/// How many paths of a condition there are, wanted true and wanted false, or factors of these numbers.
-#[derive(Clone, Copy)]
+/// How many paths of a condition there are, or factors of these numbers.
+#[derive(Clone, Copy, Debug)]
 pub struct Numbers {
+    /// Of those on which it is Yes, or the greatest number if there are more.
     pub yes: u64,
+    /// The same of those on which it is No.
     pub no: u64,
 }
 
@@ -71,7 +73,7 @@ fn one(holds: bool) -> Numbers
     }
 }
 
-fn swapped(numbers: Numbers) -> Numbers
+pub fn swapped(numbers: Numbers) -> Numbers
     ensures yes { result.yes ≡ numbers.no }
     ensures no { result.no ≡ numbers.yes }
 {

@@ -7,10 +7,12 @@ mod count;
 mod environment;
 mod laws;
 mod path;
+mod table;
 mod value;
 
-pub use count::count_paths;
+pub use count::{Numbers, count_paths};
 pub use environment::system_of;
 pub use laws::{cleaned_before_joined, no_two_paths_hold, some_path_holds};
 pub use path::{joined_paths, paths};
+pub use table::count_all;
 pub use value::{Tri, eval};

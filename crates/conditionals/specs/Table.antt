@@ -1,0 +1,28 @@
+-- How many paths the conditions of a table have, each counted from those before it.
+use Rattle.std.specs.Prelude.{ℕ, ◌+◌, ◌*◌, ◌-◌, ◌^◌, min, List, get_or}
+use Rattle.plan_types.specs.declared.condition.Env.{Env}
+use Rattle.plan_types.specs.declared.conditions.Row.{Row}
+use Rattle.plan_types.specs.declared.conditions.Row.TheVariants.{Own, Negated, Both}
+use Rattle.conditionals.specs.Count.{numbers_of}
+use Rattle.conditionals.specs.declared.count.Numbers.{Numbers}
+
+-- the numbers with this place; those of `true` where there are none
+abbrev pub numbers_at : List Numbers → ℕ → Numbers
+numbers_at before i = get_or before i (record { yes = 1; no = 0 })
+
+-- the numbers of `!`
+abbrev pub numbers_of_not : Numbers → Numbers
+numbers_of_not inner = record { yes = inner.no; no = inner.yes }
+
+-- the numbers of `&&`
+abbrev pub numbers_of_and : Numbers → Numbers → Numbers
+numbers_of_and left right = record {
+  yes = min (left.yes * right.yes) (2 ^ 64 - 1);
+  no = min (left.no + min (left.yes * right.no) (2 ^ 64 - 1)) (2 ^ 64 - 1);
+}
+
+-- the numbers of a row behind conditions with these numbers
+abbrev pub numbers_of_row : Env → List Numbers → Row → Numbers
+numbers_of_row env before (Own cond) = numbers_of env cond
+numbers_of_row env before (Negated i) = numbers_of_not (numbers_at before i)
+numbers_of_row env before (Both i j) = numbers_of_and (numbers_at before i) (numbers_at before j)
