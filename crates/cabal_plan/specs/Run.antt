@@ -5,7 +5,7 @@ use Rattle.std.specs.declared.io.Error.{Error}
 use Rattle.std.specs.declared.io.ErrorKind.{ErrorKind}
 use Rattle.std.specs.declared.io.ErrorKind.TheVariants as kind
 use Rattle.outside_folder.specs.Files.{Bytes, Files}
-use Rattle.plan_types.specs.declared.memory.NoMemory.{NoMemory}
+use Rattle.owned_values.specs.declared.memory.NoMemory.{NoMemory}
 use Rattle.cabal_plan.specs.Words.{words_of}
 use Rattle.command_line.specs.Reading.{reading}
 use Rattle.plan_command.specs.declared.status.Status.{Status}

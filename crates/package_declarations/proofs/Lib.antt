@@ -1,5 +1,6 @@
 pub mod FlagOrder
 pub mod Levels
+pub mod Gathering
 pub mod FlagFolds
 pub mod LastValues
 pub mod LastNames

@@ -112,7 +112,7 @@ fn branch_of(
     chain: Option<usize>,
 ) -> Result<Level, NoMemory>
     ensures grown { OnOk result (Grown conds.old conds.new) }
-    ensures { IfOk result (λ level. (left : Option Cond) → IsNumbered conds.old chain left → IsBranch conds.new level (branch_of word left own.now)) }
+    ensures branch { IfOk result (λ level. (left : Option Cond) → IsNumbered conds.old chain left → IsBranch conds.new level (branch_of word left own.now)) }
 {
     match word {
         BranchWord::If => tried(alloc, conds, None, own),
@@ -128,7 +128,7 @@ fn tried(
     own: &Result<Guard, Cause>,
 ) -> Result<Level, NoMemory>
     ensures grown { OnOk result (Grown conds.old conds.new) }
-    ensures { IfOk result (λ level. (left : Option Cond) → IsNumbered conds.old chain left
+    ensures branch { IfOk result (λ level. (left : Option Cond) → IsNumbered conds.old chain left
         → IsBranch conds.new level (tried left (or_never own.now))) }
 {
     let own = or_never(alloc, own)?;
@@ -148,7 +148,7 @@ fn last(
     chain: Option<usize>,
 ) -> Result<Level, NoMemory>
     ensures grown { OnOk result (Grown conds.old conds.new) }
-    ensures { IfOk result (λ level. (left : Option Cond) → IsNumbered conds.old chain left → IsBranch conds.new level (last left)) }
+    ensures branch { IfOk result (λ level. (left : Option Cond) → IsNumbered conds.old chain left → IsBranch conds.new level (last left)) }
 {
     let taken = match chain {
         Some(left) => left,
@@ -165,7 +165,7 @@ pub(crate) fn behind(
     last: usize,
 ) -> Result<usize, NoMemory>
     ensures grown { OnOk result (Grown conds.old conds.new) }
-    ensures { IfOk result (λ number. (left : Option Cond) (cond : Cond) → IsNumbered conds.old front left
+    ensures number { IfOk result (λ number. (left : Option Cond) (cond : Cond) → IsNumbered conds.old front left
         → slice_get conds.old last ≡ Some cond → slice_get conds.new number ≡ Some (tried_behind left cond)) }
 {
     match front {
@@ -181,7 +181,7 @@ pub(crate) fn added(
     row: Row,
 ) -> Result<usize, NoMemory>
     ensures grown { OnOk result (Grown conds.old conds.new) }
-    ensures { IfOk result (λ number. slice_get conds.new number ≡ Some (cond_of conds.old row)) }
+    ensures number { IfOk result (λ number. slice_get conds.new number ≡ Some (cond_of conds.old row)) }
 {
     let number = conds.push(alloc, row)?;
     Ok(number)

@@ -176,7 +176,7 @@ fn with_bar(
     said: &Said,
 ) -> Result<Option<usize>, NoMemory>
     ensures grown { OnOk result (Grown conds.old conds.new) }
-    ensures { IfOk result (λ after. (before : List Cond) (place : Cond) → IsNumbered conds.old barred (joined_some before)
+    ensures free { IfOk result (λ after. (before : List Cond) (place : Cond) → IsNumbered conds.old barred (joined_some before)
         → slice_get conds.old here ≡ Some place → IsNumbered conds.new after (joined_some (before ++ bars said.now place))) }
 {
     if !is_unbuildable(said) {
