@@ -142,11 +142,7 @@ fn tried(
     })
 }
 
-fn last(
-    alloc: Global,
-    conds: &mut Conditions,
-    chain: Option<usize>,
-) -> Result<Level, NoMemory>
+fn last(alloc: Global, conds: &mut Conditions, chain: Option<usize>) -> Result<Level, NoMemory>
     ensures grown { OnOk result (Grown conds.old conds.new) }
     ensures branch { IfOk result (λ level. (left : Option Cond) → IsNumbered conds.old chain left → IsBranch conds.new level (last left)) }
 {
@@ -175,11 +171,7 @@ pub(crate) fn behind(
 }
 
 /// Adds a condition to the table.
-pub(crate) fn added(
-    alloc: Global,
-    conds: &mut Conditions,
-    row: Row,
-) -> Result<usize, NoMemory>
+pub(crate) fn added(alloc: Global, conds: &mut Conditions, row: Row) -> Result<usize, NoMemory>
     ensures grown { OnOk result (Grown conds.old conds.new) }
     ensures number { IfOk result (λ number. slice_get conds.new number ≡ Some (cond_of conds.old row)) }
 {

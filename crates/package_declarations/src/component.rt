@@ -81,11 +81,7 @@ fn visibility(placed: &Placed, public: bool) -> bool
 }
 
 // What its parts say, one after the other.
-fn gathered(
-    alloc: Global,
-    declared: &Declared,
-    placed: &[Placed],
-) -> Result<Gathered, NoMemory>
+fn gathered(alloc: Global, declared: &Declared, placed: &[Placed]) -> Result<Gathered, NoMemory>
     ensures stands { IfOk result (λ gathered. (opened : List Branch) × (barred : List Cond) × Stands gathered opened barred) }
     ensures barred { IfOk result (λ gathered. StandInBranches (map placed_part placed.now)
         → (opened : List Branch) × Stands gathered opened (flat_map barrier (map placed_part placed.now))) }

@@ -9,9 +9,9 @@ use crate::shared::{environment, shown};
 use condition_text::read_cond;
 use flatten::{demands_of, exposed};
 use plan_types::{
-    Cause, CompKind, Component, Conditions, Dep, DepGroup, DepKind, Description, Env, FlatDep, Guard,
-    GuardedDeps, LibName, List, NoMemory, PartName, Range, Row, Shared, Spec, TabledCond, Text,
-    TextFault, Version,
+    Cause, CompKind, Component, Conditions, Dep, DepGroup, DepKind, Description, Env, FlatDep,
+    Guard, GuardedDeps, LibName, List, NoMemory, PartName, Range, Row, Shared, Spec, TabledCond,
+    Text, TextFault, Version,
 };
 use std::alloc::Global;
 use std::test::Fail;
@@ -92,12 +92,7 @@ fn lines_of(deps: &str) -> u32 {
     lines
 }
 
-fn component(
-    alloc: Global,
-    line: u32,
-    text: &str,
-    deps: &str,
-) -> Result<Component, TextFault> {
+fn component(alloc: Global, line: u32, text: &str, deps: &str) -> Result<Component, TextFault> {
     let Some((head, buildable)) = text.split_once(" if ") else {
         return Err(TextFault::Bad(Cause::BadField));
     };
