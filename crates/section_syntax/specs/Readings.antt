@@ -52,4 +52,4 @@ ReadsSection inside word line args items branches chain left old new =
 abbrev pub OpensBranch : Spec → BranchWord → ℕ → List ℕ → Option Cond → List Branch → Branch → List SectionPart → List SectionPart → Type 0
 OpensBranch spec word line args chain branches branch old new =
     (own : Result Cond Cause) × OwnCondition spec word args own × (branch ≡ branch_of word chain own)
-    × (new ≡ old ++ placed line (map condition branches) (Some (branch_said own (branch_fits word chain))))
+    × (new ≡ old ++ placed line (map condition branches) (Some (branch_said word own (branch_fits word chain))))
