@@ -11,7 +11,7 @@ use Rattle.conditionals.specs.Layers.{paths-And}
 use Rattle.conditionals.specs.Paths.{Path, paths_of, followed, clean_paths}
 use Rattle.conditionals.proofs.Joining.{cleaned_before_joined}
 use Rattle.common_laws.specs.Small.{capped}
-use Rattle.conditionals.proofs.Numbers.{capped_product, length_followed}
+use Rattle.conditionals.proofs.Counting.{capped_product, length_followed}
 use Rattle.flatten.specs.Demands.{Outward, outward_of, outward_in, paths_at, demands_at, flat_of, is_beyond, first_among}
 use Rattle.flatten.specs.Ways.{few_paths, number_of_both, paths_of_both, ways_of}
 use Rattle.flatten.specs.declared.ways.Ways.{Ways}
@@ -39,6 +39,21 @@ both_few a b size number product is less some =
 
 few_are : (paths : List Path) → length paths ≤ 256 → few_paths paths ≡ clean_paths paths
 few_are paths less = ap (λ b. cond b [] (clean_paths paths)) (le-ltb 256 (length paths) less)
+
+-- ---- the ways to meet a condition, whose number is known
+
+module _ (paths : List Path) (number : ℕ) (is : number ≡ capped (length paths)) where
+  pub none-met : number ≡ 0 → [] ≡ few_paths paths
+  none-met none = sym (ap few_paths (nil_from_length paths (nothing number (length paths) is none)))
+
+  pub none-kept : 256 < number → [] ≡ few_paths paths
+  none-kept more = sym (ap (λ b. cond b [] (clean_paths paths)) (lt-ltb 256 (length paths) (many number (length paths) is more)))
+
+  pub no-more : number ≤ 256 → length paths ≤ 256
+  no-more less = few number (length paths) is less
+
+  pub all-kept : number ≤ 256 → clean_paths paths ≡ few_paths paths
+  all-kept less = sym (few_are paths (no-more less))
 
 -- ---- a component that asks for no other package
 

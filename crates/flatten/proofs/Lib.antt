@@ -3,4 +3,3 @@ mod JoinedPaths
 mod Chains
 mod Counting
 pub mod Groups
-mod Singles

@@ -1,19 +1,19 @@
 // The demands of a description on other packages.
 
-ghost use Rattle.std.specs.Prelude.{◌≡◌, ◌++◌, [], ◌∷◌, true, false, not, length, ◌≤◌, ◌<◌, IsTrue, IfOk, IfErr, OnOk, Some, None, map, flat_map};
+ghost use Rattle.std.specs.Prelude.{◌≡◌, ◌++◌, [], ◌∷◌, true, false, not, ◌≤◌, ◌<◌, IfOk, IfErr, OnOk, Some, None, map, flat_map, slice_get};
 ghost use Rattle.std.specs.List.{list_any};
 ghost use Rattle.plan_types.specs.Refusal.{RefusesAt};
 ghost use Rattle.plan_types.specs.declared.refusal.Cause.TheVariants.{TooManyPaths};
 ghost use Rattle.flatten.specs.Demands.{demands_of, demands_at, first_beyond, outward_among, outward_in, first_among, stanza_of, flat_of, literal_of};
 ghost use Rattle.flatten.specs.Ways.{number_of_both, paths_of_both, ways_of};
 ghost use Rattle.plan_types.specs.Guarded.{of_group};
-ghost use Rattle.conditionals.specs.Paths.{paths_of, clean_paths};
+ghost use Rattle.conditionals.specs.Count.{numbers_of};
 
-use crate::ways::{MOST_PATHS, Ways, is_clash, ways_of};
-use conditionals::joined_paths;
+use crate::ways::{MOST_PATHS, Ways, ways_of};
+use conditionals::{Numbers, count_all, joined_paths};
 use plan_types::{
-    Cause, CompKind, Component, Dep, DepGroup, Description, Env, Fault, FlagSet, FlatDep, Guard,
-    List, Literal, NoMemory, PartName, Shared,
+    Cause, CompKind, Component, Dep, DepGroup, Description, Env, Fault, FlagSet, FlatDep, List,
+    Literal, NoMemory, PartName, Shared,
 };
 use std::alloc::Global;
 
@@ -45,7 +45,7 @@ fn push_component(
         × (first_among env.now (outward_in component.now) ≡ Some line))) }
 {
     if asks_others(component) {
-        let ways = ways_of(alloc, component.buildable.get(), env)?;
+        let ways = ways_to_build(alloc, component, env)?;
         push_outward(alloc, flat, component, &ways, env)?;
     }
     Ok(())
@@ -69,7 +69,16 @@ fn has_others(group: &DepGroup) -> bool
     group.deps.as_slice().iter().any(|dep| !dep.get().internal)
 }
 
-// What the dependencies of a component on other packages ask for, under the ways to build it.
+fn ways_to_build(alloc: Global, component: &Component, env: &Env) -> Result<Ways, NoMemory>
+    ensures { IfOk result (λ ways. ways ≡ ways_of env.now component.now.buildable) }
+{
+    let (conds, place) = component.buildable.place();
+    let numbers = count_all(alloc, conds, env)?;
+    ways_of(alloc, component.buildable.get(), &numbers, place, env)
+}
+
+// What the dependencies of a component on other packages ask for, under the ways to build it. How many ways there are to meet the
+// condition of each place is counted at once.
 fn push_outward(
     alloc: Global,
     flat: &mut List<FlatDep>,
@@ -84,8 +93,10 @@ fn push_outward(
     ensures refused { IfErr result (RefusesAt (λ line cause. (cause ≡ TooManyPaths)
         × (first_among env.now (outward_in component.now) ≡ Some line))) }
 {
-    for group in component.deps.groups() {
-        push_group(alloc, flat, component, ways, group, env)?;
+    let (conds, groups) = component.deps.tabled();
+    let numbers = count_all(alloc, conds, env)?;
+    for group in groups {
+        push_group(alloc, flat, component, ways, group, &numbers, env)?;
     }
     Ok(())
 }
@@ -97,9 +108,11 @@ fn push_group(
     component: &Component,
     ways: &Ways,
     group: &DepGroup,
+    numbers: &[Numbers],
     env: &Env,
 ) -> Result<(), Fault>
-    requires { ways.now ≡ ways_of env.now component.now.buildable }
+    requires ways { ways.now ≡ ways_of env.now component.now.buildable }
+    requires counted { slice_get numbers.now group.now.number ≡ Some (numbers_of env.now group.now.when) }
     ensures none_beyond { OnOk result (first_among env.now (outward_among component.now (of_group group.now)) ≡ None) }
     ensures demands { OnOk result (flat.new
         ≡ flat.old ++ flat_map (demands_at env.now) (outward_among component.now (of_group group.now))) }
@@ -109,29 +122,13 @@ fn push_group(
     if !has_others(group) {
         return Ok(());
     }
-    if never_counts(alloc, ways, &group.when, env)? {
-        return Ok(());
-    }
-    let met = ways_of(alloc, group.when.get(), env)?;
+    let met = ways_of(alloc, group.when.get(), numbers, group.number, env)?;
     for dep in group.deps.as_slice() {
         if !dep.get().internal {
             push_demands(alloc, flat, component.kind, ways, &met, dep)?;
         }
     }
     Ok(())
-}
-
-// Whether the last tests of a condition tell that what stands under it never counts, and isn't refused.
-fn never_counts(alloc: Global, ways: &Ways, when: &Guard, env: &Env) -> Result<bool, NoMemory>
-    ensures { IfOk result (λ yes. IsTrue yes → (ways.now.number ≤ 256) × (length (paths_of env.now when.now true) ≤ 1)
-        × (clean_paths (paths_of env.now when.now true) ≡ [])) }
-{
-    if ways.number <= MOST_PATHS && when.meets_once() {
-        let clash = is_clash(alloc, when.get(), env)?;
-        Ok(clash)
-    } else {
-        Ok(false)
-    }
 }
 
 // What one dependency asks for, under the ways to build its component and to meet its own condition.

@@ -1,10 +1,11 @@
 // The ways in which a condition holds.
 
-ghost use Rattle.std.specs.Prelude.{◌≡◌, ◌≢◌, ◌≤◌, ◌-◌, ◌^◌, [], length, min, true, IfOk, IsTrue};
+ghost use Rattle.std.specs.Prelude.{◌≡◌, ◌≤◌, [], length, true, Some, slice_get, IfOk, IsTrue};
+ghost use Rattle.conditionals.specs.Count.{numbers_of};
 ghost use Rattle.conditionals.specs.Paths.{paths_of, clean_paths};
 ghost use Rattle.flatten.specs.Ways.{ways_of};
 
-use conditionals::{count_paths, joined_paths, paths};
+use conditionals::{Numbers, count_paths, joined_paths, paths};
 use plan_types::{Cond, Env, FlagSet, List, NoMemory};
 use std::alloc::Global;
 
@@ -22,10 +23,18 @@ pub struct Ways {
     pub paths: List<List<FlagSet>>,
 }
 
-pub fn ways_of(alloc: Global, cond: &Cond, env: &Env) -> Result<Ways, NoMemory>
+/// The ways to meet a condition that stands in a table, by the numbers of the table's conditions and its place among them.
+pub fn ways_of(
+    alloc: Global,
+    cond: &Cond,
+    numbers: &[Numbers],
+    place: usize,
+    env: &Env,
+) -> Result<Ways, NoMemory>
+    requires { slice_get numbers.now place ≡ Some (numbers_of env.now cond.now) }
     ensures { IfOk result (λ ways. ways ≡ ways_of env.now cond.now) }
 {
-    let number = count_ways(cond, env);
+    let number = numbers[place].yes;
     if number == 0 || MOST_PATHS < number {
         return Ok(Ways {
             number,
@@ -34,37 +43,6 @@ pub fn ways_of(alloc: Global, cond: &Cond, env: &Env) -> Result<Ways, NoMemory>
     }
     let paths = some_paths(alloc, cond, env)?;
     Ok(Ways { number, paths })
-}
-
-// How many ways there are, or the greatest number if there are more. The chain of an `elif` is as long as those before it are many,
-// and its last test is most often the one that isn't met: then those in front of it aren't asked.
-fn count_ways(cond: &Cond, env: &Env) -> u64
-    ensures { result ≡ min (length (paths_of env.now cond.now true)) (2 ^ 64 - 1) }
-{
-    let mut number: u64 = 1;
-    let mut left = cond;
-    while let Cond::And(front, last) = left {
-        number = number.saturating_mul(count_test(last.get(), env));
-        if number == 0 {
-            return 0;
-        }
-        left = front.get();
-    }
-    number.saturating_mul(count_paths(left, env, true))
-}
-
-// How many ways there are to meet a test of a chain. Most ask a flag alone, and then there is one.
-fn count_test(test: &Cond, env: &Env) -> u64
-    ensures { result ≡ min (length (paths_of env.now test.now true)) (2 ^ 64 - 1) }
-{
-    match test {
-        Cond::Flag(_) => 1,
-        Cond::Not(inner) => match inner.get() {
-            Cond::Flag(_) => 1,
-            _ => count_paths(test, env, true),
-        },
-        _ => count_paths(test, env, true),
-    }
 }
 
 // The ways to set flags so that a condition is Yes, of which there are no more than a dependency may have.
@@ -78,8 +56,8 @@ fn some_paths(alloc: Global, cond: &Cond, env: &Env) -> Result<List<List<FlagSet
     paths(alloc, cond, env, true)
 }
 
-/// Whether the last tests of a chain set a flag both ways, so that the others needn't be asked.
-pub fn is_clash(alloc: Global, cond: &Cond, env: &Env) -> Result<bool, NoMemory>
+// Whether the last tests of a chain set a flag both ways, so that the others needn't be asked.
+fn is_clash(alloc: Global, cond: &Cond, env: &Env) -> Result<bool, NoMemory>
     ensures { IfOk result (λ yes. IsTrue yes → clean_paths (paths_of env.now cond.now true) ≡ []) }
 {
     let mut rest = List::new(alloc);
@@ -90,7 +68,7 @@ pub fn is_clash(alloc: Global, cond: &Cond, env: &Env) -> Result<bool, NoMemory>
             return Ok(false);
         };
         let last = last.get();
-        if MOST_PATHS < count_test(last, env) {
+        if MOST_PATHS < count_paths(last, env, true) {
             return Ok(false);
         }
         let more = paths(alloc, last, env, true)?;

@@ -1,7 +1,8 @@
-use Rattle.std.proofs.Common.{ap, ◌∙◌}
+use Rattle.std.proofs.Common.{not, ap, ◌∙◌}
 use Rattle.std.specs.List.{list_any}
-use Rattle.flatten.proofs.Groups.{any-in-groups, is-other}
+use Rattle.plan_types.proofs.Groups.{some-in-groups}
+use Rattle.flatten.proofs.Groups.{is-other}
 use Rattle.flatten.proofs.demands.asks_others.Goals as goal
 
 pub returns : goal.returns
-returns c = c.some_has_others.ensures ∙ any-in-groups c.groups.result.now ∙ ap (list_any is-other) c.groups.ensures
+returns c = c.some_has_others.ensures ∙ some-in-groups (λ dep. not dep.internal) c.groups.result.now ∙ ap (list_any is-other) c.groups.ensures

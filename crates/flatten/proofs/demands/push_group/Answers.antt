@@ -1,14 +1,14 @@
-use Rattle.std.proofs.Common.{rules, refl, ◌≡◌, ◌+◌, ◌++◌, append-nil, append_assoc, drop, map, flat_map, true, Some, sym, ap, ◌∙◌}
+use Rattle.std.proofs.Common.{rules, ◌≡◌, ◌+◌, ◌++◌, append-nil, append_assoc, drop, map, flat_map, Some, sym, ap, ◌∙◌}
 use Rattle.common_laws.specs.Lists.{drop_at}
 use Rattle.plan_types.specs.Guarded.{GuardedDep, of_group}
 use Rattle.plan_types.specs.declared.dependency.Dep.{Dep}
 use Rattle.flatten.specs.Demands.{demands_at, first_among, outward_among, outward_of}
-use Rattle.flatten.proofs.Groups.{few-built, is-first, none-in-group, none-other, not-first, passed, refused-as, taken}
+use Rattle.plan_types.proofs.Outcomes.{refused-as}
+use Rattle.flatten.proofs.Groups.{is-first, none-other, not-first, passed, taken}
 use Rattle.flatten.proofs.JoinedPaths.{asked-both, beyond-both, within-both}
 use Rattle.flatten.specs.Ways.{ways_of}
 use Rattle.plan_types.specs.Refusal.{RefusesAt}
 use Rattle.plan_types.specs.declared.refusal.Cause.TheVariants.{TooManyPaths}
-use Rattle.conditionals.specs.Paths.{paths_of}
 use Rattle.flatten.proofs.demands.push_group.Goals.{then-not-get+in_ok-push_demands, else-not-get}
 use Rattle.flatten.proofs.demands.push_group.Goals as goal
 
@@ -19,17 +19,6 @@ returns-then-not-has_others-clause-none_beyond c =
 pub returns-then-not-has_others-clause-demands : goal.returns-then-not-has_others-clause-demands
 returns-then-not-has_others-clause-demands c =
     sym (ap (λ all. c.args.flat.now ++ flat_map (demands_at c.args.env.now) all) (none-other c.args.component.now c.args.group.now.when c.args.group.now.deps (sym c.has_others.ensures ∙ c.if-not-has_others.true)) ∙ append-nil c.args.flat.now)
-
-pub returns-then-branch-clause-none_beyond : goal.returns-then-branch-clause-none_beyond
-returns-then-branch-clause-none_beyond c =
-    let told = c.in_ok-never_counts.ensures c.if-branch.true in
-    (none-in-group c.args.env.now c.args.component.now c.args.group.now.when (few-built (paths_of c.args.env.now c.args.component.now.buildable true) c.requires told.0) told.1 told.2 c.args.group.now refl).0
-
-pub returns-then-branch-clause-demands : goal.returns-then-branch-clause-demands
-returns-then-branch-clause-demands c =
-    let told = c.in_ok-never_counts.ensures c.if-branch.true in
-    let none = none-in-group c.args.env.now c.args.component.now c.args.group.now.when (few-built (paths_of c.args.env.now c.args.component.now.buildable true) c.requires told.0) told.1 told.2 c.args.group.now refl in
-    sym (ap (λ l. c.args.flat.now ++ l) none.1 ∙ append-nil c.args.flat.now)
 
 pub loop-dep-preserved : goal.loop-dep-preserved
 loop-dep-preserved c =
@@ -48,7 +37,7 @@ loop-dep-preserved c =
     let demands : c.if-not-get.flat ++ flat_map (demands_at env) left ≡ c.args.flat.now ++ flat_map (demands_at env) whole = elim c.if-not-get.branch [
       | then-not-get+in_ok-push_demands w ↦
           let split = on ∙ taken component when dep more (ap (λ d. d.internal) (sym c.get-in-loop-dep.ensures) ∙ w.if-not-get.true) in
-          let pushed = w.flat-is ∙ w.in_ok-push_demands.ensures.demands ∙ ap (λ l. c.loop-dep.flat ++ l) (asked-both env component (here dep) c.requires met w.in_ok-push_demands.ensures.within) in
+          let pushed = w.flat-is ∙ w.in_ok-push_demands.ensures.demands ∙ ap (λ l. c.loop-dep.flat ++ l) (asked-both env component (here dep) c.requires.ways met w.in_ok-push_demands.ensures.within) in
           ap (λ l. l ++ flat_map (demands_at env) left) pushed
           ∙ append_assoc c.loop-dep.flat (demands_at env at) (flat_map (demands_at env) left)
           ∙ ap (λ l. c.loop-dep.flat ++ flat_map (demands_at env) l) (sym split)
@@ -60,7 +49,7 @@ loop-dep-preserved c =
     let first : first_among env left ≡ first_among env whole = elim c.if-not-get.branch [
       | then-not-get+in_ok-push_demands w ↦
           let split = on ∙ taken component when dep more (ap (λ d. d.internal) (sym c.get-in-loop-dep.ensures) ∙ w.if-not-get.true) in
-          sym (not-first env at left (within-both env component (here dep) c.requires met w.in_ok-push_demands.ensures.within)) ∙ ap (first_among env) (sym split) ∙ c.loop-dep.invariant.first
+          sym (not-first env at left (within-both env component (here dep) c.requires.ways met w.in_ok-push_demands.ensures.within)) ∙ ap (first_among env) (sym split) ∙ c.loop-dep.invariant.first
       | else-not-get w ↦
           let split = on ∙ passed component when dep more (ap (λ d. d.internal) (sym c.get-in-loop-dep.ensures) ∙ w.if-not-get.false) in
           ap (first_among env) (sym split) ∙ c.loop-dep.invariant.first
@@ -81,11 +70,11 @@ returns-in_err-push_demands-clause-refused c =
     ∙ taken component when dep more (ap (λ d. d.internal) (sym c.get-in-loop-dep.ensures) ∙ c.if-not-get.true) in
     let whole = outward_among component (of_group c.args.group.now) in
     let told : RefusesAt (λ line cause. (cause ≡ TooManyPaths) × (first_among env whole ≡ Some line)) c.in_err-push_demands.field-0.0 =
-    refused-as _ _ (λ line cause h. (
+    refused-as c.in_err-push_demands.field-0.0 _ _ (λ line cause h. (
       h.0,
       sym c.loop-dep.invariant.first
           ∙ ap (first_among env) split
-          ∙ is-first env (outward_of component (here dep)) (outward_among component (map here more)) (beyond-both env component (here dep) c.requires met h.2)
+          ∙ is-first env (outward_of component (here dep)) (outward_among component (map here more)) (beyond-both env component (here dep) c.requires.ways met h.2)
           ∙ ap Some (sym h.1),
-    )) c.in_err-push_demands.field-0.0 c.in_err-push_demands.ensures.refused in
+    )) c.in_err-push_demands.ensures.refused in
     search rules

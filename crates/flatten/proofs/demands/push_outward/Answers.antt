@@ -6,14 +6,15 @@ use Rattle.plan_types.specs.declared.refusal.Cause.TheVariants.{TooManyPaths}
 use Rattle.plan_types.specs.Guarded.{in_groups, of_group}
 use Rattle.flatten.specs.Demands.{demands_at, first_among, outward_among, outward_in}
 use Rattle.flatten.proofs.FirstBeyond.{none_among, some_among}
-use Rattle.flatten.proofs.Groups.{outward-append, refused-as}
+use Rattle.plan_types.proofs.Outcomes.{refused-as}
+use Rattle.flatten.proofs.Groups.{outward-append}
 use Rattle.flatten.proofs.demands.push_outward.Goals as goal
 
 pub loop-group-preserved : goal.loop-group-preserved
 loop-group-preserved c =
     let env = c.args.env.now in
     let component = c.args.component.now in
-    let items = c.groups-group-items.result.now in
+    let items = c.tabled.result.1.now in
     let group = c.group-item.result in
     let own = outward_among component (of_group group) in
     let more = outward_among component (in_groups (drop (c.loop-group.group-index + 1) items)) in
@@ -33,14 +34,14 @@ pub returns-in_err-push_group-clause-refused : goal.returns-in_err-push_group-cl
 returns-in_err-push_group-clause-refused c =
     let env = c.args.env.now in
     let component = c.args.component.now in
-    let items = c.groups-group-items.result.now in
+    let items = c.tabled.result.1.now in
     let group = c.group-item.result in
     let more = in_groups (drop (c.loop-group.group-index + 1) items) in
     let split = ap (λ l. outward_among component (in_groups l)) (drop_at items c.loop-group.group-index group c.loop-group-test.true c.group-item.is)
     ∙ outward-append component (of_group group) more in
     let told : RefusesAt (λ line cause. (cause ≡ TooManyPaths) × (first_among env (outward_in component) ≡ Some line)) c.in_err-push_group.field-0.0 =
-    refused-as _ _ (λ line cause h. (
+    refused-as c.in_err-push_group.field-0.0 _ _ (λ line cause h. (
       h.0,
       sym c.loop-group.invariant.first ∙ ap (first_among env) split ∙ some_among env (outward_among component (of_group group)) (outward_among component more) line h.1,
-    )) c.in_err-push_group.field-0.0 c.in_err-push_group.ensures.refused in
+    )) c.in_err-push_group.ensures.refused in
     search rules

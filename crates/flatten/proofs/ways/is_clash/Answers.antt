@@ -13,7 +13,7 @@ loop-init c = (
 )
 
 pub paths-requires : goal.paths-requires
-paths-requires c = omega (arith, c.count_test.ensures, c.if-count_test-gt-MOST_PATHS.false)
+paths-requires c = omega (arith, c.count_paths.ensures, c.if-count_paths-gt-MOST_PATHS.false)
 
 pub returns-then-is_empty : goal.returns-then-is_empty
 returns-then-is_empty c always =
