@@ -45,4 +45,4 @@ pub record Stands (gathered : Gathered) (opened : List Branch) (barred : List Co
   pub root : slice_get gathered.conds 0 ≡ Some Always
   pub levels : AreLevels gathered.conds [] gathered.levels opened
   pub groups : GroupsTabled gathered.conds gathered.groups
-  pub barred : IsNumbered gathered.conds gathered.barred (joined_some barred)
+  pub free : IsNumbered gathered.conds gathered.barred (joined_some barred)

@@ -21,8 +21,8 @@ returns-in_ok-branch-in-Branch-clause-levels c = on_ok_weaker c.push_branch.resu
     let fits = c.in-Branch.fits in
     let left = if fits then left_by before else None in
     let fitted : IsNumbered old c.if-fits.chain left = elim c.if-fits.branch [
-      | then-fits w ↦ where-fits old fits c.args.chain c.if-fits.chain (left_by before) w.if-fits w.chain-is numbered
-      | else-fits w ↦ where-not old fits c.if-fits.chain (left_by before) w.if-fits w.chain-is
+      | then-fits w ↦ where-fits old fits c.args.chain c.if-fits.chain (left_by before) w.if-fits.true w.chain-is numbered
+      | else-fits w ↦ where-not old fits c.if-fits.chain (left_by before) w.if-fits.false w.chain-is
     ] in
     let one = branch_of c.in-Branch.word left c.in-Branch.condition in
     subst (λ said. AreLevels c.push_branch.new.conds [] c.push_branch.new.levels (opened ++ begun said before)) (sym c.in-Branch.is)
