@@ -1,9 +1,9 @@
 -- What is gathered, in a table that grows.
-use Rattle.std.proofs.Common.{◌≡◌, ℕ, List, [], ◌∷◌, ◌++◌, map, slice_get, Option, None, Some, ap, ◌∙◌, append-nil}
+use Rattle.std.proofs.Common.{◌≡◌, List, [], ◌∷◌, ◌++◌, slice_get, Option, None, Some, ap, ◌∙◌, append-nil}
 use Rattle.std.specs.Prelude.{IfSome}
 use Rattle.std.proofs.lemmas.Grind.{flat_map-append}
 use Rattle.std.proofs.lemmas.List.Elements.{All-append, All-from_recursion, All-weaker}
-use Rattle.plan_types.specs.Guarded.{AreTabled, GuardedDep, in_groups, of_group}
+use Rattle.plan_types.specs.Guarded.{AreTabled, in_groups, of_group}
 use Rattle.plan_types.specs.declared.condition.Cond.{Cond}
 use Rattle.plan_types.specs.declared.description.DepGroup.{DepGroup}
 use Rattle.package_declarations.specs.Gathering.{GroupsTabled}

@@ -1,5 +1,5 @@
 -- Branches in a table that grows.
-use Rattle.std.proofs.Common.{◌≡◌, ℕ, zero, suc, List, [], ◌∷◌, ◌++◌, map, take, slice_get, get_or, Option, None, Some, refl, sym, subst, ap, ◌∙◌, append_assoc, append-nil}
+use Rattle.std.proofs.Common.{◌≡◌, ℕ, zero, suc, List, [], ◌∷◌, ◌++◌, map, take, slice_get, Option, None, Some, refl, sym, subst, ap, ◌∙◌, append_assoc, append-nil}
 use Rattle.plan_types.proofs.Tables.{get-front}
 use Rattle.plan_types.specs.declared.condition.Cond.{Cond}
 use Rattle.plan_types.specs.declared.condition.Cond.TheVariants.{And}
@@ -7,7 +7,7 @@ use Rattle.section_syntax.specs.Branch.{all_of, condition, joined, tried_behind}
 use Rattle.section_syntax.specs.Chained.{left_by}
 use Rattle.section_syntax.specs.declared.branch.Branch.{Branch}
 use Rattle.package_declarations.specs.Gathering.{joined_some}
-use Rattle.package_declarations.specs.Levels.{AreLevels, Grown, IsBranch, IsLevel, IsNumbered, chain_at, chain_of_level, innermost, innermost_behind, number_at}
+use Rattle.package_declarations.specs.Levels.{AreLevels, Grown, IsBranch, IsLevel, IsNumbered, chain_at, innermost, innermost_behind, number_at}
 use Rattle.package_declarations.specs.declared.branches.Level.{Level}
 
 -- ---- tables that grow

@@ -1,5 +1,5 @@
 -- What is gathered of a component, part by part.
-use Rattle.std.specs.Prelude.{◌≡◌, ℕ, if◌then◌else◌, length, List, [], ◌∷◌, ◌++◌, map, take, slice_get, Option, None, Some, IfSome}
+use Rattle.std.specs.Prelude.{◌≡◌, if◌then◌else◌, length, List, [], ◌∷◌, ◌++◌, map, take, slice_get, Option, None, Some, IfSome}
 use Rattle.plan_types.specs.Guarded.{AreTabled, GuardedDep, in_groups, of_group}
 use Rattle.plan_types.specs.declared.condition.Cond.{Cond}
 use Rattle.plan_types.specs.declared.condition.Cond.TheVariants.{Always, Not}

@@ -1,4 +1,4 @@
-use Rattle.std.proofs.Common.{◌≡◌, Bool, true, false, if◌then◌else◌, ℕ, ◌++◌, List, [], ◌∷◌, Option, None, sym, subst}
+use Rattle.std.proofs.Common.{◌≡◌, Bool, true, false, if◌then◌else◌, ℕ, ◌++◌, List, [], Option, None, sym, subst}
 use Rattle.std.proofs.lemmas.Result.{on_ok_weaker}
 use Rattle.plan_types.specs.declared.condition.Cond.{Cond}
 use Rattle.section_syntax.specs.Branch.{branch_of}
@@ -26,5 +26,5 @@ returns-in_ok-branch-in-Branch-clause-levels c = on_ok_weaker c.push_branch.resu
     ] in
     let one = branch_of c.in-Branch.word left c.in-Branch.condition in
     subst (λ said. AreLevels c.push_branch.new.conds [] c.push_branch.new.levels (opened ++ begun said before)) (sym c.in-Branch.is)
-        (told opened one (levels-kept old found c.in_ok-branch-in-Branch.ensures.grown [] c.args.levels.now opened are)
-        (c.in_ok-branch-in-Branch.ensures.branch left fitted))) c.push_branch.ensures.levels
+    (told opened one (levels-kept old found c.in_ok-branch-in-Branch.ensures.grown [] c.args.levels.now opened are)
+    (c.in_ok-branch-in-Branch.ensures.branch left fitted))) c.push_branch.ensures.levels

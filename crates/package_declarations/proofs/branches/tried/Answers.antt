@@ -1,4 +1,4 @@
-use Rattle.std.proofs.Common.{◌≡◌, Some, ap, ◌∙◌}
+use Rattle.std.proofs.Common.{Some, ap, ◌∙◌}
 use Rattle.std.proofs.lemmas.Option.{get_or_from_slice_get}
 use Rattle.plan_types.specs.declared.condition.Cond.{Cond}
 use Rattle.plan_types.specs.declared.condition.Cond.TheVariants.{Always, Not}
@@ -18,11 +18,11 @@ returns-clause-branch c left numbered =
     let to_third = grown-both before second third to_second c.in_ok-taken.ensures.grown in
     let own_is = c.in_ok-own-2.ensures.number ∙ ap Some c.in_ok-own.ensures in
     let other_is =
-        c.in_ok-other.ensures.number
-        ∙ ap (λ (cond : Cond). Some (Not cond)) (get_or_from_slice_get first c.in_ok-own-2.own own Always own_is) in
+    c.in_ok-other.ensures.number
+    ∙ ap (λ (cond : Cond). Some (Not cond)) (get_or_from_slice_get first c.in_ok-own-2.own own Always own_is) in
     let taken =
-        c.in_ok-taken.ensures.number left own (numbered-kept before second to_second c.args.chain left numbered)
-        (kept first second c.in_ok-other.ensures.grown c.in_ok-own-2.own own own_is) in
+    c.in_ok-taken.ensures.number left own (numbered-kept before second to_second c.args.chain left numbered)
+    (kept first second c.in_ok-other.ensures.grown c.in_ok-own-2.own own own_is) in
     record {
       taken = kept third after c.in_ok-left.ensures.grown c.in_ok-taken.taken (tried_behind left own) taken;
       chain =

@@ -1,4 +1,4 @@
-use Rattle.std.proofs.Common.{◌≡◌, ◌+◌, [], ◌++◌, append-nil, append_assoc, drop, map, flat_map, subst, sym, ap, ◌∙◌, refl, arith}
+use Rattle.std.proofs.Common.{◌+◌, [], ◌++◌, append-nil, append_assoc, drop, map, flat_map, subst, sym, ap, ◌∙◌, refl, arith}
 use Rattle.std.proofs.lemmas.List.{drop_all}
 use Rattle.common_laws.specs.Lists.{drop_at, map-map}
 use Rattle.plan_types.specs.Guarded.{under}

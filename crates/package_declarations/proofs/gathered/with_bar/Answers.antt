@@ -1,12 +1,11 @@
-use Rattle.std.proofs.Common.{◌≡◌, ◌++◌, [], ◌∷◌, List, Bool, true, false, if◌then◌else◌, Option, Some, subst, ap, ◌∙◌, sym, IsFalse}
+use Rattle.std.proofs.Common.{◌≡◌, ◌++◌, [], ◌∷◌, Bool, true, if◌then◌else◌, Some, subst, ap, ◌∙◌, sym}
 use Rattle.std.proofs.lemmas.Option.{get_or_from_slice_get}
 use Rattle.plan_types.specs.declared.condition.Cond.{Cond}
 use Rattle.plan_types.specs.declared.condition.Cond.TheVariants.{Always, Not}
-use Rattle.section_syntax.specs.Branch.{tried_behind}
 use Rattle.package_declarations.specs.Components.{unbuildable_said}
-use Rattle.package_declarations.specs.Gathering.{bars, joined_some}
+use Rattle.package_declarations.specs.Gathering.{joined_some}
 use Rattle.package_declarations.specs.Levels.{IsNumbered}
-use Rattle.package_declarations.proofs.Levels.{kept, numbered-kept, some-last}
+use Rattle.package_declarations.proofs.Levels.{numbered-kept, some-last}
 use Rattle.package_declarations.proofs.gathered.with_bar.Goals as goal
 
 pub returns-clause-free : goal.returns-clause-free

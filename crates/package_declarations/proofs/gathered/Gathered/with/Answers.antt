@@ -1,8 +1,7 @@
-use Rattle.std.proofs.Common.{◌≡◌, ◌++◌, List, [], length, map, take, slice_get, subst, sym, ap, ◌∙◌}
+use Rattle.std.proofs.Common.{◌++◌, List, [], length, map, take, slice_get, subst, sym, ap, ◌∙◌}
 use Rattle.plan_types.specs.Guarded.{under}
 use Rattle.plan_types.specs.declared.condition.Cond.TheVariants.{Always}
 use Rattle.plan_types.specs.declared.dependency.Dep.{Dep}
-
 use Rattle.section_syntax.specs.Chained.{left_by}
 use Rattle.package_declarations.specs.Declarations.{meant}
 use Rattle.package_declarations.specs.Gathering.{bars, deps_in, joined_some, place_in}

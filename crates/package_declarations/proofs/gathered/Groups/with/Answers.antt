@@ -1,7 +1,6 @@
 use Rattle.std.proofs.Common.{◌≡◌, ◌++◌, List, map, Option, append-nil, ap, ◌∙◌, sym}
 use Rattle.std.proofs.lemmas.Option.{get_or_from_slice_get}
 use Rattle.plan_types.specs.Guarded.{GuardedDep, in_groups, under}
-use Rattle.plan_types.specs.declared.condition.Cond.{Cond}
 use Rattle.plan_types.specs.declared.condition.Cond.TheVariants.{Always}
 use Rattle.plan_types.specs.declared.description.DepGroup.{DepGroup}
 use Rattle.package_declarations.specs.Gathering.{deps_in, in_group}
