@@ -126,6 +126,16 @@ FILES = {
     "`elif` of two tests with a dependency each": lambda: library(
         filled("  if flag(f) && os(linux)\n    build-depends: a\n", "  elif flag(f) && os(linux)\n    build-depends: a\n", most=MOST - 200)
     ),
+    "`elif` of twenty flags in turn with a dependency each": lambda: package(
+        filled(
+            HEAD + "".join(f"flag f{it}\n" for it in range(20)) + "library\n  if flag(f0)\n    build-depends: a\n",
+            lambda it: f"  elif flag(f{(it + 1) % 20})\n    build-depends: a\n",
+            most=MOST - 200,
+        )
+    ),
+    "`elif` with `buildable: False` in each branch": lambda: library(
+        filled("  if flag(f)\n    buildable: False\n", "  elif flag(f)\n    buildable: False\n", most=MOST - 200) + "  build-depends: a\n"
+    ),
     "`elif` of flags that differ with a dependency each": lambda: package(
         HEAD
         + "".join(f"flag f{it}\n" for it in range(19_000))
