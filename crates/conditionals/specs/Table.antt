@@ -6,7 +6,7 @@ use Rattle.plan_types.specs.declared.conditions.Row.TheVariants.{Own, Negated, B
 use Rattle.conditionals.specs.Count.{numbers_of}
 use Rattle.conditionals.specs.declared.count.Numbers.{Numbers}
 
--- the numbers with this place; those of `true` where there are none
+-- the numbers at this place; those of `true` where there are none
 abbrev pub numbers_at : List Numbers → ℕ → Numbers
 numbers_at before i = get_or before i (record { yes = 1; no = 0 })
 

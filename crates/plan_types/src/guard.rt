@@ -25,6 +25,7 @@ impl Model for Guard {
 }
 
 impl Guard {
+    /// A condition that others may hold too.
     pub fn new(alloc: Global, cond: Cond) -> Result<Guard, NoMemory>
         ensures { IfOk result (λ guard. guard ≡ cond) }
     {
