@@ -1,5 +1,4 @@
-//! Tests alone: folders and sinks, texts and lists, graphs, and problems that are written as a line, with what searches, states and
-//! trees of choices answer.
+//! Tests alone: folders, sinks, texts, lists, graphs, and problems as lines, with what searches, states and trees of choices answer.
 #![tactic(auto)]
 
 #[cfg(test)]

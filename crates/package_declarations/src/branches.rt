@@ -4,10 +4,10 @@ ghost use Rattle.std.specs.Prelude.{◌≡◌, List, [], ◌∷◌, ◌++◌, Op
 ghost use Rattle.plan_types.specs.Conditions.{cond_of};
 ghost use Rattle.plan_types.specs.declared.condition.Cond.{Cond};
 ghost use Rattle.plan_types.specs.declared.condition.Cond.TheVariants.{Always};
-ghost use Rattle.section_syntax.specs.Branch.{branch_of, last, or_never, tried, tried_behind};
+ghost use Rattle.section_syntax.specs.Branch.{branch_of, last, or_never, tried};
 ghost use Rattle.section_syntax.specs.Chained.{begun, left_by};
 ghost use Rattle.section_syntax.specs.declared.branch.Branch.{Branch};
-ghost use Rattle.package_declarations.specs.Levels.{AreLevels, Grown, IsBranch, IsNumbered, chain_at, innermost, number_at};
+ghost use Rattle.package_declarations.specs.Levels.{AreLevels, Grown, IsBehind, IsBranch, IsNumbered, chain_at, innermost, number_at};
 
 use plan_types::{Cause, Cond, Conditions, Guard, List, NoMemory, Row};
 use section_syntax::{BranchWord, Said, or_never};
@@ -161,8 +161,7 @@ pub(crate) fn behind(
     last: usize,
 ) -> Result<usize, NoMemory>
     ensures grown { OnOk result (Grown conds.old conds.new) }
-    ensures number { IfOk result (λ number. (left : Option Cond) (cond : Cond) → IsNumbered conds.old front left
-        → slice_get conds.old last ≡ Some cond → slice_get conds.new number ≡ Some (tried_behind left cond)) }
+    ensures number { IfOk result (IsBehind conds.old conds.new front last) }
 {
     match front {
         Some(front) => added(alloc, conds, Row::Both(front, last)),

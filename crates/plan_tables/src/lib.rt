@@ -23,5 +23,3 @@ mod shared;
 mod tables;
 #[cfg(test)]
 mod variables;
-#[cfg(test)]
-mod words;

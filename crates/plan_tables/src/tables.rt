@@ -1,6 +1,6 @@
 // Each table has a case a line: what is asked, and behind the last ` => ` the answer. One loop goes over all of them, and no
 // contract of a call that is asked is known where it stands.
-use crate::{answers, bars, entries, links, listings, orders, projects, variables, words};
+use crate::{answers, bars, entries, links, listings, orders, projects, variables};
 use std::alloc::Global;
 use std::test::Fail;
 
@@ -9,7 +9,6 @@ enum Table {
     Projects,
     Entries,
     Listings,
-    Words,
     Variables,
     Bars,
     Orders,
@@ -22,7 +21,6 @@ fn cases(table: Table) -> &'static str {
         Table::Projects => projects::CASES,
         Table::Entries => entries::CASES,
         Table::Listings => listings::CASES,
-        Table::Words => words::CASES,
         Table::Variables => variables::CASES,
         Table::Bars => bars::CASES,
         Table::Orders => orders::CASES,
@@ -36,7 +34,6 @@ fn answer(alloc: Global, table: Table, case: &str) -> Result<String, Fail> {
         Table::Projects => projects::answer(alloc, case),
         Table::Entries => entries::answer(alloc, case),
         Table::Listings => listings::answer(alloc, case),
-        Table::Words => words::answer(alloc, case),
         Table::Variables => variables::answer(alloc, case),
         Table::Bars => bars::answer(alloc, case),
         Table::Orders => orders::answer(alloc, case),
@@ -64,7 +61,6 @@ fn every_table(rt: HostRuntime) -> Result<(), Fail> {
         Table::Projects,
         Table::Entries,
         Table::Listings,
-        Table::Words,
         Table::Variables,
         Table::Bars,
         Table::Orders,

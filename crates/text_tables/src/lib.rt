@@ -1,4 +1,4 @@
-//! Tests alone: tables of texts, and what the calls that read and print texts of packages answer to each.
+//! Tests alone: tables of texts and of words, and what the calls that read and print texts of packages, and those that read words, answer to each.
 #![tactic(auto)]
 
 #[cfg(test)]
@@ -23,3 +23,5 @@ mod shared;
 mod tables;
 #[cfg(test)]
 mod versions;
+#[cfg(test)]
+mod words;

@@ -2,6 +2,7 @@
 // contract of a call that is asked is known where it stands.
 use crate::{
     conditions, demands, dependencies, descriptions, elements, names, ranges, records, versions,
+    words,
 };
 use std::alloc::Global;
 use std::test::Fail;
@@ -17,6 +18,7 @@ enum Table {
     Descriptions,
     Demands,
     Records,
+    Words,
 }
 
 fn cases(table: Table) -> &'static str {
@@ -30,6 +32,7 @@ fn cases(table: Table) -> &'static str {
         Table::Descriptions => descriptions::CASES,
         Table::Demands => demands::CASES,
         Table::Records => records::CASES,
+        Table::Words => words::CASES,
     }
 }
 
@@ -44,6 +47,7 @@ fn answer(alloc: Global, table: Table, case: &str) -> Result<String, Fail> {
         Table::Descriptions => descriptions::answer(alloc, case),
         Table::Demands => demands::answer(alloc, case),
         Table::Records => records::answer(alloc, case),
+        Table::Words => words::answer(alloc, case),
     }
 }
 
@@ -74,6 +78,12 @@ fn texts_of_packages(rt: HostRuntime) -> Result<(), Fail> {
     ] {
         assert_eq!(rt; others(rt.alloc(), table)?.as_str(), "");
     }
+    Ok(())
+}
+
+#[test]
+fn words_of_commands(rt: HostRuntime) -> Result<(), Fail> {
+    assert_eq!(rt; others(rt.alloc(), Table::Words)?.as_str(), "");
     Ok(())
 }
 
