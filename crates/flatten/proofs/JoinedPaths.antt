@@ -55,6 +55,9 @@ module _ (paths : List Path) (number : ℕ) (is : number ≡ capped (length path
   pub all-kept : number ≤ 256 → clean_paths paths ≡ few_paths paths
   all-kept less = sym (few_are paths (no-more less))
 
+  pub never-met : number ≤ 256 → clean_paths paths ≡ [] → [] ≡ few_paths paths
+  never-met less none = sym none ∙ all-kept less
+
 -- ---- a component that asks for no other package
 
 pub filter_none : {A : Type 0} (test : A → Bool) (xs : List A) → list_any test xs ≡ false → filter test xs ≡ []

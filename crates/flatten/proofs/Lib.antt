@@ -1,5 +1,4 @@
 mod FirstBeyond
 mod JoinedPaths
-mod Chains
 mod Counting
 pub mod Groups

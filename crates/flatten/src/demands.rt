@@ -7,10 +7,11 @@ ghost use Rattle.plan_types.specs.declared.refusal.Cause.TheVariants.{TooManyPat
 ghost use Rattle.flatten.specs.Demands.{demands_of, demands_at, first_beyond, outward_among, outward_in, first_among, stanza_of, flat_of, literal_of};
 ghost use Rattle.flatten.specs.Ways.{number_of_both, paths_of_both, ways_of};
 ghost use Rattle.plan_types.specs.Guarded.{of_group};
-ghost use Rattle.conditionals.specs.Count.{numbers_of};
+ghost use Rattle.condition_outlook.specs.Outlook.{IsOutlookAt};
 
 use crate::ways::{MOST_PATHS, Ways, ways_of};
-use conditionals::{Numbers, count_all, joined_paths};
+use condition_outlook::{Outlook, outlooks};
+use conditionals::joined_paths;
 use plan_types::{
     Cause, CompKind, Component, Dep, DepGroup, Description, Env, Fault, FlagSet, FlatDep, List,
     Literal, NoMemory, PartName, Shared,
@@ -73,12 +74,12 @@ fn ways_to_build(alloc: Global, component: &Component, env: &Env) -> Result<Ways
     ensures { IfOk result (λ ways. ways ≡ ways_of env.now component.now.buildable) }
 {
     let (conds, place) = component.buildable.place();
-    let numbers = count_all(alloc, conds, env)?;
-    ways_of(alloc, component.buildable.get(), &numbers, place, env)
+    let outlooks = outlooks(alloc, conds, env)?;
+    ways_of(alloc, component.buildable.get(), &outlooks, place, env)
 }
 
-// What the dependencies of a component on other packages ask for, under the ways to build it. How many ways there are to meet the
-// condition of each place is counted at once.
+// What the dependencies of a component on other packages ask for, under the ways to build it. What is known of the conditions of all
+// places is found out at once.
 fn push_outward(
     alloc: Global,
     flat: &mut List<FlatDep>,
@@ -94,9 +95,9 @@ fn push_outward(
         × (first_among env.now (outward_in component.now) ≡ Some line))) }
 {
     let (conds, groups) = component.deps.tabled();
-    let numbers = count_all(alloc, conds, env)?;
+    let outlooks = outlooks(alloc, conds, env)?;
     for group in groups {
-        push_group(alloc, flat, component, ways, group, &numbers, env)?;
+        push_group(alloc, flat, component, ways, group, &outlooks, env)?;
     }
     Ok(())
 }
@@ -108,11 +109,11 @@ fn push_group(
     component: &Component,
     ways: &Ways,
     group: &DepGroup,
-    numbers: &[Numbers],
+    outlooks: &[Outlook],
     env: &Env,
 ) -> Result<(), Fault>
     requires ways { ways.now ≡ ways_of env.now component.now.buildable }
-    requires counted { slice_get numbers.now group.now.number ≡ Some (numbers_of env.now group.now.when) }
+    requires known { IsOutlookAt env.now group.now.when outlooks.now group.now.number }
     ensures none_beyond { OnOk result (first_among env.now (outward_among component.now (of_group group.now)) ≡ None) }
     ensures demands { OnOk result (flat.new
         ≡ flat.old ++ flat_map (demands_at env.now) (outward_among component.now (of_group group.now))) }
@@ -122,7 +123,7 @@ fn push_group(
     if !has_others(group) {
         return Ok(());
     }
-    let met = ways_of(alloc, group.when.get(), numbers, group.number, env)?;
+    let met = ways_of(alloc, group.when.get(), outlooks, group.number, env)?;
     for dep in group.deps.as_slice() {
         if !dep.get().internal {
             push_demands(alloc, flat, component.kind, ways, &met, dep)?;

@@ -1,14 +1,24 @@
-use Rattle.std.proofs.Common.{rules, Some, ◌≡◌, ◌+◌, ◌++◌, append_assoc, drop, flat_map, sym, ap, ◌∙◌}
+use Rattle.std.proofs.Common.{rules, Some, ◌≡◌, ◌+◌, ◌++◌, append_assoc, drop, flat_map, sym, ap, ◌∙◌, subst}
 use Rattle.std.proofs.lemmas.List.Concat.{flat_map-append}
 use Rattle.common_laws.specs.Lists.{drop_at}
 use Rattle.plan_types.specs.Refusal.{RefusesAt}
 use Rattle.plan_types.specs.declared.refusal.Cause.TheVariants.{TooManyPaths}
 use Rattle.plan_types.specs.Guarded.{in_groups, of_group}
 use Rattle.flatten.specs.Demands.{demands_at, first_among, outward_among, outward_in}
+use Rattle.std.specs.Prelude.{slice_get}
+use Rattle.condition_outlook.specs.Outlook.{IsOutlookAt}
+use Rattle.condition_outlook.proofs.Places.{outlook-at}
 use Rattle.flatten.proofs.FirstBeyond.{none_among, some_among}
 use Rattle.plan_types.proofs.Outcomes.{refused-as}
 use Rattle.flatten.proofs.Groups.{outward-append}
 use Rattle.flatten.proofs.demands.push_outward.Goals as goal
+
+pub push_group-requires-clause-known : goal.push_group-requires-clause-known
+push_group-requires-clause-known c =
+    let group = c.group-item.result in
+    let there = subst (λ asked. slice_get c.tabled.result.0.now asked.number ≡ Some asked.when) (sym c.group-item.is) (c.tabled.ensures.tabled c.loop-group.group-index group c.loop-group-test.true) in
+    let known = outlook-at c.args.env.now c.tabled.result.0.now c.in_ok-outlooks.outlooks.items group.number group.when c.in_ok-outlooks.ensures there in
+    subst (λ items. IsOutlookAt c.args.env.now group.when items group.number) (sym c.deref.ensures.value) known
 
 pub loop-group-preserved : goal.loop-group-preserved
 loop-group-preserved c =

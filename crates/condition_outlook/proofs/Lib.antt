@@ -1,0 +1,4 @@
+mod Settings
+mod Rows
+pub mod Places
+pub mod Never

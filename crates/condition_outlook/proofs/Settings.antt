@@ -1,0 +1,78 @@
+-- Settings, one by one.
+use Rattle.std.proofs.Common.{◌≡◌, ℕ, zero, suc, Bool, true, false, ◌&&◌, ◌||◌, cond, Option, Some, None, List, [], ◌∷◌, ◌++◌, ◌<◌, length, refl, sym, ap, ◌∙◌, subst, arith}
+use Rattle.std.specs.BTreeMap.{BTreeMap, get}
+use Rattle.std.specs.Cmp.Lexicographic.{slice_cmp}
+use Rattle.std.specs.Ordering.{is_eq, nat_cmp}
+use Rattle.std.proofs.lemmas.Map.Text.{is_eq-slice_cmp}
+use Rattle.common_laws.specs.Small.{same-is}
+use Rattle.plan_types.specs.Bytes.{same_text}
+use Rattle.std.specs.Prelude.{slice_index_or, ◌==◌, IsFalse}
+use Rattle.std.specs.List.{list_any}
+use Rattle.std.proofs.lemmas.Bool.{and_parts, eqb-true}
+use Rattle.std.proofs.lemmas.List.Folds.{list_all-append}
+use Rattle.std.proofs.lemmas.Option.{same_Some}
+use Rattle.plan_types.specs.declared.condition.FlagSet.{FlagSet}
+use Rattle.conditionals.specs.Paths.{Path, says, is_same, holds}
+use Rattle.conditionals.specs.Value.{Flags}
+use Rattle.condition_outlook.specs.Settled.{IsSaid, AreSaid}
+
+same-on : (is on : Bool) → is_same is on ≡ true → is ≡ on
+same-on true true e = refl
+same-on true false e = absurd (cc e)
+same-on false true e = absurd (cc e)
+same-on false false e = refl
+
+as-said : (known : Option Bool) (on : Bool) → says known on ≡ true → known ≡ Some on
+as-said None on e = absurd (cc e)
+as-said (Some is) on e = ap Some (same-on is on e)
+
+says-so : (known : Option Bool) (on : Bool) → known ≡ Some on → says known on ≡ true
+says-so known true e = ap (λ k. says k true) e
+says-so known false e = ap (λ k. says k false) e
+
+-- two settings of a flag say the same
+pub one-setting : (known : Option Bool) (is on : Bool) → known ≡ Some is → known ≡ Some on → is ≡ on
+one-setting known is on e f = same_Some is on (sym e ∙ f)
+
+pub holds-at : (flags : Flags) (path : Path) (i : ℕ) (s : FlagSet) → holds flags path ≡ true → i < length path → s ≡ slice_index_or path i s → flags s.name ≡ Some s.on
+holds-at flags [] i s all within is = absurd (omega (arith, within))
+holds-at flags (t ∷ path) zero s all within is = ap (λ u. flags u.name) is ∙ as-said (flags t.name) t.on (and_parts _ _ all).0 ∙ ap (λ u. Some u.on) (sym is)
+holds-at flags (t ∷ path) (suc i) s all within is = holds-at flags path i s (and_parts _ _ all).1 (omega (arith, within)) is
+
+pub holds-push : (flags : Flags) (path : Path) (s : FlagSet) → holds flags path ≡ true → flags s.name ≡ Some s.on → holds flags (path ++ s ∷ []) ≡ true
+holds-push flags path s all is =
+    list_all-append (λ t. says (flags t.name) t.on) path (s ∷ [])
+    ∙ (λ i. all i && (says-so (flags s.name) s.on is i && true))
+
+pub said-at : (flags : Flags) (maps : List (BTreeMap (List ℕ) Bool)) (i : ℕ) (map : BTreeMap (List ℕ) Bool) → AreSaid flags maps → i < length maps → map ≡ slice_index_or maps i map → IsSaid flags map
+said-at flags [] i map all within is = absurd (omega (arith, within))
+said-at flags (first ∷ maps) zero map all within is = subst (IsSaid flags) (sym is) all.0
+said-at flags (first ∷ maps) (suc i) map all within is = said-at flags maps i map all.1 (omega (arith, within)) is
+
+pub said-push : (flags : Flags) (maps : List (BTreeMap (List ℕ) Bool)) (map : BTreeMap (List ℕ) Bool) → AreSaid flags maps → IsSaid flags map → AreSaid flags (maps ++ map ∷ [])
+said-push flags [] map all is = (is, tt)
+said-push flags (first ∷ maps) map all is = (all.0, said-push flags maps map all.1 is)
+
+-- a map in which one more flag is set
+pub said-insert : (flags : Flags) (old new : BTreeMap (List ℕ) Bool) (s : FlagSet) (key : List ℕ) → key ≡ s.name → flags s.name ≡ Some s.on → ((q : List ℕ) → get (slice_cmp nat_cmp) new q ≡ cond (is_eq (slice_cmp nat_cmp key q)) (Some s.on) (get (slice_cmp nat_cmp) old q)) → IsSaid flags old → IsSaid flags new
+said-insert flags old new s key k is step all name on e = by (same_text s.name name) refl (sym (step name ∙ ap (λ b. cond b (Some s.on) (get (slice_cmp nat_cmp) old name)) (is_eq-slice_cmp key name ∙ ap (λ n. same_text n name) k)) ∙ e)
+  where
+    by : (b : Bool) → same_text s.name name ≡ b → cond b (Some s.on) (get (slice_cmp nat_cmp) old name) ≡ Some on → flags name ≡ Some on
+    by true f g = sym (ap flags (same-is s.name name f)) ∙ is ∙ g
+    by false f g = all name on g
+
+-- ---- some paths of which one holds
+
+pub some-there : (flags : Flags) (paths : List Path) (is : Bool) → list_any (holds flags) paths ≡ true → is ≡ (length paths == 0) → IsFalse is
+some-there flags [] is some e = absurd (cc some)
+some-there flags (path ∷ paths) true some e = let none = eqb-true (length (path ∷ paths)) 0 (sym e) in absurd (omega (arith, none))
+some-there flags (path ∷ paths) false some e = refl
+
+pub the-only : (flags : Flags) (paths : List Path) (path : Path) → list_any (holds flags) paths ≡ true → length paths ≡ 1 → path ≡ slice_index_or paths 0 path → holds flags path ≡ true
+the-only flags [] path some one is = absurd (cc some)
+the-only flags (first ∷ []) path some one is = ap (holds flags) is ∙ or_right_false (holds flags first) some
+  where
+    or_right_false : (b : Bool) → (b || false) ≡ true → b ≡ true
+    or_right_false true e = refl
+    or_right_false false e = absurd (cc e)
+the-only flags (first ∷ next ∷ paths) path some one is = absurd (omega (arith, one))

@@ -1,0 +1,10 @@
+use Rattle.std.proofs.Common.{◌≡◌, List, drop}
+use Rattle.plan_types.specs.Conditions.{conds_behind, conds_of}
+use Rattle.plan_types.specs.declared.condition.Cond.{Cond}
+use Rattle.condition_outlook.specs.Known.{AreKnown}
+use Rattle.condition_outlook.specs.Outlook.{AreOutlooks}
+use Rattle.condition_outlook.proofs.outlook.outlooks.Given as goal
+
+-- what is known of the conditions that were looked at, and those of the rows behind them
+abbrev pub invariant-loop-row : goal.invariant-loop-row
+invariant-loop-row l = (looked : List Cond) × AreKnown l.env looked l.before.items × AreOutlooks l.env looked l.all.items × (conds_behind looked (drop l.row-index l.rows) ≡ conds_of l.rows)

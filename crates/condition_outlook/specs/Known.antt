@@ -1,0 +1,33 @@
+-- What is found out of conditions, each from those that it is put together of.
+use Rattle.std.specs.Prelude.{◌≡◌, true, List, [], ◌∷◌, Option, IfSome, IsFalse}
+use Rattle.std.specs.List.{list_any}
+use Rattle.plan_types.specs.declared.condition.Cond.{Cond}
+use Rattle.plan_types.specs.declared.condition.Env.{Env}
+use Rattle.conditionals.specs.Paths.{Path, holds}
+use Rattle.conditionals.specs.Value.{Flags, value}
+use Rattle.conditionals.specs.declared.value.Tri.TheVariants.{Yes}
+use Rattle.condition_outlook.specs.Settled.{AreSet}
+use Rattle.condition_outlook.specs.declared.known.Known.{Known}
+
+-- flags are set as is known
+pub record IsMet (flags : Flags) (known : Known) : Type 0 where
+  pub never : IsFalse known.never
+  pub settled : AreSet flags known.settled
+
+-- they are set so wherever the condition is Yes
+abbrev pub IsKnown : Env → Cond → Known → Type 0
+IsKnown env cond known = (flags : Flags) → value env flags cond ≡ Yes → IsMet flags known
+
+abbrev pub AreKnown : Env → List Cond → List Known → Type 0
+AreKnown env [] [] = Unit {0}
+AreKnown env [] (known ∷ all) = ⊥
+AreKnown env (cond ∷ conds) [] = ⊥
+AreKnown env (cond ∷ conds) (known ∷ all) = IsKnown env cond known × AreKnown env conds all
+
+-- one of some paths holds, where they are known
+abbrev pub OneHolds : Flags → Option (List Path) → Type 0
+OneHolds flags found = IfSome found (λ paths. list_any (holds flags) paths ≡ true)
+
+-- one of them holds wherever the condition is Yes
+abbrev pub ArePathsOf : Env → Cond → Option (List Path) → Type 0
+ArePathsOf env cond found = (flags : Flags) → value env flags cond ≡ Yes → OneHolds flags found

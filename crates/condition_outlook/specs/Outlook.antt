@@ -1,0 +1,23 @@
+-- What is known of conditions before their paths are followed.
+use Rattle.std.specs.Prelude.{◌≡◌, ℕ, List, [], ◌∷◌, Some, IsFalse, slice_get}
+use Rattle.plan_types.specs.declared.condition.Cond.{Cond}
+use Rattle.plan_types.specs.declared.condition.Env.{Env}
+use Rattle.conditionals.specs.Count.{numbers_of}
+use Rattle.conditionals.specs.Value.{Flags, value}
+use Rattle.conditionals.specs.declared.value.Tri.TheVariants.{Yes}
+use Rattle.condition_outlook.specs.declared.outlook.Outlook.{Outlook}
+
+-- what is known of a condition: how many paths it has, and that it isn't Yes where it is said never to be, whatever is known of flags
+pub record IsOutlook (env : Env) (cond : Cond) (outlook : Outlook) : Type 0 where
+  pub number : outlook.number ≡ (numbers_of env cond).yes
+  pub never : (flags : Flags) → value env flags cond ≡ Yes → IsFalse outlook.never
+
+abbrev pub AreOutlooks : Env → List Cond → List Outlook → Type 0
+AreOutlooks env [] [] = Unit {0}
+AreOutlooks env [] (outlook ∷ outlooks) = ⊥
+AreOutlooks env (cond ∷ conds) [] = ⊥
+AreOutlooks env (cond ∷ conds) (outlook ∷ outlooks) = IsOutlook env cond outlook × AreOutlooks env conds outlooks
+
+-- that of a condition stands at its place
+abbrev pub IsOutlookAt : Env → Cond → List Outlook → ℕ → Type 0
+IsOutlookAt env cond outlooks place = (outlook : Outlook) × (slice_get outlooks place ≡ Some outlook) × IsOutlook env cond outlook

@@ -1,0 +1,193 @@
+// What is known of a condition, from its paths or from the conditions that it is put together of.
+ghost use Rattle.std.specs.Prelude.{◌≡◌, ◌++◌, ◌∷◌, List, map, true, IfOk, IsTrue};
+ghost use Rattle.std.specs.List.{list_any};
+ghost use Rattle.plan_types.specs.Conditions.{cond_of, numbered};
+ghost use Rattle.plan_types.specs.declared.condition.Cond.{Cond};
+ghost use Rattle.conditionals.specs.Count.{numbers_of};
+ghost use Rattle.conditionals.specs.Paths.{holds};
+ghost use Rattle.conditionals.specs.Value.{Flags};
+ghost use Rattle.condition_outlook.specs.Known.{AreKnown, ArePathsOf, IsKnown, IsMet, OneHolds};
+ghost use Rattle.condition_outlook.specs.Settled.{AreSet};
+
+use crate::settled::Settled;
+use conditionals::{Numbers, paths};
+use plan_types::{Conditions, Env, FlagSet, List, NoMemory, Row};
+use std::alloc::Global;
+
+/// The paths of a row that has more are not asked for.
+const MOST_PATHS: u64 = 256;
+
+/// What is known of a condition.
+#[derive(Drop)]
+pub struct Known {
+    /// No setting of flags makes it Yes. Where this is false, some setting may.
+    pub never: bool,
+    /// What flags are set to where it is Yes.
+    settled: Settled,
+}
+
+impl Known {
+    fn unknown(alloc: Global) -> Known
+        ensures { (flags : Flags) → IsMet flags result }
+    {
+        Known {
+            never: false,
+            settled: Settled::new(alloc),
+        }
+    }
+}
+
+/// What is known of the condition of a row, from what is known of those before it.
+pub fn known_of(
+    alloc: Global,
+    conds: &Conditions,
+    numbers: &[Numbers],
+    all: &[Known],
+    row: &Row,
+    env: &Env,
+) -> Result<Known, NoMemory>
+    requires { numbers.now ≡ map (numbers_of env.now) conds.now }
+    ensures { IfOk result (λ known. (before more : List Cond) → AreKnown env.now before all.now
+        → conds.now ≡ before ++ cond_of before row.now ∷ more → IsKnown env.now (cond_of before row.now) known) }
+{
+    match row {
+        Row::Own(_) => own(alloc, conds, numbers, all.len(), env),
+        Row::Negated(_) => own(alloc, conds, numbers, all.len(), env),
+        Row::Both(front, last) => {
+            let (Some(first), Some(second)) = (all.get(*front), all.get(*last)) else {
+                return Ok(Known::unknown(alloc));
+            };
+            let paths = own_paths(alloc, conds, numbers, *last, env)?;
+            both(alloc, first, second, &paths)
+        }
+    }
+}
+
+// What the paths of a condition say of it.
+fn own(
+    alloc: Global,
+    conds: &Conditions,
+    numbers: &[Numbers],
+    place: usize,
+    env: &Env,
+) -> Result<Known, NoMemory>
+    requires { numbers.now ≡ map (numbers_of env.now) conds.now }
+    ensures { IfOk result (IsKnown env.now (numbered conds.now place)) }
+{
+    match paths_at(alloc, conds, numbers, place, env)? {
+        Some(paths) => by_paths(alloc, paths.as_slice()),
+        None => Ok(Known::unknown(alloc)),
+    }
+}
+
+fn by_paths(alloc: Global, paths: &[List<FlagSet>]) -> Result<Known, NoMemory>
+    ensures { IfOk result (λ known. (flags : Flags) → list_any (holds flags) paths.now ≡ true → IsMet flags known) }
+{
+    let mut settled = Settled::new(alloc);
+    if paths.len() == 1 {
+        settled.learn(alloc, paths[0].as_slice())?;
+    }
+    Ok(Known {
+        never: paths.is_empty(),
+        settled,
+    })
+}
+
+// What is known of `&&` of two conditions, of which the second has these paths, where they are known.
+fn both(
+    alloc: Global,
+    first: &Known,
+    second: &Known,
+    paths: &Option<List<List<FlagSet>>>,
+) -> Result<Known, NoMemory>
+    ensures { IfOk result (λ known. (flags : Flags) → IsMet flags first.now → IsMet flags second.now → OneHolds flags paths.now
+        → IsMet flags known) }
+{
+    let (settled, fits) = joined(alloc, &first.settled, &second.settled)?;
+    let some = allows_one(&first.settled, paths);
+    Ok(Known {
+        never: first.never || second.never || !fits || !some,
+        settled,
+    })
+}
+
+// What is known on both sides, or as much of it as is copied at no great cost, and whether nothing in it is told otherwise.
+fn joined(alloc: Global, first: &Settled, second: &Settled) -> Result<(Settled, bool), NoMemory>
+    ensures { IfOk result (λ both. (flags : Flags) → AreSet flags first.now → AreSet flags second.now → AreSet flags both.0 × IsTrue both.1) }
+{
+    if second.is_short() {
+        added(alloc, first, second)
+    } else {
+        added(alloc, second, first)
+    }
+}
+
+fn added(alloc: Global, long: &Settled, short: &Settled) -> Result<(Settled, bool), NoMemory>
+    ensures { IfOk result (λ both. (flags : Flags) → AreSet flags long.now → AreSet flags short.now → AreSet flags both.0 × IsTrue both.1) }
+{
+    let mut settled = long.copy(alloc)?;
+    let fits = settled.learn(alloc, short.recent())?;
+    Ok((settled, fits))
+}
+
+// Whether what is known allows one of the paths, where they are known.
+fn allows_one(settled: &Settled, paths: &Option<List<List<FlagSet>>>) -> bool
+    ensures { (flags : Flags) → AreSet flags settled.now → OneHolds flags paths.now → IsTrue result }
+{
+    match paths {
+        Some(paths) => allows_some(settled, paths.as_slice()),
+        None => true,
+    }
+}
+
+fn allows_some(settled: &Settled, paths: &[List<FlagSet>]) -> bool
+    ensures { (flags : Flags) → AreSet flags settled.now → list_any (holds flags) paths.now ≡ true → IsTrue result }
+{
+    for path in paths {
+        if settled.allows(path.as_slice()) {
+            return true;
+        }
+    }
+    false
+}
+
+// The paths of a row of its own tests. Those of a longer condition would be followed once more for each row that it stands in.
+fn own_paths(
+    alloc: Global,
+    conds: &Conditions,
+    numbers: &[Numbers],
+    place: usize,
+    env: &Env,
+) -> Result<Option<List<List<FlagSet>>>, NoMemory>
+    requires { numbers.now ≡ map (numbers_of env.now) conds.now }
+    ensures { IfOk result (ArePathsOf env.now (numbered conds.now place)) }
+{
+    match conds.rows().get(place) {
+        Some(Row::Own(_)) => paths_at(alloc, conds, numbers, place, env),
+        Some(Row::Negated(_)) => paths_at(alloc, conds, numbers, place, env),
+        Some(Row::Both(_, _)) => Ok(None),
+        None => Ok(None),
+    }
+}
+
+// The paths of a condition, where there aren't too many.
+fn paths_at(
+    alloc: Global,
+    conds: &Conditions,
+    numbers: &[Numbers],
+    place: usize,
+    env: &Env,
+) -> Result<Option<List<List<FlagSet>>>, NoMemory>
+    requires { numbers.now ≡ map (numbers_of env.now) conds.now }
+    ensures { IfOk result (ArePathsOf env.now (numbered conds.now place)) }
+{
+    let Some(numbers) = numbers.get(place) else {
+        return Ok(None);
+    };
+    if MOST_PATHS < numbers.yes {
+        return Ok(None);
+    }
+    let cond = conds.guard(alloc, place)?;
+    let paths = paths(alloc, cond.get(), env, true)?;
+    Ok(Some(paths))
+}

@@ -1,0 +1,179 @@
+// What flags are set to.
+ghost use Rattle.std.specs.Prelude.{◌≡◌, ◌∷◌, [], true, Some, IfOk, OnOk, IfSome, IsTrue};
+ghost use Rattle.conditionals.specs.Paths.{holds};
+ghost use Rattle.conditionals.specs.Value.{Flags};
+ghost use Rattle.condition_outlook.specs.Settled.{AreSet, AreSaid};
+
+use plan_types::{FlagSet, List, NoMemory, Shared, Text};
+use std::alloc::Global;
+use std::collections::BTreeMap;
+
+/// So many settings are copied with what is known, and no more.
+const MOST_RECENT: usize = 64;
+
+/// What flags are set to, of which a copy holds most in common with what it was copied from.
+#[derive(Drop)]
+pub struct Settled {
+    /// What was learnt first.
+    shared: List<Shared<BTreeMap<Text, bool>>>,
+    /// What was learnt last.
+    recent: List<FlagSet>,
+}
+
+impl Settled {
+    /// Nothing is known.
+    pub fn new(alloc: Global) -> Settled
+        ensures { (flags : Flags) → AreSet flags result }
+    {
+        Settled {
+            shared: List::new(alloc),
+            recent: List::new(alloc),
+        }
+    }
+
+    pub fn copy(&self, alloc: Global) -> Result<Settled, NoMemory>
+        ensures { IfOk result (λ copied. copied ≡ self.now) }
+    {
+        Ok(Settled {
+            shared: copied_maps(alloc, self.shared.as_slice())?,
+            recent: copied_settings(alloc, self.recent.as_slice())?,
+        })
+    }
+
+    /// Whether a copy of it copies all that is known.
+    pub fn is_short(&self) -> bool {
+        self.shared.is_empty()
+    }
+
+    /// What was learnt last: all, where it is short.
+    pub fn recent(&self) -> &[FlagSet]
+        ensures { result.now ≡ self.now.recent }
+    {
+        self.recent.as_slice()
+    }
+
+    /// What a flag is set to, where that is known.
+    pub fn get(&self, name: &Text) -> Option<bool>
+        ensures { IfSome result (λ on. (flags : Flags) → AreSet flags self.now → flags name.now ≡ Some on) }
+    {
+        match get_recent(self.recent.as_slice(), name) {
+            Some(on) => Some(on),
+            None => get_shared(self.shared.as_slice(), name),
+        }
+    }
+
+    /// Whether these settings say nothing else than what is known.
+    pub fn allows(&self, settings: &[FlagSet]) -> bool
+        ensures { (flags : Flags) → AreSet flags self.now → holds flags settings.now ≡ true → IsTrue result }
+    {
+        for setting in settings {
+            if let Some(on) = self.get(&setting.name) {
+                if on != setting.on {
+                    return false;
+                }
+            }
+        }
+        true
+    }
+
+    /// Learns settings. False where one of them says otherwise than what is known.
+    pub fn learn(&mut self, alloc: Global, settings: &[FlagSet]) -> Result<bool, NoMemory>
+        ensures learnt { OnOk result ((flags : Flags) → AreSet flags self.old → holds flags settings.now ≡ true → AreSet flags self.new) }
+        ensures fits { IfOk result (λ fits. (flags : Flags) → AreSet flags self.old → holds flags settings.now ≡ true → IsTrue fits) }
+    {
+        for setting in settings {
+            match self.get(&setting.name) {
+                None => self.push(alloc, setting)?,
+                Some(on) => {
+                    if on != setting.on {
+                        return Ok(false);
+                    }
+                }
+            }
+        }
+        Ok(true)
+    }
+
+    fn push(&mut self, alloc: Global, setting: &FlagSet) -> Result<(), NoMemory>
+        ensures { OnOk result ((flags : Flags) → AreSet flags self.old → flags setting.now.name ≡ Some setting.now.on → AreSet flags self.new) }
+    {
+        if self.recent.len() == MOST_RECENT {
+            self.share(alloc)?;
+        }
+        self.recent.push(copied(setting)?)
+    }
+
+    // Puts what was learnt last into a map that copies hold in common.
+    fn share(&mut self, alloc: Global) -> Result<(), NoMemory>
+        ensures { OnOk result ((flags : Flags) → AreSet flags self.old → AreSet flags self.new) }
+    {
+        let map = map_of(alloc, self.recent.as_slice())?;
+        self.shared.push(Shared::new(alloc, map)?)?;
+        self.recent = List::new(alloc);
+        Ok(())
+    }
+}
+
+fn copied_maps(
+    alloc: Global,
+    maps: &[Shared<BTreeMap<Text, bool>>],
+) -> Result<List<Shared<BTreeMap<Text, bool>>>, NoMemory>
+    ensures { IfOk result (λ copied. copied ≡ maps.now) }
+{
+    let mut copied = List::new(alloc);
+    for map in maps {
+        copied.push(map.copy()?)?;
+    }
+    Ok(copied)
+}
+
+fn copied_settings(alloc: Global, settings: &[FlagSet]) -> Result<List<FlagSet>, NoMemory>
+    ensures { IfOk result (λ copied. copied ≡ settings.now) }
+{
+    let mut all = List::new(alloc);
+    for setting in settings {
+        all.push(copied(setting)?)?;
+    }
+    Ok(all)
+}
+
+fn copied(setting: &FlagSet) -> Result<FlagSet, NoMemory>
+    ensures { IfOk result (λ copied. copied ≡ setting.now) }
+{
+    Ok(FlagSet {
+        name: setting.name.copy()?,
+        on: setting.on,
+    })
+}
+
+fn get_recent(recent: &[FlagSet], name: &Text) -> Option<bool>
+    ensures { IfSome result (λ on. (flags : Flags) → holds flags recent.now ≡ true → flags name.now ≡ Some on) }
+{
+    for setting in recent {
+        if setting.name == *name {
+            return Some(setting.on);
+        }
+    }
+    None
+}
+
+fn get_shared(shared: &[Shared<BTreeMap<Text, bool>>], name: &Text) -> Option<bool>
+    ensures { IfSome result (λ on. (flags : Flags) → AreSaid flags shared.now → flags name.now ≡ Some on) }
+{
+    for map in shared {
+        if let Some(on) = map.get().get(name) {
+            return Some(*on);
+        }
+    }
+    None
+}
+
+fn map_of(alloc: Global, settings: &[FlagSet]) -> Result<BTreeMap<Text, bool>, NoMemory>
+    ensures { IfOk result (λ map. (flags : Flags) → holds flags settings.now ≡ true → AreSaid flags (map ∷ [])) }
+{
+    let mut map = BTreeMap::new(alloc);
+    for setting in settings {
+        map.insert(setting.name.copy()?, setting.on)?;
+    }
+    Ok(map)
+}
