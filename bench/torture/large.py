@@ -36,8 +36,23 @@ def package(text):
     return {"main.cabal": text, **ONE}
 
 
-def library(text):
-    return package(f"{HEAD}{FLAG}library\n{text}")
+def library(text, flags=FLAG):
+    return package(f"{HEAD}{flags}library\n{text}")
+
+
+def declared(count):
+    return "".join(f"flag f{it}\n" for it in range(count))
+
+
+def in_turn(count):
+    """A chain of branches in which so many flags are asked in turn, with a dependency in each."""
+    head = f"{HEAD}{declared(count)}library\n  if flag(f0)\n    build-depends: a\n"
+    return package(filled(head, lambda it: f"  elif flag(f{(it + 1) % count})\n    build-depends: a\n", most=MOST - 200))
+
+
+def differing(indent, count=19_000):
+    """Branches that each ask another flag, with a dependency in each."""
+    return "".join(f"{indent}elif flag(f{it})\n{indent}  build-depends: a\n" for it in range(count))
 
 
 def depends(text):
@@ -126,21 +141,23 @@ FILES = {
     "`elif` of two tests with a dependency each": lambda: library(
         filled("  if flag(f) && os(linux)\n    build-depends: a\n", "  elif flag(f) && os(linux)\n    build-depends: a\n", most=MOST - 200)
     ),
-    "`elif` of twenty flags in turn with a dependency each": lambda: package(
-        filled(
-            HEAD + "".join(f"flag f{it}\n" for it in range(20)) + "library\n  if flag(f0)\n    build-depends: a\n",
-            lambda it: f"  elif flag(f{(it + 1) % 20})\n    build-depends: a\n",
-            most=MOST - 200,
-        )
+    "`elif` of one flag or another with a dependency each": lambda: library(
+        filled("  if flag(f) || flag(g)\n    build-depends: a\n", "  elif flag(f) || flag(g)\n    build-depends: a\n", most=MOST - 200),
+        flags="flag f\nflag g\n",
+    ),
+    "`elif` of twenty flags in turn with a dependency each": lambda: in_turn(20),
+    "`elif` of two thousand flags in turn with a dependency each": lambda: in_turn(2_000),
+    "`elif` of flags that differ, behind two that no flags pass": lambda: library(
+        f"  if flag(f)\n    build-depends: a\n  elif !flag(f)\n    build-depends: a\n{differing('  ')}", flags=FLAG + declared(19_000)
+    ),
+    "`elif` of flags that differ, inside a branch of the first test": lambda: library(
+        f"  if flag(f)\n   if flag(f0)\n    if flag(f)\n      build-depends: a\n{differing('    ', 17_000)}", flags=FLAG + declared(17_000)
     ),
     "`elif` with `buildable: False` in each branch": lambda: library(
         filled("  if flag(f)\n    buildable: False\n", "  elif flag(f)\n    buildable: False\n", most=MOST - 200) + "  build-depends: a\n"
     ),
-    "`elif` of flags that differ with a dependency each": lambda: package(
-        HEAD
-        + "".join(f"flag f{it}\n" for it in range(19_000))
-        + "library\n  if flag(f0)\n"
-        + "  elif ".join(f"flag(f{it})\n    build-depends: a\n" for it in range(19_000))[len("flag(f0)\n") :]
+    "`elif` of flags that differ with a dependency each": lambda: library(
+        f"  if flag(f0)\n    build-depends: a\n{differing('  ')}", flags=declared(19_000)
     ),
     "`if` of many tests over many dependencies": lambda: library(
         chained("  if ", "flag(f)", "&&")[: MOST // 2].rsplit("&&", 1)[0] + "\n" + "    build-depends: a\n" * 24_000
