@@ -200,7 +200,8 @@ fn asked_in(alloc: Global, cond: &Cond, flags: &str) -> Result<String, NoMemory>
     printed(alloc, cond, &env, &flags)
 }
 
-fn condition(alloc: Global, text: &str) -> Result<Cond, TextFault> {
+/// The condition that a text stands for.
+pub fn condition(alloc: Global, text: &str) -> Result<Cond, TextFault> {
     let cond = read_cond(alloc, text.as_bytes(), Spec::V3_0)?;
     Ok(cond.copy(alloc)?)
 }

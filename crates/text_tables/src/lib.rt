@@ -14,6 +14,8 @@ mod elements;
 #[cfg(test)]
 mod names;
 #[cfg(test)]
+mod outlooks;
+#[cfg(test)]
 mod ranges;
 #[cfg(test)]
 mod records;

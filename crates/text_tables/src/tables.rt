@@ -1,8 +1,8 @@
 // Each table has a case a line: what is asked, and behind the last ` => ` the answer. One loop goes over all of them, and no
 // contract of a call that is asked is known where it stands.
 use crate::{
-    conditions, demands, dependencies, descriptions, elements, names, ranges, records, versions,
-    words,
+    conditions, demands, dependencies, descriptions, elements, names, outlooks, ranges, records,
+    versions, words,
 };
 use std::alloc::Global;
 use std::test::Fail;
@@ -13,6 +13,7 @@ enum Table {
     Versions,
     Ranges,
     Conditions,
+    Outlooks,
     Dependencies,
     Elements,
     Descriptions,
@@ -27,6 +28,7 @@ fn cases(table: Table) -> &'static str {
         Table::Versions => versions::CASES,
         Table::Ranges => ranges::CASES,
         Table::Conditions => conditions::CASES,
+        Table::Outlooks => outlooks::CASES,
         Table::Dependencies => dependencies::CASES,
         Table::Elements => elements::CASES,
         Table::Descriptions => descriptions::CASES,
@@ -42,6 +44,7 @@ fn answer(alloc: Global, table: Table, case: &str) -> Result<String, Fail> {
         Table::Versions => versions::answer(alloc, case),
         Table::Ranges => ranges::answer(alloc, case),
         Table::Conditions => conditions::answer(alloc, case),
+        Table::Outlooks => outlooks::answer(alloc, case),
         Table::Dependencies => dependencies::answer(alloc, case),
         Table::Elements => elements::answer(alloc, case),
         Table::Descriptions => descriptions::answer(alloc, case),
@@ -71,6 +74,7 @@ fn texts_of_packages(rt: HostRuntime) -> Result<(), Fail> {
         Table::Versions,
         Table::Ranges,
         Table::Conditions,
+        Table::Outlooks,
         Table::Dependencies,
         Table::Descriptions,
         Table::Demands,
