@@ -140,14 +140,14 @@ impl<'a> Chosen<'a> {
     }
 
     /// Whether a condition is Yes under some flags. A chain of `&&` is where each of its sides is: the last one is asked first, since
-    /// it is most often the one of an `elif` that isn't.
+    /// it is most often the one of an `elif` that isn't, and so is the last of what stands inside of other branches.
     pub fn holds(&self, flags: &List<FlagSet>, cond: &Cond) -> bool
         requires { each_once flags.now ≡ true }
         ensures { result ≡ holds self.now.env.now flags.now cond.now }
     {
         let mut left = cond;
         while let Cond::And(front, last) = left {
-            if !self.is_met(flags, last.get()) {
+            if !self.holds(flags, last.get()) {
                 return false;
             }
             left = front.get();

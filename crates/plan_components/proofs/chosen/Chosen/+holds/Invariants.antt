@@ -1,0 +1,14 @@
+use Rattle.std.proofs.Common.{◌≡◌, ◌≤◌}
+use Rattle.plan_types.specs.declared.condition.Cond.{size-Cond}
+use Rattle.plan_components.specs.Chosen.{holds}
+use Rattle.plan_components.proofs.chosen.Chosen.+holds.Given as goal
+
+abbrev pub decreases-holds : goal.decreases-holds
+decreases-holds l = size-Cond l.cond.now
+
+-- where the last sides are Yes, what is left decides, and it is no deeper than the whole
+abbrev pub invariant-loop-left : goal.invariant-loop-left
+invariant-loop-left l = (holds l.self.env.now l.flags l.left ≡ holds l.self.env.now l.flags l.cond) × (size-Cond l.left ≤ size-Cond l.cond)
+
+abbrev pub decreases-loop-left : goal.decreases-loop-left
+decreases-loop-left l = size-Cond l.left
