@@ -153,6 +153,10 @@ FILES = {
     "`elif` of flags that differ, inside a branch of the first test": lambda: library(
         f"  if flag(f)\n   if flag(f0)\n    if flag(f)\n      build-depends: a\n{differing('    ', 17_000)}", flags=FLAG + declared(17_000)
     ),
+    "`elif` in a chain inside a branch, with a dependency each": lambda: library(
+        filled("  if flag(g)\n    if flag(f)\n      build-depends: a\n", "    elif flag(f)\n      build-depends: a\n", most=MOST - 200),
+        flags="flag f\nflag g\n",
+    ),
     "`elif` with `buildable: False` in each branch": lambda: library(
         filled("  if flag(f)\n    buildable: False\n", "  elif flag(f)\n    buildable: False\n", most=MOST - 200) + "  build-depends: a\n"
     ),
