@@ -6,7 +6,7 @@ use Rattle.qualified_goals.specs.Variable.{same_var}
 use Rattle.choice_problem.specs.Assignment.{Assignment}
 use Rattle.choice_problem.specs.Problem.{ProblemOf}
 use Rattle.indexmap.specs.IndexMap.{IndexMap}
-use Rattle.keyed_lists.specs.Lists.{items_at}
+use Rattle.keyed_lists.specs.Lists.{all_but_last, items_at}
 use Rattle.choice_problem.specs.Table.{entry}
 use Rattle.choice_problem.specs.Twins.{is_of_package}
 use Rattle.choice_problem.specs.General.{Request, General}
@@ -27,6 +27,14 @@ pub record IsTrail {S : Type 0} (choices : List Choice) (table : List (Var × �
   pub new : AreNew choices
   pub values : (v : Var) → entry table v ≡ value_in choices v
   pub instances_are : (n : ℕ) → items_at nat_eq instances n ≡ filter (is_of_package n) choices
+
+-- the instances of a package with one more, where the choice is one of them
+abbrev pub with_instance : Choice → ℕ → List Choice → List Choice
+with_instance c n instances = instances ++ filter (is_of_package n) (c ∷ [])
+
+-- those without the last, where the choice is it
+abbrev pub without_instance : Choice → ℕ → List Choice → List Choice
+without_instance c n instances = cond (is_of_package n c) (all_but_last instances) instances
 
 -- the demands so far: the roots, and those that the choices own
 abbrev pub demands_after : {D : Type 0} → ProblemOf D → List Choice → List D

@@ -1,9 +1,9 @@
 // The choices of a search, with their values by variable.
-ghost use Rattle.std.specs.Prelude.{◌≡◌, ◌++◌, ◌∷◌, [], None, ℕ, cond, filter, is_some, nat_eq, OnOk, OnErr, MatchOption};
+ghost use Rattle.std.specs.Prelude.{◌≡◌, None, ℕ, filter, is_some, nat_eq, OnOk, OnErr, MatchOption};
 ghost use Rattle.qualified_goals.specs.declared.variable.Var.{Var};
-ghost use Rattle.keyed_lists.specs.Lists.{all_but_last, items_at};
+ghost use Rattle.keyed_lists.specs.Lists.{items_at};
 ghost use Rattle.choice_problem.specs.Table.{entry, with_entry};
-ghost use Rattle.choice_problem.specs.Trail.{value_in};
+ghost use Rattle.choice_problem.specs.Trail.{value_in, with_instance, without_instance};
 ghost use Rattle.choice_problem.specs.Twins.{is_of_package};
 
 use crate::table::Table;
@@ -118,7 +118,7 @@ fn keep(
 ) -> Result<(), NoMemory>
     requires { entry values.old c.var ≡ None }
     ensures values { OnOk result ((v : Var) → entry values.new v ≡ with_entry c.var c.val (entry values.old) v) }
-    ensures instances { OnOk result ((n : ℕ) → items_at nat_eq instances.new n ≡ items_at nat_eq instances.old n ++ filter (is_of_package n) (c ∷ [])) }
+    ensures instances { OnOk result ((n : ℕ) → items_at nat_eq instances.new n ≡ with_instance c n (items_at nat_eq instances.old n)) }
     ensures no_value { OnErr result ((v : Var) → entry values.new v ≡ entry values.old v) }
     ensures no_instance { OnErr result ((n : ℕ) → items_at nat_eq instances.new n ≡ items_at nat_eq instances.old n) }
 {
@@ -135,7 +135,7 @@ fn add_instance(
     instances: &mut Lists<u64, Choice>,
     c: Choice,
 ) -> Result<(), NoMemory>
-    ensures ok { OnOk result ((n : ℕ) → items_at nat_eq instances.new n ≡ items_at nat_eq instances.old n ++ filter (is_of_package n) (c ∷ [])) }
+    ensures ok { OnOk result ((n : ℕ) → items_at nat_eq instances.new n ≡ with_instance c n (items_at nat_eq instances.old n)) }
     ensures err { OnErr result ((n : ℕ) → items_at nat_eq instances.new n ≡ items_at nat_eq instances.old n) }
 {
     match c.var.part {
@@ -145,7 +145,7 @@ fn add_instance(
 }
 
 fn drop_instance(instances: &mut Lists<u64, Choice>, c: Choice)
-    ensures { (n : ℕ) → items_at nat_eq instances.new n ≡ cond (is_of_package n c) (all_but_last (items_at nat_eq instances.old n)) (items_at nat_eq instances.old n) }
+    ensures { (n : ℕ) → items_at nat_eq instances.new n ≡ without_instance c n (items_at nat_eq instances.old n) }
 {
     match c.var.part {
         Part::Package => pop_at(instances, &c.var.package),

@@ -1,8 +1,11 @@
 -- Settings, one by one.
 use Rattle.std.proofs.Common.{◌≡◌, ℕ, zero, suc, Bool, true, false, ◌&&◌, ◌||◌, cond, Option, Some, None, List, [], ◌∷◌, ◌++◌, ◌<◌, length, refl, sym, ap, ◌∙◌, subst, arith}
-use Rattle.std.specs.BTreeMap.{BTreeMap, get}
+use Rattle.std.specs.BTreeMap.{BTreeMap, insert_entry}
+use Rattle.std.specs.Map.{lookup}
+use Rattle.std.specs.declared.cmp.Ordering.{Ordering}
+use Rattle.std.specs.declared.cmp.Ordering.TheVariants.{Less, Equal, Greater}
 use Rattle.std.specs.Cmp.Lexicographic.{slice_cmp}
-use Rattle.std.specs.Ordering.{is_eq, nat_cmp}
+use Rattle.std.specs.Ordering.{is_eq, match_ordering, nat_cmp}
 use Rattle.std.proofs.lemmas.Map.Text.{is_eq-slice_cmp}
 use Rattle.common_laws.specs.Small.{same-is}
 use Rattle.plan_types.specs.Bytes.{same_text}
@@ -14,7 +17,7 @@ use Rattle.std.proofs.lemmas.Option.{same_Some}
 use Rattle.plan_types.specs.declared.condition.FlagSet.{FlagSet}
 use Rattle.conditionals.specs.Paths.{Path, says, is_same, holds}
 use Rattle.conditionals.specs.Value.{Flags}
-use Rattle.condition_outlook.specs.Settled.{IsSaid, AreSaid}
+use Rattle.condition_outlook.specs.Settled.{AreEntries, AreSaid, IsSaid}
 
 same-on : (is on : Bool) → is_same is on ≡ true → is ≡ on
 same-on true true e = refl
@@ -53,13 +56,30 @@ pub said-push : (flags : Flags) (maps : List (BTreeMap (List ℕ) Bool)) (map : 
 said-push flags [] map all is = (is, tt)
 said-push flags (first ∷ maps) map all is = (all.0, said-push flags maps map all.1 is)
 
--- a map in which one more flag is set
-pub said-insert : (flags : Flags) (old new : BTreeMap (List ℕ) Bool) (s : FlagSet) (key : List ℕ) → key ≡ s.name → flags s.name ≡ Some s.on → ((q : List ℕ) → get (slice_cmp nat_cmp) new q ≡ cond (is_eq (slice_cmp nat_cmp key q)) (Some s.on) (get (slice_cmp nat_cmp) old q)) → IsSaid flags old → IsSaid flags new
-said-insert flags old new s key k is step all name on e = by (same_text s.name name) refl (sym (step name ∙ ap (λ b. cond b (Some s.on) (get (slice_cmp nat_cmp) old name)) (is_eq-slice_cmp key name ∙ ap (λ n. same_text n name) k)) ∙ e)
+-- ---- the entries of maps
+
+pub entry-got : (flags : Flags) (entries : List (List ℕ × Bool)) (name : List ℕ) (on : Bool) → AreEntries flags entries → lookup (λ key. is_eq (slice_cmp nat_cmp name key)) entries ≡ Some on → flags name ≡ Some on
+entry-got flags [] name on all e = absurd (cc e)
+entry-got flags (entry ∷ entries) name on all e = by (same_text name entry.0) refl (sym (ap (λ b. cond b (Some entry.1) (lookup (λ key. is_eq (slice_cmp nat_cmp name key)) entries)) (is_eq-slice_cmp name entry.0)) ∙ e) (λ g. entry-got flags entries name on all.1 g)
   where
-    by : (b : Bool) → same_text s.name name ≡ b → cond b (Some s.on) (get (slice_cmp nat_cmp) old name) ≡ Some on → flags name ≡ Some on
-    by true f g = sym (ap flags (same-is s.name name f)) ∙ is ∙ g
-    by false f g = all name on g
+    behind : Option Bool
+    behind = lookup (λ key. is_eq (slice_cmp nat_cmp name key)) entries
+
+    by : (b : Bool) → same_text name entry.0 ≡ b → cond b (Some entry.1) behind ≡ Some on → (behind ≡ Some on → flags name ≡ Some on) → flags name ≡ Some on
+    by true f g more = ap flags (same-is name entry.0 f) ∙ all.0 ∙ g
+    by false f g more = more g
+
+pub entry-put : (flags : Flags) (entries : List (List ℕ × Bool)) (name : List ℕ) (on : Bool) → AreEntries flags entries → flags name ≡ Some on → AreEntries flags (insert_entry (slice_cmp nat_cmp) entries name on)
+entry-put flags [] name on all is = (is, tt)
+entry-put flags (entry ∷ entries) name on all is = by (slice_cmp nat_cmp name entry.0) refl (entry-put flags entries name on all.1 is)
+  where
+    more : List (List ℕ × Bool)
+    more = insert_entry (slice_cmp nat_cmp) entries name on
+
+    by : (o : Ordering) → slice_cmp nat_cmp name entry.0 ≡ o → AreEntries flags more → AreEntries flags (match_ordering o ((name, on) ∷ entry ∷ entries) ((entry.0, on) ∷ entries) (entry ∷ more))
+    by Less e rest = (is, all)
+    by Equal e rest = (ap flags (sym (same-is name entry.0 (sym (is_eq-slice_cmp name entry.0) ∙ ap is_eq e))) ∙ is, all.1)
+    by Greater e rest = (all.0, rest)
 
 -- ---- some paths of which one holds
 
@@ -76,3 +96,9 @@ the-only flags (first ∷ []) path some one is = ap (holds flags) is ∙ or_righ
     or_right_false true e = refl
     or_right_false false e = absurd (cc e)
 the-only flags (first ∷ next ∷ paths) path some one is = absurd (omega (arith, one))
+
+-- ---- the last of some maps
+
+pub said-front : (flags : Flags) (maps rest : List (BTreeMap (List ℕ) Bool)) → AreSaid flags (maps ++ rest) → AreSaid flags maps × AreSaid flags rest
+said-front flags [] rest all = (tt, all)
+said-front flags (first ∷ maps) rest all = let more = said-front flags maps rest all.1 in ((all.0, more.0), more.1)

@@ -1,15 +1,18 @@
 -- What is known of the flags where a condition is Yes.
 use Rattle.std.specs.Prelude.{◌≡◌, ℕ, Bool, true, List, [], ◌∷◌, Some}
-use Rattle.std.specs.BTreeMap.{BTreeMap, get}
-use Rattle.std.specs.Cmp.Lexicographic.{slice_cmp}
-use Rattle.std.specs.Ordering.{nat_cmp}
+use Rattle.std.specs.BTreeMap.{BTreeMap}
+use Rattle.std.specs.List.{AllByRecursion}
 use Rattle.conditionals.specs.Paths.{holds}
 use Rattle.conditionals.specs.Value.{Flags}
 use Rattle.condition_outlook.specs.declared.settled.Settled.{Settled}
 
+-- flags are set so
+abbrev pub AreEntries : Flags → List (List ℕ × Bool) → Type 0
+AreEntries flags = AllByRecursion (λ entry. flags entry.0 ≡ Some entry.1)
+
 -- flags are set as a map says
 abbrev pub IsSaid : Flags → BTreeMap (List ℕ) Bool → Type 0
-IsSaid flags said = (name : List ℕ) (on : Bool) → get (slice_cmp nat_cmp) said name ≡ Some on → flags name ≡ Some on
+IsSaid flags said = AreEntries flags said.entries
 
 abbrev pub AreSaid : Flags → List (BTreeMap (List ℕ) Bool) → Type 0
 AreSaid flags [] = Unit {0}

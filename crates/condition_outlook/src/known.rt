@@ -10,12 +10,9 @@ ghost use Rattle.condition_outlook.specs.Known.{AreKnown, ArePathsOf, IsKnown, I
 ghost use Rattle.condition_outlook.specs.Settled.{AreSet};
 
 use crate::settled::Settled;
-use conditionals::{Numbers, paths};
+use conditionals::{MOST_PATHS, Numbers, paths};
 use plan_types::{Conditions, Env, FlagSet, List, NoMemory, Row};
 use std::alloc::Global;
-
-/// The paths of a row that has more are not asked for.
-const MOST_PATHS: u64 = 256;
 
 /// What is known of a condition.
 #[derive(Drop)]
@@ -51,8 +48,6 @@ pub fn known_of(
         → conds.now ≡ before ++ cond_of before row.now ∷ more → IsKnown env.now (cond_of before row.now) known) }
 {
     match row {
-        Row::Own(_) => own(alloc, conds, numbers, all.len(), env),
-        Row::Negated(_) => own(alloc, conds, numbers, all.len(), env),
         Row::Both(front, last) => {
             let (Some(first), Some(second)) = (all.get(*front), all.get(*last)) else {
                 return Ok(Known::unknown(alloc));
@@ -60,21 +55,32 @@ pub fn known_of(
             let paths = own_paths(alloc, conds, numbers, *last, env)?;
             both(alloc, first, second, &paths)
         }
+        Row::Own(_) | Row::Negated(_) => {
+            let paths = own_paths(alloc, conds, numbers, all.len(), env)?;
+            own(alloc, &paths)
+        }
     }
 }
 
-// What the paths of a condition say of it.
-fn own(
-    alloc: Global,
-    conds: &Conditions,
-    numbers: &[Numbers],
-    place: usize,
-    env: &Env,
-) -> Result<Known, NoMemory>
-    requires { numbers.now ≡ map (numbers_of env.now) conds.now }
-    ensures { IfOk result (IsKnown env.now (numbered conds.now place)) }
+// Whether a row is of its own tests, or of `!` of such ones.
+fn is_own(rows: &[Row], row: &Row) -> bool {
+    match row {
+        Row::Own(_) => true,
+        Row::Negated(inner) => match rows.get(*inner) {
+            Some(Row::Own(_)) => true,
+            Some(Row::Negated(_)) => false,
+            Some(Row::Both(_, _)) => false,
+            None => false,
+        },
+        Row::Both(_, _) => false,
+    }
+}
+
+// What is known of a condition that has these paths, where they are known.
+fn own(alloc: Global, paths: &Option<List<List<FlagSet>>>) -> Result<Known, NoMemory>
+    ensures { IfOk result (λ known. (flags : Flags) → OneHolds flags paths.now → IsMet flags known) }
 {
-    match paths_at(alloc, conds, numbers, place, env)? {
+    match paths {
         Some(paths) => by_paths(alloc, paths.as_slice()),
         None => Ok(Known::unknown(alloc)),
     }
@@ -151,7 +157,8 @@ fn allows_some(settled: &Settled, paths: &[List<FlagSet>]) -> bool
     false
 }
 
-// The paths of a row of its own tests. Those of a longer condition would be followed once more for each row that it stands in.
+// The paths of a row of its own tests, where there aren't too many. Those of a longer condition would be followed once more for
+// each row that it stands in.
 fn own_paths(
     alloc: Global,
     conds: &Conditions,
@@ -162,29 +169,11 @@ fn own_paths(
     requires { numbers.now ≡ map (numbers_of env.now) conds.now }
     ensures { IfOk result (ArePathsOf env.now (numbered conds.now place)) }
 {
-    match conds.rows().get(place) {
-        Some(Row::Own(_)) => paths_at(alloc, conds, numbers, place, env),
-        Some(Row::Negated(_)) => paths_at(alloc, conds, numbers, place, env),
-        Some(Row::Both(_, _)) => Ok(None),
-        None => Ok(None),
-    }
-}
-
-// The paths of a condition, where there aren't too many.
-fn paths_at(
-    alloc: Global,
-    conds: &Conditions,
-    numbers: &[Numbers],
-    place: usize,
-    env: &Env,
-) -> Result<Option<List<List<FlagSet>>>, NoMemory>
-    requires { numbers.now ≡ map (numbers_of env.now) conds.now }
-    ensures { IfOk result (ArePathsOf env.now (numbered conds.now place)) }
-{
-    let Some(numbers) = numbers.get(place) else {
+    let rows = conds.rows();
+    let (Some(row), Some(numbers)) = (rows.get(place), numbers.get(place)) else {
         return Ok(None);
     };
-    if MOST_PATHS < numbers.yes {
+    if !is_own(rows, row) || MOST_PATHS < numbers.yes {
         return Ok(None);
     }
     let cond = conds.guard(alloc, place)?;

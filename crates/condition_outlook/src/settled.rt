@@ -8,7 +8,7 @@ use plan_types::{FlagSet, List, NoMemory, Shared, Text};
 use std::alloc::Global;
 use std::collections::BTreeMap;
 
-/// So many settings are copied with what is known, and no more.
+/// So many settings at most are copied with what is known.
 const MOST_RECENT: usize = 64;
 
 /// What flags are set to, of which a copy holds most in common with what it was copied from.
@@ -103,14 +103,21 @@ impl Settled {
         self.recent.push(copied(setting)?)
     }
 
-    // Puts what was learnt last into a map that copies hold in common.
+    // Puts what was learnt last into a map that copies hold in common. It takes in those before it that are no larger, so that each
+    // map is larger than the one behind it, and there are few.
     fn share(&mut self, alloc: Global) -> Result<(), NoMemory>
         ensures { OnOk result ((flags : Flags) → AreSet flags self.old → AreSet flags self.new) }
     {
-        let map = map_of(alloc, self.recent.as_slice())?;
-        self.shared.push(Shared::new(alloc, map)?)?;
+        let mut map = map_of(alloc, self.recent.as_slice())?;
         self.recent = List::new(alloc);
-        Ok(())
+        while let Some(last) = self.shared.pop() {
+            if map.len() < last.get().len() {
+                self.shared.push(last)?;
+                break;
+            }
+            add_all(&mut map, last.get())?;
+        }
+        self.shared.push(Shared::new(alloc, map)?)
     }
 }
 
@@ -176,4 +183,13 @@ fn map_of(alloc: Global, settings: &[FlagSet]) -> Result<BTreeMap<Text, bool>, N
         map.insert(setting.name.copy()?, setting.on)?;
     }
     Ok(map)
+}
+
+fn add_all(map: &mut BTreeMap<Text, bool>, more: &BTreeMap<Text, bool>) -> Result<(), NoMemory>
+    ensures { OnOk result ((flags : Flags) → AreSaid flags (map.old ∷ more.now ∷ []) → AreSaid flags (map.new ∷ [])) }
+{
+    for (name, on) in more.iter() {
+        map.insert(name.copy()?, *on)?;
+    }
+    Ok(())
 }

@@ -14,15 +14,7 @@ pub struct Numbers {
     pub no: u64,
 }
 
-/// The number of paths of a condition, wanted true or false, or the greatest number if there are more.
-pub fn count_paths(cond: &Cond, env: &Env, want: bool) -> u64
-    ensures { result ≡ min (length (paths_of env.now cond.now want)) (2 ^ 64 - 1) }
-{
-    let numbers = numbers_of(cond, env);
-    if want { numbers.yes } else { numbers.no }
-}
-
-/// Both numbers at once: those of a right side count towards both numbers of the whole.
+/// How many paths of a condition there are. Both numbers at once: those of a right side count towards both of the whole.
 pub fn numbers_of(cond: &Cond, env: &Env) -> Numbers
     ensures yes { result.yes ≡ min (length (paths_of env.now cond.now true)) (2 ^ 64 - 1) }
     ensures no { result.no ≡ min (length (paths_of env.now cond.now false)) (2 ^ 64 - 1) }

@@ -10,6 +10,9 @@ use crate::environment::{is_compiler, is_processor, is_system};
 use plan_types::{Cond, Env, FlagSet, List, NoMemory, Text};
 use std::alloc::Global;
 
+/// The paths of a condition that has more are not asked for.
+pub const MOST_PATHS: u64 = 256;
+
 /// The paths of a condition, wanted true and wanted false.
 #[derive(Drop)]
 pub struct Lists {

@@ -1,5 +1,5 @@
 -- Conflict sets from which nothing can be dropped: which variables stay, and what becomes possible without each.
-use Rattle.std.specs.Prelude.{ℕ, ◌+◌, ◌-◌, min, List, [], ◌∷◌, ◌++◌, filter, map, IsTrue}
+use Rattle.std.specs.Prelude.{◌≡◌, ℕ, ◌+◌, ◌-◌, min, List, [], ◌∷◌, ◌++◌, filter, map, IsTrue}
 use Rattle.std.specs.List.{AllZip}
 use Rattle.plan_types.specs.declared.limit.Limit.{Limit}
 use Rattle.plan_types.specs.declared.limit.Limit.TheVariants.{Unlimited, At}
@@ -63,6 +63,13 @@ pub data ShrinkEnd : Type 0 where
 pub record Shrinking : Type 0 where
   pub ended : ShrinkEnd
   pub visited : ℕ
+
+-- it ends with this
+abbrev pub EndsTight : Shrinking → Shrunk → Type 0
+EndsTight shrinking shrunk = shrinking.ended ≡ Tight shrunk
+
+abbrev pub EndsOver : Shrinking → ℕ → Type 0
+EndsOver shrinking spent = shrinking.ended ≡ OverBudget spent
 
 -- the trails that were found, cut to the variables that are left
 abbrev pub shrunk_at : Stage → Shrunk

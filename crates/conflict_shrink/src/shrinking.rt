@@ -4,7 +4,7 @@ ghost use Rattle.plan_types.specs.declared.limit.Limit.{Limit};
 ghost use Rattle.choice_problem.specs.General.{general};
 ghost use Rattle.conflict_shrink.specs.declared.shrinking.ShrinkFault.TheVariants.{NoMemory as shrink_no_memory};
 ghost use Rattle.conflict_shrink.specs.Restricted.{are_known, CanBeShrunk};
-ghost use Rattle.conflict_shrink.specs.Shrinking.{GoesOn, GivesUp, Tight, OverBudget, IsTight, cut, limit_after, shrinking, shrunk_at, spent_with, tried, tries_without, untried_stage};
+ghost use Rattle.conflict_shrink.specs.Shrinking.{GoesOn, GivesUp, EndsOver, EndsTight, IsTight, cut, limit_after, shrinking, shrunk_at, spent_with, tried, tries_without, untried_stage};
 
 use crate::Restricted;
 use backjump::search;
@@ -150,9 +150,9 @@ pub fn shrink<C: Choices, L: Ledger>(
     steps: &mut Steps<L>,
 ) -> Result<Shrunk, ShrinkFault>
     requires { CanBeShrunk (C.problem choices.now) set.now }
-    ensures shrunk { IfOk result (λ shrunk. (shrinking (C.problem choices.now) set.now budget).ended ≡ Tight shrunk) }
+    ensures shrunk { IfOk result (EndsTight (shrinking (C.problem choices.now) set.now budget)) }
     ensures tight { IfOk result (IsTight (general (C.problem choices.now)) set.now) }
-    ensures too_long { (spent : ℕ) → result ≡ Err (ShrinkFault.TooLong spent) → (shrinking (C.problem choices.now) set.now budget).ended ≡ OverBudget spent }
+    ensures too_long { (spent : ℕ) → result ≡ Err (ShrinkFault.TooLong spent) → EndsOver (shrinking (C.problem choices.now) set.now budget) spent }
     ensures unlimited { (spent : ℕ) → budget ≡ Limit.Unlimited → result ≢ Err (ShrinkFault.TooLong spent) }
     ensures ticks { result ≢ Err ShrinkFault.NoMemory → steps.new ≡ steps.old + (shrinking (C.problem choices.now) set.now budget).visited }
     ensures most { steps.new ≤ steps.old + (shrinking (C.problem choices.now) set.now budget).visited }

@@ -1,5 +1,5 @@
 -- Pairs of demands that disagree, by their places.
-use Rattle.std.specs.Prelude.{◌≡◌, ℕ, Bool, true, false, cond, ◌&&◌, ◌||◌, nat_eq, nat_lt, List, [], ◌∷◌, Option, Some, None, slice_get, filter, map, flat_map, ◌⊎◌}
+use Rattle.std.specs.Prelude.{◌≡◌, ℕ, Bool, true, false, cond, ◌&&◌, ◌||◌, nat_eq, nat_lt, List, [], ◌∷◌, ◌++◌, Option, Some, None, slice_get, filter, map, flat_map, ◌⊎◌}
 use Rattle.std.specs.List.{Contains}
 use Rattle.qualified_goals.specs.declared.variable.Var.{Var}
 use Rattle.qualified_goals.specs.Variable.{same_var}
@@ -8,7 +8,8 @@ use Rattle.choice_problem.specs.declared.problem.Demand.{Demand}
 use Rattle.choice_problem.specs.General.{owner_of}
 use Rattle.choice_problem.specs.Trail.{value_in}
 use Rattle.choice_problem.specs.Twins.{are_twins, under, differ}
-use Rattle.choice_problem.specs.Conflict.{disagree}
+use Rattle.choice_problem.specs.Conflict.{disagree, named_by}
+use Rattle.choice_problem.specs.ConflictSet.{set_of}
 use Rattle.demand_agreement.specs.declared.clash.Clash.{Clash}
 use Rattle.demand_agreement.specs.Places.{demand_at, places_on}
 
@@ -49,6 +50,10 @@ clashes_at trail demands place = map (clash_of place) (clashing trail demands (o
 -- the pairs that some places are in
 abbrev pub clashes : List Choice → List Demand → List ℕ → List Clash
 clashes trail demands places = flat_map (clashes_at trail demands) places
+
+-- the set of the variables that both demands of a pair name
+abbrev pub set_named : List Demand → Clash → List Var
+set_named demands clash = set_of (named_by (demand_at demands clash.earlier) ++ named_by (demand_at demands clash.later))
 
 -- by the later place, and then by the earlier
 abbrev pub comes_before : Clash → Clash → Bool

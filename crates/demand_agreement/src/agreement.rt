@@ -3,12 +3,11 @@ ghost use Rattle.std.specs.Prelude.{◌≡◌, ◌<◌, ◌++◌, true, Some, If
 ghost use Rattle.std.specs.List.{Contains};
 ghost use Rattle.choice_problem.specs.declared.problem.Demand.{Demand};
 ghost use Rattle.choice_problem.specs.Assignment.{is_yes};
-ghost use Rattle.choice_problem.specs.Conflict.{agreement_set, named_by};
-ghost use Rattle.choice_problem.specs.ConflictSet.{set_of};
+ghost use Rattle.choice_problem.specs.Conflict.{agreement_set};
 ghost use Rattle.choice_problem.specs.General.{owner_of};
 ghost use Rattle.choice_problem.specs.Trail.{value_in};
-ghost use Rattle.demand_agreement.specs.Clashes.{AreSuspects, apart_by, apart_from, clashes, clashes_at, clashing, is_first};
-ghost use Rattle.demand_agreement.specs.Places.{AllBelow, demand_at, places_on};
+ghost use Rattle.demand_agreement.specs.Clashes.{AreSuspects, apart_by, apart_from, clashes, clashes_at, clashing, is_first, set_named};
+ghost use Rattle.demand_agreement.specs.Places.{AllBelow, places_on};
 
 use crate::clash::{Clash, clash_of, least};
 use crate::twins::{differ, twins_of, under};
@@ -56,7 +55,7 @@ pub fn agreement_set_of<A: Asked>(
 fn set_named<A: Asked>(alloc: Global, asked: &A, clash: Clash) -> Result<ConflictSet, NoMemory>
     requires earlier { clash.earlier < length (A.demands asked.now) }
     requires later { clash.later < length (A.demands asked.now) }
-    ensures { IfOk result (λ set. set ≡ set_of (named_by (demand_at (A.demands asked.now) clash.earlier) ++ named_by (demand_at (A.demands asked.now) clash.later))) }
+    ensures { IfOk result (λ set. set ≡ set_named (A.demands asked.now) clash) }
 {
     let mut named = Vec::new(alloc);
     push_named(&mut named, asked.demand_at(clash.earlier))?;

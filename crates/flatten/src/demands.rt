@@ -9,9 +9,9 @@ ghost use Rattle.flatten.specs.Ways.{number_of_both, paths_of_both, ways_of};
 ghost use Rattle.plan_types.specs.Guarded.{of_group};
 ghost use Rattle.condition_outlook.specs.Outlook.{IsOutlookAt};
 
-use crate::ways::{MOST_PATHS, Ways, ways_of};
+use crate::ways::{Ways, ways_of};
 use condition_outlook::{Outlook, outlooks};
-use conditionals::joined_paths;
+use conditionals::{MOST_PATHS, joined_paths};
 use plan_types::{
     Cause, CompKind, Component, Dep, DepGroup, Description, Env, Fault, FlagSet, FlatDep, List,
     Literal, NoMemory, PartName, Shared,

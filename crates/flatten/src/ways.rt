@@ -5,11 +5,9 @@ ghost use Rattle.condition_outlook.specs.Outlook.{IsOutlookAt};
 ghost use Rattle.flatten.specs.Ways.{ways_of};
 
 use condition_outlook::Outlook;
-use conditionals::paths;
+use conditionals::{MOST_PATHS, paths};
 use plan_types::{Cond, Env, FlagSet, List, NoMemory};
 use std::alloc::Global;
-
-pub const MOST_PATHS: u64 = 256;
 
 /// The ways to set flags so that a condition is Yes.
 #[derive(Drop)]

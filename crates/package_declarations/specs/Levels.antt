@@ -26,6 +26,10 @@ pub record IsBranch (conds : List Cond) (level : Level) (branch : Branch) : Type
   pub taken : slice_get conds level.taken ≡ Some branch.condition
   pub chain : IsNumbered conds level.chain branch.chain
 
+-- the next branch of a chain, which is so where this is left of those before it
+abbrev pub IsNext : List Cond → List Cond → Option ℕ → (Option Cond → Branch) → Level → Type 0
+IsNext before after chain branch level = (left : Option Cond) → IsNumbered before chain left → IsBranch after level (branch left)
+
 -- a branch inside of these
 pub record IsLevel (conds around : List Cond) (level : Level) (branch : Branch) : Type 0 where
   pub taken : slice_get conds level.taken ≡ Some (all_of (around ++ branch.condition ∷ []))

@@ -7,7 +7,7 @@ ghost use Rattle.plan_types.specs.declared.condition.Cond.TheVariants.{Always};
 ghost use Rattle.section_syntax.specs.Branch.{branch_of, last, or_never, tried};
 ghost use Rattle.section_syntax.specs.Chained.{begun, left_by};
 ghost use Rattle.section_syntax.specs.declared.branch.Branch.{Branch};
-ghost use Rattle.package_declarations.specs.Levels.{AreLevels, Grown, IsBehind, IsBranch, IsNumbered, chain_at, innermost, number_at};
+ghost use Rattle.package_declarations.specs.Levels.{AreLevels, Grown, IsBehind, IsBranch, IsNext, IsNumbered, chain_at, innermost, number_at};
 
 use plan_types::{Cause, Cond, Conditions, Guard, List, NoMemory, Row};
 use section_syntax::{BranchWord, Said, or_never};
@@ -112,7 +112,7 @@ fn branch_of(
     chain: Option<usize>,
 ) -> Result<Level, NoMemory>
     ensures grown { OnOk result (Grown conds.old conds.new) }
-    ensures branch { IfOk result (λ level. (left : Option Cond) → IsNumbered conds.old chain left → IsBranch conds.new level (branch_of word left own.now)) }
+    ensures branch { IfOk result (IsNext conds.old conds.new chain (λ left. branch_of word left own.now)) }
 {
     match word {
         BranchWord::If => tried(alloc, conds, None, own),
@@ -128,8 +128,7 @@ fn tried(
     own: &Result<Guard, Cause>,
 ) -> Result<Level, NoMemory>
     ensures grown { OnOk result (Grown conds.old conds.new) }
-    ensures branch { IfOk result (λ level. (left : Option Cond) → IsNumbered conds.old chain left
-        → IsBranch conds.new level (tried left (or_never own.now))) }
+    ensures branch { IfOk result (IsNext conds.old conds.new chain (λ left. tried left (or_never own.now))) }
 {
     let own = or_never(alloc, own)?;
     let own = added(alloc, conds, Row::Own(own))?;
@@ -144,7 +143,7 @@ fn tried(
 
 fn last(alloc: Global, conds: &mut Conditions, chain: Option<usize>) -> Result<Level, NoMemory>
     ensures grown { OnOk result (Grown conds.old conds.new) }
-    ensures branch { IfOk result (λ level. (left : Option Cond) → IsNumbered conds.old chain left → IsBranch conds.new level (last left)) }
+    ensures branch { IfOk result (IsNext conds.old conds.new chain last) }
 {
     let taken = match chain {
         Some(left) => left,

@@ -6,7 +6,7 @@ ghost use Rattle.conditionals.specs.Value.{each_once};
 
 use crate::shared::{environment, shown, spec_of};
 use condition_text::read_cond;
-use conditionals::{count_paths, eval, paths};
+use conditionals::{eval, numbers_of, paths};
 use plan_types::{Cond, Env, FlagSet, List, NoMemory, Spec, Text, TextFault};
 use std::alloc::Global;
 use std::test::Fail;
@@ -173,7 +173,8 @@ fn push_paths(
     env: &Env,
     want: bool,
 ) -> Result<(), NoMemory> {
-    let count = count_paths(cond, env, want);
+    let numbers = numbers_of(cond, env);
+    let count = if want { numbers.yes } else { numbers.no };
     write!(text, "{count}")?;
     if count > 256 {
         text.push_str(" ...")?;

@@ -1,0 +1,11 @@
+use Rattle.std.proofs.Common.{length}
+use Rattle.conditionals.specs.Value.{Flags}
+use Rattle.condition_outlook.specs.Settled.{AreSet, IsSaid}
+use Rattle.condition_outlook.proofs.settled.Settled.share.Given as goal
+
+-- what is known is in the maps that are left, or in the new one
+abbrev pub invariant-loop-last : goal.invariant-loop-last
+invariant-loop-last l = (flags : Flags) → AreSet flags l.fn.self → AreSet flags l.self × IsSaid flags l.map
+
+abbrev pub decreases-loop-last : goal.decreases-loop-last
+decreases-loop-last l = length l.self.shared
