@@ -10,17 +10,13 @@ use Rattle.condition_outlook.proofs.known.known_of.Goals as goal
 pub returns-in_default : goal.returns-in_default
 returns-in_default c before more known is flags met = c.unknown.ensures flags
 
-pub returns-in-Own : goal.returns-in-Own
-returns-in-Own c =
+pub returns-in_ok-paths-in-Own : goal.returns-in_ok-paths-in-Own
+returns-in_ok-paths-in-Own c =
     let env = c.args.env.now in
+    let all = c.args.all.now in
     IfOk-weaker c.own.result _ _ (λ outlook own before more known is.
-    subst (λ cond. IsKnown env cond outlook) (ap (λ conds. numbered conds (length c.args.all.now)) is ∙ numbered-next env before more c.args.all.now (cond_of before c.args.row.now) known) own) c.own.ensures
-
-pub returns-in-Negated : goal.returns-in-Negated
-returns-in-Negated c =
-    let env = c.args.env.now in
-    IfOk-weaker c.own-in-Negated.result _ _ (λ outlook own before more known is.
-    subst (λ cond. IsKnown env cond outlook) (ap (λ conds. numbered conds (length c.args.all.now)) is ∙ numbered-next env before more c.args.all.now (cond_of before c.args.row.now) known) own) c.own-in-Negated.ensures
+    let row = ap (λ conds. numbered conds (length all)) is ∙ numbered-next env before more all (cond_of before c.args.row.now) known in
+    subst (λ cond. IsKnown env cond outlook) row (λ flags met. own flags (c.in_ok-paths-in-Own.ensures flags met))) c.own.ensures
 
 pub returns-in_ok-paths-in-Both : goal.returns-in_ok-paths-in-Both
 returns-in_ok-paths-in-Both c =

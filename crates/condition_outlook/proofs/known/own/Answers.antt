@@ -7,7 +7,7 @@ use Rattle.condition_outlook.proofs.known.own.Goals as goal
 
 pub returns-in-Some : goal.returns-in-Some
 returns-in-Some c =
-    IfOk-weaker c.by_paths.result _ _ (λ outlook met flags is. met flags (ap (list_any (holds flags)) c.as_slice.ensures ∙ subst (OneHolds flags) c.in-Some.is (c.in_ok-paths.ensures flags is))) c.by_paths.ensures
+    IfOk-weaker c.by_paths.result _ _ (λ known met flags one. met flags (ap (list_any (holds flags)) c.as_slice.ensures ∙ subst (OneHolds flags) c.in-Some.is one)) c.by_paths.ensures
 
 pub returns-in-None : goal.returns-in-None
-returns-in-None c flags is = c.unknown.ensures flags
+returns-in-None c flags one = c.unknown.ensures flags
