@@ -1,5 +1,5 @@
 // The choices of a search, with their values by variable.
-ghost use Rattle.std.specs.Prelude.{◌≡◌, None, ℕ, filter, is_some, nat_eq, OnOk, OnErr, MatchOption};
+ghost use Rattle.std.specs.Prelude.{◌≡◌, ◌++◌, ◌∷◌, [], None, ℕ, filter, is_some, nat_eq, OnOk, OnErr, MatchOption};
 ghost use Rattle.qualified_goals.specs.declared.variable.Var.{Var};
 ghost use Rattle.keyed_lists.specs.Lists.{items_at};
 ghost use Rattle.choice_problem.specs.Table.{entry, with_entry};
