@@ -7,7 +7,7 @@ ghost use Rattle.choice_problem.specs.Conflict.{agreement_set};
 ghost use Rattle.choice_problem.specs.General.{owner_of};
 ghost use Rattle.choice_problem.specs.Trail.{value_in};
 ghost use Rattle.demand_agreement.specs.Clashes.{AreSuspects, apart_by, apart_from, clashes, clashes_at, clashing, is_first, set_named};
-ghost use Rattle.demand_agreement.specs.Places.{AllBelow, places_on};
+ghost use Rattle.demand_agreement.specs.Places.{AllBelow, demand_at, places_on};
 
 use crate::clash::{Clash, clash_of, least};
 use crate::twins::{differ, twins_of, under};
