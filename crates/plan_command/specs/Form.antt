@@ -67,13 +67,25 @@ is_json (Summary number) = false
 is_json (Freeze before) = false
 is_json (Replay slots events) = false
 
+-- the set of a conflict, as JSON or in lines
+abbrev pub whole_text_in : Bool → Index → NameTable → List Var → Counts → Bytes
+whole_text_in json index names set counts = if json then conflict_json index names set counts else conflict_text index names set counts
+
+-- a part of it from which nothing can be dropped
+abbrev pub shrunk_text_in : Bool → Index → NameTable → List Var → List (List Choice) → Counts → Bytes
+shrunk_text_in json index names set maps counts =
+    if json then shrunk_json index names set maps counts else shrunk_text index names set maps counts
+
+-- that so many exhausted points were too few to find one
+abbrev pub not_shrunk_text_in : Bool → Index → NameTable → List Var → ℕ → Counts → Bytes
+not_shrunk_text_in json index names set spent counts =
+    if json then not_shrunk_json index names set spent counts else not_shrunk_text index names set spent counts
+
 -- a conflict, with what is told of it besides its set
 abbrev pub conflict_text_in : Form → Index → NameTable → List Var → Blame → Counts → Bytes
-conflict_text_in form index names set Unasked counts = if is_json form then conflict_json index names set counts else conflict_text index names set counts
-conflict_text_in form index names set (Shrunk shrunk) counts =
-    if is_json form then shrunk_json index names shrunk.set shrunk.maps counts else shrunk_text index names shrunk.set shrunk.maps counts
-conflict_text_in form index names set (TooLong spent) counts =
-    if is_json form then not_shrunk_json index names set spent counts else not_shrunk_text index names set spent counts
+conflict_text_in form index names set Unasked counts = whole_text_in (is_json form) index names set counts
+conflict_text_in form index names set (Shrunk shrunk) counts = shrunk_text_in (is_json form) index names shrunk.set shrunk.maps counts
+conflict_text_in form index names set (TooLong spent) counts = not_shrunk_text_in (is_json form) index names set spent counts
 
 -- a search that gave up
 abbrev pub gave_up_text_in : Form → Index → Counts → Bytes

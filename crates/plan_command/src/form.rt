@@ -1,9 +1,7 @@
 // The form in which an answer is printed.
-ghost use Rattle.std.specs.Prelude.{◌≡◌, IfOk, if◌then◌else◌};
+ghost use Rattle.std.specs.Prelude.{◌≡◌, IfOk};
 ghost use Rattle.choice_problem.specs.Trail.{AreNew};
-ghost use Rattle.plan_json.specs.Texts.{conflict_json, not_shrunk_json, shrunk_json};
-ghost use Rattle.plan_print.specs.Texts.{conflict_text, not_shrunk_text, shrunk_text};
-ghost use Rattle.plan_command.specs.Form.{IsPlanText, conflict_text_in, form_of, gave_up_text_in, is_json, summary_of};
+ghost use Rattle.plan_command.specs.Form.{IsPlanText, conflict_text_in, form_of, gave_up_text_in, is_json, not_shrunk_text_in, shrunk_text_in, summary_of, whole_text_in};
 
 use crate::freeze::frozen_text;
 use choice_problem::{Choice, ConflictSet, Counts};
@@ -131,7 +129,7 @@ fn whole_text(
     names: &Names,
     counts: Counts,
 ) -> Result<Text, NoMemory>
-    ensures { IfOk result (λ text. text ≡ (if json then conflict_json index.now names.now set.now counts else conflict_text index.now names.now set.now counts)) }
+    ensures { IfOk result (λ text. text ≡ whole_text_in json index.now names.now set.now counts) }
 {
     if json {
         json_of_conflict(alloc, set, index, names, counts)
@@ -148,8 +146,7 @@ fn shrunk_text(
     names: &Names,
     counts: Counts,
 ) -> Result<Text, NoMemory>
-    ensures { IfOk result (λ text. text ≡ (if json then shrunk_json index.now names.now shrunk.now.set shrunk.now.maps counts
-        else shrunk_text index.now names.now shrunk.now.set shrunk.now.maps counts)) }
+    ensures { IfOk result (λ text. text ≡ shrunk_text_in json index.now names.now shrunk.now.set shrunk.now.maps counts) }
 {
     if json {
         json_of_shrunk(alloc, &shrunk.set, &shrunk.maps, index, names, counts)
@@ -167,8 +164,7 @@ fn not_shrunk_text(
     names: &Names,
     counts: Counts,
 ) -> Result<Text, NoMemory>
-    ensures { IfOk result (λ text. text ≡ (if json then not_shrunk_json index.now names.now set.now spent counts
-        else not_shrunk_text index.now names.now set.now spent counts)) }
+    ensures { IfOk result (λ text. text ≡ not_shrunk_text_in json index.now names.now set.now spent counts) }
 {
     if json {
         json_of_not_shrunk(alloc, set, spent, index, names, counts)

@@ -24,6 +24,10 @@ pub record AreAfter (nodes : List PlanNode) (slots : ℕ) (events : List Event) 
   pub states : board.states ≡ states_after nodes events
   pub limit : board.slots ≡ slots
 
+-- this holds of whatever nodes, slots and events the board is after
+abbrev pub ForItsEvents : Board → (List PlanNode → ℕ → List Event → Type 0) → Type 0
+ForItsEvents board Holds = (nodes : List PlanNode) (slots : ℕ) (events : List Event) → AreAfter nodes slots events board → Holds nodes slots events
+
 abbrev pub state_at : List JobState → ℕ → JobState
 state_at states place = slice_index_or states place Waiting
 

@@ -4,7 +4,7 @@ ghost use Rattle.plan_nodes.specs.declared.node.PlanNode.{PlanNode};
 ghost use Rattle.plan_jobs.specs.declared.job.JobFault.TheVariants.{NotRunning};
 ghost use Rattle.plan_jobs.specs.declared.job.JobState.TheVariants.{Running};
 ghost use Rattle.plan_jobs.specs.Events.{Event, IsEnd, IsHeld, IsStart, completes, fails, starts, state_after};
-ghost use Rattle.plan_jobs.specs.Board.{AreAfter, state_at};
+ghost use Rattle.plan_jobs.specs.Board.{AreAfter, ForItsEvents, state_at};
 
 use crate::holding::{held_at_first, hold};
 use crate::job::{JobFault, JobState};
@@ -70,9 +70,8 @@ impl Jobs {
 
     /// Starts the least node that is ready.
     pub fn start_next(&mut self) -> Result<u64, JobFault>
-        ensures reply { (nodes : List PlanNode) (slots : ℕ) (events : List Event) → AreAfter nodes slots events self.old → IsStart nodes slots events result }
-        ensures after { (nodes : List PlanNode) (slots : ℕ) (events : List Event) → AreAfter nodes slots events self.old
-            → AreAfter nodes slots (events ++ starts result ∷ []) self.new }
+        ensures reply { ForItsEvents self.old (λ nodes slots events. IsStart nodes slots events result) }
+        ensures after { ForItsEvents self.old (λ nodes slots events. AreAfter nodes slots (events ++ starts result ∷ []) self.new) }
         ensures err { OnErr result (self.new ≡ self.old) }
     {
         if self.running == self.slots {
@@ -89,9 +88,8 @@ impl Jobs {
 
     /// A node that runs is completed.
     pub fn completed(&mut self, place: u64) -> Result<(), JobFault>
-        ensures reply { (nodes : List PlanNode) (slots : ℕ) (events : List Event) → AreAfter nodes slots events self.old → IsEnd nodes events place result }
-        ensures after { (nodes : List PlanNode) (slots : ℕ) (events : List Event) → AreAfter nodes slots events self.old
-            → AreAfter nodes slots (events ++ completes place result ∷ []) self.new }
+        ensures reply { ForItsEvents self.old (λ nodes slots events. IsEnd nodes events place result) }
+        ensures after { ForItsEvents self.old (λ nodes slots events. AreAfter nodes slots (events ++ completes place result ∷ []) self.new) }
         ensures err { OnErr result (self.new ≡ self.old) }
     {
         let place = running_place(self.states.as_slice(), place)?;
@@ -108,9 +106,8 @@ impl Jobs {
 
     /// A node that runs has failed.
     pub fn failed(&mut self, place: u64) -> Result<(), JobFault>
-        ensures reply { (nodes : List PlanNode) (slots : ℕ) (events : List Event) → AreAfter nodes slots events self.old → IsEnd nodes events place result }
-        ensures after { (nodes : List PlanNode) (slots : ℕ) (events : List Event) → AreAfter nodes slots events self.old
-            → AreAfter nodes slots (events ++ fails place result ∷ []) self.new }
+        ensures reply { ForItsEvents self.old (λ nodes slots events. IsEnd nodes events place result) }
+        ensures after { ForItsEvents self.old (λ nodes slots events. AreAfter nodes slots (events ++ fails place result ∷ []) self.new) }
         ensures err { OnErr result (self.new ≡ self.old) }
     {
         let place = running_place(self.states.as_slice(), place)?;
@@ -136,7 +133,7 @@ impl Jobs {
     /// What a node is.
     pub fn state_of(&self, place: u64) -> JobState
         requires { place < length self.now.states }
-        ensures state { (nodes : List PlanNode) (slots : ℕ) (events : List Event) → AreAfter nodes slots events self.now → result ≡ state_after nodes events place }
+        ensures state { ForItsEvents self.now (λ nodes slots events. result ≡ state_after nodes events place) }
     {
         self.states.as_slice()[place as usize]
     }
@@ -144,7 +141,7 @@ impl Jobs {
     /// Whether a node waits for what can't be completed any more.
     pub fn is_held(&self, place: u64) -> bool
         requires { place < length self.now.states }
-        ensures { (nodes : List PlanNode) (slots : ℕ) (events : List Event) → AreAfter nodes slots events self.now → IsTrue result ↔ IsHeld nodes events place }
+        ensures { ForItsEvents self.now (λ nodes slots events. IsTrue result ↔ IsHeld nodes events place) }
     {
         self.held.as_slice()[place as usize]
     }
