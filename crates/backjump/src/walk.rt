@@ -43,13 +43,25 @@ pub enum Step {
 
 /// A search on its way: a node for each choice, and one for the variable that is tried; for each node the sets of its
 /// failed values together; the choices; the counts; and who picks the variables.
-#[derive(Drop)]
 pub struct Walk<G> {
     tree: Tree,
     failed: List<ConflictSet>,
     state: State,
     counts: Counts,
     guide: G,
+}
+
+// Written out, so that it is proved once: a derived one stands again at each place where a walk is let go.
+impl<G: Drop> Drop for Walk<G> {
+    fn drop(self) {
+        let Walk {
+            tree: _tree,
+            failed: _failed,
+            state: _state,
+            counts: _counts,
+            guide: _guide,
+        } = self;
+    }
 }
 
 fn reached(limit: Limit, exhausted: u64) -> bool
@@ -135,11 +147,9 @@ impl<G: Guide + Drop> Walk<G> {
             counts,
             guide: _,
         } = self;
+        let trail = state.into_trail();
         match end {
-            End::Whole => Outcome::Found {
-                trail: state.into_trail(),
-                counts,
-            },
+            End::Whole => Outcome::Found { trail, counts },
             End::NoPlan(set) => Outcome::NoPlan { set, counts },
             End::Stopped => Outcome::GaveUp { counts },
         }

@@ -3,8 +3,6 @@
 #![tactic(auto)]
 
 mod laws;
-#[cfg(test)]
-mod narrow;
 mod restricted;
 mod shrinking;
 

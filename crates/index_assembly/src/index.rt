@@ -49,8 +49,7 @@ fn local_entries(
     let mut entries = List::new(alloc);
     for local in locals.into_vec() {
         push_warnings(alloc, warnings, &local)?;
-        let Local { path: _, source } = local;
-        entries.push(source_entry(alloc, true, source)?)?;
+        entries.push(source_entry(alloc, true, local.into_source())?)?;
     }
     Ok(entries)
 }

@@ -114,7 +114,7 @@ fn unit_entry(alloc: Global, unit: Unit, known: &UnitNames) -> Result<Entry, NoM
     ensures { (units : List Unit) → Knows units known.now → IfOk result (λ entry. entry ≡ unit_entry units unit) }
 {
     let needs = known.needs(alloc, &unit)?;
-    let Unit { path: _, record_of } = unit;
+    let record_of = unit.into_record();
     let instance = instance_of(alloc, &record_of)?;
     Ok(Entry {
         instance,

@@ -18,11 +18,21 @@ use plan_types::{Cause, Env, Fault, Halt, List, NoMemory, Refusal, Text};
 use std::alloc::Global;
 
 /// Local packages by their names.
-#[derive(Debug, Drop)]
+#[derive(Debug)]
 pub(crate) struct Locals {
     pub list: List<Local>,
     pub names: IndexSet<Text>,
     ghost named: { names.keys ≡ local_names list },
+}
+
+// Written out, so that it is a function of its own, which is proved here and called where local packages are let go.
+impl Drop for Locals {
+    fn drop(self) {
+        let Locals {
+            list: _list,
+            names: _names,
+        } = self;
+    }
 }
 
 /// Reads the local packages at these paths, up to the first refusal.
@@ -72,14 +82,13 @@ impl Locals {
     fn with_source(self, path: &Text, source: Source) -> Result<Locals, Halt>
         ensures { Settles (OnPart (λ locals. locals.list) (TakesLocal self.list path.now source)) result }
     {
-        let path = path.copy()?;
-        let local = Local { path, source };
+        let local = Local::at(path, source)?;
         match self.names.get_index_of(&local.source.description.name) {
             None => Ok(self.with(local)?),
             Some(place) => {
                 let detail = self.list.as_slice()[place].path.copy()?;
                 Err(Halt::Refused(Refusal {
-                    path: local.path,
+                    path: local.into_path(),
                     line: 0,
                     cause: Cause::DuplicateLocal,
                     detail,
@@ -97,8 +106,19 @@ impl Locals {
             mut names,
         } = self;
         let name = local.source.description.name.copy()?;
-        names.insert(name)?;
         list.push(local)?;
+        names.insert(name)?;
         Ok(Locals { list, names })
+    }
+
+    /// The packages alone.
+    pub fn into_list(self) -> List<Local>
+        ensures { result ≡ self.list }
+    {
+        let Locals {
+            list,
+            names: _names,
+        } = self;
+        list
     }
 }

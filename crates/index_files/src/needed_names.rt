@@ -9,9 +9,16 @@ use plan_types::{List, NoMemory, Text};
 use std::alloc::Global;
 
 /// For the name of each package with records, the names that these mention.
-#[derive(Debug, Drop)]
+#[derive(Debug)]
 pub(crate) struct Needed {
     pub by_name: IndexMap<Text, List<Text>>,
+}
+
+// Written out, so that it is a function of its own, which is proved here and called where names are let go.
+impl Drop for Needed {
+    fn drop(self) {
+        let Needed { by_name: _by_name } = self;
+    }
 }
 
 impl Needed {

@@ -134,17 +134,9 @@ fn read_indexed<F: Folder>(
 fn readings_of(locals: Locals, units: Units, found: List<FoundName>) -> Readings
     ensures { result ≡ record { locals = locals.list; units = units.list; found = found } }
 {
-    let Locals {
-        list: locals,
-        names: _,
-    } = locals;
-    let Units {
-        list: units,
-        ids: _,
-    } = units;
     Readings {
-        locals,
-        units,
+        locals: locals.into_list(),
+        units: units.into_list(),
         found,
     }
 }

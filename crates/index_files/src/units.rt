@@ -21,12 +21,22 @@ use std::alloc::Global;
 use unit_record::read_record;
 
 /// Units by their ids.
-#[derive(Debug, Drop)]
+#[derive(Debug)]
 pub(crate) struct Units {
     pub list: List<Unit>,
     pub ids: IndexSet<Text>,
     ghost named: { ids.keys ≡ unit_ids list },
     ghost formed: { list_all is_formed list ≡ true },
+}
+
+// Written out, so that it is a function of its own, which is proved here and called where units are let go.
+impl Drop for Units {
+    fn drop(self) {
+        let Units {
+            list: _list,
+            ids: _ids,
+        } = self;
+    }
 }
 
 /// Units, and what their records count as.
@@ -100,14 +110,13 @@ impl Units {
         requires { is_formed (record { path = path.now; record_of = record_of }) ≡ true }
         ensures { Settles (OnPart (λ units. units.list) (TakesUnit self.list path.now record_of)) result }
     {
-        let path = path.copy()?;
-        let unit = Unit { path, record_of };
+        let unit = Unit::at(path, record_of)?;
         match self.ids.get_index_of(&unit.record_of.id) {
             None => Ok(self.with(unit)?),
             Some(place) => {
                 let detail = self.list.as_slice()[place].path.copy()?;
                 Err(Halt::Refused(Refusal {
-                    path: unit.path,
+                    path: unit.into_path(),
                     line: 0,
                     cause: Cause::DuplicateUnit,
                     detail,
@@ -123,9 +132,17 @@ impl Units {
     {
         let Units { mut list, mut ids } = self;
         let id = unit.record_of.id.copy()?;
-        ids.insert(id)?;
         list.push(unit)?;
+        ids.insert(id)?;
         Ok(Units { list, ids })
+    }
+
+    /// The units alone.
+    pub fn into_list(self) -> List<Unit>
+        ensures { result ≡ self.list }
+    {
+        let Units { list, ids: _ids } = self;
+        list
     }
 }
 

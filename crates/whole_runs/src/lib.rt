@@ -1,5 +1,11 @@
-//! Whole runs of the planner over folders in memory and of the system: what is printed for words and files, and with which status.
+//! Whole runs of which a call on the folder or a write fails, each in turn, and runs over folders of the system with links.
 #![tactic(auto)]
 
 #[cfg(test)]
-mod tests;
+mod cut_off;
+#[cfg(test)]
+mod failing;
+#[cfg(test)]
+mod links;
+#[cfg(test)]
+mod written;

@@ -1,5 +1,0 @@
--- the ledger is that of the blank
-use Rattle.base_tables.proofs.searches.searched.Given as goal
-
-abbrev pub ghosts-counted : goal.ghosts-counted
-ghosts-counted g a = record { name = a.blank.name; parts = a.blank.parts }

@@ -1,0 +1,5 @@
+-- the ledger is that of the blank
+use Rattle.call_tables.proofs.searches.searched.Given as goal
+
+abbrev pub ghosts-counted : goal.ghosts-counted
+ghosts-counted g a = record { name = a.blank.name; parts = a.blank.parts }

@@ -1,0 +1,90 @@
+// The rows of a table of conditions, with others by how far in front of them they stand; `chain` is the rows of so many branches, of
+// which each asks another flag. What is known of the last row: how many paths it has, and whether it is never Yes.
+use crate::conditions::{condition, environment};
+use condition_outlook::outlooks;
+use plan_types::{Conditions, Guard, Row};
+use std::alloc::Global;
+use std::test::Fail;
+
+pub const CASES: &str = "\
+own flag(a) => 1\n\
+own true => 1\n\
+own false => 0 never\n\
+own flag(a) && !flag(a) => 1 never\n\
+own flag(a); not 1 => 1\n\
+own flag(a); not 1; both 1 2 => 1 never\n\
+own flag(a); not 1; both 1 1 => 1\n\
+own flag(a); own flag(b); both 1 2 => 1\n\
+own flag(a); not 1; both 1 2; own flag(b); both 2 1 => 1 never\n\
+own flag(a); not 1; both 1 2; own flag(b); both 1 2 => 1 never\n\
+own flag(a) || flag(b); not 1; both 1 2 => 2 never\n\
+own flag(a) || flag(b); own !flag(a); both 1 2 => 2\n\
+own flag(a) || flag(b); own !flag(a) && !flag(b); both 1 2 => 2 never\n\
+own flag(a) && flag(b); own !flag(b); both 2 1 => 1 never\n\
+own flag(a) && flag(b); not 1; both 2 1 => 2 never\n\
+chain 200; own flag(f0); both 2 1 => 1 never\n\
+chain 200; own flag(f0); both 1 2 => 1 never\n\
+chain 200; own flag(f199); both 2 1 => 1 never\n\
+chain 200; own flag(f100) || flag(f7); both 2 1 => 2 never\n\
+chain 200; own flag(f100) || flag(g); both 2 1 => 2\n\
+chain 200; own !flag(f100); both 2 1 => 1\n\
+chain 200; own flag(g); both 2 1 => 1\n\
+chain 200; own flag(f7); both 2 1; own flag(g); both 2 1 => 1 never\n";
+
+fn push(alloc: Global, conds: &mut Conditions, row: Row) -> Result<(), Fail> {
+    conds.push(alloc, row)?;
+    Ok(())
+}
+
+fn push_own(alloc: Global, conds: &mut Conditions, text: &str) -> Result<(), Fail> {
+    let cond = condition(alloc, text)?;
+    let guard = Guard::new(alloc, cond)?;
+    push(alloc, conds, Row::Own(guard))
+}
+
+// The number of the row that stands so far in front of the next one.
+fn before(conds: &Conditions, text: &str) -> Result<usize, Fail> {
+    let back = text.parse::<usize>()?;
+    Ok(conds.rows().len().checked_sub(back).ok_or("no such row")?)
+}
+
+fn push_chain(alloc: Global, conds: &mut Conditions, count: usize) -> Result<(), Fail> {
+    for at in 0..count {
+        push_own(alloc, conds, format!(in alloc; "flag(f{at})")?.as_str())?;
+        push_row(alloc, conds, "not 1")?;
+        if at > 0 {
+            push_row(alloc, conds, "both 3 1")?;
+        }
+    }
+    Ok(())
+}
+
+fn push_row(alloc: Global, conds: &mut Conditions, text: &str) -> Result<(), Fail> {
+    let (word, rest) = text.split_once(' ').ok_or("no row")?;
+    match word {
+        "own" => push_own(alloc, conds, rest),
+        "not" => {
+            let inner = before(conds, rest)?;
+            push(alloc, conds, Row::Negated(inner))
+        }
+        _ => {
+            let (front, last) = rest.split_once(' ').ok_or("no two rows")?;
+            let (front, last) = (before(conds, front)?, before(conds, last)?);
+            push(alloc, conds, Row::Both(front, last))
+        }
+    }
+}
+
+pub fn answer(alloc: Global, case: &str) -> Result<String, Fail> {
+    let mut conds = Conditions::new(alloc);
+    for text in case.split("; ") {
+        match text.strip_prefix("chain ") {
+            Some(count) => push_chain(alloc, &mut conds, count.parse::<usize>()?)?,
+            None => push_row(alloc, &mut conds, text)?,
+        }
+    }
+    let all = outlooks(alloc, &conds, &environment(alloc)?)?;
+    let last = all.last().ok_or("no row")?;
+    let never = if last.never { " never" } else { "" };
+    Ok(format!(in alloc; "{}{never}", last.number)?)
+}

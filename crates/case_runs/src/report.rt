@@ -1,0 +1,124 @@
+// What comes of the cases of a file.
+use crate::real_folder::{clear, folder_at, write_files};
+use case_text::{Case, Faults, Run, answer_over, case_of, cases_of, mem_folder, other_than_wanted};
+use outside_folder::{Folder, MemFile, MemFolder};
+use plan_types::NoMemory;
+use std::alloc::Global;
+use std::io::{self, ErrorKind};
+
+#[derive(Drop)]
+struct Report {
+    passed: u64,
+    all: u64,
+    others: String,
+}
+
+/// How many runs of a file of cases came out, and below it what the others answered.
+pub fn report_of(rt: &HostRuntime, subject: &str, text: &str) -> io::Result<String> {
+    let mut report = Report {
+        passed: 0,
+        all: 0,
+        others: String::new(rt.alloc()),
+    };
+    for written in text.split("\n=== ").skip(1) {
+        try_cases(rt, written, &mut report)?;
+    }
+    shown(rt.alloc(), subject, &report)
+}
+
+fn shown(alloc: Global, subject: &str, report: &Report) -> io::Result<String> {
+    let (passed, all, others) = (report.passed, report.all, report.others.as_str());
+    let text = format!(in alloc; "{subject}: {passed} of {all}\n{others}")?;
+    Ok(text)
+}
+
+fn try_cases(rt: &HostRuntime, written: &str, report: &mut Report) -> io::Result<()> {
+    let cases = with_memory(cases_of(rt.alloc(), written))?;
+    for case in cases.iter() {
+        let case = with_memory(case_of(rt.alloc(), case.as_str()))?;
+        try_case(rt, case, report)?;
+    }
+    Ok(())
+}
+
+fn try_case(rt: &HostRuntime, case: Case, report: &mut Report) -> io::Result<()> {
+    let Case { name, files, runs } = case;
+    let is_real = is_small(files.as_slice());
+    if is_real {
+        write_files(rt, files.as_slice())?;
+    }
+    match with_memory(mem_folder(rt.alloc(), files, 0))? {
+        Some(folder) => try_runs(rt, name.as_str(), runs.as_slice(), folder, is_real, report)?,
+        None => count(
+            rt.alloc(),
+            report,
+            name.as_str(),
+            Some("its files make no folder\n"),
+        )?,
+    }
+    if is_real {
+        clear(rt)?;
+    }
+    Ok(())
+}
+
+// Whether a case is run over a folder of the system too: many files and large ones take long to write, and are left to `bin/try-cases`.
+fn is_small(files: &[MemFile]) -> bool {
+    files.len() <= 100 && files.iter().all(|file| file.bytes.len() <= 2_000_000)
+}
+
+fn try_runs(
+    rt: &HostRuntime,
+    name: &str,
+    runs: &[Run],
+    mut folder: MemFolder,
+    is_real: bool,
+    report: &mut Report,
+) -> io::Result<()> {
+    for run in runs {
+        let mut other = with_memory(other_answer(rt.alloc(), run, &mut folder))?;
+        if is_real && other.is_none() {
+            other = with_memory(real_answer(rt, run))?;
+        }
+        count(
+            rt.alloc(),
+            report,
+            name,
+            other.as_ref().map(|other| other.as_str()),
+        )?;
+    }
+    Ok(())
+}
+
+fn real_answer(rt: &HostRuntime, run: &Run) -> Result<Option<String>, NoMemory> {
+    other_answer(rt.alloc(), run, &mut folder_at(rt)?)
+}
+
+// What a run answers over a folder, where that isn't what is wanted.
+fn other_answer<F: Folder>(
+    alloc: Global,
+    run: &Run,
+    folder: &mut F,
+) -> Result<Option<String>, NoMemory> {
+    let found = answer_over(alloc, run, folder, Faults::NONE)?;
+    other_than_wanted(alloc, run, &found)
+}
+
+fn count(alloc: Global, report: &mut Report, name: &str, other: Option<&str>) -> io::Result<()> {
+    report.all = report.all.saturating_add(1);
+    match other {
+        None => report.passed = report.passed.saturating_add(1),
+        Some(other) => {
+            let told = format!(in alloc; "  {name}\n{other}")?;
+            report.others.push_str(told.as_str())?;
+        }
+    }
+    Ok(())
+}
+
+fn with_memory<T>(made: Result<T, NoMemory>) -> io::Result<T> {
+    match made {
+        Ok(value) => Ok(value),
+        Err(NoMemory) => Err(io::Error::from(ErrorKind::OutOfMemory)),
+    }
+}

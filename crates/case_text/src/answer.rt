@@ -1,0 +1,160 @@
+// What a run answers, and what differs from what is wanted.
+use crate::case::{Case, Run, case_of};
+use outside_folder::{Folder, MemFault, MemFile, MemFolder, MemSink};
+use plan_command::{code_of, run};
+use plan_types::{List, NoMemory, Text};
+use sha2::{Digest, Sha256};
+use std::alloc::Global;
+
+/// Which call on the folder and which write fail, counted from 1 (0: none), how many bytes a write takes at most, and for how many the
+/// sink has room.
+#[derive(Clone, Copy)]
+pub struct Faults {
+    pub call: u64,
+    pub write: u64,
+    pub most: usize,
+    pub room: usize,
+}
+
+impl Faults {
+    /// Nothing fails.
+    pub const NONE: Faults = Faults {
+        call: 0,
+        write: 0,
+        most: 8_000_000,
+        room: 8_000_000,
+    };
+}
+
+/// The number of a run's status, and what it printed.
+#[derive(Drop)]
+pub struct Answer {
+    pub status: u8,
+    pub output: String,
+}
+
+fn numbered(alloc: Global, number: u64) -> Result<List<u64>, NoMemory> {
+    let mut numbers = List::new(alloc);
+    numbers.push(number)?;
+    Ok(numbers)
+}
+
+/// A folder in memory of which this call fails, where its files make one.
+pub fn mem_folder(
+    alloc: Global,
+    files: List<MemFile>,
+    call: u64,
+) -> Result<Option<MemFolder>, NoMemory> {
+    match MemFolder::new(alloc, files, numbered(alloc, call)?) {
+        Ok(folder) => Ok(Some(folder)),
+        Err(MemFault::BadTree) => Ok(None),
+        Err(MemFault::NoMemory) => Err(NoMemory),
+    }
+}
+
+/// What a run over a folder answers, of whose sink the writes fail as is said.
+pub fn answer_over<F: Folder>(
+    alloc: Global,
+    run: &Run,
+    folder: &mut F,
+    faults: Faults,
+) -> Result<Answer, NoMemory> {
+    let fail_at = numbered(alloc, faults.write)?;
+    let mut out = MemSink::new(alloc, faults.room, faults.most, fail_at)?;
+    let status = status_of(alloc, &run.words, folder, &mut out);
+    let output = text_of(alloc, out.bytes())?;
+    Ok(Answer { status, output })
+}
+
+// Above this call no clause of `run` is known.
+fn status_of<F: Folder>(
+    alloc: Global,
+    words: &List<Text>,
+    folder: &mut F,
+    out: &mut MemSink,
+) -> u8 {
+    code_of(run(alloc, words.as_slice(), folder, out))
+}
+
+fn text_of(alloc: Global, bytes: &[u8]) -> Result<String, NoMemory> {
+    let text = str::from_utf8(bytes).unwrap_or("what is printed is no text");
+    Ok(String::from_str(alloc, text)?)
+}
+
+/// What the answer has where another is wanted.
+pub fn other_than_wanted(
+    alloc: Global,
+    run: &Run,
+    found: &Answer,
+) -> Result<Option<String>, NoMemory> {
+    let wanted = text_of(alloc, run.output.as_slice())?;
+    if found.status == run.status && is_right(alloc, run, found, wanted.as_str())? {
+        return Ok(None);
+    }
+    let line = first_other(found.output.as_str(), wanted.as_str());
+    let wanted_line = first_other(wanted.as_str(), found.output.as_str());
+    let mut other = String::new(alloc);
+    write!(&mut other, "wanted {}: {wanted_line}\n", run.status)?;
+    write!(&mut other, "found {}: {line}\n", found.status)?;
+    Ok(Some(other))
+}
+
+fn is_right(alloc: Global, run: &Run, found: &Answer, wanted: &str) -> Result<bool, NoMemory> {
+    match &run.digest {
+        None => Ok(found.output.as_str() == wanted),
+        Some(digest) => {
+            let digits = hex::encode(alloc, Sha256::digest(found.output.as_bytes()))?;
+            Ok(digits == *digest && has_ends(found.output.as_str(), wanted))
+        }
+    }
+}
+
+// Whether an output begins and ends as the lines around `...` do.
+fn has_ends(output: &str, ends: &str) -> bool {
+    match ends.split_once("...\n") {
+        Some((first, last)) => output.starts_with(first) && output.ends_with(last),
+        None => output == ends,
+    }
+}
+
+// The first line of a text that isn't the same in another.
+fn first_other<'a>(text: &'a str, other: &str) -> &'a str {
+    let mut others = other.lines();
+    for line in text.lines() {
+        if others.next() != Some(line) {
+            return line;
+        }
+    }
+    "the end"
+}
+
+// The number of a status, and what is printed below.
+fn shown(alloc: Global, status: u8, output: &str) -> Result<String, NoMemory> {
+    Ok(format!(in alloc; "{status}\n{output}")?)
+}
+
+/// What the first run of a written case answers over a folder and a sink that fail so: its status, and below it what it printed.
+pub fn first_answer(alloc: Global, written: &str, faults: Faults) -> Result<String, NoMemory> {
+    let Case { files, runs, .. } = case_of(alloc, written)?;
+    let Some(mut folder) = mem_folder(alloc, files, faults.call)? else {
+        return Ok(String::new(alloc));
+    };
+    let Some(run) = runs.as_slice().first() else {
+        return Ok(String::new(alloc));
+    };
+    let found = answer_over(alloc, run, &mut folder, faults)?;
+    shown(alloc, found.status, found.output.as_str())
+}
+
+/// What the first run of a written case is wanted to answer.
+pub fn first_wanted(alloc: Global, written: &str) -> Result<String, NoMemory> {
+    let case = case_of(alloc, written)?;
+    match case.runs.as_slice().first() {
+        Some(run) => shown(
+            alloc,
+            run.status,
+            text_of(alloc, run.output.as_slice())?.as_str(),
+        ),
+        None => Ok(String::new(alloc)),
+    }
+}

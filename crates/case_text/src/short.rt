@@ -1,0 +1,92 @@
+// Files in short form: packages with a library, and records of installed units.
+use crate::content::bytes_of;
+use outside_folder::MemFile;
+use plan_types::{List, NoMemory, Text};
+use std::alloc::Global;
+
+/// Puts the files that a short form stands for behind the others.
+pub fn push_short(alloc: Global, files: &mut List<MemFile>, form: &str) -> Result<(), NoMemory> {
+    let (kind, rest) = cut(form);
+    match kind {
+        "local" => push_package(alloc, files, "", ".cabal", rest),
+        "source" => push_source(alloc, files, rest),
+        "plain" => {
+            let (path, package) = cut(rest);
+            push_file(alloc, files, path, package_text(alloc, package)?.as_str())
+        }
+        "unit" => push_unit(alloc, files, rest),
+        _ => push_units(alloc, files, rest),
+    }
+}
+
+// The first word, and what stands behind it.
+fn cut(words: &str) -> (&str, &str) {
+    words.split_once(' ').unwrap_or((words, ""))
+}
+
+/// Puts a file with these lines of content behind the others.
+pub fn push_file(
+    alloc: Global,
+    files: &mut List<MemFile>,
+    path: &str,
+    lines: &str,
+) -> Result<(), NoMemory> {
+    let path = Text::from_str(alloc, path)?;
+    let bytes = bytes_of(alloc, lines)?;
+    files.push(MemFile { path, bytes })
+}
+
+// The text of a package that is written as its name, its version and what it depends on.
+fn package_text(alloc: Global, package: &str) -> Result<String, NoMemory> {
+    let (name, rest) = cut(package);
+    let (version, depends) = cut(rest);
+    let head = "cabal-version: 2.4";
+    let mut text = format!(in alloc; "{head}\nname: {name}\nversion: {version}\nlibrary\n")?;
+    if !depends.is_empty() {
+        write!(&mut text, "  build-depends: {depends}\n")?;
+    }
+    Ok(text)
+}
+
+fn push_package(
+    alloc: Global,
+    files: &mut List<MemFile>,
+    folder: &str,
+    ending: &str,
+    package: &str,
+) -> Result<(), NoMemory> {
+    let (name, _) = cut(package);
+    let path = format!(in alloc; "{folder}{name}{ending}")?;
+    let text = package_text(alloc, package)?;
+    push_file(alloc, files, path.as_str(), text.as_str())
+}
+
+fn push_source(alloc: Global, files: &mut List<MemFile>, package: &str) -> Result<(), NoMemory> {
+    let (name, rest) = cut(package);
+    let (version, _) = cut(rest);
+    let folder = format!(in alloc; "index/{name}/{version}/")?;
+    push_package(alloc, files, folder.as_str(), ".cabal", package)
+}
+
+// A unit is written as its identifier, the name and the version of its package, and the units that it depends on.
+fn push_unit(alloc: Global, files: &mut List<MemFile>, unit: &str) -> Result<(), NoMemory> {
+    let (id, rest) = cut(unit);
+    let (name, rest) = cut(rest);
+    let (version, depends) = cut(rest);
+    let path = format!(in alloc; "installed/{id}.conf")?;
+    let mut text = format!(in alloc; "name: {name}\nversion: {version}\nid: {id}\n")?;
+    if !depends.is_empty() {
+        write!(&mut text, "depends: {depends}\n")?;
+    }
+    push_file(alloc, files, path.as_str(), text.as_str())
+}
+
+// Each word is an identifier, of the form NAME-VERSION, of a unit that depends on nothing.
+fn push_units(alloc: Global, files: &mut List<MemFile>, ids: &str) -> Result<(), NoMemory> {
+    for id in ids.split(' ') {
+        let (name, version) = id.rsplit_once('-').unwrap_or((id, ""));
+        let unit = format!(in alloc; "{id} {name} {version}")?;
+        push_unit(alloc, files, unit.as_str())?;
+    }
+    Ok(())
+}
