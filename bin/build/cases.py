@@ -1,0 +1,227 @@
+"""Reads the files of cases: folders, the words that are run over them, and the exact output of each run.
+
+A line that begins with one of these marks stands for itself; every other line is content of the file or the output above it.
+
+    # TEXT                      a remark
+    === NAME                    begins a case
+    --- PATH                    begins a file of its folder; the lines below are its content
+    + local NAME VERSION [DEPENDS]          NAME.cabal, a package with a library that depends on these
+    + source NAME VERSION [DEPENDS]         the same file as index/NAME/VERSION/NAME.cabal
+    + plain PATH NAME VERSION [DEPENDS]     the same file at this path
+    + unit ID NAME VERSION [DEPENDS]        installed/ID.conf, the record of a unit that depends on these identifiers
+    + units ID ..                           such records, each ID of the form NAME-VERSION, without dependencies
+    $ WORDS [=> STATUS]         begins a run of these words, which ends with this status (0 unless it is given); below stands the output
+    $ WORDS => STATUS sha256 DIGEST         the same of a long output: its digest, and below its first and last lines around a line `...`
+    @ FIELD [@ FIELD ..]        repeats the whole case with these fields in place of %1, %2, ..
+    * FIRST..LAST LINES         stands for these lines, which a `\\n` separates, once for each number, with the number in place of %n and
+                                the next one in place of %m
+
+In content and output `\\n` is a line end, `\\t` a tab, `\\r` a carriage return, `\\s` a blank and `\\xHH` a byte; a backslash before any
+other character stands for that character, so that one before a mark makes the line content. A backslash at the end of a line leaves its line
+end out, and a line `\\pad SIZE` fills up the content above it with blanks, to so many bytes. Empty lines at the end of a file or an output
+are left out.
+"""
+
+import os
+import re
+
+TOP = os.path.dirname(os.path.dirname(os.path.dirname(os.path.realpath(__file__))))
+DATA = f"{TOP}/crates/case_runs/data"
+ARGS = f"{TOP}/crates/case_runs/args"
+MARKS = ("# ", "--- ", "+ ", "$ ")
+BEGIN, ROW, REPEAT = "=== ", "@ ", "* "
+KINDS = ("local", "source", "plain", "unit", "units")
+ESCAPES = {b"n": b"\n", b"t": b"\t", b"r": b"\r", b"s": b" "}
+
+
+class BadCase(Exception):
+    pass
+
+
+class Run:
+    """A run: its words, the status, the output or, of a long one, its digest and its ends."""
+
+    def __init__(self, case, words, status, digest, output):
+        self.case, self.words, self.status, self.digest, self.output = case, words, status, digest, output
+
+
+class Case:
+    """A case: its name, its line, its files by path, and its runs."""
+
+    def __init__(self, subject, name, line):
+        self.subject, self.name, self.line, self.files, self.runs = subject, name, line, {}, []
+
+
+def names():
+    """Returns the names of the files of cases, as the program of cases is given them."""
+    with open(ARGS, encoding="utf-8") as lines:
+        return lines.read().split("\n")[:-1]
+
+
+def filled(line, fields):
+    for number, field in enumerate(fields, 1):
+        line = line.replace(f"%{number}", field)
+    return line
+
+
+def repeated(line):
+    """Returns the lines that a line stands for."""
+    told = re.match(r"\* (\d+)\.\.(\d+) (.*)$", line)
+    if told is None:
+        return [line]
+    numbers = range(int(told[1]), int(told[2]) + 1)
+    return [it for n in numbers for it in told[3].replace("%n", str(n)).replace("%m", str(n + 1)).replace("\\n", "\n").split("\n")]
+
+
+def unescaped(raw):
+    """Returns the bytes of a line of content."""
+    found, ends = bytearray(), b"\n"
+    at = 0
+    while at < len(raw):
+        sign = raw[at : at + 1]
+        at += 1
+        if sign != b"\\":
+            found += sign
+            continue
+        sign = raw[at : at + 1]
+        at += 1
+        if not sign:
+            ends = b""
+        elif sign == b"x":
+            found.append(int(raw[at : at + 2], 16))
+            at += 2
+        else:
+            found += ESCAPES.get(sign, sign)
+    return bytes(found) + ends
+
+
+def bytes_of(lines):
+    """Returns the bytes of lines of content."""
+    while lines and not lines[-1]:
+        lines = lines[:-1]
+    found = bytearray()
+    for line in lines:
+        if line.startswith("\\pad "):
+            found = found.ljust(int(line[5:]))
+        elif "\\" in line:
+            found += unescaped(line.encode())
+        else:
+            found += line.encode() + b"\n"
+    return bytes(found)
+
+
+def plain(name, version, depends):
+    lines = f"cabal-version: 2.4\nname: {name}\nversion: {version}\nlibrary\n"
+    return (lines + f"  build-depends: {depends}\n" * bool(depends)).encode()
+
+
+def record(unit, name, version, depends):
+    return (f"name: {name}\nversion: {version}\nid: {unit}\n" + f"depends: {depends}\n" * bool(depends)).encode()
+
+
+def made(words, files):
+    """Puts the files that a line of short forms stands for to the others."""
+    kind, rest = words.split(" ", 1)
+    cut = lambda count: (rest.split(" ", count) + [""] * count)[: count + 1]
+    if kind == "local":
+        name, version, depends = cut(2)
+        files[f"{name}.cabal"] = plain(name, version, depends)
+    elif kind == "source":
+        name, version, depends = cut(2)
+        files[f"index/{name}/{version}/{name}.cabal"] = plain(name, version, depends)
+    elif kind == "plain":
+        path, name, version, depends = cut(3)
+        files[path] = plain(name, version, depends)
+    elif kind == "unit":
+        unit, name, version, depends = cut(3)
+        files[f"installed/{unit}.conf"] = record(unit, name, version, depends)
+    elif kind == "units":
+        for unit in rest.split(" "):
+            files[f"installed/{unit}.conf"] = record(unit, *unit.rsplit("-", 1), "")
+    else:
+        raise BadCase(f"no short form begins with {kind}")
+
+
+def run_of(case, line, output):
+    told = re.match(r"\$ (.*?)(?: => (\d+)(?: sha256 ([0-9a-f]{64}))?)?$", line)
+    words = told[1].split(" ") if told[1] else []
+    case.runs.append(Run(case, words, int(told[2] or 0), told[3], bytes_of(output)))
+
+
+def take(case, block):
+    """Puts what a block says to its case: a line with a mark, and the lines below."""
+    head, content = block[0], block[1:]
+    if head.startswith("--- "):
+        case.files[head[4:]] = bytes_of(content)
+    elif head.startswith("$ "):
+        run_of(case, head, content)
+    elif any(content):
+        raise BadCase(f"{case.subject}:{case.line}: no file or output begins above {next(it for it in content if it)!r}")
+    elif head.startswith("+ "):
+        made(head[2:], case.files)
+
+
+def case_of(subject, line, lines, fields):
+    """Makes a case of its lines, with these fields filled in."""
+    lines = [it for line in lines for it in repeated(filled(line, fields))]
+    case, block = Case(subject, lines[0][len(BEGIN) :], line), [lines[0]]
+    for it in lines[1:]:
+        if it.startswith(MARKS):
+            take(case, block)
+            block = [it]
+        else:
+            block.append(it)
+    take(case, block)
+    return case
+
+
+def cases_in(subject, text):
+    """Yields the cases of a text, each with the number of its first line."""
+    found = []
+    for number, line in enumerate(text.split("\n"), 1):
+        if line.startswith(BEGIN):
+            found.append((number, []))
+        if found:
+            found[-1][1].append(line)
+        elif line and not line.startswith("# "):
+            raise BadCase(f"{subject}:{number}: no case begins above this line")
+    for number, lines in found:
+        rows = [it[len(ROW) :].split(" @ ") for it in lines if it.startswith(ROW)]
+        lines = [it for it in lines if not it.startswith(ROW)]
+        for fields in rows or [[]]:
+            yield case_of(subject, number, lines, fields)
+
+
+def faults(subject):
+    """Returns what is wrong with the form of a file of cases, without making its folders: the program of cases passes over such lines."""
+    with open(f"{DATA}/{subject}", encoding="utf-8") as file:
+        lines = file.read().split("\n")
+    found = [] if lines[0].startswith("# ") else [f"{subject}:1: the first line is no remark"]
+    for number, line in enumerate(lines, 1):
+        kind = re.match(r"(?:\* \d+\.\.\d+ )?\+ (\S+)", line)
+        if kind and kind[1] not in KINDS:
+            found.append(f"{subject}:{number}: no short form begins with {kind[1]}")
+    return found
+
+
+def count(subject):
+    """Returns how many runs the cases of a file make."""
+    with open(f"{DATA}/{subject}", encoding="utf-8") as file:
+        written = file.read().split(f"\n{BEGIN}")[1:]
+    lines = [case.split("\n") for case in written]
+    return sum(sum(it.startswith("$ ") for it in case) * max(1, sum(it.startswith(ROW) for it in case)) for case in lines)
+
+
+def cases(subject):
+    with open(f"{DATA}/{subject}", encoding="utf-8") as file:
+        yield from cases_in(subject, file.read())
+
+
+def is_right(run, output):
+    """Returns whether an output is the one that is wanted."""
+    if run.digest is None:
+        return output == run.output
+    import hashlib
+
+    first, _, last = run.output.partition(b"...\n")
+    return hashlib.sha256(output).hexdigest() == run.digest and output.startswith(first) and output.endswith(last)

@@ -1,0 +1,220 @@
+"""What the documents show of the program. Each of its calls in a block has to be a run of a case over the same files, and what stands below it
+the output of that run, in which a line `...` stands for lines that are left out."""
+
+import functools
+import os
+import re
+import subprocess
+import tempfile
+
+from cases import DATA, BadCase, cases
+from pages import TOP, Failure, cells, names
+
+SUBJECT = "examples"
+PATH = os.path.relpath(f"{DATA}/{SUBJECT}", TOP)
+CALL = re.compile(r"(\S*/)?(cabal-plan|try-plan)(?: ([^|>]*?))?(?: \| (.*)| ?>.*)?$")
+# The first words of an answer that a block may show without the call.
+ANSWER = re.compile(r"(plan|no plan|gave up|replay|constraints:|refused .*|generated \d+)$")
+# The folders whose examples a table shows, one a row, and the lines of answers that a row may show.
+TABLES = ("examples/differences",)
+LINE = re.compile(r"(choose|node|conflict) ")
+# With these a document changes the folder that it shows, at paths below it.
+CHANGES = ("mkdir ", "echo ", "sed ")
+OUTSIDE = re.compile(r"~|\.\.|(^|[\s>])/")
+
+
+def is_read(path):
+    """Returns whether the program may read a file at that path."""
+    name = os.path.basename(path)
+    return name.endswith((".cabal", ".conf")) or name.startswith("cabal.project") or path == "events"
+
+
+def files_of(folder):
+    """Returns the files of a folder that the program may read: for each path its bytes."""
+    found = {}
+    for at, _, inside in os.walk(folder):
+        for path in (os.path.relpath(f"{at}/{name}", folder) for name in inside):
+            if is_read(path):
+                with open(f"{folder}/{path}", "rb") as file:
+                    found[path] = file.read()
+    return found
+
+
+def lay_out(files, folder):
+    for path, content in files.items():
+        os.makedirs(os.path.dirname(f"{folder}/{path}"), exist_ok=True)
+        with open(f"{folder}/{path}", "wb") as file:
+            file.write(content)
+
+
+@functools.lru_cache(maxsize=None)
+def folders():
+    """Returns the folders of examples: those that hold a file and stand in no other."""
+    found = []
+    for at, inner, inside in os.walk(f"{TOP}/examples"):
+        if inside:
+            found.append(os.path.relpath(at, TOP))
+            inner.clear()
+    return sorted(found)
+
+
+def pattern(lines):
+    return "".join(r"(?:.*\n)*" if it == "..." else f"{re.escape(it)}\\n" for it in lines)
+
+
+def first_wrong(lines, output):
+    """Returns the place of the first shown line that isn't in the output as it stands there, or none; behind the last one where more follows."""
+    if re.fullmatch(pattern(lines), output):
+        return None
+    return next((at for at in range(len(lines)) if not re.match(pattern(lines[: at + 1]), output)), len(lines))
+
+
+class Shell:
+    """Where the commands of a document run: in a folder of the repository, with its files if it is one of the examples, or in one that isn't
+    known. `run` is the last run of the program."""
+
+    def __init__(self):
+        self.folder, self.files, self.run = "", None, None
+
+    def enter(self, folder):
+        is_ours = not folder.startswith(("~", "/", "."))
+        self.folder = folder if is_ours else None
+        self.files = files_of(f"{TOP}/{folder}") if is_ours and folder in folders() else None
+
+    def change(self, command):
+        """Runs a command that changes the files, on a copy, and returns whether it could be."""
+        if OUTSIDE.search(command):
+            return False
+        with tempfile.TemporaryDirectory(prefix="docs-") as room:
+            lay_out(self.files, room)
+            ran = subprocess.run(command, shell=True, cwd=room, stdin=subprocess.DEVNULL, check=False)
+            self.files = files_of(room)
+        return ran.returncode == 0
+
+
+def run_of(shell, program, words, known):
+    """Returns the run of these words over the folder of the shell, or none, and why there is none."""
+    if program and os.path.normpath(f"{shell.folder}/{program}") not in ("bin/cabal-plan", "bin/try-plan"):
+        return None, f"{program} isn't the program, seen from {shell.folder or 'the top'}"
+    # Of a folder that is made nothing is read.
+    files = {} if words[:1] == ["generate"] else shell.files
+    over = [it for it in known if it.files == files]
+    if not over:
+        return None, f"no case of {PATH} is over these files"
+    runs = [run for case in over for run in case.runs if run.words == words]
+    return (runs[0], "") if runs else (None, f"the case {over[0].name} has no run of these words")
+
+
+def shown(page, at, run, lines):
+    """Yields what is wrong with an output that is shown."""
+    if run.digest:
+        yield page.fails(at, f"the case {run.case.name} has no whole output")
+        return
+    output = run.output.decode()
+    wrong = first_wrong(lines, output) if lines else None
+    if wrong == len(lines):
+        yield page.fails(at + wrong - 1, "the output goes on behind this line")
+    elif wrong is not None:
+        yield page.fails(at + wrong, f"the case {run.case.name} prints no such line here: {lines[wrong][:100]}")
+
+
+def piped(page, at, command, run):
+    """Yields what is wrong with what is made of an output."""
+    if command.startswith("python3 "):
+        ended = subprocess.run(command, shell=True, input=run.output, stdout=subprocess.DEVNULL, stderr=subprocess.DEVNULL, check=False)
+        if ended.returncode:
+            yield page.fails(at, f"over this output '{command}' ends with status {ended.returncode}")
+
+
+def step(page, shell, at, command, lines, known):
+    """Makes one step of a document, and returns what is wrong with it, or none where it shows nothing of the program."""
+    if told := re.match(r"cd (\S+)(?: && (.*))?$", command):
+        shell.enter(told[1])
+        command = told[2] or ""
+    if shell.folder is None or not command:
+        return None
+    call, words = CALL.match(command), command.split(" ")
+    if command == "echo $?" and shell.run:
+        return [] if lines == [str(shell.run.status)] else [page.fails(at, f"the status is {shell.run.status}")]
+    if not call and shell.files and command.startswith(CHANGES):
+        return None if shell.change(command) else [page.fails(at, "this command isn't followed here")]
+    if not call:
+        shell.enter("")
+        return [page.fails(at, f"there is no {words[0]}")] if "/" in words[0] and not os.path.isfile(f"{TOP}/{words[0]}") else None
+    shell.run, why = run_of(shell, call[1] and call[1] + call[2], (call[3] or "").split(), known)
+    if not shell.run:
+        return [page.fails(at, why)]
+    if call[4]:
+        return list(piped(page, at, call[4], shell.run))
+    return list(shown(page, at + 1, shell.run, lines))
+
+
+def answer(page, at, lines, known):
+    """Returns what is wrong with an answer that is shown without its call."""
+    is_shown = lambda run: not run.digest and first_wrong(lines, run.output.decode()) is None
+    if any(is_shown(run) for case in known for run in case.runs):
+        return []
+    return [page.fails(at, f"no run of {PATH} prints this, and no call stands above it")]
+
+
+def of_page(page, known):
+    """Yields for each call and each answer of a document what is wrong with it."""
+    shell = Shell()
+    for first, lines in page.blocks:
+        starts = [at for at, line in enumerate(lines) if line.startswith("$ ")]
+        for at, end in zip(starts, [*starts[1:], len(lines)]):
+            wrong = step(page, shell, first + at, lines[at][2:], lines[at + 1 : end], known)
+            if wrong is not None:
+                yield wrong
+        if not starts and lines and ANSWER.match(lines[0]):
+            yield answer(page, first, lines, known)
+
+
+def differs(folder, case):
+    """Returns how the files of a case differ from those of its folder."""
+    files, found = files_of(f"{TOP}/{folder}"), []
+    for path in sorted(files.keys() | case.files.keys()):
+        if files.get(path) != case.files.get(path):
+            why = "isn't in the case" if path not in case.files else "isn't in the folder" if path not in files else "differs from that of the folder"
+            found.append(Failure(PATH, case.line, f"{case.name}: {path} {why}"))
+    return found
+
+
+def of_folders(known):
+    """Yields for each folder of examples, and for each case over one, what is wrong with it."""
+    there = folders()
+    named = {case.name for case in known}
+    for folder in there:
+        yield [] if folder in named else [Failure(PATH, 1, f"there is no case {folder}")]
+    for case in known:
+        if case.name in there:
+            yield differs(case.name, case)
+        elif case.name.startswith("examples/") and case.name.split(" ")[0].rstrip(",") not in there:
+            yield [Failure(PATH, case.line, f"{case.name}: there is no such folder of examples")]
+
+
+def of_rows(page, known):
+    """Yields for each row of a table that begins with a folder of examples which of the lines that its cells show no run over it prints."""
+    base = next((f"{it.rstrip('/')}/" for it in names("\n".join(page.prose)) if it.rstrip("/") in TABLES), None)
+    for number, line in enumerate(page.prose, 1):
+        first = names(cells(line)[0])[:1] if base and cells(line) else []
+        if first:
+            printed = "".join(run.output.decode() for case in known if case.name == base + first[0] for run in case.runs)
+            lines = [it for cell in cells(line)[1:] for it in names(cell) if LINE.match(it)]
+            wrong = [it for it in lines if not re.search(rf"^{re.escape(it).replace(re.escape('..'), '.*')}", printed, re.M)]
+            yield [page.fails(number, f"no run over {base}{first[0]} prints {it}") for it in wrong] if printed else [
+                page.fails(number, f"no case of {PATH} is over {base}{first[0]}")
+            ]
+
+
+def checks(pages):
+    """Yields for each check what is wrong."""
+    try:
+        known = list(cases(SUBJECT))
+    except (OSError, BadCase) as error:
+        known = []
+        yield [Failure(PATH, 1, str(error))]
+    yield from of_folders(known)
+    for page in pages:
+        yield from of_page(page, known)
+        yield from of_rows(page, known)

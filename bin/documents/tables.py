@@ -1,0 +1,155 @@
+"""The tables of the documents: what they list has to be what the sources have."""
+
+import os
+import re
+import subprocess
+
+from names import CRATES, defined
+from pages import TOP, Failure, cells, names
+from program import table
+
+# Of std, and the words of the language.
+PLAIN = {"Eq", "From", "Hash", "Ord", "clause", "for", "impl", "law"}
+
+
+def calls(page):
+    """Returns where the table of public calls isn't what `bin/calls` prints."""
+    ran = subprocess.run([f"{TOP}/bin/calls"], stdin=subprocess.DEVNULL, stdout=subprocess.PIPE, text=True, check=False)
+    wanted = ran.stdout.split("\n")[:-1]
+    if wanted[0] not in page.prose:
+        return [page.fails(1, "it has no table of public calls")]
+    at = page.prose.index(wanted[0])
+    end = page.prose.index("", at)
+    is_same = page.prose[at:end] == wanted
+    first = next((n for n, (one, other) in enumerate(zip(page.prose[at:end], wanted)) if one != other), min(end - at, len(wanted)))
+    return [] if is_same else [page.fails(at + first + 1, "here the table isn't what bin/calls prints: bin/calls --write puts it there")]
+
+
+def contracts(page):
+    """Yields for each section on crates the contracts that it names and these crates lack, or those that the row names."""
+    used = table()
+    for _, head, lines in page.sections():
+        crates = [it for it in re.findall(r"\w+", head) if it in CRATES]
+        if head.startswith("### ") and crates:
+            yield [page.fails(number, f"{' and '.join(crates)} defines no {it}") for number, line in lines for it in lacking(crates, used, line)]
+
+
+def lacking(crates, used, line):
+    row = cells(line)
+    if len(row) != 2:
+        return []
+    near = set(crates) | {it for it in names(line) if it in CRATES}
+    there = PLAIN.union(*(defined(f"crates/{it}/{part}") for it in near for part in ("src", "specs", "proofs")), *(used.get(it, ()) for it in near))
+    words = [it for name in names(row[1]) for it in re.findall(r"[\w-]+", name)]
+    return [it for it in words if it not in there and it not in CRATES and len(it) > 1]
+
+
+def specs(crate):
+    at = f"{TOP}/crates/{crate}/specs"
+    return {it[: -len(".antt")] for it in os.listdir(at) if it.endswith(".antt") and it != "Lib.antt"} if os.path.isdir(at) else set()
+
+
+def text_of(crate, name):
+    with open(f"{TOP}/crates/{crate}/specs/{name}.antt", encoding="utf-8") as file:
+        return re.sub(r"(?m)^(?:pub )?use .*$", "", file.read())
+
+
+def heads(head):
+    """Yields the crates of a heading, each with one of its files of definitions."""
+    crate = None
+    for it in names(head):
+        if it in CRATES:
+            crate = it
+        else:
+            yield crate, it
+
+
+def definitions(page):
+    """Yields for each section of definitions which files and which names aren't there."""
+    for at, head, lines in page.sections():
+        files = list(heads(head))
+        wrong = [page.fails(at, f"{crate} has no specs/{name}.antt") for crate, name in files if name not in specs(crate)]
+        there = {name for _, name in files}.union(*(re.findall(r"[\w-]+", text_of(crate, name)) for crate, name in files if name in specs(crate)))
+        for number, line in lines if files else ():
+            of = [it for cell in cells(line)[:1] for name in names(cell) for it in re.findall(r"[\w-]+", name)]
+            near = [it for it in of if it in CRATES]
+            further = there.union(*(defined(f"crates/{it}/{part}") for it in near for part in ("src", "specs")))
+            wrong += [page.fails(number, f"the files of this section have no {it}") for it in of if it not in further and it not in CRATES]
+        if files:
+            yield wrong
+
+
+def files_of_definitions(page):
+    """Returns where the last table of definitions isn't the list of the files of each crate, and the line below that of those without any."""
+    told, wrong, last, lines = {}, [], 0, list(page.sections())[-1][2]
+    for number, line in lines:
+        row = cells(line)
+        if len(row) == 3 and names(row[0])[:1] and names(row[0])[0] in CRATES:
+            crate, last = names(row[0])[0], number
+            told[crate] = [it for it in names(row[1]) + names(row[2]) if not it.islower() or it in specs(crate)]
+            odd = sorted(specs(crate) ^ set(told[crate]))
+            wrong += [page.fails(number, f"{crate}: {it} {'is lacking' if it in specs(crate) else 'is no file of definitions'}") for it in odd]
+    without = {it for number, line in lines if number > last for it in names(line)}
+    odd = {it for it in table() if not specs(it)} ^ without | {it for it in table() if specs(it)} - told.keys()
+    return wrong + [page.fails(last, f"{it} is {'told' if it in without else 'lacking'} below this row") for it in sorted(odd)]
+
+
+def first_of(row):
+    """Returns the names that a row is about: those of its first cell, or else of the second one in front of a colon."""
+    return names(row[0]) or names(row[1].split(":")[0]) if row else []
+
+
+def crates(page, title):
+    """Returns which crates the tables of a section lack, and which of those that they list aren't there."""
+    found = {}
+    for _, head, lines in page.sections():
+        if head == title:
+            found.update({it: number for number, line in lines for it in first_of(cells(line)) if re.fullmatch(r"\w+", it)})
+            where = lines[0][0]
+    return [page.fails(where, f"no table below has {it}") for it in table() if it not in found] + [
+        page.fails(number, f"there is no crate {it}") for it, number in found.items() if it not in CRATES and not re.fullmatch(r"[A-Z]\w*", it)
+    ]
+
+
+def edits_in(folder):
+    return {f"{crate}/{name[: -len('.edit')]}" for crate in CRATES for name in listed(f"{TOP}/crates/{crate}/{folder}") if name.endswith(".edit")}
+
+
+def listed(folder):
+    return os.listdir(folder) if os.path.isdir(folder) else []
+
+
+def edits(page):
+    """Yields for each row of the table of wrong bodies which of its edits stand elsewhere, and at last which edits of the gate have no row."""
+    where, told, last = {it: edits_in(it) for it in ("must-fail", "mistakes")}, set(), 0
+    columns = next((cells(line)[2:] for line in page.prose if line.startswith("| Wrong body |")), [])
+    for number, line in enumerate(page.prose, 1):
+        row = cells(line)
+        if len(row) == 4 and names(row[1])[:1] and names(row[1])[0] in CRATES and line.count("`") > 3:
+            wrong, last = [], number
+            for folder, cell in zip((names(it)[0] for it in columns), row[2:]):
+                here = {f"{names(row[1])[0]}/{it}" for it in names(cell)}
+                told |= here
+                wrong += [page.fails(number, f"{it} {place(it, where)}, not in {folder}") for it in sorted(here - where[folder])]
+            yield wrong
+    yield [page.fails(last, f"no row above has {it}, which the gate tries") for it in sorted(where["must-fail"] - told)]
+
+
+def place(edit, where):
+    return next((f"stands in {folder}" for folder, there in where.items() if edit in there), "is no edit")
+
+
+def checks(pages):
+    """Yields for each check what is wrong."""
+    by_name = {os.path.basename(it.path): it for it in pages}
+    for name in ("README.md", "ARCHITECTURE.md", "DEFINITIONS.md", "PROVED.md"):
+        if name not in by_name:
+            yield [Failure(name, 1, "there is no such document")]
+            return
+    yield calls(by_name["PROVED.md"])
+    yield from contracts(by_name["PROVED.md"])
+    yield from definitions(by_name["DEFINITIONS.md"])
+    yield files_of_definitions(by_name["DEFINITIONS.md"])
+    yield crates(by_name["README.md"], "## The crates")
+    yield crates(by_name["ARCHITECTURE.md"], "## The crates")
+    yield from edits(by_name["ARCHITECTURE.md"])
