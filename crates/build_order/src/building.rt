@@ -18,7 +18,6 @@ pub(crate) struct Wait {
     pub place: usize,
 }
 
-#[derive(Drop)]
 pub(crate) struct Building {
     pub order: List<usize>,
     /// Whether each node is placed.
@@ -26,6 +25,18 @@ pub(crate) struct Building {
     pub ready: BTreeSet<usize>,
     /// Who waits for each node.
     pub waiting: Vec<List<Wait>>,
+}
+
+// Written out, so that it is proved once and not at each exit of each function that owns one.
+impl Drop for Building {
+    fn drop(self) {
+        let Building {
+            order: _order,
+            placed: _placed,
+            ready: _ready,
+            waiting: _waiting,
+        } = self;
+    }
 }
 
 impl Building {

@@ -2,6 +2,7 @@
 
 ghost use Rattle.std.specs.Prelude.{◌≡◌, ◌≤◌, length, IfOk, IfErr};
 ghost use Rattle.std.specs.declared.result.Result.TheVariants.{Ok, Err};
+ghost use Rattle.plan_types.specs.declared.index.Body.TheVariants as body;
 ghost use Rattle.plan_types.specs.Refusal.{RefusesAt};
 ghost use Rattle.description.specs.Description.{Describes};
 ghost use Rattle.description.specs.FaultOrder.{IsOnly, is_at};
@@ -11,16 +12,45 @@ use crate::laws::one_source;
 use cabal_lexer::read_elements;
 use description::read_description;
 use flatten::{demands_of, exposed};
-use plan_types::{Description, Element, Env, Exposed, Fault, FlatDep, List, NoMemory, Text};
+use plan_types::{Body, Description, Element, Env, Exposed, Fault, FlatDep, List, NoMemory, Text};
 use sha2::{Digest, Sha256};
 use std::alloc::Global;
 
 /// What a `.cabal` file says of its package, what that asks of other packages and what it offers them.
-#[derive(Debug, Drop)]
+#[derive(Debug)]
 pub struct Source {
     pub description: Description,
     pub flat: List<FlatDep>,
     pub exposed: Exposed,
+}
+
+// Written out, so that it is proved once and not at each exit of each function that owns one.
+impl Drop for Source {
+    fn drop(self) {
+        let Source {
+            description: _description,
+            flat: _flat,
+            exposed: _exposed,
+        } = self;
+    }
+}
+
+impl Source {
+    /// What an index keeps of it.
+    pub fn into_body(self) -> Body
+        ensures { result ≡ body.Source self.description self.flat self.exposed }
+    {
+        let Source {
+            description,
+            flat,
+            exposed,
+        } = self;
+        Body::Source {
+            description,
+            flat,
+            exposed,
+        }
+    }
 }
 
 /// Reads a `.cabal` file. The first fault is that of its layout, else that of its description, else that of a dependency which

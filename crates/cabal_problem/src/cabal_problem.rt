@@ -27,7 +27,7 @@ use solver_index::{Dependencies, Tables};
 use std::alloc::Global;
 
 /// The problem of an index and settings.
-#[derive(Debug, Drop)]
+#[derive(Debug)]
 pub struct CabalProblem<'a> {
     index: &'a Index,
     settings: &'a Settings,
@@ -38,6 +38,19 @@ pub struct CabalProblem<'a> {
     ghost stands: { ∥ StandsFor settings.now.project names constraints ∥₁ },
     ghost defaults: { ∥ AreDefaults index.now.packages names tables.defaults ∥₁ },
     ghost dependencies: { tables.dependencies ≡ all_dependencies index.now.packages settings.now.project names },
+}
+
+// Written out, so that it is proved once and not at each exit of each function that owns one.
+impl<'a> Drop for CabalProblem<'a> {
+    fn drop(self) {
+        let CabalProblem {
+            index: _index,
+            settings: _settings,
+            names: _names,
+            constraints: _constraints,
+            tables: _tables,
+        } = self;
+    }
 }
 
 impl<'a> CabalProblem<'a> {

@@ -10,9 +10,15 @@ use std::collections::BTreeMap;
 use std::marker::Model;
 
 /// A number for some variables, seen as its entries.
-#[derive(Drop)]
 pub struct Table {
     entries: BTreeMap<Var, u64>,
+}
+
+// Written out, so that it is proved once and not at each exit of each function that owns one.
+impl Drop for Table {
+    fn drop(self) {
+        let Table { entries: _entries } = self;
+    }
 }
 
 impl Model for Table {

@@ -16,12 +16,22 @@ use std::alloc::Global;
 use std::marker::Model;
 
 /// The choices of a search, in the order in which they were made, each of another variable.
-#[derive(Drop)]
 pub struct Trail {
     choices: List<Choice>,
     values: Table,
     // By the number of the package.
     instances: Lists<u64, Choice>,
+}
+
+// Written out, so that it is proved once and not at each exit of each function that owns one.
+impl Drop for Trail {
+    fn drop(self) {
+        let Trail {
+            choices: _choices,
+            values: _values,
+            instances: _instances,
+        } = self;
+    }
 }
 
 impl Model for Trail {
@@ -58,7 +68,12 @@ impl Trail {
     pub fn into_choices(self) -> List<Choice>
         ensures { result ≡ self }
     {
-        self.choices
+        let Trail {
+            choices,
+            values: _values,
+            instances: _instances,
+        } = self;
+        choices
     }
 
     /// The value that was chosen for a variable.

@@ -38,7 +38,6 @@ pub(crate) struct Mark {
 }
 
 /// Choices, with the demands that are listed and those of them that are active.
-#[derive(Drop)]
 pub struct Stack {
     trail: Trail,
     marks: Vec<Mark>,
@@ -47,6 +46,19 @@ pub struct Stack {
     watchers: Mentions,
     // Those of the targets of active demands.
     goals: Goals,
+}
+
+// Written out, so that it is proved once and not at each exit of each function that owns one.
+impl Drop for Stack {
+    fn drop(self) {
+        let Stack {
+            trail: _trail,
+            marks: _marks,
+            listed: _listed,
+            watchers: _watchers,
+            goals: _goals,
+        } = self;
+    }
 }
 
 impl Model for Stack {
@@ -132,7 +144,14 @@ impl Stack {
     pub fn into_trail(self) -> List<Choice>
         ensures { result ≡ self.trail }
     {
-        self.trail.into_choices()
+        let Stack {
+            trail,
+            marks: _marks,
+            listed: _listed,
+            watchers: _watchers,
+            goals: _goals,
+        } = self;
+        trail.into_choices()
     }
 }
 

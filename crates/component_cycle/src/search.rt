@@ -28,12 +28,23 @@ pub(crate) struct Mark {
     pub waiting: usize,
 }
 
-#[derive(Drop)]
 pub(crate) struct Search {
     pub states: List<State>,
     pub path: List<usize>,
     pub waiting: List<usize>,
     pub marks: List<Mark>,
+}
+
+// Written out, so that it is proved once and not at each exit of each function that owns one.
+impl Drop for Search {
+    fn drop(self) {
+        let Search {
+            states: _states,
+            path: _path,
+            waiting: _waiting,
+            marks: _marks,
+        } = self;
+    }
 }
 
 impl Search {

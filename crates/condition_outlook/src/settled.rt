@@ -12,12 +12,21 @@ use std::collections::BTreeMap;
 const MOST_RECENT: usize = 64;
 
 /// What flags are set to, of which a copy holds most in common with what it was copied from.
-#[derive(Drop)]
 pub struct Settled {
     /// What was learnt first.
     shared: List<Shared<BTreeMap<Text, bool>>>,
     /// What was learnt last.
     recent: List<FlagSet>,
+}
+
+// Written out, so that it is proved once and not at each exit of each function that owns one.
+impl Drop for Settled {
+    fn drop(self) {
+        let Settled {
+            shared: _shared,
+            recent: _recent,
+        } = self;
+    }
 }
 
 impl Settled {

@@ -22,7 +22,7 @@ use version_range::Cuts;
 
 /// What the constraints of a project bar, and what it relaxes. What is asked of a package or a part stands beside
 /// its number, so that a test looks at nothing else.
-#[derive(Debug, Drop)]
+#[derive(Debug)]
 pub struct Constraints {
     rules: Rules,
     newer: Relaxing,
@@ -30,6 +30,20 @@ pub struct Constraints {
     tests: bool,
     benchmarks: bool,
     boot_installs: bool,
+}
+
+// Written out, so that it is proved once and not at each exit of each function that owns one.
+impl Drop for Constraints {
+    fn drop(self) {
+        let Constraints {
+            rules: _rules,
+            newer: _newer,
+            older: _older,
+            tests: _tests,
+            benchmarks: _benchmarks,
+            boot_installs: _boot_installs,
+        } = self;
+    }
 }
 
 impl Constraints {

@@ -13,7 +13,7 @@ use plan_types::{Instance, NoMemory, Relax, RelaxOwner, Text, Version};
 use std::alloc::Global;
 
 /// Whose ranges are relaxed.
-#[derive(Debug, Drop)]
+#[derive(Debug)]
 pub(crate) struct Relaxing {
     /// Those of every package, whatever they depend on.
     pub everything: bool,
@@ -21,6 +21,17 @@ pub(crate) struct Relaxing {
     pub owners: Lists<Text, RelaxOwner>,
     /// By the name of a dependency those on it.
     pub dependencies: Lists<Text, RelaxOwner>,
+}
+
+// Written out, so that it is proved once and not at each exit of each function that owns one.
+impl Drop for Relaxing {
+    fn drop(self) {
+        let Relaxing {
+            everything: _everything,
+            owners: _owners,
+            dependencies: _dependencies,
+        } = self;
+    }
 }
 
 impl Relaxing {

@@ -42,10 +42,20 @@ pub(crate) struct PartOf {
 }
 
 /// What constraints ask, by the packages and parts that they are on.
-#[derive(Debug, Drop)]
+#[derive(Debug)]
 pub(crate) struct Rules {
     pub packages: Lists<u64, Rule>,
     pub parts: Lists<PartOf, Setting>,
+}
+
+// Written out, so that it is proved once and not at each exit of each function that owns one.
+impl Drop for Rules {
+    fn drop(self) {
+        let Rules {
+            packages: _packages,
+            parts: _parts,
+        } = self;
+    }
 }
 
 impl Wanted {

@@ -8,10 +8,19 @@ use indexmap::IndexSet;
 
 /// What a variable leads to, and what leads to it. An edge lies on a cycle through the variable where that leads to the start
 /// of the edge, and the end of the edge to the variable.
-#[derive(Drop)]
 pub(crate) struct Ring {
     pub(crate) ahead: IndexSet<Var>,
     pub(crate) back: IndexSet<Var>,
+}
+
+// Written out, so that it is proved once and not at each exit of each function that owns one.
+impl Drop for Ring {
+    fn drop(self) {
+        let Ring {
+            ahead: _ahead,
+            back: _back,
+        } = self;
+    }
 }
 
 impl Ring {

@@ -10,11 +10,21 @@ use plan_types::NoMemory;
 use std::alloc::Global;
 
 /// The variables that a search from one of them found. From those before a place it went on already.
-#[derive(Drop)]
 pub(crate) struct Side {
     pub(crate) end: Var,
     pub(crate) found: IndexSet<Var>,
     pub(crate) place: usize,
+}
+
+// Written out, so that it is proved once and not at each exit of each function that owns one.
+impl Drop for Side {
+    fn drop(self) {
+        let Side {
+            end: _end,
+            found: _found,
+            place: _place,
+        } = self;
+    }
 }
 
 impl Side {

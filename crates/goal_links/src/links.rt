@@ -18,13 +18,24 @@ use std::alloc::Global;
 use std::marker::Model;
 
 /// Entries of variables, of which some are linked in goal order, each with a chain of cells.
-#[derive(Drop)]
 pub struct Links {
     vars: Vars,
     row: Row,
     // One that is linked still, near which the next place is looked for.
     recent: Option<usize>,
     chains: Chains,
+}
+
+// Written out, so that it is proved once and not at each exit of each function that owns one.
+impl Drop for Links {
+    fn drop(self) {
+        let Links {
+            vars: _vars,
+            row: _row,
+            recent: _recent,
+            chains: _chains,
+        } = self;
+    }
 }
 
 impl Model for Links {

@@ -9,9 +9,15 @@ use std::alloc::Global;
 use std::marker::Model;
 
 /// Variables, each once.
-#[derive(Drop)]
 pub(crate) struct Vars {
     keys: IndexSet<Var>,
+}
+
+// Written out, so that it is proved once and not at each exit of each function that owns one.
+impl Drop for Vars {
+    fn drop(self) {
+        let Vars { keys: _keys } = self;
+    }
 }
 
 impl Model for Vars {

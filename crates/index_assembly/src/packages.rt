@@ -153,13 +153,8 @@ fn push_release(
 pub(crate) fn source_entry(alloc: Global, local: bool, source: Source) -> Result<Entry, NoMemory>
     ensures { IfOk result (λ entry. entry ≡ source_entry local source) }
 {
-    let Source {
-        description,
-        flat,
-        exposed,
-    } = source;
-    let name = description.name.copy()?;
-    let version = description.version.copy(alloc)?;
+    let name = source.description.name.copy()?;
+    let version = source.description.version.copy(alloc)?;
     Ok(Entry {
         instance: Instance {
             name,
@@ -167,11 +162,7 @@ pub(crate) fn source_entry(alloc: Global, local: bool, source: Source) -> Result
             origin: source_origin(local),
             unit: Text::new(alloc),
         },
-        body: Body::Source {
-            description,
-            flat,
-            exposed,
-        },
+        body: source.into_body(),
     })
 }
 

@@ -13,10 +13,20 @@ use plan_types::{List, NoMemory, Text};
 use std::alloc::Global;
 
 /// The ids of units, and the names of their packages by the places of the ids.
-#[derive(Debug, Drop)]
+#[derive(Debug)]
 pub(crate) struct UnitNames {
     pub ids: IndexSet<Text>,
     pub names: List<Text>,
+}
+
+// Written out, so that it is proved once and not at each exit of each function that owns one.
+impl Drop for UnitNames {
+    fn drop(self) {
+        let UnitNames {
+            ids: _ids,
+            names: _names,
+        } = self;
+    }
 }
 
 impl UnitNames {

@@ -11,11 +11,21 @@ use std::alloc::Global;
 use std::collections::BTreeSet;
 
 /// Identifiers in the order of their bytes, by kind of dependency.
-#[derive(Drop)]
 pub(crate) struct Sets {
     pub libs: BTreeSet<Text>,
     pub tools: BTreeSet<Text>,
     pub setups: BTreeSet<Text>,
+}
+
+// Written out, so that it is proved once and not at each exit of each function that owns one.
+impl Drop for Sets {
+    fn drop(self) {
+        let Sets {
+            libs: _libs,
+            tools: _tools,
+            setups: _setups,
+        } = self;
+    }
 }
 
 impl Sets {

@@ -42,7 +42,6 @@ impl From<NoMemory> for MemFault {
 
 /// A folder in memory, which tells its files. The calls with these numbers fail, lists and reads
 /// counted together from 1.
-#[derive(Drop)]
 pub struct MemFolder {
     files: List<MemFile>,
     /// The place of each file, by its path.
@@ -57,6 +56,20 @@ pub struct MemFolder {
     ghost listed: { Listed files dirs },
     ghost counted: { faults ≤ calls },
     ghost bounded: { faults ≤ ceiling_of fail_at },
+}
+
+// Written out, so that it is proved once and not at each exit of each function that owns one.
+impl Drop for MemFolder {
+    fn drop(self) {
+        let MemFolder {
+            files: _files,
+            places: _places,
+            dirs: _dirs,
+            fail_at: _fail_at,
+            calls: _calls,
+            faults: _faults,
+        } = self;
+    }
 }
 
 impl MemFolder {

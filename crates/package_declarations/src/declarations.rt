@@ -18,7 +18,6 @@ use stanza_imports::NameSet;
 use std::alloc::Global;
 
 /// What a package declares, by name. The main library has the empty name.
-#[derive(Drop)]
 pub struct Declared<'a> {
     spec: Spec,
     /// The package's own name.
@@ -26,6 +25,19 @@ pub struct Declared<'a> {
     flags: NameSet<'a>,
     libraries: NameSet<'a>,
     executables: NameSet<'a>,
+}
+
+// Written out, so that it is proved once and not at each exit of each function that owns one.
+impl<'a> Drop for Declared<'a> {
+    fn drop(self) {
+        let Declared {
+            spec: _spec,
+            name: _name,
+            flags: _flags,
+            libraries: _libraries,
+            executables: _executables,
+        } = self;
+    }
 }
 
 /// What a dependency means in a package.

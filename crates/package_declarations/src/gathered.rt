@@ -25,7 +25,6 @@ use stanza_imports::Placed;
 use std::alloc::Global;
 
 /// What the parts so far say.
-#[derive(Drop)]
 pub struct Gathered {
     /// The first one is `true`.
     conds: Conditions,
@@ -34,6 +33,18 @@ pub struct Gathered {
     groups: Groups,
     /// The number of the condition that no part so far bars the component, where one says `buildable: False`.
     barred: Option<usize>,
+}
+
+// Written out, so that it is proved once and not at each exit of each function that owns one.
+impl Drop for Gathered {
+    fn drop(self) {
+        let Gathered {
+            conds: _conds,
+            levels: _levels,
+            groups: _groups,
+            barred: _barred,
+        } = self;
+    }
 }
 
 /// Dependencies by the places in which they stand.
@@ -106,13 +117,19 @@ impl Gathered {
             → parts.0 ≡ all_of barred) }
         ensures deps { IfOk result (λ parts. parts.1 ≡ deps_in self.groups) }
     {
-        let groups = self.groups.into_list()?;
-        let free = match self.barred {
+        let Gathered {
+            conds,
+            levels: _levels,
+            groups,
+            barred,
+        } = self;
+        let groups = groups.into_list()?;
+        let free = match barred {
             Some(number) => number,
             None => 0,
         };
-        let cond = self.conds.guard(alloc, free)?;
-        let conds = Shared::new(alloc, self.conds)?;
+        let cond = conds.guard(alloc, free)?;
+        let conds = Shared::new(alloc, conds)?;
         let buildable = TabledCond::new(cond, free, conds.copy()?);
         Ok((buildable, GuardedDeps::new(conds, groups)))
     }

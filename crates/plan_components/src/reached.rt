@@ -19,10 +19,20 @@ use plan_types::{List, NoMemory};
 use std::alloc::Global;
 
 /// The nodes of a plan, and beside each what it needs.
-#[derive(Debug, Drop)]
+#[derive(Debug)]
 pub struct Reached {
     set: IndexSet<Node>,
     pub needs: List<List<Need>>,
+}
+
+// Written out, so that it is proved once and not at each exit of each function that owns one.
+impl Drop for Reached {
+    fn drop(self) {
+        let Reached {
+            set: _set,
+            needs: _needs,
+        } = self;
+    }
 }
 
 impl Reached {

@@ -17,7 +17,6 @@ use std::alloc::Global;
 use std::marker::Model;
 
 /// The jobs of a build. A place is the number of a node in the plan's list, from 0.
-#[derive(Drop)]
 pub struct Jobs {
     slots: u32,
     running: u32,
@@ -31,6 +30,22 @@ pub struct Jobs {
     held: List<bool>,
     /// Room for those that are to be held.
     to_hold: Marks,
+}
+
+// Written out, so that it is proved once and not at each exit of each function that owns one.
+impl Drop for Jobs {
+    fn drop(self) {
+        let Jobs {
+            slots: _slots,
+            running: _running,
+            users: _users,
+            states: _states,
+            unmet: _unmet,
+            ready: _ready,
+            held: _held,
+            to_hold: _to_hold,
+        } = self;
+    }
 }
 
 impl Model for Jobs {

@@ -16,7 +16,7 @@ pub enum NodeKind {
 }
 
 /// A component of a plan. Of what it needs each list has the identifiers in the order of their bytes, each once.
-#[derive(Debug, Drop)]
+#[derive(Debug)]
 pub struct PlanNode {
     pub kind: NodeKind,
     /// Of the package.
@@ -30,6 +30,23 @@ pub struct PlanNode {
     pub libs: List<Text>,
     pub tools: List<Text>,
     pub setups: List<Text>,
+}
+
+// Written out, so that it is proved once and not at each exit of each function that owns one.
+impl Drop for PlanNode {
+    fn drop(self) {
+        let PlanNode {
+            kind: _kind,
+            name: _name,
+            version: _version,
+            component: _component,
+            id: _id,
+            unbuildable: _unbuildable,
+            libs: _libs,
+            tools: _tools,
+            setups: _setups,
+        } = self;
+    }
 }
 
 impl PlanNode {

@@ -30,11 +30,22 @@ pub enum Picking {
 }
 
 /// What a search ended with, the names that stand behind the numbers in it, and what is told of a failure.
-#[derive(Debug, Drop)]
+#[derive(Debug)]
 pub struct Finding {
     pub names: Names,
     pub outcome: Outcome,
     pub blame: Blame,
+}
+
+// Written out, so that it is proved once and not at each exit of each function that owns one.
+impl Drop for Finding {
+    fn drop(self) {
+        let Finding {
+            names: _names,
+            outcome: _outcome,
+            blame: _blame,
+        } = self;
+    }
 }
 
 /// Searches for a plan of the packages of an index, which is sound and has each package that is asked for besides. Where there is

@@ -74,7 +74,7 @@ impl GuardedDeps {
 }
 
 /// A component of a package.
-#[derive(Debug, Drop)]
+#[derive(Debug)]
 pub struct Component {
     /// Of its section, from 1.
     pub line: u32,
@@ -86,6 +86,20 @@ pub struct Component {
     pub buildable: TabledCond,
     /// In file order, imported ones in front.
     pub deps: GuardedDeps,
+}
+
+// Written out, so that it is proved once and not at each exit of each function that owns one.
+impl Drop for Component {
+    fn drop(self) {
+        let Component {
+            line: _line,
+            kind: _kind,
+            name: _name,
+            public: _public,
+            buildable: _buildable,
+            deps: _deps,
+        } = self;
+    }
 }
 
 /// A flag that a package declares. Its name is in lower case.
@@ -100,7 +114,7 @@ pub struct FlagDecl {
 }
 
 /// What a `.cabal` file says of its package.
-#[derive(Debug, Drop)]
+#[derive(Debug)]
 pub struct Description {
     pub spec: Spec,
     pub name: Text,
@@ -117,4 +131,21 @@ pub struct Description {
     pub digest: Text,
     /// The line of each field `build-tools`, from 1, in file order.
     pub warnings: List<u32>,
+}
+
+// Written out, so that it is proved once and not at each exit of each function that owns one.
+impl Drop for Description {
+    fn drop(self) {
+        let Description {
+            spec: _spec,
+            name: _name,
+            version: _version,
+            custom: _custom,
+            flags: _flags,
+            components: _components,
+            setup: _setup,
+            digest: _digest,
+            warnings: _warnings,
+        } = self;
+    }
 }

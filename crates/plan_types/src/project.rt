@@ -13,7 +13,7 @@ pub struct ProjectEntry {
 }
 
 /// What the project files say.
-#[derive(Debug, Drop)]
+#[derive(Debug)]
 pub struct Project {
     pub entries: List<ProjectEntry>,
     /// Packages that are planned besides the local ones.
@@ -29,6 +29,26 @@ pub struct Project {
     /// Whether boot libraries may be built.
     pub boot_installs: bool,
     pub warnings: List<Warning>,
+}
+
+// Written out, so that it is proved once and not at each exit of each function that owns one.
+impl Drop for Project {
+    fn drop(self) {
+        let Project {
+            entries: _entries,
+            extra: _extra,
+            constraints: _constraints,
+            preferences: _preferences,
+            newer: _newer,
+            older: _older,
+            tests: _tests,
+            benchmarks: _benchmarks,
+            limit: _limit,
+            prefer_oldest: _prefer_oldest,
+            boot_installs: _boot_installs,
+            warnings: _warnings,
+        } = self;
+    }
 }
 
 /// What a plan is made for.

@@ -18,10 +18,20 @@ use std::marker::Model;
 
 /// The names that variables speak of by numbers. A package's number is its place in the index, and a flag's is its
 /// place among the names of all flags, in byte order.
-#[derive(Debug, Drop)]
+#[derive(Debug)]
 pub struct Names {
     packages: IndexSet<Text>,
     flags: IndexSet<Text>,
+}
+
+// Written out, so that it is proved once and not at each exit of each function that owns one.
+impl Drop for Names {
+    fn drop(self) {
+        let Names {
+            packages: _packages,
+            flags: _flags,
+        } = self;
+    }
 }
 
 impl Model for Names {

@@ -32,11 +32,23 @@ pub struct Need {
 }
 
 /// What an instance asks for. Each list is in the order of that of which it is made.
-#[derive(Debug, Drop)]
+#[derive(Debug)]
 pub struct Dependencies {
     /// The numbers of its flags.
     pub flags: List<u64>,
     pub deps: List<ConditionalDep>,
     pub setup: List<Target>,
     pub needs: List<Need>,
+}
+
+// Written out, so that it is proved once and not at each exit of each function that owns one.
+impl Drop for Dependencies {
+    fn drop(self) {
+        let Dependencies {
+            flags: _flags,
+            deps: _deps,
+            setup: _setup,
+            needs: _needs,
+        } = self;
+    }
 }

@@ -21,13 +21,25 @@ use std::alloc::Global;
 use version_range::Cuts;
 
 /// Of what the tables are made.
-#[derive(Drop)]
 pub(crate) struct Sources<'a> {
     pub packages: &'a [Package],
     pub project: &'a Project,
     pub names: &'a Names,
     pub constraints: &'a Constraints,
     pub units: List<UnitPlaces>,
+}
+
+// Written out, so that it is proved once and not at each exit of each function that owns one.
+impl<'a> Drop for Sources<'a> {
+    fn drop(self) {
+        let Sources {
+            packages: _packages,
+            project: _project,
+            names: _names,
+            constraints: _constraints,
+            units: _units,
+        } = self;
+    }
 }
 
 impl<'a> Sources<'a> {

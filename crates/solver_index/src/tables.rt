@@ -22,7 +22,7 @@ use qualified_goals::Names;
 use std::alloc::Global;
 
 /// What is made once.
-#[derive(Debug, Drop)]
+#[derive(Debug)]
 pub struct Tables {
     /// The instances of each package, the best first.
     pub orders: List<List<u64>>,
@@ -30,6 +30,17 @@ pub struct Tables {
     pub dependencies: List<List<Dependencies>>,
     /// The defaults of flags, by package and instance.
     pub defaults: List<List<Defaults>>,
+}
+
+// Written out, so that it is proved once and not at each exit of each function that owns one.
+impl Drop for Tables {
+    fn drop(self) {
+        let Tables {
+            orders: _orders,
+            dependencies: _dependencies,
+            defaults: _defaults,
+        } = self;
+    }
 }
 
 impl Tables {

@@ -13,10 +13,19 @@ use plan_types::{List, Named, NoMemory, Project, Range, Text};
 use std::alloc::Global;
 
 /// The packages that are asked for besides, and the ranges that are preferred.
-#[derive(Drop)]
 pub(crate) struct Wishes {
     pub(crate) extra: IndexSet<Text>,
     pub(crate) preferred: Lists<Text, Range>,
+}
+
+// Written out, so that it is proved once and not at each exit of each function that owns one.
+impl Drop for Wishes {
+    fn drop(self) {
+        let Wishes {
+            extra: _extra,
+            preferred: _preferred,
+        } = self;
+    }
 }
 
 pub(crate) fn wishes_of(alloc: Global, project: &Project) -> Result<Wishes, NoMemory>

@@ -9,9 +9,15 @@ use std::alloc::Global;
 use std::marker::Model;
 
 /// Names, each once, in the order in which they came. The place of a name is its number.
-#[derive(Drop)]
 pub struct NameSet<'a> {
     set: IndexSet<&'a str>,
+}
+
+// Written out, so that it is proved once and not at each exit of each function that owns one.
+impl<'a> Drop for NameSet<'a> {
+    fn drop(self) {
+        let NameSet { set: _set } = self;
+    }
 }
 
 impl<'a> Model for NameSet<'a> {

@@ -11,7 +11,7 @@ use plan_types::{Cause, Fault, List, NoMemory, Text, UnitRecord, Version};
 use std::alloc::Global;
 
 /// What the fields of a record say together.
-#[derive(Debug, Drop)]
+#[derive(Debug)]
 pub struct Contents {
     /// The unit is a sublibrary.
     pub left_out: bool,
@@ -21,6 +21,20 @@ pub struct Contents {
     pub version: Option<Version>,
     pub id: Option<Text>,
     pub depends: List<Text>,
+}
+
+// Written out, so that it is proved once and not at each exit of each function that owns one.
+impl Drop for Contents {
+    fn drop(self) {
+        let Contents {
+            left_out: _left_out,
+            bad: _bad,
+            name: _name,
+            version: _version,
+            id: _id,
+            depends: _depends,
+        } = self;
+    }
 }
 
 impl Contents {
