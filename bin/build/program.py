@@ -1,13 +1,17 @@
-"""Where the program stands that is built for the present sources."""
+"""Where the program stands that was built for the present sources."""
 
+import contextlib
 import hashlib
 import os
+import platform
 import sys
 
 TOP = os.path.dirname(os.path.dirname(os.path.dirname(os.path.realpath(__file__))))
 PROGRAM = "cabal_plan"
 # Outside the checkout, so that checkouts of the same sources share it, and the gate finds nothing of it.
 OUT = f"{os.environ.get('XDG_CACHE_HOME') or os.path.expanduser('~/.cache')}/cabal-plan"
+# The program of the last release, for x86-64 Linux, and the sum of its sources.
+RELEASE, RELEASED_SOURCES = f"{TOP}/dist/cabal-plan", f"{TOP}/dist/sources.sha256"
 # The status where it can't be built.
 FAILED = 70
 
@@ -49,16 +53,28 @@ def sum_of(top, crates, paths):
     return total.hexdigest()
 
 
+def is_released(total):
+    """Returns whether the release was built of the sources with this sum, and runs here."""
+    with contextlib.suppress(OSError), open(RELEASED_SOURCES, encoding="utf-8") as file:
+        return file.read().split()[:1] == [total] and platform.machine() == "x86_64" and os.access(RELEASE, os.X_OK)
+    return False
+
+
 def built_program():
-    """Returns the path of the program, built first where it isn't there."""
+    """Returns the path of the program: the one that was built of the present sources, else that of the release where it was; else it
+    is built first."""
     crates = below(PROGRAM, table(), {})
     paths = sources(crates)
+    total = sum_of(TOP, crates, paths)
     # A program's name holds the sum of its sources, and it comes there whole: nobody sees half of one, or another's.
-    program = f"{OUT}/{PROGRAM}-{sum_of(TOP, crates, paths)}"
-    if not os.access(program, os.X_OK):
-        from steps import Build, built
+    program = f"{OUT}/{PROGRAM}-{total}"
+    if os.access(program, os.X_OK):
+        return program
+    if is_released(total):
+        return RELEASE
+    from steps import Build, built
 
-        if not built(OUT, program, Build(TOP, f"{OUT}/work", crates), paths, sum_of):
-            print("cabal-plan: the program could not be built", file=sys.stderr)
-            sys.exit(FAILED)
+    if not built(OUT, program, Build(TOP, f"{OUT}/work", crates), paths, sum_of):
+        print("cabal-plan: the program could not be built", file=sys.stderr)
+        sys.exit(FAILED)
     return program

@@ -153,29 +153,39 @@ class Build:
         begun, done, running = time.monotonic(), set(), {}
         lanes, self.memory_free = len(os.sched_getaffinity(0)), free_memory()
         left = sorted(self.used, key=lambda it: -self.ahead[it])
-        try:
-            with concurrent.futures.ThreadPoolExecutor(lanes + 1) as pool:
-                while left or running:
-                    while begin := self.next([it for it in left if done.issuperset(self.used[it])], running, lanes):
-                        crate, jobs = begin
-                        left.remove(crate)
-                        taken = self.memory[crate] * (1 + MORE * (jobs - 1))
-                        ran = pool.submit(self.prove, crate, jobs, RUN if crate == self.program else LIB)
-                        running[ran] = (crate, jobs, taken)
-                    now = ", ".join(crate for crate, _, _ in running.values())
-                    say(f"{len(done)} of {len(self.used)} crates proved, {len(self.used) - len(done)} left, {since(begun)}; now {now}")
-                    for it in concurrent.futures.wait(running, return_when=concurrent.futures.FIRST_COMPLETED).done:
-                        crate, log = running.pop(it)[0], it.result()
-                        if log:
-                            self.stop()
-                            self.show(crate, log)
-                            return False
-                        done.add(crate)
-        except BaseException:
-            self.stop()
-            raise
+        with concurrent.futures.ThreadPoolExecutor(lanes + 1) as pool, self.stopped_in_the_end():
+            while left or running:
+                while begin := self.next([it for it in left if done.issuperset(self.used[it])], running, lanes):
+                    crate, jobs = begin
+                    left.remove(crate)
+                    taken = self.memory[crate] * (1 + MORE * (jobs - 1))
+                    ran = pool.submit(self.prove, crate, jobs, RUN if crate == self.program else LIB)
+                    running[ran] = (crate, jobs, taken)
+                now = ", ".join(crate for crate, _, _ in running.values())
+                say(f"{len(done)} of {len(self.used)} crates proved, {len(self.used) - len(done)} left, {since(begun)}; now {now}")
+                for it in concurrent.futures.wait(running, return_when=concurrent.futures.FIRST_COMPLETED).done:
+                    crate, log = running.pop(it)[0], it.result()
+                    if log:
+                        self.show(crate, log)
+                        return False
+                    done.add(crate)
         say(f"all {len(self.used)} crates proved, and the program built, {since(begun)}")
         return True
+
+    @contextlib.contextmanager
+    def stopped_in_the_end(self):
+        """Ends the provers that still run when this is left, also by a signal, before anyone waits for them."""
+
+        def end(number, _):
+            sys.exit(128 + number)
+
+        before = {number: signal.signal(number, end) for number in (signal.SIGTERM, signal.SIGHUP, signal.SIGINT)}
+        try:
+            yield
+        finally:
+            self.stop()
+            for number, handler in before.items():
+                signal.signal(number, handler)
 
     def show(self, crate, log):
         with open(log, encoding="utf-8", errors="replace") as said:
