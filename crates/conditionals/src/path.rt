@@ -14,16 +14,10 @@ use std::alloc::Global;
 pub const MOST_PATHS: u64 = 256;
 
 /// The paths of a condition, wanted true and wanted false.
+#[derive(Drop)]
 pub struct Lists {
     pub yes: List<List<FlagSet>>,
     pub no: List<List<FlagSet>>,
-}
-
-// Written out, so that it is proved once and not at each exit of each function that owns one.
-impl Drop for Lists {
-    fn drop(self) {
-        let Lists { yes: _yes, no: _no } = self;
-    }
 }
 
 /// Which paths are needed.
