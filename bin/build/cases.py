@@ -10,8 +10,18 @@ A line that begins with one of these marks stands for itself; every other line i
     + plain PATH NAME VERSION [DEPENDS]     the same file at this path
     + unit ID NAME VERSION [DEPENDS]        installed/ID.conf, the record of a unit that depends on these identifiers
     + units ID ..                           such records, each ID of the form NAME-VERSION, without dependencies
+    + link PATH TARGET                      a symbolic link; a case with one is run over a folder of the system alone
     $ WORDS [=> STATUS]         begins a run of these words, which ends with this status (0 unless it is given); below stands the output
     $ WORDS => STATUS sha256 DIGEST         the same of a long output: its digest, and below its first and last lines around a line `...`
+    $ WORDS ! call N [=> STATUS]            a run of which this call on the folder fails, counted from 1
+    $ WORDS ! calls N           the run above, which makes N calls on the folder: each fails in turn. It prints nothing and ends with status 4,
+                                and a second run over the same folder answers as the run above
+    $ WORDS ! writes N          the run above: each write fails in turn, where a write takes N bytes. It ends with status 5, and what was
+                                written before is printed
+    $ WORDS ! bytes             the run above: the sink has room for each smaller number of bytes in turn. It ends with status 5, and they are
+                                printed
+    $ WORDS ! cuts              each file is cut off behind each of its bytes in turn: the run finds a plan or none, or refuses, and so does
+                                a second run
     @ FIELD [@ FIELD ..]        repeats the whole case with these fields in place of %1, %2, ..
     * FIRST..LAST LINES         stands for these lines, which a `\\n` separates, once for each number, with the number in place of %n and
                                 the next one in place of %m
@@ -30,7 +40,9 @@ DATA = f"{TOP}/crates/case_runs/data"
 ARGS = f"{TOP}/crates/case_runs/args"
 MARKS = ("# ", "--- ", "+ ", "$ ")
 BEGIN, ROW, REPEAT = "=== ", "@ ", "* "
-KINDS = ("local", "source", "plain", "unit", "units")
+KINDS = ("local", "source", "plain", "unit", "units", "link")
+# What can fail in a run, and whether a number says more.
+FAILING = {"call": True, "calls": True, "writes": True, "bytes": False, "cuts": False}
 ESCAPES = {b"n": b"\n", b"t": b"\t", b"r": b"\r", b"s": b" "}
 
 
@@ -39,17 +51,17 @@ class BadCase(Exception):
 
 
 class Run:
-    """A run: its words, the status, the output or, of a long one, its digest and its ends."""
+    """A run: its words, what fails in it, the status, the output or, of a long one, its digest and its ends."""
 
-    def __init__(self, case, words, status, digest, output):
-        self.case, self.words, self.status, self.digest, self.output = case, words, status, digest, output
+    def __init__(self, case, words, failing, status, digest, output):
+        self.case, self.words, self.failing, self.status, self.digest, self.output = case, words, failing, status, digest, output
 
 
 class Case:
-    """A case: its name, its line, its files by path, and its runs."""
+    """A case: its name, its line, its files and the targets of its links by path, and its runs."""
 
     def __init__(self, subject, name, line):
-        self.subject, self.name, self.line, self.files, self.runs = subject, name, line, {}, []
+        self.subject, self.name, self.line, self.files, self.links, self.runs = subject, name, line, {}, {}, []
 
 
 def names():
@@ -143,9 +155,9 @@ def made(words, files):
 
 
 def run_of(case, line, output):
-    told = re.match(r"\$ (.*?)(?: => (\d+)(?: sha256 ([0-9a-f]{64}))?)?$", line)
+    told = re.match(r"\$ (.*?)(?: ! ([a-z]+(?: \d+)?))?(?: => (\d+)(?: sha256 ([0-9a-f]{64}))?)?$", line)
     words = told[1].split(" ") if told[1] else []
-    case.runs.append(Run(case, words, int(told[2] or 0), told[3], bytes_of(output)))
+    case.runs.append(Run(case, words, told[2], int(told[3] or 0), told[4], bytes_of(output)))
 
 
 def take(case, block):
@@ -157,6 +169,8 @@ def take(case, block):
         run_of(case, head, content)
     elif any(content):
         raise BadCase(f"{case.subject}:{case.line}: no file or output begins above {next(it for it in content if it)!r}")
+    elif head.startswith("+ link "):
+        path, case.links[path] = head[len("+ link ") :].split(" ", 1)
     elif head.startswith("+ "):
         made(head[2:], case.files)
 
@@ -201,6 +215,9 @@ def faults(subject):
         kind = re.match(r"(?:\* \d+\.\.\d+ )?\+ (\S+)", line)
         if kind and kind[1] not in KINDS:
             found.append(f"{subject}:{number}: no short form begins with {kind[1]}")
+        failing = re.match(r"\$ .* ! (\S*)( \d+)?(?: => .*)?$", line)
+        if failing and FAILING.get(failing[1]) is not bool(failing[2]):
+            found.append(f"{subject}:{number}: nothing fails in the form {failing[1]!r}")
     return found
 
 

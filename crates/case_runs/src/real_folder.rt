@@ -1,25 +1,41 @@
 // The folder of the system that a case is run over.
-use outside_folder::{MemFile, RealFolder};
+use crate::case::{Case, Link};
+use outside_folder::RealFolder;
 use plan_types::{NoMemory, Text};
+use std::os::unix::fs::symlink;
 use std::{fs, io};
 
 const ROOT: &str = "folder";
 
-/// Writes the files of a case into the folder.
-pub fn write_files(rt: &HostRuntime, files: &[MemFile]) -> io::Result<()> {
+/// Writes the files and links of a case into the folder.
+pub fn write_files(rt: &HostRuntime, case: &Case) -> io::Result<()> {
     fs::create_dir_all(rt, ROOT)?;
-    for file in files {
+    for file in case.files.as_slice() {
         write_file(rt, file.path.as_str(), file.bytes.as_slice())?;
+    }
+    write_links(rt, &case.links)
+}
+
+fn write_links(rt: &HostRuntime, links: &Vec<Link>) -> io::Result<()> {
+    for link in links.iter() {
+        let path = placed(rt, link.path.as_str())?;
+        symlink(rt, link.target.as_str(), path.as_str())?;
     }
     Ok(())
 }
 
 fn write_file(rt: &HostRuntime, path: &str, bytes: &[u8]) -> io::Result<()> {
+    let path = placed(rt, path)?;
+    fs::write(rt, path.as_str(), bytes)
+}
+
+// Where a path leads in the folder, with the folders above it made.
+fn placed(rt: &HostRuntime, path: &str) -> io::Result<String> {
     let path = format!(in rt.alloc(); "{ROOT}/{path}")?;
     if let Some((dir, _)) = path.as_str().rsplit_once('/') {
         fs::create_dir_all(rt, dir)?;
     }
-    fs::write(rt, path.as_str(), bytes)
+    Ok(path)
 }
 
 /// Takes the folder and its files away.

@@ -1,7 +1,10 @@
 // What comes of the cases of a file.
+use crate::answer::{Faults, answer_over, mem_folder, other_than_wanted};
+use crate::case::{Case, Run, case_of};
+use crate::failing::{Failing, other_failing};
 use crate::real_folder::{clear, folder_at, write_files};
-use case_text::{Case, Faults, Run, answer_over, case_of, cases_of, mem_folder, other_than_wanted};
-use outside_folder::{Folder, MemFile, MemFolder};
+use crate::rows::cases_of;
+use outside_folder::{Folder, MemFolder};
 use plan_types::NoMemory;
 use std::alloc::Global;
 use std::io::{self, ErrorKind};
@@ -42,20 +45,12 @@ fn try_cases(rt: &HostRuntime, written: &str, report: &mut Report) -> io::Result
 }
 
 fn try_case(rt: &HostRuntime, case: Case, report: &mut Report) -> io::Result<()> {
-    let Case { name, files, runs } = case;
-    let is_real = is_small(files.as_slice());
+    try_failing(rt.alloc(), &case, report)?;
+    let is_real = is_small(&case);
     if is_real {
-        write_files(rt, files.as_slice())?;
+        write_files(rt, &case)?;
     }
-    match with_memory(mem_folder(rt.alloc(), files, 0))? {
-        Some(folder) => try_runs(rt, name.as_str(), runs.as_slice(), folder, is_real, report)?,
-        None => count(
-            rt.alloc(),
-            report,
-            name.as_str(),
-            Some("its files make no folder\n"),
-        )?,
-    }
+    try_over_folders(rt, case, is_real, report)?;
     if is_real {
         clear(rt)?;
     }
@@ -63,20 +58,72 @@ fn try_case(rt: &HostRuntime, case: Case, report: &mut Report) -> io::Result<()>
 }
 
 // Whether a case is run over a folder of the system too: many files and large ones take long to write, and are left to `bin/try-cases`.
-fn is_small(files: &[MemFile]) -> bool {
+fn is_small(case: &Case) -> bool {
+    let files = case.files.as_slice();
     files.len() <= 100 && files.iter().all(|file| file.bytes.len() <= 2_000_000)
+}
+
+fn is_whole(run: &Run) -> bool {
+    matches!(run.failing, Failing::Nothing)
+}
+
+// The runs of which something fails, over folders in memory.
+fn try_failing(alloc: Global, case: &Case, report: &mut Report) -> io::Result<()> {
+    for run in case.runs.iter().filter(|run| !is_whole(*run)) {
+        let other = with_memory(other_failing(alloc, case.files.as_slice(), run))?;
+        count(
+            alloc,
+            report,
+            case.name.as_str(),
+            other.as_ref().map(|other| other.as_str()),
+        )?;
+    }
+    Ok(())
+}
+
+fn try_over_folders(
+    rt: &HostRuntime,
+    case: Case,
+    is_real: bool,
+    report: &mut Report,
+) -> io::Result<()> {
+    let Case {
+        name,
+        files,
+        links,
+        runs,
+    } = case;
+    if !links.is_empty() {
+        return try_runs(rt, name.as_str(), runs.as_slice(), None, is_real, report);
+    }
+    match with_memory(mem_folder(rt.alloc(), files, 0))? {
+        Some(folder) => try_runs(
+            rt,
+            name.as_str(),
+            runs.as_slice(),
+            Some(folder),
+            is_real,
+            report,
+        ),
+        None => count(
+            rt.alloc(),
+            report,
+            name.as_str(),
+            Some("its files make no folder\n"),
+        ),
+    }
 }
 
 fn try_runs(
     rt: &HostRuntime,
     name: &str,
     runs: &[Run],
-    mut folder: MemFolder,
+    mut folder: Option<MemFolder>,
     is_real: bool,
     report: &mut Report,
 ) -> io::Result<()> {
-    for run in runs {
-        let mut other = with_memory(other_answer(rt.alloc(), run, &mut folder))?;
+    for run in runs.iter().filter(|run| is_whole(*run)) {
+        let mut other = with_memory(mem_answer(rt.alloc(), run, &mut folder))?;
         if is_real && other.is_none() {
             other = with_memory(real_answer(rt, run))?;
         }
@@ -88,6 +135,17 @@ fn try_runs(
         )?;
     }
     Ok(())
+}
+
+fn mem_answer(
+    alloc: Global,
+    run: &Run,
+    folder: &mut Option<MemFolder>,
+) -> Result<Option<String>, NoMemory> {
+    match folder {
+        Some(folder) => other_answer(alloc, run, folder),
+        None => Ok(None),
+    }
 }
 
 fn real_answer(rt: &HostRuntime, run: &Run) -> Result<Option<String>, NoMemory> {

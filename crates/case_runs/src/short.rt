@@ -15,7 +15,9 @@ pub fn push_short(alloc: Global, files: &mut List<MemFile>, form: &str) -> Resul
             push_file(alloc, files, path, package_text(alloc, package)?.as_str())
         }
         "unit" => push_unit(alloc, files, rest),
-        _ => push_units(alloc, files, rest),
+        "units" => push_units(alloc, files, rest),
+        // A file without a path makes no folder, so that the case fails.
+        _ => push_file(alloc, files, "", form),
     }
 }
 

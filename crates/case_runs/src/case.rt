@@ -1,24 +1,34 @@
 // A case: the files of a folder, and the runs over it.
-use crate::content::bytes_of;
+use crate::content::{bytes_of, copied};
+use crate::failing::{Failing, failing_of};
 use crate::short::{push_file, push_short};
 use outside_folder::MemFile;
 use plan_types::{List, NoMemory, Text};
 use std::alloc::Global;
 
-/// A run as it is written: its words, the status and the digest of the output where one is given, and the output.
+/// A run as it is written: its words, what fails, the status and the digest of the output where one is given, and the output.
 #[derive(Drop)]
 pub struct Run {
     pub words: List<Text>,
+    pub failing: Failing,
     pub status: u8,
     pub digest: Option<String>,
     pub output: List<u8>,
 }
 
-/// A case as it is written.
+/// A symbolic link of a folder.
+#[derive(Drop)]
+pub struct Link {
+    pub path: String,
+    pub target: String,
+}
+
+/// A case as it is written. One with links is run over a folder of the system alone.
 #[derive(Drop)]
 pub struct Case {
     pub name: String,
     pub files: List<MemFile>,
+    pub links: Vec<Link>,
     pub runs: Vec<Run>,
 }
 
@@ -58,6 +68,7 @@ pub fn case_of(alloc: Global, written: &str) -> Result<Case, NoMemory> {
     let mut case = Case {
         name: String::from_str(alloc, written.lines().next().unwrap_or(""))?,
         files: List::new(alloc),
+        links: Vec::new(alloc),
         runs: Vec::new(alloc),
     };
     for block in blocks(alloc, written)?.iter() {
@@ -69,22 +80,40 @@ pub fn case_of(alloc: Global, written: &str) -> Result<Case, NoMemory> {
 fn take(alloc: Global, case: &mut Case, head: &str, content: &str) -> Result<(), NoMemory> {
     if let Some(path) = head.strip_prefix("--- ") {
         push_file(alloc, &mut case.files, path, content)?;
+    } else if let Some(link) = head.strip_prefix("+ link ") {
+        case.links.push(link_of(alloc, link)?)?;
     } else if let Some(form) = head.strip_prefix("+ ") {
         push_short(alloc, &mut case.files, form)?;
     } else if let Some(run) = head.strip_prefix("$ ") {
-        case.runs.push(run_of(alloc, run, content)?)?;
+        let run = run_of(alloc, run, content, case.runs.last())?;
+        case.runs.push(run)?;
     }
     Ok(())
 }
 
-fn run_of(alloc: Global, head: &str, content: &str) -> Result<Run, NoMemory> {
-    let (words, end) = head.split_once(" => ").unwrap_or((head, "0"));
+fn link_of(alloc: Global, link: &str) -> Result<Link, NoMemory> {
+    let (path, target) = link.split_once(' ').unwrap_or((link, ""));
+    let path = String::from_str(alloc, path)?;
+    let target = String::from_str(alloc, target)?;
+    Ok(Link { path, target })
+}
+
+// A run in turn has the answer of the run above it.
+fn run_of(alloc: Global, head: &str, content: &str, above: Option<&Run>) -> Result<Run, NoMemory> {
+    let (call, end) = head.split_once(" => ").unwrap_or((head, "0"));
+    let (words, fault) = call.split_once(" ! ").unwrap_or((call, ""));
     let (status, digest) = end.split_once(" sha256 ").unwrap_or((end, ""));
+    let failing = failing_of(fault);
+    let output = match above {
+        Some(above) if failing.is_in_turn() => copied(alloc, above.output.as_slice())?,
+        _ => bytes_of(alloc, content)?,
+    };
     Ok(Run {
         words: words_of(alloc, words)?,
+        failing,
         status: status.parse::<u8>().unwrap_or(u8::MAX),
         digest: digest_of(alloc, digest)?,
-        output: bytes_of(alloc, content)?,
+        output,
     })
 }
 

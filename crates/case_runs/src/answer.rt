@@ -1,5 +1,5 @@
 // What a run answers, and what differs from what is wanted.
-use crate::case::{Case, Run, case_of};
+use crate::case::Run;
 use outside_folder::{Folder, MemFault, MemFile, MemFolder, MemSink};
 use plan_command::{code_of, run};
 use plan_types::{List, NoMemory, Text};
@@ -76,7 +76,8 @@ fn status_of<F: Folder>(
     code_of(run(alloc, words.as_slice(), folder, out))
 }
 
-fn text_of(alloc: Global, bytes: &[u8]) -> Result<String, NoMemory> {
+/// What is printed, as a text.
+pub fn text_of(alloc: Global, bytes: &[u8]) -> Result<String, NoMemory> {
     let text = str::from_utf8(bytes).unwrap_or("what is printed is no text");
     Ok(String::from_str(alloc, text)?)
 }
@@ -126,35 +127,4 @@ fn first_other<'a>(text: &'a str, other: &str) -> &'a str {
         }
     }
     "the end"
-}
-
-// The number of a status, and what is printed below.
-fn shown(alloc: Global, status: u8, output: &str) -> Result<String, NoMemory> {
-    Ok(format!(in alloc; "{status}\n{output}")?)
-}
-
-/// What the first run of a written case answers over a folder and a sink that fail so: its status, and below it what it printed.
-pub fn first_answer(alloc: Global, written: &str, faults: Faults) -> Result<String, NoMemory> {
-    let Case { files, runs, .. } = case_of(alloc, written)?;
-    let Some(mut folder) = mem_folder(alloc, files, faults.call)? else {
-        return Ok(String::new(alloc));
-    };
-    let Some(run) = runs.as_slice().first() else {
-        return Ok(String::new(alloc));
-    };
-    let found = answer_over(alloc, run, &mut folder, faults)?;
-    shown(alloc, found.status, found.output.as_str())
-}
-
-/// What the first run of a written case is wanted to answer.
-pub fn first_wanted(alloc: Global, written: &str) -> Result<String, NoMemory> {
-    let case = case_of(alloc, written)?;
-    match case.runs.as_slice().first() {
-        Some(run) => shown(
-            alloc,
-            run.status,
-            text_of(alloc, run.output.as_slice())?.as_str(),
-        ),
-        None => Ok(String::new(alloc)),
-    }
 }

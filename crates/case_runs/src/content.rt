@@ -11,6 +11,13 @@ pub fn bytes_of(alloc: Global, lines: &str) -> Result<List<u8>, NoMemory> {
     Ok(List::from_vec(bytes))
 }
 
+/// The same bytes once more.
+pub fn copied(alloc: Global, bytes: &[u8]) -> Result<List<u8>, NoMemory> {
+    let mut copied = Vec::new(alloc);
+    copied.extend_from_slice(bytes)?;
+    Ok(List::from_vec(copied))
+}
+
 fn push_content(bytes: &mut Vec<u8>, line: &str) -> Result<(), NoMemory> {
     if let Some(size) = line.strip_prefix("\\pad ") {
         let size = size.parse::<u32>().unwrap_or(0) as usize;
