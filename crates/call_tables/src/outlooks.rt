@@ -1,7 +1,7 @@
 // The rows of a table of conditions, with others by how far in front of them they stand; `chain` is the rows of so many branches, of
 // which each asks another flag. What is known of the last row: how many paths it has, and whether it is never Yes.
 use crate::conditions::{condition, environment};
-use condition_outlook::outlooks;
+use condition_outlook::{Outlook, outlooks};
 use plan_types::{Conditions, Guard, Row};
 use std::alloc::Global;
 use std::test::Fail;
@@ -75,16 +75,30 @@ fn push_row(alloc: Global, conds: &mut Conditions, text: &str) -> Result<(), Fai
     }
 }
 
-pub fn answer(alloc: Global, case: &str) -> Result<String, Fail> {
+fn push_part(alloc: Global, conds: &mut Conditions, text: &str) -> Result<(), Fail> {
+    match text.strip_prefix("chain ") {
+        Some(count) => push_chain(alloc, conds, count.parse::<usize>()?),
+        None => push_row(alloc, conds, text),
+    }
+}
+
+fn table(alloc: Global, case: &str) -> Result<Conditions, Fail> {
     let mut conds = Conditions::new(alloc);
     for text in case.split("; ") {
-        match text.strip_prefix("chain ") {
-            Some(count) => push_chain(alloc, &mut conds, count.parse::<usize>()?)?,
-            None => push_row(alloc, &mut conds, text)?,
-        }
+        push_part(alloc, &mut conds, text)?;
     }
-    let all = outlooks(alloc, &conds, &environment(alloc)?)?;
-    let last = all.last().ok_or("no row")?;
+    Ok(conds)
+}
+
+fn shown(alloc: Global, last: &Outlook) -> Result<String, Fail> {
     let never = if last.never { " never" } else { "" };
     Ok(format!(in alloc; "{}{never}", last.number)?)
+}
+
+pub fn answer(alloc: Global, case: &str) -> Result<String, Fail> {
+    let conds = table(alloc, case)?;
+    let env = environment(alloc)?;
+    let all = outlooks(alloc, &conds, &env)?;
+    let last = all.last().ok_or("no row")?;
+    shown(alloc, last)
 }

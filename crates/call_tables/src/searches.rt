@@ -81,16 +81,16 @@ fn outcome(alloc: Global, problem: Option<Written>) -> Result<String, NoMemory> 
 
 // A problem that counts two of the questions that it is asked.
 #[derive(Drop)]
-struct Asked<C> {
-    choices: C,
+struct Asked {
+    choices: Written,
     orders: Cell<u64>,
     demands: Cell<u64>,
 }
 
-impl<C: Choices> Choices for Asked<C> {
-    ghost problem = { λ a. C.problem a.choices };
+impl Choices for Asked {
+    ghost problem = { λ a. Written.problem a.choices };
 
-    ghost lawful = { λ a. C.lawful a.choices };
+    ghost lawful = { λ a. Written.lawful a.choices };
 
     fn known(&self, v: Var) -> bool {
         self.choices.known(v)
@@ -119,22 +119,35 @@ impl<C: Choices> Choices for Asked<C> {
     }
 }
 
-fn questions<C: Choices + Drop>(alloc: Global, choices: C) -> Result<String, NoMemory> {
-    let asked = Asked {
+impl Asked {
+    fn amount(&self) -> &'static str {
+        let are_few = self.orders.get() <= 17 && self.demands.get() <= 20;
+        if are_few { "few" } else { "many" }
+    }
+}
+
+fn asked(alloc: Global, asked: &Asked) -> Result<String, NoMemory> {
+    let outcome = searched(alloc, asked)?;
+    shown(alloc, &outcome)
+}
+
+fn questions(alloc: Global, choices: Written) -> Result<String, NoMemory> {
+    let problem = Asked {
         choices,
         orders: Cell::new(0),
         demands: Cell::new(0),
     };
-    let outcome = searched(alloc, &asked)?;
-    let text = shown(alloc, &outcome)?;
-    let are_few = asked.orders.get() <= 17 && asked.demands.get() <= 20;
-    let amount = if are_few { "few" } else { "many" };
-    Ok(format!(in alloc; "{text}; {amount} questions")?)
+    let text = asked(alloc, &problem)?;
+    Ok(format!(in alloc; "{text}; {} questions", problem.amount())?)
 }
 
-fn begun<C: Choices>(alloc: Global, choices: &C) -> Result<String, NoMemory> {
+fn count_begun(alloc: Global, choices: &Written) -> Result<usize, NoMemory> {
     let state = State::new(alloc, choices)?;
-    let count = state.trail().choices().len();
+    Ok(state.trail().choices().len())
+}
+
+fn begun(alloc: Global, choices: &Written) -> Result<String, NoMemory> {
+    let count = count_begun(alloc, choices)?;
     Ok(format!(in alloc; "{count} choices")?)
 }
 
