@@ -100,7 +100,14 @@ impl<'a> CabalProblem<'a> {
     pub fn into_names(self) -> Names
         ensures { result ≡ names_in self.entry }
     {
-        self.names
+        let CabalProblem {
+            index: _index,
+            settings: _settings,
+            names,
+            constraints: _constraints,
+            tables: _tables,
+        } = self;
+        names
     }
 
     fn bars(&self, v: Var, instance: &Instance) -> bool

@@ -54,9 +54,14 @@ impl Sets {
     fn into_needed(self, alloc: Global) -> Result<Needed, NoMemory>
         ensures { IfOk result (λ needed. needed ≡ needed_of self) }
     {
-        let libs = listed(alloc, self.libs)?;
-        let tools = listed(alloc, self.tools)?;
-        let setups = listed(alloc, self.setups)?;
+        let Sets {
+            libs,
+            tools,
+            setups,
+        } = self;
+        let libs = listed(alloc, libs)?;
+        let tools = listed(alloc, tools)?;
+        let setups = listed(alloc, setups)?;
         Ok(Needed {
             libs,
             tools,
