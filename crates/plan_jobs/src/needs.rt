@@ -13,24 +13,13 @@ use plan_types::{List, NoMemory, Text};
 use std::alloc::Global;
 
 /// What is known of the nodes so far.
+#[derive(Drop)]
 pub(crate) struct Needs {
     /// The places that each identifier has.
     pub places: Lists<Text, usize>,
     pub users: Vec<List<usize>>,
     pub states: List<JobState>,
     pub unmet: List<usize>,
-}
-
-// Written out, so that it is proved once and not at each exit of each function that owns one.
-impl Drop for Needs {
-    fn drop(self) {
-        let Needs {
-            places: _places,
-            users: _users,
-            states: _states,
-            unmet: _unmet,
-        } = self;
-    }
 }
 
 impl Needs {
