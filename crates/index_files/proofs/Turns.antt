@@ -76,8 +76,9 @@ refused-as Is Was halt.Failed from a = tt
 refused-as Is Was (halt.Refused r) from a = from r a
 
 -- what doesn't fail asks nothing more of the count
-pub quiet : {F failed then : Type 0} (tells : F → Option Files) (faults : F → ℕ) (old new : F) → (then → ⊥) → Leaves tells faults old new failed → Leaves tells faults old new then
-quiet tells faults old new never h = record { same_files = h.same_files; later = h.later; rose = λ t. absurd (never t) }
+pub quiet : {F failed then : Type 0} (tells : F → Option Files) (faults : F → ℕ) (old new : F) → (then → ⊥) → (failed → ⊥)
+    → Leaves tells faults old new failed → Leaves tells faults old new then
+quiet tells faults old new never none h = record { same_files = h.same_files; later = h.later; rose = λ t. absurd (never t); still = λ _. h.still none }
 
 -- what another answers with the same halt doesn't fail either
 pub never-passed : {A B : Type 0} (Is : Result A Refusal → Type 0) (h : Halt) (r : Result B Halt) → Settles Is (Err h) → r ≡ Err h → r ≡ Err halt.Failed → ⊥

@@ -6,16 +6,17 @@ use Rattle.outside_folder.specs.Files.{Files}
 
 -- before any call
 pub still : {F failed : Type 0} (tells : F → Option Files) (faults : F → ℕ) (folder : F) → (failed → ⊥) → Leaves tells faults folder folder failed
-still tells faults folder never = record { same_files = refl; later = omega arith; rose = λ h. absurd (never h) }
+still tells faults folder never = record { same_files = refl; later = omega arith; rose = λ h. absurd (never h); still = λ _. refl }
 
 rises : (n m k : ℕ) → n ≤ m → Rose m k → Rose n k
 rises n m k h r = grind arith
 
 -- after calls that didn't fail, others
-pub onward : {F none failed then : Type 0} (tells : F → Option Files) (faults : F → ℕ) (old between new : F) → (then → failed)
-    → Leaves tells faults old between none → Leaves tells faults between new failed → Leaves tells faults old new then
-onward tells faults old between new from h g = record {
+pub onward : {F failed then : Type 0} (tells : F → Option Files) (faults : F → ℕ) (old between new : F) → (then → failed) → (failed → then)
+    → Leaves tells faults old between ⊥ → Leaves tells faults between new failed → Leaves tells faults old new then
+onward tells faults old between new from to h g = record {
   same_files = g.same_files ∙ h.same_files;
   later = let x = h.later in let y = g.later in omega (arith, x, y);
   rose = λ t. rises (faults old) (faults between) (faults new) h.later (g.rose (from t));
+  still = λ never. g.still (λ failed. never (to failed)) ∙ h.still (λ none. none);
 }

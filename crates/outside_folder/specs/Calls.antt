@@ -10,11 +10,12 @@ use Rattle.outside_folder.specs.Faults.{Rose}
 use Rattle.outside_folder.specs.Files.{Bytes, Files, file_at}
 use Rattle.outside_folder.specs.Folder.{file_limit}
 
--- The files that are told stay, the count of faults doesn't fall, and it rose where the calls failed.
+-- The files that are told stay, and the count of faults rose where the calls failed, and is as it was otherwise.
 pub record Leaves {F : Type 0} (tells : F → Option Files) (faults : F → ℕ) (old new : F) (failed : Type 0) : Type 0 where
   pub same_files : tells new ≡ tells old
   pub later : faults old ≤ faults new
   pub rose : failed → Rose (faults old) (faults new)
+  pub still : (failed → ⊥) → faults new ≡ faults old
 
 -- what is found of a file with these bytes
 abbrev pub content_of : Option Bytes → Content

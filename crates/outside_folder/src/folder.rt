@@ -61,6 +61,7 @@ pub trait Folder {
         ensures never_too_large { IsErrOf result FolderFault.TooLarge → ⊥ }
 
         ensures failed { IsErrOf result FolderFault.Failed → Rose (faults self.old) (faults self.new) }
+        ensures still { (IsErrOf result FolderFault.Failed → ⊥) → faults self.new ≡ faults self.old }
         ensures later { faults self.old ≤ faults self.new }
         ensures bounded { faults self.new ≤ ceiling self.new }
         ensures capped { ceiling self.new ≤ 2 ^ 64 - 1 }
@@ -75,6 +76,7 @@ pub trait Folder {
         ensures within { IfOk result IsWithinLimit }
 
         ensures failed { IsErrOf result FolderFault.Failed → Rose (faults self.old) (faults self.new) }
+        ensures still { (IsErrOf result FolderFault.Failed → ⊥) → faults self.new ≡ faults self.old }
         ensures later { faults self.old ≤ faults self.new }
         ensures bounded { faults self.new ≤ ceiling self.new }
         ensures capped { ceiling self.new ≤ 2 ^ 64 - 1 }

@@ -28,6 +28,7 @@ pub trait Sink {
         ensures err { OnErr result (bytes self.new ≡ bytes self.old) }
 
         ensures failed { OnErr result (Rose (faults self.old) (faults self.new)) }
+        ensures still { OnOk result (faults self.new ≡ faults self.old) }
         ensures later { faults self.old ≤ faults self.new }
         ensures bounded { faults self.new ≤ 2 ^ 64 - 1 };
 }
@@ -38,6 +39,7 @@ pub fn write_all<S: Sink>(sink: &mut S, text: &[u8]) -> Result<(), SinkFault>
     ensures err { OnErr result (AppendsPrefix (S.bytes sink.old) (S.bytes sink.new) text.now) }
 
     ensures failed { OnErr result (Rose (S.faults sink.old) (S.faults sink.new)) }
+    ensures still { OnOk result (S.faults sink.new ≡ S.faults sink.old) }
     ensures later { S.faults sink.old ≤ S.faults sink.new }
 {
     let mut written = 0;

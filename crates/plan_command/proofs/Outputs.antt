@@ -20,19 +20,16 @@ use Rattle.plan_command.specs.declared.form.Form.TheVariants.{Replay}
 use Rattle.plan_command.specs.declared.output.Output.{Output}
 use Rattle.plan_command.specs.declared.status.Status.{Status}
 use Rattle.plan_command.specs.declared.status.Status.TheVariants as status
-use Rattle.plan_command.specs.Output.{HasForm, IsOutputOfOutcome, of_outcome, of_refusal, refused}
+use Rattle.plan_command.specs.Output.{IsOutputOfOutcome, refused}
 use Rattle.plan_command.specs.Meaning.{Means, MeansReplay, MeansTask, MeansWith, at_events, of_events, of_files}
 use Rattle.plan_command.specs.Form.{frozen_form}
-use Rattle.plan_command.specs.Run.{IsOutputOfFreeze, IsOutputOfPlan, IsOutputOfReplay, IsOutputOfTask, Prints}
+use Rattle.plan_command.specs.Run.{IsOutputOfFreeze, IsOutputOfPlan, IsOutputOfReplay, IsOutputOfSome, IsOutputOfTask, Prints, of_refusal, of_task}
 
--- an output has the form of one
-
-pub formed-task : (picking : Picking) (minimize : Bool) (form : Form) (task : Task) (output : Output) → IsOutputOfTask picking minimize form task output → HasForm output
-formed-task picking minimize form task output is =
-    of_outcome form task.settings.env task.index is.finding.names is.finding.blame is.finding.outcome output is.output_is
-
-pub formed-refusal : (refusal : Refusal) (output : Output) → output ≡ refused refusal → HasForm output
-formed-refusal refusal output is = subst HasForm (sym is) (of_refusal refusal)
+-- an output in one of some forms is one in a wider choice of them
+pub some-wider : (picking : Picking) (minimize : Bool) (P Q : Form → Type 0) → ((form : Form) → P form → Q form) → (output : Output)
+    → IsOutputOfSome picking minimize P output → IsOutputOfSome picking minimize Q output
+some-wider picking minimize P Q wider output (of_refusal refusal is) = of_refusal refusal is
+some-wider picking minimize P Q wider output (of_task form of task ready is) = of_task form (wider form of) task ready is
 
 -- the output of what a folder comes to is that of the options over its files, and means what it says of them
 module _ (options : Options) (files : Files) where

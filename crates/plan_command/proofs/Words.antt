@@ -9,9 +9,7 @@ use Rattle.outside_folder.specs.Files.{Bytes, Files}
 use Rattle.command_line.specs.Reading.{reading}
 use Rattle.command_line.specs.declared.reading.Command.{Command}
 use Rattle.plan_command.specs.declared.status.Status.{Status}
-use Rattle.plan_command.specs.Output.{HasForm, of_usage, usage}
-use Rattle.plan_command.specs.Run.{IsOutputOf, IsOutputOfCommand, Prints, Reads}
-use Rattle.plan_command.proofs.Outputs.{prints-this}
+use Rattle.plan_command.specs.Run.{IsOutputOf, IsOutputOfCommand, MayPrint, Prints, Reads}
 
 module _ (words : List Bytes) (command : Option Command) (read : reading words ≡ command) where
   -- the files that are read for words are those that are read for their command
@@ -22,8 +20,9 @@ module _ (words : List Bytes) (command : Option Command) (read : reading words �
   pub told-for : (files : Files) (old new : Option Bytes) (result : Status) → Prints (IsOutputOfCommand command files) old new result → Prints (IsOutputOf words files) old new result
   told-for files old new result h = subst (λ (c : Option Command). Prints (IsOutputOfCommand c files) old new result) (sym read) h
 
-pub formed-usage : (old new : Option Bytes) (result : Status) → Prints (λ output. output ≡ usage) old new result → Prints HasForm old new result
-formed-usage old new result h = prints-this HasForm usage of_usage old new result h
+  -- over any folder too
+  pub text-for : (old new : Option Bytes) (result : Status) → Prints (MayPrint command) old new result → Prints (MayPrint (reading words)) old new result
+  text-for old new result h = subst (λ (c : Option Command). Prints (MayPrint c) old new result) (sym read) h
 
 -- what is printed means what a search means that picks as the options ask
 pub picked-so : (options : Options) (picking : Picking) → picking_of options ≡ picking → (files : Files) (old new : Option Bytes) (result : Status)

@@ -12,7 +12,6 @@ use Rattle.choice_problem.specs.Trail.{value_in}
 use Rattle.outside_folder.specs.Files.{Bytes}
 use Rattle.plan_components.specs.Chosen.{selection_from}
 use Rattle.plan_nodes.specs.declared.node.PlanNode.{PlanNode}
-use Rattle.elaborate.specs.Before.{AreToldBefore}
 use Rattle.elaborate.specs.Plan.{IsPlan}
 use Rattle.plan_print.specs.Texts.{refusal_text}
 use Rattle.plan_search.specs.declared.blame.Blame.{Blame}
@@ -51,28 +50,6 @@ usage_text = codes "usage: cabal-plan plan or generate, with options" ++ 10 ∷ 
 -- the output for words without a reading
 abbrev pub usage : Output
 usage = record { status = status.Usage; text = usage_text }
-
--- an output's form: the line of a refusal, what a search found in one of the forms in which it is printed, or the usage line
-pub data HasForm : Output → Type 0 where
-  of_refusal : (refusal : Refusal) → HasForm (refused refusal)
-  of_outcome : (form : Form) (env : Env) (index : Index) (names : NameTable) (blame : Blame) (outcome : Outcome) (output : Output)
-      → IsOutputOfOutcome form env index names blame outcome output → HasForm output
-  of_usage : HasForm usage
-
--- the output of a plan in which each identifier that a node needs is told before it
-pub record IsInOrder (output : Output) : Type 0 where
-  pub form : Form
-  pub index : Index
-  pub names : NameTable
-  pub trail : List Choice
-  pub nodes : List PlanNode
-  pub counts : Counts
-  pub planned : IsPlanned form index names trail nodes counts output
-  pub told_before : AreToldBefore nodes
-
--- where an output is a plan, it is one in order
-abbrev pub BuildsInOrder : Output → Type 0
-BuildsInOrder output = output.status ≡ status.Planned → IsInOrder output
 
 -- a status of an output that is made, not that of a run that failed
 abbrev pub IsMade : Status → Type 0

@@ -1,7 +1,10 @@
 -- The output of words over a folder, and what a run leaves in the sink.
-use Rattle.std.specs.Prelude.{◌≡◌, ℕ, Bool, false, Result, Ok, Err, Option, Some, None, List}
+use Rattle.std.specs.Prelude.{◌≡◌, ◌≢◌, ℕ, Bool, false, Result, Ok, Err, Option, Some, None, List}
 use Rattle.plan_types.specs.declared.limit.Limit.{Limit}
 use Rattle.plan_types.specs.declared.refusal.Refusal.{Refusal}
+use Rattle.choice_problem.specs.declared.outcome.Outcome.TheVariants as outcome
+use Rattle.choice_problem.specs.declared.outcome.Counts.{Counts}
+use Rattle.choice_problem.specs.declared.problem.Choice.{Choice}
 use Rattle.outside_folder.specs.Files.{Bytes, Files}
 use Rattle.outside_folder.specs.Sink.{Appends, AppendsPrefix}
 use Rattle.command_line.specs.Reading.{default_options, reading}
@@ -10,8 +13,10 @@ use Rattle.command_line.specs.declared.reading.Command.TheVariants.{Plan, Genera
 use Rattle.command_line.specs.declared.reading.Options.{Options}
 use Rattle.event_file.specs.Events.{AreEventsAt}
 use Rattle.replay_text.specs.declared.event.JobEvent.{JobEvent}
+use Rattle.elaborate.specs.Before.{AreToldBefore}
+use Rattle.plan_nodes.specs.declared.node.PlanNode.{PlanNode}
 use Rattle.plan_generate.specs.Generated.{generated}
-use Rattle.plan_task.specs.Task.{IsTask}
+use Rattle.plan_task.specs.Task.{IsReady, IsTask}
 use Rattle.plan_task.specs.declared.task.Task.{Task}
 use Rattle.plan_search.specs.Finding.{IsFindingOf}
 use Rattle.plan_search.specs.declared.search.Finding.{Finding}
@@ -21,10 +26,10 @@ use Rattle.plan_command.specs.declared.status.Status.{Status}
 use Rattle.plan_command.specs.declared.status.Status.TheVariants as status
 use Rattle.plan_command.specs.declared.output.Output.{Output}
 use Rattle.plan_command.specs.declared.form.Form.{Form}
-use Rattle.plan_command.specs.declared.form.Form.TheVariants.{Summary, Replay as at_events}
+use Rattle.plan_command.specs.declared.form.Form.TheVariants.{Summary, Freeze as as_constraints, Replay as at_events}
 use Rattle.plan_command.specs.Form.{form_of, frozen_form}
 use Rattle.plan_command.specs.Asked.{picking_of}
-use Rattle.plan_command.specs.Output.{IsOutputOfOutcome, refused, usage}
+use Rattle.plan_command.specs.Output.{ArePlanned, IsOutputOfOutcome, IsPlanned, refused, usage}
 
 -- ---- the output of words over a folder
 
@@ -87,6 +92,61 @@ Reads (Some (Plan options)) tells files = tells ≡ Some files
 Reads (Some (Generate number limit)) tells files = Unit {0}
 Reads (Some (Freeze options)) tells files = tells ≡ Some files
 Reads (Some (Replay options events slots)) tells files = tells ≡ Some files
+
+-- ---- what a command may print, over any folder
+
+-- the form in which it prints a plan: for `freeze` behind some text, and for `replay` at some events
+abbrev pub IsFormOf : Command → Form → Type 0
+IsFormOf (Plan options) form = form ≡ form_of options
+IsFormOf (Generate number limit) form = form ≡ Summary number
+IsFormOf (Freeze options) form = (before : Bytes) × (form ≡ as_constraints before)
+IsFormOf (Replay options path slots) form = (events : List JobEvent) × (form ≡ at_events slots events)
+
+-- how its search picks its variables
+abbrev pub picking_for : Command → Picking
+picking_for (Plan options) = picking_of options
+picking_for (Generate number limit) = Least
+picking_for (Freeze options) = Least
+picking_for (Replay options path slots) = Least
+
+-- whether its conflict set is made smaller
+abbrev pub minimizes : Command → Bool
+minimizes (Plan options) = options.minimize
+minimizes (Generate number limit) = false
+minimizes (Freeze options) = false
+minimizes (Replay options path slots) = false
+
+-- a refusal, or the output of some task that is ready, in one of these forms
+pub data IsOutputOfSome (picking : Picking) (minimize : Bool) (IsForm : Form → Type 0) (output : Output) : Type 0 where
+  of_refusal : (refusal : Refusal) → output ≡ refused refusal → IsOutputOfSome picking minimize IsForm output
+  of_task : (form : Form) → IsForm form → (task : Task) → IsReady task → IsOutputOfTask picking minimize form task output
+      → IsOutputOfSome picking minimize IsForm output
+
+-- what a command may print, or the usage line for words without a reading
+abbrev pub MayPrint : Option Command → Output → Type 0
+MayPrint None output = output ≡ usage
+MayPrint (Some command) output = IsOutputOfSome (picking_for command) (minimizes command) (IsFormOf command) output
+
+-- the output of the plan that a search over some task finds, in which each identifier that a node needs is told before it
+pub record IsInOrder (picking : Picking) (minimize : Bool) (IsForm : Form → Type 0) (output : Output) : Type 0 where
+  pub form : Form
+  pub of_command : IsForm form
+  pub task : Task
+  pub ready : IsReady task
+  pub finding : Finding
+  pub found : IsFindingOf picking minimize task.index task.settings finding
+  pub trail : List Choice
+  pub counts : Counts
+  pub outcome_is : finding.outcome ≡ outcome.Found trail counts
+  pub nodes : List PlanNode
+  pub nodes_are : ArePlanned task.settings.env task.index finding.names trail nodes
+  pub planned : IsPlanned form task.index finding.names trail nodes counts output
+  pub told_before : AreToldBefore nodes
+
+-- where a command prints a plan, it is one in order; the usage line is no plan
+abbrev pub BuildsInOrder : Option Command → Output → Type 0
+BuildsInOrder None output = output.status ≢ status.Planned
+BuildsInOrder (Some command) output = output.status ≡ status.Planned → IsInOrder (picking_for command) (minimizes command) (IsFormOf command) output
 
 -- ---- what is left in the sink
 

@@ -7,12 +7,12 @@ ghost use Rattle.plan_types.specs.declared.limit.Limit.{Limit as TheLimit};
 ghost use Rattle.command_line.specs.Reading.{IsBounded, reading};
 ghost use Rattle.command_line.specs.declared.reading.Command.TheVariants.{Freeze, Generate, Plan, Replay};
 ghost use Rattle.command_line.specs.declared.reading.Options.{Options as PlanOptions};
-ghost use Rattle.plan_command.specs.Output.{BuildsInOrder, HasForm, IsMade, IsUsage, usage};
+ghost use Rattle.plan_command.specs.Output.{IsMade, IsUsage, usage};
 ghost use Rattle.plan_command.specs.Form.{form_of};
 ghost use Rattle.plan_command.specs.Asked.{picking_of};
 ghost use Rattle.plan_search.specs.declared.search.Picking.TheVariants.{Least, MostMet};
 ghost use Rattle.plan_command.specs.Meaning.{Means, MeansFreeze, MeansGenerated, MeansReplay};
-ghost use Rattle.plan_command.specs.Run.{IsOutputOf, IsOutputOfCommand, Prints, Reads};
+ghost use Rattle.plan_command.specs.Run.{BuildsInOrder, IsOutputOf, IsOutputOfCommand, MayPrint, Prints, Reads};
 
 use crate::Status;
 use crate::form::form_of;
@@ -60,11 +60,12 @@ pub fn run<F: Folder, S: Sink>(alloc: Global, words: &[Text], folder: &mut F, ou
     ensures told { (files : Files) → Reads (reading words.now) (F.tells folder.old) files
         → Prints (IsOutputOf words.now files) (S.bytes out.old) (S.bytes out.new) result }
 
-    // In any case one text of the form of its status is written, a prefix of it, or nothing.
-    ensures one_text { Prints HasForm (S.bytes out.old) (S.bytes out.new) result }
+    // Over any folder one text is written, a prefix of it, or nothing: the line of a refusal, or in the command's own form what a
+    // search over some task finds that is ready to be planned.
+    ensures one_text { Prints (MayPrint (reading words.now)) (S.bytes out.old) (S.bytes out.new) result }
 
     // In any plan, with a limit or without, each identifier that a node needs is told before it.
-    ensures in_order { Prints BuildsInOrder (S.bytes out.old) (S.bytes out.new) result }
+    ensures in_order { Prints (BuildsInOrder (reading words.now)) (S.bytes out.old) (S.bytes out.new) result }
 
     // A folder that is made of a number is planned, and not the one that was handed in, of which nothing is asked.
     ensures generated { (number : ℕ) (limit : TheLimit) → reading words.now ≡ Some (Generate number limit)
@@ -72,8 +73,11 @@ pub fn run<F: Folder, S: Sink>(alloc: Global, words: &[Text], folder: &mut F, ou
     ensures unasked { (number : ℕ) (limit : TheLimit) → reading words.now ≡ Some (Generate number limit)
         → (folder.new ≡ folder.old) × (result ≢ Status.ReadFault) }
 
+    // No failure is hidden: the count of the folder rose only where the status is that of a failed read, and that of the sink only
+    // where it is that of a failed write.
     ensures folder { Leaves F.tells F.faults folder.old folder.new (result ≡ Status.ReadFault) }
     ensures sink { S.faults out.old ≤ S.faults out.new }
+    ensures sink_still { result ≢ Status.WriteFault → S.faults out.new ≡ S.faults out.old }
     ensures write_fault { result ≡ Status.WriteFault → Rose (S.faults out.old) (S.faults out.new) }
     ensures usage { result ≡ Status.Usage → reading words.now ≡ None }
     ensures no_reading { reading words.now ≡ None → IsUsage result }
@@ -89,6 +93,7 @@ pub fn run<F: Folder, S: Sink>(alloc: Global, words: &[Text], folder: &mut F, ou
 pub fn print_usage<S: Sink>(out: &mut S) -> Status
     ensures prints { Prints (λ output. output ≡ usage) (S.bytes out.old) (S.bytes out.new) result }
     ensures sink { S.faults out.old ≤ S.faults out.new }
+    ensures sink_still { result ≢ Status.WriteFault → S.faults out.new ≡ S.faults out.old }
     ensures write_fault { result ≡ Status.WriteFault → Rose (S.faults out.old) (S.faults out.new) }
     ensures status { IsUsage result }
 {
@@ -118,9 +123,10 @@ fn perform<F: Folder, S: Sink>(
         → Prints (MeansGenerated number limit) (S.bytes out.old) (S.bytes out.new) result }
     ensures unasked { (number : ℕ) (limit : TheLimit) → command ≡ Generate number limit
         → (folder.new ≡ folder.old) × (result ≢ Status.ReadFault) }
-    ensures one_text { Prints HasForm (S.bytes out.old) (S.bytes out.new) result }
+    ensures one_text { Prints (MayPrint (Some command)) (S.bytes out.old) (S.bytes out.new) result }
     ensures folder { Leaves F.tells F.faults folder.old folder.new (result ≡ Status.ReadFault) }
     ensures sink { S.faults out.old ≤ S.faults out.new }
+    ensures sink_still { result ≢ Status.WriteFault → S.faults out.new ≡ S.faults out.old }
     ensures write_fault { result ≡ Status.WriteFault → Rose (S.faults out.old) (S.faults out.new) }
     ensures read { result ≢ Status.Usage }
 {
@@ -145,7 +151,7 @@ fn output_of<F: Folder>(alloc: Global, command: Command, folder: &mut F) -> Resu
     ensures generated { (number : ℕ) (limit : TheLimit) → command ≡ Generate number limit → IfOk result (MeansGenerated number limit) }
     ensures unasked { (number : ℕ) (limit : TheLimit) → command ≡ Generate number limit
         → (folder.new ≡ folder.old) × (IsErrOf result Trouble.Failed → ⊥) }
-    ensures form { IfOk result HasForm }
+    ensures form { IfOk result (MayPrint (Some command)) }
     ensures made { IfOk result (λ output. IsMade output.status) }
     ensures read { IfOk result (λ output. output.status ≢ Status.Usage) }
     ensures folder { Leaves F.tells F.faults folder.old folder.new (IsErrOf result Trouble.Failed) }
@@ -173,6 +179,7 @@ fn print<S: Sink>(output: &Output, out: &mut S) -> Status
     requires { IsMade output.now.status }
     ensures prints { Prints (λ printed. printed ≡ output.now) (S.bytes out.old) (S.bytes out.new) result }
     ensures sink { S.faults out.old ≤ S.faults out.new }
+    ensures sink_still { result ≢ Status.WriteFault → S.faults out.new ≡ S.faults out.old }
     ensures write_fault { result ≡ Status.WriteFault → Rose (S.faults out.old) (S.faults out.new) }
     ensures status { result ≢ Status.WriteFault → result ≡ output.now.status }
     ensures no_read_fault { result ≢ Status.ReadFault }

@@ -4,9 +4,10 @@ ghost use Rattle.choice_problem.specs.Trail.{AreNew};
 ghost use Rattle.outside_folder.specs.Calls.{Leaves};
 ghost use Rattle.outside_folder.specs.Files.{Files};
 ghost use Rattle.plan_command.specs.Form.{ended, frozen_text, is_ended, said_before};
-ghost use Rattle.plan_command.specs.Output.{HasForm, IsMade};
+ghost use Rattle.command_line.specs.declared.reading.Command.TheVariants.{Freeze};
+ghost use Rattle.plan_command.specs.Output.{IsMade};
 ghost use Rattle.plan_command.specs.Meaning.{MeansFreeze};
-ghost use Rattle.plan_command.specs.Run.{IsOutputOfFreeze};
+ghost use Rattle.plan_command.specs.Run.{IsOutputOfFreeze, MayPrint};
 
 use crate::Status;
 use crate::form::Form;
@@ -31,7 +32,7 @@ pub(crate) fn output_of_freeze<F: Folder>(
 ) -> Result<Output, Trouble>
     ensures meaning { (files : Files) → F.tells folder.old ≡ Some files → IfOk result (MeansFreeze options files) }
     ensures told { (files : Files) → F.tells folder.old ≡ Some files → IfOk result (IsOutputOfFreeze options files) }
-    ensures form { IfOk result HasForm }
+    ensures form { IfOk result (MayPrint (Some (Freeze options))) }
     ensures made { IfOk result (λ output. IsMade output.status) }
     ensures read { IfOk result (λ output. output.status ≢ Status.Usage) }
     ensures folder { Leaves F.tells F.faults folder.old folder.new (IsErrOf result Trouble.Failed) }

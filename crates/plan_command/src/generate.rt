@@ -1,8 +1,9 @@
 // The command `generate`: a plan of a folder that is made of a number.
-ghost use Rattle.std.specs.Prelude.{◌≡◌, ◌≢◌, ◌≤◌, IfOk};
-ghost use Rattle.plan_command.specs.Output.{HasForm, IsMade};
+ghost use Rattle.std.specs.Prelude.{◌≡◌, ◌≢◌, ◌≤◌, IfOk, Some};
+ghost use Rattle.command_line.specs.declared.reading.Command.TheVariants.{Generate};
+ghost use Rattle.plan_command.specs.Output.{IsMade};
 ghost use Rattle.plan_command.specs.Meaning.{MeansGenerated};
-ghost use Rattle.plan_command.specs.Run.{IsOutputOfGenerate};
+ghost use Rattle.plan_command.specs.Run.{IsOutputOfGenerate, MayPrint};
 
 use crate::Status;
 use crate::form::Form;
@@ -23,7 +24,7 @@ pub(crate) fn output_of_generate(
     requires { (1 ≤ number) × (number ≤ 2000) }
     ensures meaning { IfOk result (MeansGenerated number limit) }
     ensures output { IfOk result (IsOutputOfGenerate number limit) }
-    ensures form { IfOk result HasForm }
+    ensures form { IfOk result (MayPrint (Some (Generate number limit))) }
     ensures made { IfOk result (λ output. IsMade output.status) }
     ensures read { IfOk result (λ output. output.status ≢ Status.Usage) }
 {

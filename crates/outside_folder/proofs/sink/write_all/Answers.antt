@@ -1,4 +1,4 @@
-use Rattle.std.proofs.Common.{◌≡◌, ◌-◌, arith, length, take, drop, length-drop}
+use Rattle.std.proofs.Common.{◌≡◌, ◌-◌, ◌∙◌, arith, length, take, drop, length-drop}
 use Rattle.std.proofs.Math.Seq.{take-add}
 use Rattle.std.proofs.lemmas.Grind.{common_steps}
 use Rattle.outside_folder.proofs.Appending.{Appends-then}
@@ -15,5 +15,5 @@ loop-written-preserved g c =
     record {
       within = omega (arith, counted.0, length-drop at text, c.loop-written.invariant.within);
       front = rw (take-add at c.in_ok-written.field-0 text) (Appends-then _ _ _ _ _ c.loop-written.invariant.front went);
-      later = omega (arith, wrote.later, c.loop-written.invariant.later);
+      still = wrote.still ∙ c.loop-written.invariant.still;
     }

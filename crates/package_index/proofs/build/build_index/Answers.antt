@@ -19,4 +19,4 @@ returns-clause-extra g c =
     c.extras_are_there.ensures.has c.args.env.now c.args.places.now c.args.extra.now c.in_ok-readings.readings c.in_ok-index.index c.in_ok-readings.ensures.form c.in_ok-index.ensures
 
 pub returns-clause-folder : goal.returns-clause-folder
-returns-clause-folder g c = quiet _ _ _ _ (λ e. cc e) c.in_ok-readings.ensures.folder
+returns-clause-folder g c = quiet _ _ _ _ (λ e. cc e) (λ e. cc e) c.in_ok-readings.ensures.folder

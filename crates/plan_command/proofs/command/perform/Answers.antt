@@ -1,9 +1,8 @@
 use Rattle.std.proofs.Common.{Some}
-use Rattle.plan_command.specs.Output.{HasForm}
 use Rattle.plan_command.specs.Form.{form_of}
 use Rattle.plan_command.specs.Asked.{picking_of}
 use Rattle.plan_command.specs.Meaning.{Means, MeansFreeze, MeansGenerated, MeansReplay}
-use Rattle.plan_command.specs.Run.{IsOutputOfCommand}
+use Rattle.plan_command.specs.Run.{IsOutputOfCommand, MayPrint}
 use Rattle.plan_command.proofs.Outputs.{prints-this}
 use Rattle.plan_command.proofs.command.perform.Goals as goal
 
@@ -24,7 +23,7 @@ returns-in-Ok-clause-told g c = λ files read.
     prints-this (IsOutputOfCommand (Some c.args.command) files) c.in-Ok.output (c.in-Ok.ensures.told files read) _ _ _ c.print.ensures.prints
 
 pub returns-in-Ok-clause-one_text : goal.returns-in-Ok-clause-one_text
-returns-in-Ok-clause-one_text g c = prints-this HasForm c.in-Ok.output c.in-Ok.ensures.form _ _ _ c.print.ensures.prints
+returns-in-Ok-clause-one_text g c = prints-this (MayPrint (Some c.args.command)) c.in-Ok.output c.in-Ok.ensures.form _ _ _ c.print.ensures.prints
 
 pub returns-in-Ok-clause-generated : goal.returns-in-Ok-clause-generated
 returns-in-Ok-clause-generated g c = λ number limit asked.

@@ -1,7 +1,8 @@
-use Rattle.std.proofs.Common.{Some, sym, ap, ◌∙◌, if◌then◌else◌}
+use Rattle.std.proofs.Common.{Some, None, refl, sym, ap, ◌∙◌, if◌then◌else◌}
+use Rattle.command_line.specs.Reading.{reading}
 use Rattle.plan_search.specs.declared.search.Picking.TheVariants.{Least, MostMet}
-use Rattle.plan_command.proofs.Buildable.{in-order, usage-in-order}
-use Rattle.plan_command.proofs.Words.{formed-usage, picked-so, read-for, told-for}
+use Rattle.plan_command.proofs.Buildable.{in-order}
+use Rattle.plan_command.proofs.Words.{picked-so, read-for, text-for, told-for}
 use Rattle.plan_command.proofs.command.run.Goals as goal
 
 pub returns-in-Ok-clause-headline : goal.returns-in-Ok-clause-headline
@@ -25,14 +26,19 @@ returns-in-Ok-clause-told g c = λ files read.
     told-for words command c.in-Ok.ensures.command files _ _ _
     (c.perform.ensures.told files (read-for words command c.in-Ok.ensures.command (g.F.Folder.tells c.args.folder.now) files read))
 
+pub returns-in-Ok-clause-one_text : goal.returns-in-Ok-clause-one_text
+returns-in-Ok-clause-one_text g c = text-for c.args.words.now (Some c.in-Ok.command) c.in-Ok.ensures.command _ _ _ c.perform.ensures.one_text
+
 pub returns-in-Err-Usage-clause-one_text : goal.returns-in-Err-Usage-clause-one_text
-returns-in-Err-Usage-clause-one_text g c = formed-usage _ _ _ c.print_usage.ensures.prints
+returns-in-Err-Usage-clause-one_text g c = text-for c.args.words.now None (c.in-Err-Usage.ensures.usage refl) _ _ _ c.print_usage.ensures.prints
 
 pub returns-in-Ok-clause-in_order : goal.returns-in-Ok-clause-in_order
-returns-in-Ok-clause-in_order g c = in-order _ _ _ c.perform.ensures.one_text
+returns-in-Ok-clause-in_order g c =
+    in-order (reading c.args.words.now) _ _ _ (text-for c.args.words.now (Some c.in-Ok.command) c.in-Ok.ensures.command _ _ _ c.perform.ensures.one_text)
 
 pub returns-in-Err-Usage-clause-in_order : goal.returns-in-Err-Usage-clause-in_order
-returns-in-Err-Usage-clause-in_order g c = usage-in-order _ _ _ c.print_usage.ensures.prints
+returns-in-Err-Usage-clause-in_order g c =
+    in-order (reading c.args.words.now) _ _ _ (text-for c.args.words.now None (c.in-Err-Usage.ensures.usage refl) _ _ _ c.print_usage.ensures.prints)
 
 pub returns-in-Ok-clause-generated : goal.returns-in-Ok-clause-generated
 returns-in-Ok-clause-generated g c = λ number limit asked. c.perform.ensures.generated number limit (cc (sym c.in-Ok.ensures.command ∙ asked))

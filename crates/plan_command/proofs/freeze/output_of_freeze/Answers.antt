@@ -1,4 +1,4 @@
-use Rattle.std.proofs.Common.{◌≡◌, Bool, false, Err, ap, subst, ◌∙◌}
+use Rattle.std.proofs.Common.{◌≡◌, Bool, false, Err, refl, ap, subst, ◌∙◌}
 use Rattle.std.proofs.lemmas.Result.{IfOk-weaker}
 use Rattle.common_laws.specs.Small.{some_at}
 use Rattle.outside_folder.specs.Files.{Bytes}
@@ -10,8 +10,8 @@ use Rattle.plan_search.specs.declared.search.Picking.TheVariants.{Least}
 use Rattle.plan_command.specs.declared.form.Form.TheVariants.{Freeze}
 use Rattle.plan_command.specs.Form.{frozen_form, said_before}
 use Rattle.plan_command.specs.Meaning.{MeansTask}
-use Rattle.plan_command.specs.Run.{IsOutputOfTask}
-use Rattle.plan_command.proofs.Outputs.{formed-refusal, formed-task, frozen-output, planned-means, refused-means, unfrozen-output}
+use Rattle.plan_command.specs.Run.{IsOutputOfTask, of_refusal, of_task}
+use Rattle.plan_command.proofs.Outputs.{frozen-output, planned-means, refused-means, unfrozen-output}
 use Rattle.plan_command.proofs.freeze.output_of_freeze.Goals as goal
 
 pub returns-in_ok-planned-in-Ok-clause-meaning : goal.returns-in_ok-planned-in-Ok-clause-meaning
@@ -31,7 +31,8 @@ returns-in_ok-planned-in-Ok-clause-told g c = λ files t.
     (subst (λ (b : Bytes). IsOutputOfTask Least false (Freeze b) task output) before c.in_ok-planned-in-Ok.ensures.output)
 
 pub returns-in_ok-planned-in-Ok-clause-form : goal.returns-in_ok-planned-in-Ok-clause-form
-returns-in_ok-planned-in-Ok-clause-form g c = formed-task _ _ _ c.in-Ok.task c.in_ok-planned-in-Ok.field-0 c.in_ok-planned-in-Ok.ensures.output
+returns-in_ok-planned-in-Ok-clause-form g c =
+    of_task (Freeze c.in_ok-before-in-Ok.before) (c.in_ok-before-in-Ok.before, refl) c.in-Ok.task c.in-Ok.ensures.ready c.in_ok-planned-in-Ok.ensures.output
 
 pub returns-in-Err-clause-told : goal.returns-in-Err-clause-told
 returns-in-Err-clause-told g c = λ files t.
@@ -41,4 +42,4 @@ returns-in-Err-clause-told g c = λ files t.
     c.halted.ensures.refused
 
 pub returns-in-Err-clause-form : goal.returns-in-Err-clause-form
-returns-in-Err-clause-form g c = IfOk-weaker c.halted.result _ _ (λ output h. formed-refusal h.0 output h.2) c.halted.ensures.refused
+returns-in-Err-clause-form g c = IfOk-weaker c.halted.result _ _ (λ output h. of_refusal h.0 h.2) c.halted.ensures.refused

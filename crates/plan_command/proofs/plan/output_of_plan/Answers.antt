@@ -1,14 +1,14 @@
-use Rattle.std.proofs.Common.{Err, subst}
+use Rattle.std.proofs.Common.{Err, refl, subst}
 use Rattle.std.proofs.lemmas.Result.{IfOk-weaker}
 use Rattle.plan_types.specs.declared.refusal.Halt.{Halt}
 use Rattle.plan_task.specs.Task.{IsTask}
 use Rattle.plan_task.specs.declared.task.Task.{Task}
-use Rattle.plan_command.proofs.Outputs.{formed-refusal, formed-task, planned-means, planned-output, refused-means, refused-output}
+use Rattle.plan_command.proofs.Outputs.{planned-means, planned-output, refused-means, refused-output}
 use Rattle.common_laws.specs.Small.{some_at}
 use Rattle.plan_search.specs.declared.search.Picking.{Picking}
 use Rattle.plan_command.specs.Asked.{picking_of}
 use Rattle.plan_command.specs.Meaning.{MeansTask}
-use Rattle.plan_command.specs.Run.{IsOutputOfTask}
+use Rattle.plan_command.specs.Run.{IsOutputOfTask, of_refusal, of_task}
 use Rattle.plan_types.specs.Refusal.{Answers}
 use Rattle.plan_command.proofs.plan.output_of_plan.Goals as goal
 
@@ -23,7 +23,9 @@ returns-in_ok-planned-in-Ok-clause-told g c = λ files t.
     (subst (λ (p : Picking). IsOutputOfTask p c.args.options.minimize c.args.form.now c.in-Ok.task c.in_ok-planned-in-Ok.field-0) c.picking_of-picking.ensures c.in_ok-planned-in-Ok.ensures.output)
 
 pub returns-in_ok-planned-in-Ok-clause-form : goal.returns-in_ok-planned-in-Ok-clause-form
-returns-in_ok-planned-in-Ok-clause-form g c = formed-task _ _ c.args.form.now c.in-Ok.task c.in_ok-planned-in-Ok.field-0 c.in_ok-planned-in-Ok.ensures.output
+returns-in_ok-planned-in-Ok-clause-form g c =
+    of_task c.args.form.now refl c.in-Ok.task c.in-Ok.ensures.ready
+    (subst (λ (p : Picking). IsOutputOfTask p c.args.options.minimize c.args.form.now c.in-Ok.task c.in_ok-planned-in-Ok.field-0) c.picking_of-picking.ensures c.in_ok-planned-in-Ok.ensures.output)
 
 pub returns-in-Err-clause-headline : goal.returns-in-Err-clause-headline
 returns-in-Err-clause-headline g c = λ files t.
@@ -40,4 +42,4 @@ returns-in-Err-clause-told g c = λ files t.
     c.halted.ensures.refused
 
 pub returns-in-Err-clause-form : goal.returns-in-Err-clause-form
-returns-in-Err-clause-form g c = IfOk-weaker c.halted.result _ _ (λ output h. formed-refusal h.0 output h.2) c.halted.ensures.refused
+returns-in-Err-clause-form g c = IfOk-weaker c.halted.result _ _ (λ output h. of_refusal h.0 h.2) c.halted.ensures.refused

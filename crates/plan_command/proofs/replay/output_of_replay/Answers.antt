@@ -1,4 +1,4 @@
-use Rattle.std.proofs.Common.{List, Err, subst, ◌∙◌}
+use Rattle.std.proofs.Common.{List, Err, refl, subst, ◌∙◌}
 use Rattle.std.proofs.lemmas.Result.{IfOk-weaker}
 use Rattle.common_laws.specs.Small.{some_at}
 use Rattle.plan_types.specs.Refusal.{Answers}
@@ -7,7 +7,9 @@ use Rattle.plan_task.specs.Task.{IsTask}
 use Rattle.plan_task.specs.declared.task.Task.{Task}
 use Rattle.replay_text.specs.declared.event.JobEvent.{JobEvent}
 use Rattle.event_file.specs.Events.{AreEventsAt}
-use Rattle.plan_command.proofs.Outputs.{built-means, built-output, formed-refusal, formed-task, unplanned-output, unread-output}
+use Rattle.plan_command.specs.declared.form.Form.TheVariants.{Replay}
+use Rattle.plan_command.specs.Run.{of_refusal, of_task}
+use Rattle.plan_command.proofs.Outputs.{built-means, built-output, unplanned-output, unread-output}
 use Rattle.plan_command.proofs.replay.output_of_replay.Goals as goal
 
 pub returns-in-Err-clause-told : goal.returns-in-Err-clause-told
@@ -18,7 +20,7 @@ returns-in-Err-clause-told g c = λ files t.
     c.halted.ensures.refused
 
 pub returns-in-Err-clause-form : goal.returns-in-Err-clause-form
-returns-in-Err-clause-form g c = IfOk-weaker c.halted.result _ _ (λ output h. formed-refusal h.0 output h.2) c.halted.ensures.refused
+returns-in-Err-clause-form g c = IfOk-weaker c.halted.result _ _ (λ output h. of_refusal h.0 h.2) c.halted.ensures.refused
 
 pub returns-in-Ok-read_event_file-clause-meaning : goal.returns-in-Ok-read_event_file-clause-meaning
 returns-in-Ok-read_event_file-clause-meaning g c = λ files t.
@@ -34,7 +36,8 @@ returns-in-Ok-read_event_file-clause-told g c = λ files t.
 
 pub returns-in-Ok-read_event_file-clause-form : goal.returns-in-Ok-read_event_file-clause-form
 returns-in-Ok-read_event_file-clause-form g c =
-    formed-task _ _ _ c.in-Ok.task c.in_ok-planned-in-Ok-read_event_file.field-0 c.in_ok-planned-in-Ok-read_event_file.ensures.output
+    of_task (Replay c.args.slots c.in-Ok-read_event_file.events) (c.in-Ok-read_event_file.events, refl) c.in-Ok.task c.in-Ok.ensures.ready
+    c.in_ok-planned-in-Ok-read_event_file.ensures.output
 
 pub returns-clause-told : goal.returns-clause-told
 returns-clause-told g c = λ files t.
@@ -47,4 +50,4 @@ returns-clause-told g c = λ files t.
 
 pub returns-clause-form : goal.returns-clause-form
 returns-clause-form g c =
-    IfOk-weaker c.halted-in-Err-read_event_file.result _ _ (λ output h. formed-refusal h.0 output h.2) c.halted-in-Err-read_event_file.ensures.refused
+    IfOk-weaker c.halted-in-Err-read_event_file.result _ _ (λ output h. of_refusal h.0 h.2) c.halted-in-Err-read_event_file.ensures.refused
