@@ -1,5 +1,8 @@
 -- What is said on standard error of how a run ended.
-use Rattle.std.specs.Prelude.{codes, Option, Some, None}
+use Rattle.std.specs.Prelude.{◌≡◌, ◌⊎◌, ◌∷◌, [], ◌++◌, codes, Option, Some, None}
+use Rattle.outside_folder.specs.Faults.{Rose}
+use Rattle.outside_folder.specs.Sink.{Appends, AppendsPrefix}
+use Rattle.cabal_plan.specs.Taken.{Taken}
 use Rattle.outside_folder.specs.Files.{Bytes}
 use Rattle.plan_command.specs.declared.status.Status.{Status}
 use Rattle.plan_command.specs.declared.status.Status.TheVariants.{Planned, NoPlan, GaveUp, Refused, ReadFault, WriteFault, NoMemory, Usage}
@@ -10,7 +13,12 @@ failure_of Planned = None
 failure_of NoPlan = None
 failure_of GaveUp = None
 failure_of Refused = None
-failure_of ReadFault = Some (codes "cabal-plan: a file or folder could not be read")
-failure_of WriteFault = Some (codes "cabal-plan: the output could not be written")
-failure_of NoMemory = Some (codes "cabal-plan: out of memory")
+failure_of ReadFault = Some (codes "cabal-plan: a file or folder could not be read" ++ 10 ∷ [])
+failure_of WriteFault = Some (codes "cabal-plan: the output could not be written" ++ 10 ∷ [])
+failure_of NoMemory = Some (codes "cabal-plan: out of memory" ++ 10 ∷ [])
 failure_of Usage = None
+
+-- this line was written, or writing it failed and a prefix of it was; nothing where there is no line
+abbrev pub IsSaid : Option Bytes → Taken → Taken → Type 0
+IsSaid None old new = new ≡ old
+IsSaid (Some line) old new = Appends old.bytes new.bytes line ⊎ (Rose old.faults new.faults × AppendsPrefix old.bytes new.bytes line)

@@ -1,4 +1,5 @@
 pub mod Examples
 pub mod Failure
 pub mod Run
+pub mod Taken
 pub mod Words

@@ -1,46 +1,66 @@
--- How the program ends, and what it leaves in the sink.
-use Rattle.std.specs.Prelude.{◌≡◌, ◌≢◌, ℕ, List, Option, None, Result, Ok, Err}
+-- How the program ends, and what it leaves in the folder and in the sinks.
+use Rattle.std.specs.Prelude.{◌≡◌, ◌≢◌, ℕ, ◌≤◌, List, Option, None, Result, Ok, Err}
 use Rattle.std.specs.IoError.{error_kind}
 use Rattle.std.specs.declared.io.Error.{Error}
 use Rattle.std.specs.declared.io.ErrorKind.{ErrorKind}
 use Rattle.std.specs.declared.io.ErrorKind.TheVariants as kind
+use Rattle.outside_folder.specs.Calls.{Leaves}
+use Rattle.outside_folder.specs.Faults.{Rose}
 use Rattle.outside_folder.specs.Files.{Bytes, Files}
 use Rattle.owned_values.specs.declared.memory.NoMemory.{NoMemory}
+use Rattle.cabal_plan.specs.Failure.{IsSaid, failure_of}
+use Rattle.cabal_plan.specs.Taken.{Taken}
 use Rattle.cabal_plan.specs.Words.{words_of}
 use Rattle.command_line.specs.Reading.{reading}
 use Rattle.plan_command.specs.declared.status.Status.{Status}
 use Rattle.plan_command.specs.declared.status.Status.TheVariants as status
-use Rattle.plan_command.specs.Output.{BuildsInOrder, HasForm, IsUsage, usage}
-use Rattle.plan_command.specs.Run.{IsOutputOf, Prints, Reads}
+use Rattle.plan_command.specs.Output.{IsUsage, usage}
+use Rattle.plan_command.specs.Run.{BuildsInOrder, IsOutputOf, MayPrint, Prints, Reads}
 use Rattle.plan_command.specs.Status.{number_of_status}
 
--- Over a folder the end is that of one run: what is printed is that of the words and of the files that are read for them.
-pub record IsRunOver (tells : Option Files) (words : List Bytes) (old new : Option Bytes) (end : Status) : Type 0 where
-  pub told : (files : Files) → Reads (reading words) tells files → Prints (IsOutputOf words files) old new end
-  pub one_text : Prints HasForm old new end
-  pub in_order : Prints BuildsInOrder old new end
+-- The sink's count of faults rose where a write failed, and only there.
+pub record Writes (old new : Taken) (end : Status) : Type 0 where
+  pub later : old.faults ≤ new.faults
+  pub rose : end ≡ status.WriteFault → Rose old.faults new.faults
+  pub still : end ≢ status.WriteFault → new.faults ≡ old.faults
+
+-- Over a folder the end is that of one run: what is printed is that of the words and of the files that are read for them, and each
+-- failure is told.
+pub record IsRunOver {F : Type 0} (tells : F → Option Files) (faults : F → ℕ) (words : List Bytes) (folder after : F) (old new : Taken) (end : Status) : Type 0 where
+  pub told : (files : Files) → Reads (reading words) (tells folder) files → Prints (IsOutputOf words files) old.bytes new.bytes end
+  pub one_text : Prints (MayPrint (reading words)) old.bytes new.bytes end
+  pub in_order : Prints (BuildsInOrder (reading words)) old.bytes new.bytes end
   pub usage_alone : end ≡ status.Usage → reading words ≡ None
   pub no_reading : reading words ≡ None → end ≢ status.NoMemory → IsUsage end
+  pub reads : Leaves tells faults folder after (end ≡ status.ReadFault)
+  pub writes : Writes old new end
 
 -- want of memory, behind which nothing was written
-abbrev pub IsWant : Option Bytes → Option Bytes → Status → Type 0
+abbrev pub IsWant : Taken → Taken → Status → Type 0
 IsWant old new end = (end ≡ status.NoMemory) × (new ≡ old)
 
--- with words the end is that of a run over the folder, or want of memory where there is none
-abbrev pub IsEndWithWords : {F : Type 0} → (F → Option Files) → List Bytes → Result F NoMemory → Option Bytes → Option Bytes → Status → Type 0
-IsEndWithWords tells words (Ok folder) old new end = IsRunOver (tells folder) words old new end
-IsEndWithWords tells words (Err none) old new end = IsWant old new end
+-- the end of a run over a folder, or want of memory where there is none
+abbrev pub IsEndOver : {F : Type 0} → (F → Option Files) → (F → ℕ) → List Bytes → Result F NoMemory → Result F NoMemory → Taken → Taken → Status → Type 0
+IsEndOver tells faults words (Ok folder) (Ok after) old new end = IsRunOver tells faults words folder after old new end
+IsEndOver tells faults words (Ok folder) (Err none) old new end = ⊥
+IsEndOver tells faults words (Err none) after old new end = (after ≡ Err none) × IsWant old new end
 
 -- where the words can't be had as text, that is want of memory, or the usage line is printed
-pub record IsEndWithoutWords (why : ErrorKind) (old new : Option Bytes) (end : Status) : Type 0 where
+pub record IsEndWithoutWords (why : ErrorKind) (old new : Taken) (end : Status) : Type 0 where
   pub no_memory : why ≡ kind.OutOfMemory → IsWant old new end
-  pub no_text : why ≢ kind.OutOfMemory → IsUsage end × Prints (λ output. output ≡ usage) old new end
+  pub no_text : why ≢ kind.OutOfMemory → IsUsage end × Prints (λ output. output ≡ usage) old.bytes new.bytes end
+  pub writes : Writes old new end
 
 -- the end, with what the system gave as the program's name and words
-abbrev pub IsEnd : {A F : Type 0} → (A → List Bytes) → (F → Option Files) → Result A Error → Result F NoMemory → Option Bytes → Option Bytes → Status → Type 0
-IsEnd texts tells (Ok args) folder old new end = IsEndWithWords tells (words_of (texts args)) folder old new end
-IsEnd texts tells (Err error) folder old new end = IsEndWithoutWords (error_kind error) old new end
+abbrev pub IsEnd : {A F : Type 0} → (A → List Bytes) → (F → Option Files) → (F → ℕ) → Result A Error → Result F NoMemory → Result F NoMemory
+    → Taken → Taken → Status → Type 0
+IsEnd texts tells faults (Ok args) folder after old new end = IsEndOver tells faults (words_of (texts args)) folder after old new end
+IsEnd texts tells faults (Err error) folder after old new end = (after ≡ folder) × IsEndWithoutWords (error_kind error) old new end
 
--- the number with which the program exits is that of its end
-abbrev pub IsExit : {A F : Type 0} → (A → List Bytes) → (F → Option Files) → Result A Error → Result F NoMemory → Option Bytes → Option Bytes → ℕ → Type 0
-IsExit texts tells args folder old new number = (end : Status) × (number ≡ number_of_status end) × IsEnd texts tells args folder old new end
+-- The number with which the program exits is that of its end, and so is the line on standard error.
+pub record IsExit {A F : Type 0} (texts : A → List Bytes) (tells : F → Option Files) (faults : F → ℕ) (args : Result A Error) (folder after : Result F NoMemory)
+    (old new said_before said : Taken) (number : ℕ) : Type 0 where
+  pub end : Status
+  pub number_is : number ≡ number_of_status end
+  pub ends : IsEnd texts tells faults args folder after old new end
+  pub line : IsSaid (failure_of end) said_before said

@@ -1,16 +1,17 @@
 //! The program `cabal-plan`: it plans the packages of the current folder, and prints the plan.
 #![tactic(auto)]
 
-ghost use Rattle.std.specs.Prelude.{◌≡◌, codes, map, string_bytes, IfOk};
+ghost use Rattle.std.specs.Prelude.{◌≡◌, ◌++◌, ◌∷◌, [], codes, map, string_bytes, IfOk};
 ghost use Rattle.std.specs.Option.{option_copied};
 ghost use Rattle.std.specs.Process.{exit_status};
 ghost use Rattle.std.specs.Vec.Iter.{into_iter_items};
-ghost use Rattle.cabal_plan.specs.Failure.{failure_of};
-ghost use Rattle.cabal_plan.specs.Run.{IsEnd, IsEndWithWords, IsEndWithoutWords, IsExit, IsRunOver};
+ghost use Rattle.cabal_plan.specs.Failure.{IsSaid, failure_of};
+ghost use Rattle.cabal_plan.specs.Run.{IsEnd, IsEndOver, IsEndWithoutWords, IsExit, IsRunOver};
+ghost use Rattle.cabal_plan.specs.Taken.{taken};
 ghost use Rattle.cabal_plan.specs.Words.{words_of};
 ghost use Rattle.plan_command.specs.Status.{number_of_status};
 
-use outside_folder::{Folder, RealFolder, RealSink, Sink};
+use outside_folder::{Folder, RealFolder, RealSink, Sink, WriterSink, write_all};
 use plan_command::{Status, code_of, print_usage, run};
 use plan_types::{List, NoMemory, Text};
 use std::alloc::Global;
@@ -23,32 +24,38 @@ fn main(rt: HostRuntime) -> ExitCode {
     program(
         &rt,
         env::args(&rt),
-        current_folder(&rt),
+        &mut current_folder(&rt),
         &mut RealSink::new(&rt),
+        &mut WriterSink::over(rt.stderr()),
     )
 }
 
-// Runs what the words ask for over a folder, and ends with the number of what came of it.
-fn program<R: Eprint + AllocGlobal, F: Folder + Drop, S: Sink>(
+// Runs what the words ask for over a folder, says on standard error what the output can't say, and ends with the number of what
+// came of it.
+fn program<R: AllocGlobal, F: Folder, S: Sink, E: Sink>(
     rt: &R,
     args: io::Result<Args>,
-    folder: Result<F, NoMemory>,
+    folder: &mut Result<F, NoMemory>,
     out: &mut S,
+    errors: &mut E,
 ) -> ExitCode
-    ensures { IsExit (λ args. map string_bytes (into_iter_items args)) F.tells args folder (S.bytes out.old) (S.bytes out.new)
+    ensures { IsExit (λ args. map string_bytes (into_iter_items args)) F.tells F.faults args folder.old folder.new
+        (taken S.bytes S.faults out.old) (taken S.bytes S.faults out.new) (taken E.bytes E.faults errors.old) (taken E.bytes E.faults errors.new)
         (exit_status result) }
 {
     let status = status_of(rt.alloc(), args, folder, out);
-    ended(rt, status)
+    say(status, errors);
+    ExitCode::from(code_of(status))
 }
 
-fn status_of<F: Folder + Drop, S: Sink>(
+fn status_of<F: Folder, S: Sink>(
     alloc: Global,
     args: io::Result<Args>,
-    folder: Result<F, NoMemory>,
+    folder: &mut Result<F, NoMemory>,
     out: &mut S,
 ) -> Status
-    ensures { IsEnd (λ args. map string_bytes (into_iter_items args)) F.tells args folder (S.bytes out.old) (S.bytes out.new) result }
+    ensures { IsEnd (λ args. map string_bytes (into_iter_items args)) F.tells F.faults args folder.old folder.new
+        (taken S.bytes S.faults out.old) (taken S.bytes S.faults out.new) result }
 {
     match args {
         Ok(args) => status_for(alloc, args, folder, out),
@@ -58,7 +65,7 @@ fn status_of<F: Folder + Drop, S: Sink>(
 
 // Where the system doesn't give the words as text, they have no reading.
 fn status_without_words<S: Sink>(kind: ErrorKind, out: &mut S) -> Status
-    ensures { IsEndWithoutWords kind (S.bytes out.old) (S.bytes out.new) result }
+    ensures { IsEndWithoutWords kind (taken S.bytes S.faults out.old) (taken S.bytes S.faults out.new) result }
 {
     if kind == ErrorKind::OutOfMemory {
         Status::NoMemory
@@ -67,21 +74,34 @@ fn status_without_words<S: Sink>(kind: ErrorKind, out: &mut S) -> Status
     }
 }
 
-fn status_for<F: Folder + Drop, S: Sink>(
+fn status_for<F: Folder, S: Sink>(
     alloc: Global,
     args: Args,
-    folder: Result<F, NoMemory>,
+    folder: &mut Result<F, NoMemory>,
     out: &mut S,
 ) -> Status
-    ensures { IsEndWithWords F.tells (words_of (map string_bytes (into_iter_items args))) folder (S.bytes out.old) (S.bytes out.new) result }
+    ensures { IsEndOver F.tells F.faults (words_of (map string_bytes (into_iter_items args))) folder.old folder.new
+        (taken S.bytes S.faults out.old) (taken S.bytes S.faults out.new) result }
 {
-    let Ok(words) = words_of(alloc, args) else {
-        return Status::NoMemory;
-    };
-    let Ok(mut folder) = folder else {
-        return Status::NoMemory;
-    };
-    planned(alloc, &words, &mut folder, out)
+    match folder {
+        Ok(folder) => status_over(alloc, args, folder, out),
+        Err(NoMemory) => Status::NoMemory,
+    }
+}
+
+fn status_over<F: Folder, S: Sink>(
+    alloc: Global,
+    args: Args,
+    folder: &mut F,
+    out: &mut S,
+) -> Status
+    ensures { IsRunOver F.tells F.faults (words_of (map string_bytes (into_iter_items args))) folder.old folder.new
+        (taken S.bytes S.faults out.old) (taken S.bytes S.faults out.new) result }
+{
+    match words_of(alloc, args) {
+        Ok(words) => planned(alloc, &words, folder, out),
+        Err(NoMemory) => Status::NoMemory,
+    }
 }
 
 fn planned<F: Folder, S: Sink>(
@@ -90,7 +110,7 @@ fn planned<F: Folder, S: Sink>(
     folder: &mut F,
     out: &mut S,
 ) -> Status
-    ensures { IsRunOver (F.tells folder.old) words.now (S.bytes out.old) (S.bytes out.new) result }
+    ensures { IsRunOver F.tells F.faults words.now folder.old folder.new (taken S.bytes S.faults out.old) (taken S.bytes S.faults out.new) result }
 {
     run(alloc, words.as_slice(), folder, out)
 }
@@ -117,23 +137,22 @@ fn current_folder<R: Files + AllocGlobal + Clone + Drop>(
     Ok(RealFolder::new(rt, root))
 }
 
-// Says on standard error what the output can't say. Where even that fails, the status alone tells.
-fn ended(rt: &impl Eprint, status: Status) -> ExitCode
-    ensures { exit_status result ≡ number_of_status status }
+// Says what the output can't say. Where even that fails, the status alone tells.
+fn say<E: Sink>(status: Status, errors: &mut E)
+    ensures { IsSaid (failure_of status) (taken E.bytes E.faults errors.old) (taken E.bytes E.faults errors.new) }
 {
     if let Some(line) = failure_of(status) {
-        let _ = eprintln!(rt; "{line}");
+        let _ = write_all(errors, line.as_bytes());
     }
-    ExitCode::from(code_of(status))
 }
 
 fn failure_of(status: Status) -> Option<&'static str>
     ensures { option_copied result ≡ failure_of status }
 {
     match status {
-        Status::ReadFault => Some("cabal-plan: a file or folder could not be read"),
-        Status::WriteFault => Some("cabal-plan: the output could not be written"),
-        Status::NoMemory => Some("cabal-plan: out of memory"),
+        Status::ReadFault => Some("cabal-plan: a file or folder could not be read\n"),
+        Status::WriteFault => Some("cabal-plan: the output could not be written\n"),
+        Status::NoMemory => Some("cabal-plan: out of memory\n"),
         Status::Planned | Status::NoPlan | Status::GaveUp | Status::Refused | Status::Usage => None,
     }
 }

@@ -22,10 +22,17 @@ impl<'a, R: Print> WriterSink<Printer<'a, R>> {
     pub fn new(rt: &'a R) -> RealSink<'a, R>
         ensures no_faults { result.faults ≡ 0 }
     {
-        WriterSink {
-            writer: io::writer(rt),
-            faults: 0,
-        }
+        WriterSink::over(io::writer(rt))
+    }
+}
+
+impl<W> WriterSink<W> {
+    /// A writer that hasn't failed.
+    pub fn over(writer: W) -> WriterSink<W>
+        ensures writer { result.writer ≡ writer }
+        ensures no_faults { result.faults ≡ 0 }
+    {
+        WriterSink { writer, faults: 0 }
     }
 }
 

@@ -1,0 +1,11 @@
+-- What a sink has taken.
+use Rattle.std.specs.Prelude.{ℕ, Option}
+use Rattle.outside_folder.specs.Files.{Bytes}
+
+-- its bytes, where it tells them, and how often it failed
+pub record Taken : Type 0 where
+  pub bytes : Option Bytes
+  pub faults : ℕ
+
+abbrev pub taken : {S : Type 0} → (S → Option Bytes) → (S → ℕ) → S → Taken
+taken bytes faults sink = record { bytes = bytes sink; faults = faults sink }
