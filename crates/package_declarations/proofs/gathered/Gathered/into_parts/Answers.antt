@@ -20,7 +20,7 @@ barred-by-none conds (cond ∷ barred) root is = absurd is
 pub returns-clause-buildable : goal.returns-clause-buildable
 returns-clause-buildable c opened barred stands =
     let conds = c.args.self.conds in
-    let free : numbered conds c.match-self.free ≡ all_of barred = elim c.match-self.branch [
+    let free : numbered conds c.match-barred.free ≡ all_of barred = elim c.match-barred.branch [
       | in-Some w ↦ ap (numbered conds) w.free-is ∙ barred-by conds _ barred (subst (λ n. IsNumbered conds n (joined_some barred)) w.in-Some.is stands.free)
       | in-None w ↦ ap (numbered conds) w.free-is ∙ barred-by-none conds barred stands.root (subst (λ n. IsNumbered conds n (joined_some barred)) w.in-None.is stands.free)
     ] in
