@@ -40,7 +40,7 @@ loop-alloc-preserved g c =
           subst (ArePartly ground files c.args.totals c.visit.new.totals new) (sym ok)
           (partly-on ground names new found within pairs c.in-Some.one f files c.args.totals c.loop-alloc.totals c.visit.new.totals (c.loop-alloc.invariant.told files t)
           (subst (λ n. IsVisited ground files (get_or names n []) c.loop-alloc.totals c.visit.new.totals c.in-Some.one.releases) place visited));
-      folder = onward _ _ _ _ _ (λ never. absurd never) (λ never. absurd never) c.loop-alloc.invariant.folder c.in_ok-visit.ensures.folder;
+      folder = onward _ _ _ _ _ (λ never. absurd never) (λ e. cc e) c.loop-alloc.invariant.folder c.in_ok-visit.ensures.folder;
     }
 
 pub loop-alloc-smaller : goal.loop-alloc-smaller

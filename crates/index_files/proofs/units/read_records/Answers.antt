@@ -50,7 +50,7 @@ loop-path-preserved g c =
             let found : file ≡ file_found true files c.path-item.result = some_at _ _ files (c.loop-path.invariant.folder.same_files ∙ t) c.in_ok-file.ensures.told in
             (λ i. taken.4 files t i ++ found i ∷ []) ∙ sym (map_take (file_found true files) c.args.paths.now c.loop-path.path-index c.path-item.result c.loop-path-test.true c.path-item.is),
       );
-      folder = onward _ _ _ _ _ (λ never. absurd never) (λ never. absurd never) c.loop-path.invariant.folder c.in_ok-file.ensures.folder;
+      folder = onward _ _ _ _ _ (λ never. absurd never) (λ e. cc e) c.loop-path.invariant.folder c.in_ok-file.ensures.folder;
     }
 
 pub returns-in_err-file-clause-told : goal.returns-in_err-file-clause-told
@@ -93,7 +93,7 @@ returns-in_err-units-clause-folder g c =
     let p = err_from_is_err_and c.from_residual-in_err-units.result c.from_residual-in_err-units.ensures.1 in
     let passed : c.from_residual-in_err-units.result ≡ Err c.in_err-units.field-0.0 = p.1 ∙ ap Err p.2 in
     let Is = OnPart (λ (u : Units). u.list) (Steps RecordComes with_record c.loop-path.units.list c.in_ok-file.file) in
-    onward _ _ _ _ _ (λ e. absurd (never-passed Is c.in_err-units.field-0.0 c.from_residual-in_err-units.result c.in_err-units.ensures passed e)) (λ never. absurd never)
+    onward _ _ _ _ _ (λ e. absurd (never-passed Is c.in_err-units.field-0.0 c.from_residual-in_err-units.result c.in_err-units.ensures passed e)) (λ e. absurd (cc e))
     c.loop-path.invariant.folder c.in_ok-file.ensures.folder
 
 pub returns-clause-told : goal.returns-clause-told

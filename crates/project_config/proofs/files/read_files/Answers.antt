@@ -55,7 +55,7 @@ loop-path-preserved g c =
             subst (λ (freeze : Option Bytes). GoesOn files project_files (taken.0 ++ text ∷ []) c.loop-path.implicit freeze c.next.new.self.rest.items) (sym c.kept-freeze.ensures)
             (more_read files project_files taken.0 c.loop-path.implicit c.loop-path.freeze c.in-Some.path c.next.new.self.rest.items goes c.in-Bytes.bytes is),
       );
-      folder = onward _ _ _ _ _ (λ e. absurd e) (λ e. absurd e) c.loop-path.invariant.folder c.in_ok-content.ensures.folder;
+      folder = onward _ _ _ _ _ (λ never. absurd never) (λ e. cc e) c.loop-path.invariant.folder c.in_ok-content.ensures.folder;
     }
 
 pub returns-in-TooLarge-clause-told : goal.returns-in-TooLarge-clause-told
@@ -91,7 +91,7 @@ returns-in_err-project-in-Bytes-clause-folder g c =
     (λ e.
     let failed : c.in_err-project-in-Bytes.field-0.0 ≡ Failed = cc (passed, e) in
     absurd (subst (λ (h : Halt). Settles {A = Project} (IsProject c.args.env.now (taken.0 ++ text ∷ [])) (Err h)) failed halts))
-    (λ never. absurd never) c.loop-path.invariant.folder c.in_ok-content.ensures.folder
+    (λ e. absurd (cc e)) c.loop-path.invariant.folder c.in_ok-content.ensures.folder
 
 pub returns-clause-told : goal.returns-clause-told
 returns-clause-told g c = if_some _ _ (λ files t.
