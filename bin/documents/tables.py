@@ -122,17 +122,22 @@ def listed(folder):
 def edits(page):
     """Yields for each row of the table of wrong bodies which of its edits stand elsewhere, and at last which edits of the gate have no row."""
     where, told, last = {it: edits_in(it) for it in ("must-fail", "mistakes")}, set(), 0
-    columns = next((cells(line)[2:] for line in page.prose if line.startswith("| Wrong body |")), [])
-    for number, line in enumerate(page.prose, 1):
-        row = cells(line)
-        if len(row) == 4 and names(row[1])[:1] and names(row[1])[0] in CRATES and line.count("`") > 3:
-            wrong, last = [], number
-            for folder, cell in zip((names(it)[0] for it in columns), row[2:]):
-                here = {f"{names(row[1])[0]}/{it}" for it in names(cell)}
-                told |= here
-                wrong += [page.fails(number, f"{it} {place(it, where)}, not in {folder}") for it in sorted(here - where[folder])]
-            yield wrong
+    for number, line in rows_below(page, "| Crate | `must-fail` | `mistakes` |"):
+        crate, *columns = cells(line)
+        wrong, last = [], number
+        for folder, cell in zip(where, columns):
+            here = {f"{crate.strip('`')}/{it}" for it in names(cell)}
+            told |= here
+            wrong += [page.fails(number, f"{it} {place(it, where)}, not in {folder}") for it in sorted(here - where[folder])]
+        yield wrong
     yield [page.fails(last, f"no row above has {it}, which the gate tries") for it in sorted(where["must-fail"] - told)]
+
+
+def rows_below(page, head):
+    """Returns the rows of the table with this head, each with the number of its line."""
+    first = page.prose.index(head) + 2 if head in page.prose else len(page.prose)
+    end = page.prose.index("", first) if "" in page.prose[first:] else len(page.prose)
+    return list(enumerate(page.prose[first:end], first + 1))
 
 
 def place(edit, where):
@@ -150,6 +155,5 @@ def checks(pages):
     yield from contracts(by_name["PROVED.md"])
     yield from definitions(by_name["DEFINITIONS.md"])
     yield files_of_definitions(by_name["DEFINITIONS.md"])
-    yield crates(by_name["README.md"], "## The crates")
     yield crates(by_name["ARCHITECTURE.md"], "## The crates")
     yield from edits(by_name["ARCHITECTURE.md"])
