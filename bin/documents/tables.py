@@ -12,10 +12,15 @@ from program import table
 PLAIN = {"Eq", "From", "Hash", "Ord", "clause", "for", "impl", "law"}
 
 
+def told_by_calls(*words):
+    """Returns the lines that `bin/calls` prints."""
+    ran = subprocess.run([f"{TOP}/bin/calls", *words], stdin=subprocess.DEVNULL, stdout=subprocess.PIPE, text=True, check=False)
+    return ran.stdout.split("\n")[:-1]
+
+
 def calls(page):
     """Returns where the table of public calls isn't what `bin/calls` prints."""
-    ran = subprocess.run([f"{TOP}/bin/calls"], stdin=subprocess.DEVNULL, stdout=subprocess.PIPE, text=True, check=False)
-    wanted = ran.stdout.split("\n")[:-1]
+    wanted = told_by_calls()
     if wanted[0] not in page.prose:
         return [page.fails(1, "it has no table of public calls")]
     at = page.prose.index(wanted[0])
@@ -25,22 +30,38 @@ def calls(page):
     return [] if is_same else [page.fails(at + first + 1, "here the table isn't what bin/calls prints: bin/calls --write puts it there")]
 
 
+def laws(page):
+    """Returns which public laws no row on their crate names."""
+    rows = {}
+    for number, crate, row in contract_rows(page):
+        rows.setdefault(crate, set()).update(it for name in names(row[2]) for it in re.findall(r"\w+", name))
+    told = [line.split(" ") for line in told_by_calls("--laws")]
+    return [page.fails(1, f"no row on {crate} names its law {law}") for crate, law in told if law not in rows.get(crate, ())]
+
+
+def contract_rows(page):
+    """Yields each row on a contract: the number of its line, its crate, and its cells. One without a crate is on that of the row above."""
+    crate = None
+    for number, line in enumerate(page.prose, 1):
+        row = cells(line)
+        if len(row) == 3 and row[2] != "Contract":
+            crate = (names(row[0]) or [crate])[0]
+            yield number, crate, row
+
+
 def contracts(page):
-    """Yields for each section on crates the contracts that it names and these crates lack, or those that the row names."""
+    """Yields for each row on a contract which names of it its crate, and those that the row names besides, lack."""
     used = table()
-    for _, head, lines in page.sections():
-        crates = [it for it in re.findall(r"\w+", head) if it in CRATES]
-        if head.startswith("### ") and crates:
-            yield [page.fails(number, f"{' and '.join(crates)} defines no {it}") for number, line in lines for it in lacking(crates, used, line)]
+    for number, crate, row in contract_rows(page):
+        yield [page.fails(number, f"{crate} defines no {it}") for it in lacking(crate, used, row)] if crate in CRATES else [
+            page.fails(number, f"there is no crate {crate}")
+        ]
 
 
-def lacking(crates, used, line):
-    row = cells(line)
-    if len(row) != 2:
-        return []
-    near = set(crates) | {it for it in names(line) if it in CRATES}
+def lacking(crate, used, row):
+    near = {crate} | {it for cell in row for it in names(cell) if it in CRATES}
     there = PLAIN.union(*(defined(f"crates/{it}/{part}") for it in near for part in ("src", "specs", "proofs")), *(used.get(it, ()) for it in near))
-    words = [it for name in names(row[1]) for it in re.findall(r"[\w-]+", name)]
+    words = [it for name in names(row[2]) for it in re.findall(r"[\w-]+", name)]
     return [it for it in words if it not in there and it not in CRATES and len(it) > 1]
 
 
@@ -152,6 +173,7 @@ def checks(pages):
             yield [Failure(name, 1, "there is no such document")]
             return
     yield calls(by_name["PROVED.md"])
+    yield laws(by_name["PROVED.md"])
     yield from contracts(by_name["PROVED.md"])
     yield from definitions(by_name["DEFINITIONS.md"])
     yield files_of_definitions(by_name["DEFINITIONS.md"])
