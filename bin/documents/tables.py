@@ -65,54 +65,25 @@ def lacking(crate, used, row):
     return [it for it in words if it not in there and it not in CRATES and len(it) > 1]
 
 
-def specs(crate):
-    at = f"{TOP}/crates/{crate}/specs"
-    return {it[: -len(".antt")] for it in os.listdir(at) if it.endswith(".antt") and it != "Lib.antt"} if os.path.isdir(at) else set()
-
-
-def text_of(crate, name):
-    with open(f"{TOP}/crates/{crate}/specs/{name}.antt", encoding="utf-8") as file:
-        return re.sub(r"(?m)^(?:pub )?use .*$", "", file.read())
-
-
-def heads(head):
-    """Yields the crates of a heading, each with one of its files of definitions."""
-    crate = None
-    for it in names(head):
-        if it in CRATES:
-            crate = it
-        else:
-            yield crate, it
+def definition_rows(page):
+    """Yields each row on definitions: the number of its line, the files in which they stand, and their names. One without a file is on that of
+    the row above, and one without a crate on the crate above."""
+    crate, files = None, []
+    for number, line in enumerate(page.prose, 1):
+        row = cells(line)
+        if len(row) == 3 and row[0] != "File":
+            of, told = [it for it in names(row[0]) if it in CRATES], [it for it in names(row[0]) if it not in CRATES]
+            crate = of[0] if of else crate
+            files = [f"crates/{crate}/{it if '/' in it else f'specs/{it}.antt'}" for it in told] or files
+            yield number, files, [it for name in names(row[1]) for it in re.findall(r"[\w-]+", name)]
 
 
 def definitions(page):
-    """Yields for each section of definitions which files and which names aren't there."""
-    for at, head, lines in page.sections():
-        files = list(heads(head))
-        wrong = [page.fails(at, f"{crate} has no specs/{name}.antt") for crate, name in files if name not in specs(crate)]
-        there = {name for _, name in files}.union(*(re.findall(r"[\w-]+", text_of(crate, name)) for crate, name in files if name in specs(crate)))
-        for number, line in lines if files else ():
-            of = [it for cell in cells(line)[:1] for name in names(cell) for it in re.findall(r"[\w-]+", name)]
-            near = [it for it in of if it in CRATES]
-            further = there.union(*(defined(f"crates/{it}/{part}") for it in near for part in ("src", "specs")))
-            wrong += [page.fails(number, f"the files of this section have no {it}") for it in of if it not in further and it not in CRATES]
-        if files:
-            yield wrong
-
-
-def files_of_definitions(page):
-    """Returns where the last table of definitions isn't the list of the files of each crate, and the line below that of those without any."""
-    told, wrong, last, lines = {}, [], 0, list(page.sections())[-1][2]
-    for number, line in lines:
-        row = cells(line)
-        if len(row) == 3 and names(row[0])[:1] and names(row[0])[0] in CRATES:
-            crate, last = names(row[0])[0], number
-            told[crate] = [it for it in names(row[1]) + names(row[2]) if not it.islower() or it in specs(crate)]
-            odd = sorted(specs(crate) ^ set(told[crate]))
-            wrong += [page.fails(number, f"{crate}: {it} {'is lacking' if it in specs(crate) else 'is no file of definitions'}") for it in odd]
-    without = {it for number, line in lines if number > last for it in names(line)}
-    odd = {it for it in table() if not specs(it)} ^ without | {it for it in table() if specs(it)} - told.keys()
-    return wrong + [page.fails(last, f"{it} is {'told' if it in without else 'lacking'} below this row") for it in sorted(odd)]
+    """Yields for each row on definitions which files aren't there, and which names they don't define."""
+    for number, files, told in definition_rows(page):
+        there = {name for it in files for name in defined(it)}
+        wrong = [page.fails(number, f"there is no {it}") for it in files if not os.path.isfile(f"{TOP}/{it}")]
+        yield wrong + [page.fails(number, f"{' and '.join(files)} defines no {it}") for it in told if it not in there]
 
 
 def first_of(row):
@@ -176,6 +147,5 @@ def checks(pages):
     yield laws(by_name["PROVED.md"])
     yield from contracts(by_name["PROVED.md"])
     yield from definitions(by_name["DEFINITIONS.md"])
-    yield files_of_definitions(by_name["DEFINITIONS.md"])
     yield crates(by_name["ARCHITECTURE.md"], "## The crates")
     yield from edits(by_name["ARCHITECTURE.md"])
