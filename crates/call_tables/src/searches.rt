@@ -126,8 +126,8 @@ impl Asked {
     }
 }
 
-fn asked(alloc: Global, asked: &Asked) -> Result<String, NoMemory> {
-    let outcome = searched(alloc, asked)?;
+fn found(alloc: Global, problem: &Asked) -> Result<String, NoMemory> {
+    let outcome = searched(alloc, problem)?;
     shown(alloc, &outcome)
 }
 
@@ -137,7 +137,7 @@ fn questions(alloc: Global, choices: Written) -> Result<String, NoMemory> {
         orders: Cell::new(0),
         demands: Cell::new(0),
     };
-    let text = asked(alloc, &problem)?;
+    let text = found(alloc, &problem)?;
     Ok(format!(in alloc; "{text}; {} questions", problem.amount())?)
 }
 
