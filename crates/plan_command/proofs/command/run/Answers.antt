@@ -1,4 +1,4 @@
-use Rattle.std.proofs.Common.{Some, None, refl, sym, ap, ◌∙◌, if◌then◌else◌}
+use Rattle.std.proofs.Common.{Some, None, sym, ap, ◌∙◌, if◌then◌else◌}
 use Rattle.command_line.specs.Reading.{reading}
 use Rattle.plan_search.specs.declared.search.Picking.TheVariants.{Least, MostMet}
 use Rattle.plan_command.proofs.Buildable.{in-order}
@@ -30,7 +30,7 @@ pub returns-in-Ok-clause-one_text : goal.returns-in-Ok-clause-one_text
 returns-in-Ok-clause-one_text g c = text-for c.args.words.now (Some c.in-Ok.command) c.in-Ok.ensures.command _ _ _ c.perform.ensures.one_text
 
 pub returns-in-Err-Usage-clause-one_text : goal.returns-in-Err-Usage-clause-one_text
-returns-in-Err-Usage-clause-one_text g c = text-for c.args.words.now None (c.in-Err-Usage.ensures.usage refl) _ _ _ c.print_usage.ensures.prints
+returns-in-Err-Usage-clause-one_text g c = text-for c.args.words.now None (c.in-Err-Usage.ensures.usage c.in-Err-Usage.field-0-is) _ _ _ c.print_usage.ensures.prints
 
 pub returns-in-Ok-clause-in_order : goal.returns-in-Ok-clause-in_order
 returns-in-Ok-clause-in_order g c =
@@ -38,7 +38,7 @@ returns-in-Ok-clause-in_order g c =
 
 pub returns-in-Err-Usage-clause-in_order : goal.returns-in-Err-Usage-clause-in_order
 returns-in-Err-Usage-clause-in_order g c =
-    in-order (reading c.args.words.now) _ _ _ (text-for c.args.words.now None (c.in-Err-Usage.ensures.usage refl) _ _ _ c.print_usage.ensures.prints)
+    in-order (reading c.args.words.now) _ _ _ (text-for c.args.words.now None (c.in-Err-Usage.ensures.usage c.in-Err-Usage.field-0-is) _ _ _ c.print_usage.ensures.prints)
 
 pub returns-in-Ok-clause-generated : goal.returns-in-Ok-clause-generated
 returns-in-Ok-clause-generated g c = λ number limit asked. c.perform.ensures.generated number limit (cc (sym c.in-Ok.ensures.command ∙ asked))
