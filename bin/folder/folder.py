@@ -1,0 +1,158 @@
+"""Makes the folder that is planned.
+
+In: a project's folder and the options. Out: the links `index` and `installed` in it, and where its local files have to be rewritten a folder of
+links and copies that stands for it; the folder to plan in, and the words of the environment."""
+
+import collections
+import glob
+import os
+
+import closure
+from compiler import compiler
+from index import index
+from made import OWN, Own, put
+from older import Misread, is_read, rewritten
+from project import FILES, extra_names, fields, local_files
+from records import hash_of, records
+from refusal import Refusal, read
+
+INDEX, INSTALLED, PROJECT, CHANGED = "index", "installed", "project", ".changed"
+
+
+def copy_of(path, data, say):
+    """Returns the bytes of a rewritten copy and the kinds of changes; none where the file can stay, or can't be rewritten."""
+    try:
+        return rewritten(data)
+    except Misread as error:
+        say(f"{path} isn't rewritten: {error}")
+        return data, set()
+
+
+def local_packages(project, is_rewritten, say):
+    """Returns for each local file its bytes, those that are planned, and the kinds of changes."""
+    found = {path: read(os.path.join(project, path)) for path in local_files(project)}
+    if is_rewritten:
+        return {path: (data, *copy_of(path, data, say)) for path, data in found.items()}
+    wrong = [path for path, data in found.items() if not is_read(data)]
+    if wrong:
+        raise Refusal(f"{', '.join(wrong)}: the planner reads cabal-version 2.4, 3.0 and 3.4 alone: with --older-headers it plans a rewritten copy")
+    return {path: (data, data, set()) for path, data in found.items()}
+
+
+def own_name(data):
+    """Returns the name that a `.cabal` file states."""
+    found = closure.re.search(rb"(?im)^[ \t]*name[ \t]*:\s*([A-Za-z0-9-]+)", data)
+    return found[1].decode() if found else ""
+
+
+def reached(source, units, local, extra, asked, say):
+    """Returns what the project reaches of an index: a list of names and versions."""
+    reach = closure.Closure(source, units, (lambda _: True) if asked.older_headers else is_read, asked.newest)
+    locals_ = {own_name(data) for data, *_ in local.values()}
+    roots = {it.decode() for data, *_ in local.values() for it in closure.mentioned(data)} | extra | locals_
+    lean = reach.reach(roots, locals_)
+    names = set(reach.versions)
+    if reach.is_too_much(names, len(units)):
+        say(f"{reach.count(names)} files of {len(names)} names can be reached: those are left out that only test suites and benchmarks of the index name, which are in no plan")
+        names = lean
+    if reach.is_too_much(names, len(units)):
+        fits = reach.fitting(names, len(units))
+        raise Refusal(f"{reach.count(names)} files of {len(names)} names can be reached, and the planner reads {closure.MOST_FILES} files, with the {len(units)} records, and {closure.MOST_BYTES} bytes. --newest=N keeps the N newest versions of each name; at most {fits} fit")
+    found = [(name, version) for name in sorted(names) for version in reach.versions[name]]
+    say(f"index: {len(found)} files of {len({it for it, _ in found})} names out of {source.told}")
+    return found
+
+
+def code():
+    """Returns what tells this code from other code."""
+    return hash_of(b"\0".join(read(it) for it in sorted(glob.glob(f"{os.path.dirname(os.path.realpath(__file__))}/*.py"))))
+
+
+def fill_index(at, source, files, is_rewritten, say):
+    """Writes the files of an index: links where a file stays as it is and a folder can be linked to, else copies."""
+    changed = []
+    for name, version in files:
+        data = source.data(name, version) if is_rewritten or not source.target(name, version) else None
+        data, kinds = copy_of(f"{name}/{version}/{name}.cabal", data, say) if is_rewritten else (data, set())
+        target = source.target(name, version)
+        os.makedirs(f"{at}/{name}", exist_ok=True)
+        if kinds or not target:
+            os.mkdir(f"{at}/{name}/{version}")
+            put(f"{at}/{name}/{version}/{name}.cabal", data)
+        else:
+            os.symlink(target, f"{at}/{name}/{version}")
+        changed += [f"{name}/{version}/{name}.cabal\t{'; '.join(sorted(kinds))}\n"] * bool(kinds)
+    put(f"{at}/{CHANGED}", "".join(changed).encode())
+
+
+def fill_installed(at, units):
+    """Sets links to the files of records, and writes those that a dump has."""
+    for it in units:
+        name = os.path.basename(it.path) if it.path else f"{it.unit}.conf"
+        while os.path.lexists(f"{at}/{name}"):
+            name = f"again-{name}"
+        if it.path:
+            os.symlink(os.path.abspath(it.path), f"{at}/{name}")
+        else:
+            put(f"{at}/{name}", it.data)
+
+
+def fill_project(at, project, local, made):
+    """Lays out a project with links to its files, and copies of the local files that were changed."""
+    for name in FILES:
+        if os.path.isfile(os.path.join(project, name)):
+            os.symlink(f"../../{name}", f"{at}/{name}")
+    for path, (_, data, kinds) in local.items():
+        below = os.path.dirname(os.path.join(at, path))
+        os.makedirs(below, exist_ok=True)
+        if kinds:
+            put(os.path.join(at, path), data)
+        else:
+            os.symlink("../" * (path.count("/") + 2) + path, os.path.join(at, path))
+    for kind, name in made.items():
+        os.symlink(f"../{name}", f"{at}/{kind}")
+
+
+def say_changes(lines, say):
+    """Says how many files were changed, and by which kinds."""
+    kinds = collections.Counter(kind for line in lines for kind in line.rstrip("\n").split("\t")[1].split("; "))
+    told = "".join(f", {number} {kind}" for kind, number in kinds.most_common())
+    say(f"{len(lines)} files of the index are rewritten{told}" + f"; {OWN}/index-../{CHANGED} names them" * bool(lines))
+
+
+def made_folder(project, asked, say):
+    """Makes what the planner reads, and returns the folder to plan in and the words of the environment."""
+    local = local_packages(project, asked.older_headers, say)
+    own = Own(project)
+    own.check((INDEX, INSTALLED))
+    ghc = compiler(asked.with_compiler or "".join(fields(project, "with-compiler")[-1:]))
+    units, told = records(ghc, not asked.no_store)
+    say(f"{ghc.path}: {' '.join(ghc.words())}")
+    for it in told:
+        say(it)
+    source = index(asked.index)
+    files = reached(source, units, local, extra_names(project), asked, say)
+    own.open()
+    made = {INSTALLED: own.make(INSTALLED, code() + "\n".join(it.key() for it in units), lambda at: fill_installed(at, units))}
+    key = "\n".join([code(), str(asked.older_headers), *(f"{name} {version} {source.key(name, version)}" for name, version in files)])
+    made[INDEX] = own.make(INDEX, key, lambda at: fill_index(at, source, files, asked.older_headers, say))
+    return linked(project, own, local, made, asked.older_headers, say), ghc.words()
+
+
+def linked(project, own, local, made, is_rewritten, say):
+    """Sets the links, says what stands where, and returns the folder to plan in."""
+    kept, where = dict(made), "."
+    if any(kinds for *_, kinds in local.values()):
+        key = code() + repr((made, [it for it in FILES if os.path.isfile(os.path.join(project, it))], local))
+        kept[PROJECT] = own.make(PROJECT, key, lambda at: fill_project(at, project, local, made))
+        own.link(os.path.join(own.path, PROJECT), kept[PROJECT])
+        where = f"{OWN}/{PROJECT}"
+        for path, (_, _, kinds) in local.items():
+            say(f"{path}: {'; '.join(sorted(kinds)) or 'as it is'}; the plan is made in {where}, over a copy")
+    for kind, name in made.items():
+        own.link(os.path.join(project, kind), f"{OWN}/{name}")
+    own.keep({*kept.values(), PROJECT if PROJECT in kept else ""})
+    if is_rewritten:
+        say_changes(read(os.path.join(own.path, made[INDEX], CHANGED)).decode().splitlines(), say)
+    say(f"for .gitignore: /{OWN}/ /{INDEX} /{INSTALLED}")
+    return where

@@ -1,0 +1,181 @@
+"""Reads an index of packages, as a folder or as the tar that cabal keeps.
+
+In: a path. Out: an index that knows the versions of a name, and the bytes of each `.cabal` file. A tar is read as a stream, once for the
+places of its files; of several entries of one path the last counts. Nothing of it is kept but these places."""
+
+import os
+import re
+import time
+
+from refusal import Refusal, read
+
+VERSION = re.compile(r"(0|[1-9]\d{0,8})(\.(0|[1-9]\d{0,8}))*")
+BLOCK, CHUNK = 512, 1 << 22
+# How a file of a tar and a longer name of the next one are marked.
+FILE, LONG_NAME, EXTENDED = (b"0", b"\0"), b"L", b"x"
+
+
+def is_version(text):
+    return VERSION.fullmatch(text) is not None
+
+
+def by_number(text):
+    """Returns what versions are compared by."""
+    return [int(it) for it in text.split(".")]
+
+
+class Folder:
+    """An index that is a folder: NAME/VERSION/NAME.cabal."""
+
+    def __init__(self, path):
+        self.path, self.told = os.path.abspath(path), f"{path}: a folder"
+
+    def versions(self, name):
+        """Returns the versions of a name."""
+        try:
+            there = os.listdir(f"{self.path}/{name}")
+        except (FileNotFoundError, NotADirectoryError):
+            return []
+        except OSError as error:
+            raise Refusal(f"{self.path}/{name} can't be read: {error.strerror}") from error
+        return [it for it in there if is_version(it) and os.path.isfile(f"{self.path}/{name}/{it}/{name}.cabal")]
+
+    def data(self, name, version):
+        return read(f"{self.path}/{name}/{version}/{name}.cabal")
+
+    def target(self, name, version):
+        """Returns the folder of a version, which a link may lead to."""
+        return f"{self.path}/{name}/{version}"
+
+    def key(self, name, version):
+        """Returns what tells this file from others, also from the same one at another time."""
+        it = os.stat(f"{self.path}/{name}/{version}/{name}.cabal")
+        return f"{self.path} {it.st_size} {it.st_mtime_ns}"
+
+
+class Tar:
+    """An index that is a tar: for each name its versions, and for each of these where its bytes are."""
+
+    def __init__(self, path):
+        begun = time.monotonic()
+        self.path, self.places = os.path.abspath(path), {}
+        try:
+            self.file = open(path, "rb", buffering=0)  # (kept open: the files are read out of it)
+            self.size = os.fstat(self.file.fileno()).st_size
+            self.stamp = f"{self.path} {self.size} {os.fstat(self.file.fileno()).st_mtime_ns}"
+            count = self.scan()
+        except OSError as error:
+            raise Refusal(f"{path} can't be read: {error.strerror}") from error
+        self.told = f"{path}: {self.size} bytes, {count} .cabal files, found in {time.monotonic() - begun:.1f} s"
+
+    def scan(self):
+        """Finds the places of all `.cabal` files, and returns how many there are."""
+        at, buffer, start, longer = 0, b"", 0, None
+        while True:
+            if at + BLOCK > start + len(buffer):
+                buffer, start = os.pread(self.file.fileno(), CHUNK, at), at
+            head = buffer[at - start : at - start + BLOCK]
+            if len(head) < BLOCK:
+                raise Refusal(f"{self.path} is cut off: it ends at byte {self.size} without the mark of its end. Fetch it again: cabal update")
+            if head[0] == 0 and not head.strip(b"\0"):
+                return sum(map(len, self.places.values()))
+            size, kind = self.size_of(head, at), head[156:157]
+            if at + BLOCK + size > self.size:
+                raise Refusal(f"{self.path} is cut off: its entry at byte {at} has {size} bytes, and the file ends at byte {self.size}. Fetch it again: cabal update")
+            if kind in FILE:
+                self.note(longer or name_of(head), at + BLOCK, size)
+                longer = None
+            elif kind in (LONG_NAME, EXTENDED):
+                longer = long_name(kind, os.pread(self.file.fileno(), size, at + BLOCK)) or longer
+            at += BLOCK + (size + BLOCK - 1) // BLOCK * BLOCK
+
+    def size_of(self, head, at):
+        """Returns how many bytes an entry has."""
+        if head[257:262] != b"ustar" and sum(head[:148]) + sum(head[156:]) + 8 * 32 != number(head[148:156]):
+            packed = " It is compressed: unpack it first, with gunzip -k" if head[:2] == b"\x1f\x8b" and at == 0 else ""
+            raise Refusal(f"{self.path} isn't a tar at byte {at}.{packed}")
+        size = number(head[124:136])
+        if size is None:
+            raise Refusal(f"{self.path} has an entry without a size at byte {at}")
+        return size
+
+    def note(self, path, at, size):
+        """Keeps the place of a file where it is the `.cabal` file of a version."""
+        if not path.endswith(b".cabal"):
+            return
+        parts = path.decode("utf-8", "replace").removeprefix("./").split("/")
+        if len(parts) == 3 and parts[2] == f"{parts[0]}.cabal" and is_version(parts[1]):
+            self.places.setdefault(parts[0], {})[parts[1]] = at, size
+
+    def versions(self, name):
+        """Returns the versions of a name."""
+        return list(self.places.get(name, ()))
+
+    def data(self, name, version):
+        at, size = self.places[name][version]
+        found = os.pread(self.file.fileno(), size, at)
+        if len(found) < size:
+            raise Refusal(f"{self.path} was changed while it was read: run this again")
+        return found
+
+    def target(self, _name, _version):
+        """Returns none: nothing can be linked to."""
+        return None
+
+    def key(self, name, version):
+        """Returns what tells this file from others, also from the same one at another time."""
+        return f"{self.stamp} {self.places[name][version]}"
+
+
+def number(field):
+    """Returns the number of a field of a tar's head, or none where it has none."""
+    if field[:1] == b"\x80":
+        return int.from_bytes(field[1:], "big")
+    digits = field.strip(b"\0 ")
+    return int(digits, 8) if re.fullmatch(rb"[0-7]+", digits) else None
+
+
+def name_of(head):
+    """Returns the path that a tar's head says."""
+    name = head[: head.index(0) if 0 in head[:100] else 100][:100]
+    prefix = head[345:500].split(b"\0")[0] if head[257:263] == b"ustar\0" else b""
+    return prefix + b"/" + name if prefix else name
+
+
+def long_name(kind, data):
+    """Returns the path that an entry says of the next one."""
+    if kind == LONG_NAME:
+        return data.rstrip(b"\0")
+    found = re.search(rb"(?:^|\n)\d+ path=([^\n]*)\n", data)
+    return found[1] if found else None
+
+
+def places():
+    """Returns where cabal keeps the tars of its servers."""
+    home = os.path.expanduser("~")
+    cache = os.environ.get("XDG_CACHE_HOME") or f"{home}/.cache"
+    given = [os.environ["CABAL_DIR"]] if os.environ.get("CABAL_DIR") else []
+    return [f"{it}/packages" for it in dict.fromkeys([*given, f"{home}/.cabal", f"{cache}/cabal"])]
+
+
+def found_tars():
+    """Returns the tars that cabal has fetched."""
+    found = []
+    for place in places():
+        servers = sorted(os.listdir(place)) if os.path.isdir(place) else []
+        found += [f"{place}/{it}/01-index.tar" for it in servers if os.path.isfile(f"{place}/{it}/01-index.tar")]
+    return found
+
+
+def index(asked):
+    """Returns the index of that path, or the one that cabal has fetched."""
+    if not asked:
+        tars = found_tars()
+        if not tars:
+            raise Refusal(f"there is no 01-index.tar in {', '.join(places())}: run 'cabal update', or name a folder or a tar by --index=PATH")
+        if len(tars) > 1:
+            raise Refusal(f"cabal has several indexes: name one of them by --index=PATH: {' '.join(tars)}")
+        asked = tars[0]
+    if not os.path.exists(asked):
+        raise Refusal(f"there is no {asked}: --index takes a folder of NAME/VERSION/NAME.cabal, or a tar")
+    return Folder(asked) if os.path.isdir(asked) else Tar(asked)

@@ -1,0 +1,161 @@
+"""Rewrites a `.cabal` file of another header, or in an older form, so that the planner reads it.
+
+In: the bytes of a file. Out: the bytes of the copy, and the kinds of changes; or none where the file can stay as it is."""
+
+import re
+
+from elements import Field, Misread, Section, elements, printed, walk
+
+READ = ("2.4", "3.0", "3.4")
+HEADER = re.compile(rb"(?im)^[ \t]*cabal-version[ \t]*:[ \t]*(.*(?:\r?\n[ \t]+[^\s:]+[ \t]*\r?$)?)")
+FIRST = re.compile(rb"\A(?:\xef\xbb\xbf)?(?:[ \t]*(?:--[^\n]*)?\r?\n)*[ \t]*cabal-version[ \t]*:[ \t]*(\S+)[ \t]*\r?(?:\n|\Z)(?=\S|\s*\Z|[ \t]*(?:--|\r?\n))", re.I)
+# A file in which one of these stands is read whole: braces, older fields, and a component's name of other characters.
+UNUSUAL = re.compile(
+    rb"[{}\xa0]|(?im:^[ \t]*build-tools[ \t]*:)|(?im:^(?:executable|test-suite|benchmark|foreign-library|library)[ \t]+[\w-]*[^\w\s-])"
+)
+SECTION = re.compile(rb"(?im)^(?:library|executable|test-suite|benchmark|foreign-library)\b[^:\n]*$")
+BUILD_TYPE = re.compile(rb"(?im)^build-type[ \t]*:")
+COMPONENTS = ("library", "executable", "test-suite", "benchmark", "foreign-library")
+# The programs that cabal takes as the tool of a package of that name.
+TOOLS = {"hscolour", "haddock", "happy", "alex", "hsc2hs", "c2hs", "cpphs", "greencard", "hspec-discover"}
+# The fields of a package in a file without sections; all others are those of its library.
+OF_PACKAGE = {
+    "name", "version", "cabal-version", "build-type", "license", "license-file", "license-files", "copyright", "maintainer", "stability",
+    "homepage", "package-url", "bug-reports", "synopsis", "description", "category", "author", "tested-with", "data-files", "data-dir",
+    "extra-source-files", "extra-tmp-files", "extra-doc-files",
+}  # fmt: skip
+# The kinds of changes.
+HEADER_CHANGED = "header"
+HEADER_MOVED = "header moved to the front"
+ENCODING = "bytes that aren't UTF-8"
+BLANKS = "blanks beyond ASCII"
+CUSTOM = "build-type: Custom said"
+FLAT = "fields without sections"
+BUILD_TOOLS = "build-tools"
+NAMES = "component names"
+
+
+def version(text):
+    """Returns the version that the text of a header says; of none that of the oldest files."""
+    found = re.search(r"\d+(?:\.\d+)*", text)
+    return tuple(map(int, found[0].split("."))) if found else (1, 0)
+
+
+def nearest(stated):
+    """Returns the header that comes nearest to a version: the last one up to it, or else the first."""
+    return [it for it in READ if version(it) <= stated][-1:][0] if stated >= version(READ[0]) else READ[0]
+
+
+def is_read(data):
+    """Returns whether the planner reads a file of that header."""
+    found = FIRST.match(data)
+    return bool(found) and found[1].decode("latin-1") in READ
+
+
+def decoded(data):
+    """Returns the text of a file, and whether it was UTF-8."""
+    try:
+        return data.decode("utf-8"), True
+    except UnicodeDecodeError:
+        return data.decode("latin-1"), False
+
+
+def rewritten(data):
+    """Returns the bytes that the planner reads in place of a file, and the kinds of changes: none where it can stay as it is."""
+    text, is_utf8 = decoded(data)
+    if is_utf8 and not UNUSUAL.search(data) and SECTION.search(data):
+        if is_read(data):
+            return data, set()
+        if plain := header_alone(data):
+            return plain
+    kinds = set() if is_utf8 else {ENCODING}
+    if "\xa0" in text:
+        kinds.add(BLANKS)
+        text = text.replace("\xa0", " ")
+    items, forms = elements(text)
+    kinds |= forms | changed(items)
+    if kinds <= {HEADER_CHANGED, HEADER_MOVED} and (plain := header_alone(data)):
+        return plain if kinds else (data, set())
+    if not kinds and is_read(data):
+        return data, set()
+    return printed(items).encode(), kinds
+
+
+def header_alone(data):
+    """Returns the bytes with another header at the front, and nothing else changed; or none where more has to be."""
+    found = HEADER.search(data)
+    stated = version(found[1].decode("latin-1")) if found else (1, 0)
+    if stated < (2, 2) and not BUILD_TYPE.search(data):
+        return None
+    body = data.removeprefix(b"\xef\xbb\xbf")
+    found = HEADER.search(body)
+    is_first = bool(found) and not re.sub(rb"(?m)^[ \t]*(?:--[^\n]*)?\r?(?:\n|\Z)", b"", body[: found.start()])
+    line = f"cabal-version: {nearest(stated)}".encode()
+    if is_first:
+        return body[: found.start()] + line + body[found.end() :], {HEADER_CHANGED}
+    rest = body[: found.start()] + body[found.end() :] if found else body
+    return line + b"\n" + rest, {HEADER_CHANGED, HEADER_MOVED}
+
+
+def changed(items):
+    """Changes the elements of a file, and returns the kinds of changes."""
+    top = [it for it in items if isinstance(it, Field) and it.name == "cabal-version"]
+    stated = version(top[0].text()) if top else (1, 0)
+    name = next((it.text() for it in reversed(items) if isinstance(it, Field) and it.name == "name"), "")
+    kinds = sectioned(items) | with_tools(items, name) | renamed(items)
+    if stated < (2, 2) and not any(isinstance(it, Field) and it.name == "build-type" for it in items):
+        items.insert(0, Field("build-type", ["Custom"]))
+        kinds.add(CUSTOM)
+    wanted = nearest(stated)
+    if not top or items[0] is not top[0]:
+        kinds.add(HEADER_MOVED)
+    if not top or top[0].text() != wanted:
+        kinds.add(HEADER_CHANGED)
+    items[:] = [Field("cabal-version", [wanted])] + [it for it in items if it not in top]
+    return kinds
+
+
+def sectioned(items):
+    """Puts the fields of a file without sections into sections, as cabal does: those in front of the first `executable` are the library's."""
+    if not items or any(isinstance(it, Section) for it in items):
+        return set()
+    first = next((at for at, it in enumerate(items) if it.name == "executable"), len(items))
+    package = [it for it in items[:first] if it.name in OF_PACKAGE or it.name.startswith("x-")]
+    library = [it for it in items[:first] if it not in package]
+    shared = [it for it in library if it.name == "build-depends"]
+    found = [Section("library", "", library)] if len(library) > len(shared) else []
+    for it in items[first:]:
+        if it.name == "executable":
+            found.append(Section("executable", it.text(), list(shared)))
+        else:
+            found[-1].items.append(it)
+    items[:] = package + found
+    return {FLAT} if found else set()
+
+
+def with_tools(items, name):
+    """Turns `build-tools` into `build-tool-depends`: the package's own executables and the tools that cabal knows. Others have no say."""
+    own, found = {it.args for it in items if isinstance(it, Section) and it.name == "executable"}, set()
+    for it in walk(items):
+        if isinstance(it, Field) and it.name == "build-tools":
+            entries = [re.match(r"\s*([\w.-]+)\s*(.*)", entry, re.S) for entry in it.text().split(",")]
+            known = [it for it in entries if it and (it[1] in own or it[1] in TOOLS)]
+            it.name, found = "build-tool-depends", {BUILD_TOOLS}
+            it.values = [", ".join(f"{name if it[1] in own else it[1]}:{it[1]} {it[2]}".rstrip() for it in known)]
+    return found
+
+
+def renamed(items):
+    """Gives components names of letters, digits, `-` and `_`."""
+    found = set()
+    for it in items:
+        if isinstance(it, Section) and it.name in COMPONENTS and re.search(r"[^A-Za-z0-9_-]", it.args):
+            plain = re.sub(r"[^A-Za-z0-9_-]", "_", it.args.strip('"'))
+            taken = {other.args for other in items if isinstance(other, Section) and other.name in COMPONENTS}
+            while plain in taken:
+                plain += "_"
+            it.args, found = plain, {NAMES}
+    return found
+
+
+__all__ = ["Misread", "is_read", "rewritten"]

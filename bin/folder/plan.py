@@ -1,0 +1,53 @@
+"""Runs the planner over the made folder, and counts which files it still skips.
+
+In: the words to plan with. Out: what the planner prints, its status, and a count of its `skipped` lines by their cause."""
+
+import collections
+import re
+import subprocess
+import sys
+
+from refusal import Refusal
+
+SKIPPED = re.compile(r"(?m)^skipped (.*) (\w+)$")
+MOST_NAMED = 20
+
+
+def count(output, say):
+    """Says how many files are skipped, for which cause, and names the first of them."""
+    found = SKIPPED.findall(output)
+    causes = collections.Counter(cause for _, cause in found)
+    say(f"{len(found)} files are still skipped" + "".join(f", {number} {cause}" for cause, number in causes.most_common()))
+    for path, cause in found[:MOST_NAMED]:
+        say(f"  {path} {cause}")
+    if len(found) > MOST_NAMED:
+        say(f"  and {len(found) - MOST_NAMED} more, in the skipped lines of the plan")
+
+
+def answer(words, where):
+    """Returns what the planner prints, and its status."""
+    try:
+        ran = subprocess.run(words, cwd=where, stdin=subprocess.DEVNULL, stdout=subprocess.PIPE, check=False)
+    except OSError as error:
+        raise Refusal(f"{words[0]} can't be run: {error.strerror}") from error
+    return ran.stdout, ran.returncode
+
+
+def run(words, where, say):
+    """Plans, and returns the status; counts what is skipped where there is something to say it with."""
+    output, status = answer(words, where)
+    sys.stdout.buffer.write(output)
+    sys.stdout.buffer.flush()
+    if say and "--json" not in words:
+        count(output.decode("utf-8", "replace"), say)
+    return status
+
+
+def still_skipped(words, where, say):
+    """Asks the planner for a plan that it gives up at once, for what it says of the files."""
+    output, status = answer([*words, "--max-backjumps=0"], where)
+    text = output.decode("utf-8", "replace")
+    if status > 2:
+        say(f"the planner says: {text.strip()[:200]}")
+    else:
+        count(text, say)

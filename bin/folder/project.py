@@ -1,0 +1,77 @@
+"""Reads a project as far as it says which packages are needed.
+
+In: its folder. Out: the project files that are there, the local `.cabal` files by the rules of the planner, and the names of
+`extra-packages`. Conditions are passed over: what stands under any of them counts. What the planner refuses is left to it."""
+
+import os
+import re
+
+from elements import Field, Misread, elements, walk
+from older import decoded
+from refusal import Refusal, read
+
+FILES = ("cabal.project", "cabal.project.freeze", "cabal.project.local")
+REFUSED = re.compile(r"^[/~]|\*\*|[{}]|://|(^|/)\.\.(/|$)")
+
+
+def fields(folder, name):
+    """Returns the values of all fields of that name in the project files, each as one text."""
+    return [it.text() for file in FILES for it in read_elements(folder, file) if isinstance(it, Field) and it.name == name]
+
+
+def read_elements(folder, file):
+    """Returns all elements of a project file; none where it isn't there."""
+    path = os.path.join(folder, file)
+    if not os.path.isfile(path):
+        return []
+    try:
+        return list(walk(elements(decoded(read(path))[0])[0]))
+    except Misread as error:
+        raise Refusal(f"{file} can't be read: {error}") from error
+
+
+def matches(folder, entry):
+    """Returns the paths that an entry gives, seen from the folder."""
+    found = [""]
+    for name in (it for it in entry.split("/") if it not in ("", ".")):
+        if "*" not in name:
+            found = [it for it in (f"{at}{name}" for at in found) if os.path.lexists(os.path.join(folder, it))]
+        else:
+            fits = re.compile(".*".join(map(re.escape, name.split("*"))), re.S)
+            found = [f"{at}{it}" for at in found for it in listed(os.path.join(folder, at)) if fits.fullmatch(it) and (it[0] != "." or name[0] == ".")]
+        found = [f"{it}/" for it in found]
+    return [it.rstrip("/") or "." for it in found]
+
+
+def listed(folder):
+    return sorted(os.listdir(folder)) if os.path.isdir(folder) else []
+
+
+def of_entry(folder, entry):
+    """Returns the `.cabal` files that an entry gives."""
+    found = []
+    for path in matches(folder, entry):
+        whole = os.path.join(folder, path)
+        if os.path.isdir(whole):
+            names = [it for it in listed(whole) if it.endswith(".cabal") and os.path.isfile(os.path.join(whole, it))]
+            found += [os.path.normpath(os.path.join(path, it)) for it in names]
+        elif path.endswith(".cabal") and not entry.endswith("/"):
+            found.append(os.path.normpath(path))
+    return found
+
+
+def local_files(folder):
+    """Returns the local `.cabal` files, seen from the folder."""
+    has_project = os.path.isfile(os.path.join(folder, "cabal.project"))
+    texts = fields(folder, "packages") + fields(folder, "optional-packages") + ["./*.cabal"] * (not has_project)
+    entries = [it for text in texts for it in re.split(r"[,\s]+", text) if it and not REFUSED.search(it)]
+    found = sorted({path for it in entries for path in of_entry(folder, it)})
+    if not found:
+        raise Refusal(f"no local package is here: run this in the folder of a package or project{', or correct packages in cabal.project' * has_project}")
+    return found
+
+
+def extra_names(folder):
+    """Returns the names of `extra-packages`."""
+    entries = [it.strip() for text in fields(folder, "extra-packages") for it in text.split(",")]
+    return {it[0] for it in (re.match(r"[A-Za-z0-9-]+", entry) for entry in entries) if it}

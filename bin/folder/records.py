@@ -1,0 +1,84 @@
+"""Finds the records of installed units.
+
+In: a compiler. Out: the records of its global database, and behind them those of cabal's store for it: for each its file's name, its unit, its
+package and the units that it needs, and a path to link to, or its bytes where it was cut out of a dump."""
+
+import os
+import re
+
+from compiler import answer
+from refusal import Refusal, read
+
+ID = re.compile(rb"(?im)^id[ \t]*:\s*(\S+)")
+NAME = re.compile(rb"(?im)^name[ \t]*:\s*(\S+)")
+DEPENDS = re.compile(rb"(?im)^depends[ \t]*:(.*(?:\n[ \t]+.*)*)")
+
+
+class Record:
+    """A record: its path, or none where it has bytes of its own; its unit, its package, and the units that it needs."""
+
+    def __init__(self, path, data):
+        self.path, self.data = path, None if path else data
+        unit, name = ID.search(data), NAME.search(data)
+        self.unit = unit[1].decode("utf-8", "replace") if unit else None
+        self.name = name[1].decode("utf-8", "replace") if name else None
+        self.needs = [it.decode("utf-8", "replace") for found in DEPENDS.findall(data) for it in re.split(rb"[\s,]+", found) if it]
+
+    def key(self):
+        """Returns what tells this record from others, also from the same one at another time."""
+        if self.data is not None:
+            return f"{self.unit} {len(self.data)} {hash_of(self.data)}"
+        return f"{self.unit} {self.path}"
+
+
+def hash_of(data):
+    """Returns some digits of the SHA-256 of bytes."""
+    import hashlib
+
+    return hashlib.sha256(data).hexdigest()[:24]
+
+
+def homes():
+    """Returns where cabal may keep its store."""
+    home = os.path.expanduser("~")
+    state = os.environ.get("XDG_STATE_HOME") or f"{home}/.local/state"
+    given = [os.environ["CABAL_DIR"]] if os.environ.get("CABAL_DIR") else []
+    return list(dict.fromkeys([*given, f"{home}/.cabal", f"{state}/cabal"]))
+
+
+def stores(version):
+    """Returns the databases of the store for a compiler: a folder may say more behind its version, behind a hyphen."""
+    found = []
+    for store in (f"{home}/store" for home in homes()):
+        names = sorted(os.listdir(store)) if os.path.isdir(store) else []
+        fit = [it for it in names if it == f"ghc-{version}" or it.startswith(f"ghc-{version}-")]
+        found += [f"{store}/{it}/package.db" for it in fit if os.path.isdir(f"{store}/{it}/package.db")]
+    return found
+
+
+def records_of(database, ghc):
+    """Returns the records of a database: those of its files, or those that ghc-pkg says of it where it has none."""
+    names = sorted(it for it in os.listdir(database) if it.endswith(".conf"))
+    if names:
+        return [Record(f"{database}/{it}", read(f"{database}/{it}")) for it in names]
+    program = ghc.ghc_pkg()
+    if not program:
+        raise Refusal(f"{database} has no files of records, and no ghc-pkg stands beside {ghc.path}, which would say what it has")
+    dump = answer([program, "dump", "--global", "--no-user-package-db", f"--global-package-db={database}"])
+    return [Record(None, it.strip("\n").encode() + b"\n") for it in re.split(r"(?m)^---[ \t]*$", dump) if it.strip()]
+
+
+def records(ghc, with_store):
+    """Returns the records, each unit once, and what there is to say of them."""
+    if not os.path.isdir(ghc.database):
+        raise Refusal(f"{ghc.path} names a global database that isn't there: {ghc.database}")
+    found, told = {}, []
+    for database in [ghc.database] + (stores(ghc.version) if with_store else []):
+        there = records_of(database, ghc)
+        again = [it for it in there if it.unit in found]
+        found.update({it.unit: it for it in there if it.unit not in found})
+        told.append(f"{database}: {len(there)} records")
+        told += [f"{it.unit} stands in {database} too: the record of the earlier database counts" for it in again]
+    unnamed = [it for it in found.values() if not it.unit or not it.name]
+    told += [f"{it.path or 'a record of the dump'} has no id or no name, and the planner will refuse it" for it in unnamed]
+    return list(found.values()), told
