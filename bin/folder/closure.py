@@ -4,32 +4,66 @@ In: an index, the names to begin with, the records of units, and which files can
 where it stands in a dependency field of a reached package, under whatever condition, or where a record of one needs its unit. This is at
 least what the planner reads. The test suites and benchmarks of an index's packages are in no plan: what only they name can be left out."""
 
+import functools
 import re
 
 from index import by_number
 
-FIELD = re.compile(
-    rb"(?im)(?:^([ \t]*)|[{}][ \t]*)(?:build-depends|build-tool-depends|build-tools|setup-depends)[ \t]*:"
-    rb"(?:\s*\{([^}]*)\}|([^\n]*(?:\n(?:[ \t]*(?:--[^\n]*|\r)?(?=\n|\Z)|\1[ \t]+[^\n]*))*))"
-)
+# What each dependency field's name has at its end, and what it is whole.
+ENDS = (b"depends", b"build-tools")
+FIELD = re.compile(rb"(?:build-depends|build-tool-depends|build-tools|setup-depends)[ \t]*:(?:\s*\{([^}]*)\})?")
+NEW_LINE = re.compile(rb"\n")
 COMMENT = re.compile(rb"(?m)^[ \t]*--[^\n]*$")
 NAME = re.compile(rb"(?:\A|,)\s*([A-Za-z0-9]+(?:-[A-Za-z0-9]+)*)")
 # A section that is built for a local package alone, where it begins at the front of a line, up to the next element there.
-SUITES = re.compile(rb"(?im)^(?:test-suite|benchmark)\b[^\n]*\n?(?:(?![A-Za-z])[^\n]*\n|(?![A-Za-z\n])[^\n]+\Z)*")
-HAS_SETUP = re.compile(rb"(?im)^\s*build-type[ \t]*:\s*(?:simple|configure|make)\b")
+SUITES, NEXT = (b"\ntest-suite", b"\nbenchmark"), re.compile(rb"\n[a-z]")
+HAS_SETUP = re.compile(rb"build-type[ \t]*:\s*(?:simple|configure|make)\b")
 OF_SETUP = {b"base", b"Cabal"}
 MOST_FILES, MOST_BYTES = 20_000, 268_435_456
 
 
+@functools.lru_cache(maxsize=None)
+def ending(indent):
+    """Returns the pattern of what ends a field's text: a line that is indented no deeper than the field, and is no comment."""
+    return re.compile(rb"\n[ \t]{0,%d}+(?![ \t\r\n]|--)" % indent)
+
+
+def dependency_fields(data, low):
+    """Yields where each dependency field begins, and its text. `low` is the same text in lower case."""
+    for end in ENDS:
+        for at in places(low, end):
+            start = low.rfind(b"\n", 0, at) + 1
+            before = low[start:at]
+            head = max(before.rfind(b"{"), before.rfind(b"}")) + 1
+            begin = start + head + len(before[head:]) - len(before[head:].lstrip(b" \t"))
+            it = FIELD.match(low, begin)
+            if it and it[1] is not None:
+                yield begin, data[it.start(1) : it.end(1)]
+            elif it:
+                last = ending(begin - start).search(data, it.end()) if not head else NEW_LINE.search(data, it.end())
+                yield begin, data[it.end() : last.start() if last else len(data)]
+
 def mentioned(data):
-    """Returns the names in the dependency fields of a file, and those that a setup script has unsaid."""
-    if b"\t" in data:
-        data = data.replace(b"\t", b" ")
-    found = set() if HAS_SETUP.search(data) else set(OF_SETUP)
-    for it in FIELD.finditer(data):
-        text = it[2] if it[2] is not None else it[3]
-        found.update(NAME.findall(COMMENT.sub(b"", text) if b"--" in text else text))
-    return found
+    """Returns the names in the dependency fields of a file and those that a setup script has unsaid; and those of them that stand outside of test
+    suites and benchmarks."""
+    low = data.lower()
+    unsaid = set() if any(HAS_SETUP.match(low, at) for at in places(low, b"build-type")) else OF_SETUP
+    suites = [(at, it.start() if (it := NEXT.search(low, at + 1)) else len(low)) for word in SUITES for at in places(low, word)]
+    full, lean = set(unsaid), set(unsaid)
+    for at, text in dependency_fields(data, low):
+        found = NAME.findall(COMMENT.sub(b"", text) if b"--" in text else text)
+        full.update(found)
+        if not any(start <= at < end for start, end in suites):
+            lean.update(found)
+    return full, lean
+
+
+def places(text, word):
+    """Yields where a word stands in a text."""
+    at = text.find(word)
+    while at >= 0:
+        yield at
+        at = text.find(word, at + 1)
 
 
 def of_units(records):
@@ -56,8 +90,8 @@ class Closure:
         full, lean = set(), set()
         for it in kept:
             if it in good:
-                full |= mentioned(datas[it])
-                lean |= mentioned(SUITES.sub(b"", datas[it]))
+                of_full, of_lean = mentioned(datas[it])
+                full, lean = full | of_full, lean | of_lean
         self.versions[name] = sorted(kept, key=by_number)
         self.sizes[name] = sum(len(datas[it]) for it in kept)
         units = self.units.get(name, set())

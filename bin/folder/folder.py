@@ -49,7 +49,7 @@ def reached(source, units, local, extra, asked, say):
     """Returns what the project reaches of an index: a list of names and versions."""
     reach = closure.Closure(source, units, (lambda _: True) if asked.older_headers else is_read, asked.newest)
     locals_ = {own_name(data) for data, *_ in local.values()}
-    roots = {it.decode() for data, *_ in local.values() for it in closure.mentioned(data)} | extra | locals_
+    roots = {it.decode() for data, *_ in local.values() for it in closure.mentioned(data)[0]} | extra | locals_
     lean = reach.reach(roots, locals_)
     names = set(reach.versions)
     if reach.is_too_much(names, len(units)):

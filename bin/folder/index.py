@@ -12,7 +12,7 @@ from refusal import Refusal, read
 VERSION = re.compile(r"(0|[1-9]\d{0,8})(\.(0|[1-9]\d{0,8}))*")
 BLOCK, CHUNK = 512, 1 << 22
 # How a file of a tar and a longer name of the next one are marked.
-FILE, LONG_NAME, EXTENDED = (b"0", b"\0"), b"L", b"x"
+FILE, LONG_NAME, LONGER, CABAL = (b"0", b"\0"), b"L", (b"L", b"x"), b".cabal\0"
 
 
 def is_version(text):
@@ -70,30 +70,39 @@ class Tar:
 
     def scan(self):
         """Finds the places of all `.cabal` files, and returns how many there are."""
-        at, buffer, start, longer = 0, b"", 0, None
+        at, buffer, start, longer, whole = 0, b"", 0, None, self.size
         while True:
-            if at + BLOCK > start + len(buffer):
-                buffer, start = os.pread(self.file.fileno(), CHUNK, at), at
-            head = buffer[at - start : at - start + BLOCK]
-            if len(head) < BLOCK:
-                raise Refusal(f"{self.path} is cut off: it ends at byte {self.size} without the mark of its end. Fetch it again: cabal update")
-            if head[0] == 0 and not head.strip(b"\0"):
+            place = at - start
+            if place + BLOCK > len(buffer):
+                buffer, start, place = os.pread(self.file.fileno(), CHUNK, at), at, 0
+                if len(buffer) < BLOCK:
+                    raise Refusal(f"{self.path} is cut off: it ends at byte {whole} without the mark of its end; fetch it again: cabal update")
+            if not buffer[place] and not buffer[place : place + BLOCK].strip(b"\0"):
                 return sum(map(len, self.places.values()))
-            size, kind = self.size_of(head, at), head[156:157]
-            if at + BLOCK + size > self.size:
-                raise Refusal(f"{self.path} is cut off: its entry at byte {at} has {size} bytes, and the file ends at byte {self.size}. Fetch it again: cabal update")
-            if kind in FILE:
-                self.note(longer or name_of(head), at + BLOCK, size)
-                longer = None
-            elif kind in (LONG_NAME, EXTENDED):
+            try:
+                size = int(buffer[place + 124 : place + 135], 8)
+            except ValueError:
+                size = -1
+            if size < 0 or buffer[place + 257 : place + 262] != b"ustar":
+                size = self.size_of(buffer[place : place + BLOCK], at)
+            if at + BLOCK + size > whole:
+                raise Refusal(
+                    f"{self.path} is cut off: its entry at byte {at} has {size} bytes, and it ends at byte {whole}; fetch it again: cabal update"
+                )
+            kind = buffer[place + 156 : place + 157]
+            if kind in LONGER:
                 longer = long_name(kind, os.pread(self.file.fileno(), size, at + BLOCK)) or longer
+            elif longer or buffer[place + 345] or CABAL in buffer[place : place + 100]:
+                if kind in FILE:
+                    self.note(longer or name_of(buffer[place : place + BLOCK]), at + BLOCK, size)
+                longer = None
             at += BLOCK + (size + BLOCK - 1) // BLOCK * BLOCK
 
     def size_of(self, head, at):
-        """Returns how many bytes an entry has."""
+        """Returns how many bytes an unusual entry has."""
         if head[257:262] != b"ustar" and sum(head[:148]) + sum(head[156:]) + 8 * 32 != number(head[148:156]):
-            packed = " It is compressed: unpack it first, with gunzip -k" if head[:2] == b"\x1f\x8b" and at == 0 else ""
-            raise Refusal(f"{self.path} isn't a tar at byte {at}.{packed}")
+            packed = ": it is compressed, so unpack it first, with gunzip -k" if head[:2] == b"\x1f\x8b" and at == 0 else ""
+            raise Refusal(f"{self.path} isn't a tar at byte {at}{packed}")
         size = number(head[124:136])
         if size is None:
             raise Refusal(f"{self.path} has an entry without a size at byte {at}")
@@ -101,8 +110,6 @@ class Tar:
 
     def note(self, path, at, size):
         """Keeps the place of a file where it is the `.cabal` file of a version."""
-        if not path.endswith(b".cabal"):
-            return
         parts = path.decode("utf-8", "replace").removeprefix("./").split("/")
         if len(parts) == 3 and parts[2] == f"{parts[0]}.cabal" and is_version(parts[1]):
             self.places.setdefault(parts[0], {})[parts[1]] = at, size

@@ -7,14 +7,13 @@ import re
 from elements import Field, Misread, Section, elements, printed, walk
 
 READ = ("2.4", "3.0", "3.4")
-HEADER = re.compile(rb"(?im)^[ \t]*cabal-version[ \t]*:[ \t]*(.*(?:\r?\n[ \t]+[^\s:]+[ \t]*\r?$)?)")
+HEADER = re.compile(rb"(?i)(?<![^\n])[ \t]*cabal-version[ \t]*:[ \t]*(\S[^\n]*|\r?\n[ \t]+[^\n:]+|)")
 FIRST = re.compile(rb"\A(?:\xef\xbb\xbf)?(?:[ \t]*(?:--[^\n]*)?\r?\n)*[ \t]*cabal-version[ \t]*:[ \t]*(\S+)[ \t]*\r?(?:\n|\Z)(?=\S|\s*\Z|[ \t]*(?:--|\r?\n))", re.I)
-# A file in which one of these stands is read whole: braces, older fields, and a component's name of other characters.
-UNUSUAL = re.compile(
-    rb"[{}\xa0]|(?im:^[ \t]*build-tools[ \t]*:)|(?im:^(?:executable|test-suite|benchmark|foreign-library|library)[ \t]+[\w-]*[^\w\s-])"
-)
-SECTION = re.compile(rb"(?im)^(?:library|executable|test-suite|benchmark|foreign-library)\b[^:\n]*$")
-BUILD_TYPE = re.compile(rb"(?im)^build-type[ \t]*:")
+# Where one of these stands in a file, it is read whole: braces, blanks beyond ASCII, older fields, and a component's name of other characters.
+UNUSUAL = (b"{", b"}", b"\xa0", b"build-tools")
+OTHER_NAME = re.compile(rb"\n(?:library|executable|test-suite|benchmark|foreign-library)[ \t]+[\w-]*[^\w\s-]")
+SECTIONS = (b"\nlibrary", b"\nexecutable", b"\ntest-suite", b"\nbenchmark", b"\nforeign-library")
+BUILD_TYPE = re.compile(rb"\nbuild-type[ \t]*:")
 COMPONENTS = ("library", "executable", "test-suite", "benchmark", "foreign-library")
 # The programs that cabal takes as the tool of a package of that name.
 TOOLS = {"hscolour", "haddock", "happy", "alex", "hsc2hs", "c2hs", "cpphs", "greencard", "hspec-discover"}
@@ -63,7 +62,7 @@ def decoded(data):
 def rewritten(data):
     """Returns the bytes that the planner reads in place of a file, and the kinds of changes: none where it can stay as it is."""
     text, is_utf8 = decoded(data)
-    if is_utf8 and not UNUSUAL.search(data) and SECTION.search(data):
+    if is_utf8 and is_usual(data.lower()):
         if is_read(data):
             return data, set()
         if plain := header_alone(data):
@@ -81,11 +80,22 @@ def rewritten(data):
     return printed(items).encode(), kinds
 
 
+def is_usual(low):
+    """Returns whether nothing but the header of a file, which is given in lower case, can be older."""
+    is_whole = any(it in low and not is_field(low, low.index(it) + len(it)) for it in SECTIONS)
+    return is_whole and not any(it in low for it in UNUSUAL) and not OTHER_NAME.search(low)
+
+
+def is_field(low, end):
+    """Returns whether a name that ends there is that of a field, as `executable:` in a file without sections."""
+    return low[end : low.find(b"\n", end)].strip()[:1] == b":"
+
+
 def header_alone(data):
     """Returns the bytes with another header at the front, and nothing else changed; or none where more has to be."""
     found = HEADER.search(data)
     stated = version(found[1].decode("latin-1")) if found else (1, 0)
-    if stated < (2, 2) and not BUILD_TYPE.search(data):
+    if stated < (2, 2) and not BUILD_TYPE.search(data.lower()):
         return None
     body = data.removeprefix(b"\xef\xbb\xbf")
     found = HEADER.search(body)
