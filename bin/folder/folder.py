@@ -143,12 +143,13 @@ def linked(project, own, local, made, is_rewritten, say):
     """Sets the links, says what stands where, and returns the folder to plan in."""
     kept, where = dict(made), "."
     if any(kinds for *_, kinds in local.values()):
-        key = code() + repr((made, [it for it in FILES if os.path.isfile(os.path.join(project, it))], local))
+        stated = [(path, hash_of(data), sorted(kinds)) for path, (_, data, kinds) in sorted(local.items())]
+        key = code() + repr((made, [it for it in FILES if os.path.isfile(os.path.join(project, it))], stated))
         kept[PROJECT] = own.make(PROJECT, key, lambda at: fill_project(at, project, local, made))
         own.link(os.path.join(own.path, PROJECT), kept[PROJECT])
         where = f"{OWN}/{PROJECT}"
-        for path, (_, _, kinds) in local.items():
-            say(f"{path}: {'; '.join(sorted(kinds)) or 'as it is'}; the plan is made in {where}, over a copy")
+        for path, kinds in ((path, kinds) for path, (_, _, kinds) in local.items() if kinds):
+            say(f"{path} stays as it is, and a rewritten copy of it is planned, in {where}: {'; '.join(sorted(kinds))}")
     for kind, name in made.items():
         own.link(os.path.join(project, kind), f"{OWN}/{name}")
     own.keep({*kept.values(), PROJECT if PROJECT in kept else ""})
