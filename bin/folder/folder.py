@@ -45,22 +45,37 @@ def own_name(data):
     return found[1].decode() if found else ""
 
 
-def reached(source, units, local, extra, asked, say):
-    """Returns what the project reaches of an index: a list of names and versions."""
-    reach = closure.Closure(source, units, (lambda _: True) if asked.older_headers else is_read, asked.newest)
-    locals_ = {own_name(data) for data, *_ in local.values()}
-    roots = {it.decode() for data, *_ in local.values() for it in closure.mentioned(data)[0]} | extra | locals_
-    lean = reach.reach(roots, locals_)
+class Wanted:
+    """What is wanted of an index: the names that the project needs, its own, the records, and the options."""
+
+    def __init__(self, project, local, units, asked):
+        self.own = {own_name(data) for data, *_ in local.values()}
+        self.roots = {it.decode() for data, *_ in local.values() for it in closure.mentioned(data)[0]} | extra_names(project) | self.own
+        self.units, self.newest, self.is_rewritten = units, asked.newest, asked.older_headers
+
+    def key(self):
+        """Returns what tells this from others."""
+        units = sorted((it.unit, it.name, it.needs) for it in self.units)
+        return repr((sorted(self.roots), sorted(self.own), units, self.newest, self.is_rewritten))
+
+
+def reached(source, wanted, say):
+    """Returns what the project reaches of an index, as a list of names and versions, and a line that says what that is."""
+    source.open()
+    count = len(wanted.units)
+    reach = closure.Closure(source, wanted.units, (lambda _: True) if wanted.is_rewritten else is_read, wanted.newest)
+    lean = reach.reach(wanted.roots, wanted.own)
     names = set(reach.versions)
-    if reach.is_too_much(names, len(units)):
-        say(f"{reach.count(names)} files of {len(names)} names can be reached: those are left out that only test suites and benchmarks of the index name, which are in no plan")
+    if reach.is_too_much(names, count):
+        say(f"{reach.count(names)} files of {len(names)} names can be reached; what only test suites and benchmarks of the index name is in no plan and stays out")
         names = lean
-    if reach.is_too_much(names, len(units)):
-        fits = reach.fitting(names, len(units))
-        raise Refusal(f"{reach.count(names)} files of {len(names)} names can be reached, and the planner reads {closure.MOST_FILES} files, with the {len(units)} records, and {closure.MOST_BYTES} bytes. --newest=N keeps the N newest versions of each name; at most {fits} fit")
+    if reach.is_too_much(names, count):
+        raise Refusal(
+            f"{reach.count(names)} files of {len(names)} names can be reached, and the planner reads {closure.MOST_FILES}, with {count} records, and "
+            f"{closure.MOST_BYTES} bytes: --newest=N keeps the N newest versions of each name, up to N = {reach.fitting(names, count)} here"
+        )
     found = [(name, version) for name in sorted(names) for version in reach.versions[name]]
-    say(f"index: {len(found)} files of {len({it for it, _ in found})} names out of {source.told}")
-    return found
+    return found, f"index: {len(found)} files of {len({it for it, _ in found})} names, out of {source.told}"
 
 
 def code():
@@ -68,9 +83,19 @@ def code():
     return hash_of(b"\0".join(read(it) for it in sorted(glob.glob(f"{os.path.dirname(os.path.realpath(__file__))}/*.py"))))
 
 
-def fill_index(at, source, files, is_rewritten, say):
+def made_index(own, source, wanted, say):
+    """Returns the name of the index that is made: out of a tar it isn't made again while the tar and what is wanted of it stay the same."""
+    if source.stamp:
+        key = "\n".join([code(), source.stamp, wanted.key()])
+        return own.make(INDEX, key, lambda at: fill_index(at, source, *reached(source, wanted, say), wanted.is_rewritten, say))
+    files, told = reached(source, wanted, say)
+    key = "\n".join([code(), str(wanted.is_rewritten), *(f"{name} {version} {source.key(name, version)}" for name, version in files)])
+    return own.make(INDEX, key, lambda at: fill_index(at, source, files, told, wanted.is_rewritten, say))
+
+
+def fill_index(at, source, files, told, is_rewritten, say):
     """Writes the files of an index: links where a file stays as it is and a folder can be linked to, else copies."""
-    changed = []
+    changed = [f"{told}\n"]
     for name, version in files:
         data = source.data(name, version) if is_rewritten or not source.target(name, version) else None
         data, kinds = copy_of(f"{name}/{version}/{name}.cabal", data, say) if is_rewritten else (data, set())
@@ -113,8 +138,11 @@ def fill_project(at, project, local, made):
         os.symlink(f"../{name}", f"{at}/{kind}")
 
 
-def say_changes(lines, say):
-    """Says how many files were changed, and by which kinds."""
+def say_changes(lines, is_rewritten, say):
+    """Says what the index has, how many of its files were changed, and by which kinds."""
+    say(lines.pop(0))
+    if not is_rewritten:
+        return
     kinds = collections.Counter(kind for line in lines for kind in line.rstrip("\n").split("\t")[1].split("; "))
     told = "".join(f", {number} {kind}" for kind, number in kinds.most_common())
     say(f"{len(lines)} files of the index are rewritten{told}" + f"; {OWN}/index-../{CHANGED} names them" * bool(lines))
@@ -130,13 +158,15 @@ def made_folder(project, asked, say):
     say(f"{ghc.path}: {' '.join(ghc.words())}")
     for it in told:
         say(it)
-    source = index(asked.index)
-    files = reached(source, units, local, extra_names(project), asked, say)
+    source, wanted = index(asked.index), Wanted(project, local, units, asked)
     own.open()
-    made = {INSTALLED: own.make(INSTALLED, code() + "\n".join(it.key() for it in units), lambda at: fill_installed(at, units))}
-    key = "\n".join([code(), str(asked.older_headers), *(f"{name} {version} {source.key(name, version)}" for name, version in files)])
-    made[INDEX] = own.make(INDEX, key, lambda at: fill_index(at, source, files, asked.older_headers, say))
-    return linked(project, own, local, made, asked.older_headers, say), ghc.words()
+    try:
+        made = {INSTALLED: own.make(INSTALLED, code() + "\n".join(it.key() for it in units), lambda at: fill_installed(at, units))}
+        made[INDEX] = made_index(own, source, wanted, say)
+        return linked(project, own, local, made, asked.older_headers, say), ghc.words()
+    except BaseException:
+        own.undo((INDEX, INSTALLED))
+        raise
 
 
 def linked(project, own, local, made, is_rewritten, say):
@@ -153,7 +183,6 @@ def linked(project, own, local, made, is_rewritten, say):
     for kind, name in made.items():
         own.link(os.path.join(project, kind), f"{OWN}/{name}")
     own.keep({*kept.values(), PROJECT if PROJECT in kept else ""})
-    if is_rewritten:
-        say_changes(read(os.path.join(own.path, made[INDEX], CHANGED)).decode().splitlines(), say)
+    say_changes(read(os.path.join(own.path, made[INDEX], CHANGED)).decode().splitlines(), is_rewritten, say)
     say(f"for .gitignore: /{OWN}/ /{INDEX} /{INSTALLED}")
     return where

@@ -28,7 +28,10 @@ class Folder:
     """An index that is a folder: NAME/VERSION/NAME.cabal."""
 
     def __init__(self, path):
-        self.path, self.told = os.path.abspath(path), f"{path}: a folder"
+        self.path, self.told, self.stamp = os.path.abspath(path), path, None
+
+    def open(self):
+        """Nothing is read before it is asked for."""
 
     def versions(self, name):
         """Returns the versions of a name."""
@@ -54,19 +57,25 @@ class Folder:
 
 
 class Tar:
-    """An index that is a tar: for each name its versions, and for each of these where its bytes are."""
+    """An index that is a tar: for each name its versions, and for each of these where its bytes are. Its stamp tells it from a later one."""
 
     def __init__(self, path):
-        begun = time.monotonic()
-        self.path, self.places = os.path.abspath(path), {}
+        self.path, self.told, self.places = os.path.abspath(path), path, {}
         try:
             self.file = open(path, "rb", buffering=0)  # (kept open: the files are read out of it)
             self.size = os.fstat(self.file.fileno()).st_size
             self.stamp = f"{self.path} {self.size} {os.fstat(self.file.fileno()).st_mtime_ns}"
-            count = self.scan()
         except OSError as error:
             raise Refusal(f"{path} can't be read: {error.strerror}") from error
-        self.told = f"{path}: {self.size} bytes, {count} .cabal files, found in {time.monotonic() - begun:.1f} s"
+
+    def open(self):
+        """Finds the places of the files."""
+        begun = time.monotonic()
+        try:
+            count = self.scan()
+        except OSError as error:
+            raise Refusal(f"{self.path} can't be read: {error.strerror}") from error
+        self.told += f", which has {count} .cabal files in {self.size} bytes and was read in {time.monotonic() - begun:.1f} s"
 
     def scan(self):
         """Finds the places of all `.cabal` files, and returns how many there are."""
@@ -129,10 +138,6 @@ class Tar:
         """Returns none: nothing can be linked to."""
         return None
 
-    def key(self, name, version):
-        """Returns what tells this file from others, also from the same one at another time."""
-        return f"{self.stamp} {self.places[name][version]}"
-
 
 def number(field):
     """Returns the number of a field of a tar's head, or none where it has none."""
@@ -171,7 +176,7 @@ def found_tars():
     for place in places():
         servers = sorted(os.listdir(place)) if os.path.isdir(place) else []
         found += [f"{place}/{it}/01-index.tar" for it in servers if os.path.isfile(f"{place}/{it}/01-index.tar")]
-    return found
+    return list({os.path.realpath(it): it for it in reversed(found)}.values())
 
 
 def index(asked):

@@ -52,8 +52,9 @@ class Own:
             fill(new)
             os.rename(new, at)
         except OSError as error:
-            clear(new)
             raise Refusal(f"{error.filename or new} can't be written: {error.strerror}") from error
+        finally:
+            clear(new)
         return name
 
     def link(self, at, target):
@@ -63,6 +64,15 @@ class Own:
         new = os.path.join(self.path, NEW)
         os.symlink(target, new)
         os.rename(new, at)
+
+    def undo(self, names):
+        """Takes away what no link leads to; all of it, where there is none."""
+        links = [os.path.join(self.project, it) for it in names] + [os.path.join(self.path, "project")]
+        used = {os.path.basename(os.readlink(it)) for it in links if os.path.islink(it)}
+        if used:
+            self.keep(used | {"project"})
+        else:
+            clear(self.path)
 
     def keep(self, names):
         """Takes away what isn't used any more."""
