@@ -8,6 +8,7 @@ from elements import Field, Misread, Section, elements, printed, walk
 
 READ = ("2.4", "3.0", "3.4")
 HEADER = re.compile(rb"(?i)(?<![^\n])[ \t]*cabal-version[ \t]*:[ \t]*(\S[^\n]*|\r?\n[ \t]+[^\n:]+|)")
+MORE = re.compile(rb"\s*\n[ \t]+[&|<>=]")
 FIRST = re.compile(rb"\A(?:\xef\xbb\xbf)?(?:[ \t]*(?:--[^\n]*)?\r?\n)*[ \t]*cabal-version[ \t]*:[ \t]*(\S+)[ \t]*\r?(?:\n|\Z)(?=\S|\s*\Z|[ \t]*(?:--|\r?\n))", re.I)
 # Where one of these stands in a file, it is read whole: braces, blanks beyond ASCII, older fields, and a component's name of other characters.
 UNUSUAL = (b"{", b"}", b"\xa0", b"build-tools")
@@ -29,6 +30,7 @@ HEADER_MOVED = "header moved to the front"
 ENCODING = "bytes that aren't UTF-8"
 BLANKS = "blanks beyond ASCII"
 CUSTOM = "build-type: Custom said"
+SETUP = "custom-setup said"
 FLAT = "fields without sections"
 BUILD_TOOLS = "build-tools"
 NAMES = "component names"
@@ -82,7 +84,8 @@ def rewritten(data):
 
 def is_usual(low):
     """Returns whether nothing but the header of a file, which is given in lower case, can be older."""
-    is_whole = any(it in low and not is_field(low, low.index(it) + len(it)) for it in SECTIONS)
+    is_setup_unsaid = b"custom" in low and b"\ncustom-setup" not in low
+    is_whole = not is_setup_unsaid and any(it in low and not is_field(low, low.index(it) + len(it)) for it in SECTIONS)
     return is_whole and not any(it in low for it in UNUSUAL) and not OTHER_NAME.search(low)
 
 
@@ -95,7 +98,7 @@ def header_alone(data):
     """Returns the bytes with another header at the front, and nothing else changed; or none where more has to be."""
     found = HEADER.search(data)
     stated = version(found[1].decode("latin-1")) if found else (1, 0)
-    if stated < (2, 2) and not BUILD_TYPE.search(data.lower()):
+    if (stated < (2, 2) and not BUILD_TYPE.search(data.lower())) or (found and MORE.match(data, found.end())):
         return None
     body = data.removeprefix(b"\xef\xbb\xbf")
     found = HEADER.search(body)
@@ -116,6 +119,7 @@ def changed(items):
     if stated < (2, 2) and not any(isinstance(it, Field) and it.name == "build-type" for it in items):
         items.insert(0, Field("build-type", ["Custom"]))
         kinds.add(CUSTOM)
+    kinds |= with_setup(items, stated)
     wanted = nearest(stated)
     if not top or items[0] is not top[0]:
         kinds.add(HEADER_MOVED)
@@ -123,6 +127,16 @@ def changed(items):
         kinds.add(HEADER_CHANGED)
     items[:] = [Field("cabal-version", [wanted])] + [it for it in items if it not in top]
     return kinds
+
+
+def with_setup(items, stated):
+    """Says of a package with a setup script which `Cabal` cabal gives it where the file doesn't: one before 1.25, and not far before the header."""
+    types = [it.text().lower() for it in items if isinstance(it, Field) and it.name == "build-type"]
+    if stated >= (1, 24) or types[-1:] != ["custom"] or any(isinstance(it, Section) and it.name == "custom-setup" for it in items):
+        return set()
+    least = f"{stated[0]}.{max(0, (*stated, 0)[1] - 1)}"
+    items.append(Section("custom-setup", "", [Field("setup-depends", [f"base, Cabal >={least} && <1.25"])]))
+    return {SETUP}
 
 
 def sectioned(items):
