@@ -76,17 +76,19 @@ def of_units(records):
 
 
 class Closure:
-    """What a project reaches in an index: the versions of each name, the names that each mentions, and how many bytes all have."""
+    """What a project reaches in an index: the versions of each name, the names that each mentions, and how many bytes all have. `can_read` says
+    which files can be read; without it all can."""
 
     def __init__(self, index, records, can_read, newest):
-        self.index, self.units, self.can_read, self.newest = index, of_units(records), can_read, newest
+        self.index, self.units, self.can_read, self.newest, self.records = index, of_units(records), can_read, newest, len(records)
         self.versions, self.full, self.lean, self.sizes = {}, {}, {}, {}
 
     def read(self, name):
         """Reads the files of a name: all versions, or so many of the newest, those that can be read before others."""
-        datas = {it: self.index.data(name, it) for it in self.index.versions(name)}
-        good = {it for it, data in datas.items() if self.can_read(data)}
-        kept = sorted(datas, key=lambda it: (it in good, by_number(it)), reverse=True)[: self.newest]
+        there = sorted(self.index.versions(name), key=by_number, reverse=True)
+        datas = {it: self.index.data(name, it) for it in (there if self.can_read else there[: self.newest])}
+        good = {it for it, data in datas.items() if not self.can_read or self.can_read(data)}
+        kept = sorted(datas, key=lambda it: it not in good)[: self.newest]
         full, lean = set(), set()
         for it in kept:
             if it in good:
@@ -98,33 +100,35 @@ class Closure:
         self.full[name], self.lean[name] = ({it.decode() for it in found} | units for found in (full, lean))
 
     def reach(self, roots, locals_):
-        """Returns the names that are reached from some, and how many of them are reached without suites alone. Local names have no versions."""
+        """Returns the names that are reached from some, and whether those are left out that suites alone reach, since all are too many. Local
+        names have no versions."""
         for name in locals_:
             self.versions[name], self.sizes[name] = [], 0
             self.full[name] = self.lean[name] = self.units.get(name, set())
-        self.spread(roots, self.full, reads=True)
-        return self.spread(roots, self.lean, reads=False)
+        found = self.spread(roots, self.full, True)
+        return (self.spread(roots, self.lean, False), True) if self.is_too_much(found) else (found, False)
 
-    def spread(self, roots, mentions, reads):
-        """Returns all names that are reached by mentions."""
-        found, rest = set(roots), list(roots)
-        while rest:
+    def spread(self, roots, mentions, can_stop):
+        """Returns all names that are reached by mentions; where it can stop, it does so once they are too many."""
+        found, rest, files = set(roots), list(roots), 0
+        while rest and not (can_stop and files > MOST_FILES):
             name = rest.pop()
-            if reads and name not in self.versions:
+            if name not in self.versions:
                 self.read(name)
+            files += len(self.versions[name])
             new = mentions[name] - found
             found |= new
             rest.extend(new)
-        return found
+        return found - set(rest)
 
     def count(self, names):
         return sum(len(self.versions[it]) for it in names)
 
-    def is_too_much(self, names, records):
+    def is_too_much(self, names):
         """Returns whether the planner would refuse so many files."""
-        return records + self.count(names) > MOST_FILES or sum(self.sizes[it] for it in names) > MOST_BYTES
+        return self.records + self.count(names) > MOST_FILES or sum(self.sizes[it] for it in names) > MOST_BYTES
 
-    def fitting(self, names, records):
+    def fitting(self, names):
         """Returns how many versions of each name the planner would take, or 0 where not even one."""
         counts = [len(self.versions[it]) for it in names]
-        return max((n for n in range(1, max(counts, default=0) + 1) if records + sum(min(n, it) for it in counts) <= MOST_FILES), default=0)
+        return max((n for n in range(1, max(counts, default=0) + 1) if self.records + sum(min(n, it) for it in counts) <= MOST_FILES), default=0)

@@ -62,17 +62,14 @@ class Wanted:
 def reached(source, wanted, say):
     """Returns what the project reaches of an index, as a list of names and versions, and a line that says what that is."""
     source.open()
-    count = len(wanted.units)
-    reach = closure.Closure(source, wanted.units, (lambda _: True) if wanted.is_rewritten else is_read, wanted.newest)
-    lean = reach.reach(wanted.roots, wanted.own)
-    names = set(reach.versions)
-    if reach.is_too_much(names, count):
-        say(f"{reach.count(names)} files of {len(names)} names can be reached; what only test suites and benchmarks of the index name is in no plan and stays out")
-        names = lean
-    if reach.is_too_much(names, count):
+    reach = closure.Closure(source, wanted.units, None if wanted.is_rewritten else is_read, wanted.newest)
+    names, is_lean = reach.reach(wanted.roots, wanted.own)
+    if is_lean:
+        say(f"more than {closure.MOST_FILES} files can be reached; what only test suites and benchmarks of the index name is in no plan and stays out")
+    if reach.is_too_much(names):
         raise Refusal(
-            f"{reach.count(names)} files of {len(names)} names can be reached, and the planner reads {closure.MOST_FILES}, with {count} records, and "
-            f"{closure.MOST_BYTES} bytes: --newest=N keeps the N newest versions of each name, up to N = {reach.fitting(names, count)} here"
+            f"{reach.count(names)} files of {len(names)} names can be reached, and the planner reads {closure.MOST_FILES}, with {reach.records} "
+            f"records, and {closure.MOST_BYTES} bytes: --newest=N keeps the N newest versions of each name, up to N = {reach.fitting(names)} here"
         )
     found = [(name, version) for name in sorted(names) for version in reach.versions[name]]
     return found, f"index: {len(found)} files of {len({it for it, _ in found})} names, out of {source.told}"
@@ -107,7 +104,7 @@ def fill_index(at, source, files, told, is_rewritten, say):
         else:
             os.symlink(target, f"{at}/{name}/{version}")
         changed += [f"{name}/{version}/{name}.cabal\t{'; '.join(sorted(kinds))}\n"] * bool(kinds)
-    put(f"{at}/{CHANGED}", "".join(changed).encode())
+    put(f"{at}/{CHANGED}", "".join(changed).encode("utf-8", "surrogateescape"))
 
 
 def fill_installed(at, units):
@@ -183,6 +180,7 @@ def linked(project, own, local, made, is_rewritten, say):
     for kind, name in made.items():
         own.link(os.path.join(project, kind), f"{OWN}/{name}")
     own.keep({*kept.values(), PROJECT if PROJECT in kept else ""})
-    say_changes(read(os.path.join(own.path, made[INDEX], CHANGED)).decode().splitlines(), is_rewritten, say)
+    changes = read(os.path.join(own.path, made[INDEX], CHANGED)).decode("utf-8", "surrogateescape")
+    say_changes(changes.removesuffix("\n").split("\n"), is_rewritten, say)
     say(f"for .gitignore: /{OWN}/ /{INDEX} /{INSTALLED}")
     return where

@@ -27,7 +27,7 @@ class Own:
             at = os.path.join(self.project, name)
             is_ours = os.path.islink(at) and os.readlink(at).startswith(f"{OWN}/")
             if os.path.lexists(at) and not is_ours:
-                raise Refusal(f"{name} is here already, and this tool hasn't made it: move it away; its files can be named by --index=PATH")
+                raise Refusal(f"{name} is here already, and this tool hasn't made it: move it away" + "; --index=PATH names it there" * (name == "index"))
 
     def open(self):
         """Makes the folder where it isn't there, locks it, and takes away what an ended run has left."""
