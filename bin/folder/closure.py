@@ -30,18 +30,18 @@ def ending(indent):
 
 def dependency_fields(data, low):
     """Yields where each dependency field begins, and its text. `low` is the same text in lower case."""
-    for end in ENDS:
-        for at in places(low, end):
-            start = low.rfind(b"\n", 0, at) + 1
-            before = low[start:at]
-            head = max(before.rfind(b"{"), before.rfind(b"}")) + 1
-            begin = start + head + len(before[head:]) - len(before[head:].lstrip(b" \t"))
-            it = FIELD.match(low, begin)
-            if it and it[1] is not None:
-                yield begin, data[it.start(1) : it.end(1)]
-            elif it:
-                last = ending(begin - start).search(data, it.end()) if not head else NEW_LINE.search(data, it.end())
-                yield begin, data[it.end() : last.start() if last else len(data)]
+    for at in (at for end in ENDS for at in places(low, end)):
+        start = low.rfind(b"\n", 0, at) + 1
+        before = low[start:at]
+        head = max(before.rfind(b"{"), before.rfind(b"}")) + 1
+        begin = start + head + len(before[head:]) - len(before[head:].lstrip(b" \t"))
+        it = FIELD.match(low, begin)
+        if it and it[1] is not None:
+            yield begin, data[it.start(1) : it.end(1)]
+        elif it:
+            last = (NEW_LINE if head else ending(begin - start)).search(data, it.end())
+            yield begin, data[it.end() : last.start() if last else len(data)]
+
 
 def mentioned(data):
     """Returns the names in the dependency fields of a file and those that a setup script has unsaid; and those of them that stand outside of test

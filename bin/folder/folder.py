@@ -108,31 +108,29 @@ def fill_index(at, source, files, told, is_rewritten, say):
 
 
 def fill_installed(at, units):
-    """Sets links to the files of records, and writes those that a dump has."""
+    """Sets links to the files of records, and writes those that a dump has. Names that stand twice get a number in front."""
+    taken = collections.Counter()
     for it in units:
         name = os.path.basename(it.path) if it.path else f"{it.unit}.conf"
-        while os.path.lexists(f"{at}/{name}"):
-            name = f"again-{name}"
+        taken[name] += 1
+        place = f"{at}/{name}" if taken[name] == 1 else f"{at}/{taken[name]}-{name}"
         if it.path:
-            os.symlink(os.path.abspath(it.path), f"{at}/{name}")
+            os.symlink(os.path.abspath(it.path), place)
         else:
-            put(f"{at}/{name}", it.data)
+            put(place, it.data)
 
 
 def fill_project(at, project, local, made):
     """Lays out a project with links to its files, and copies of the local files that were changed."""
-    for name in FILES:
-        if os.path.isfile(os.path.join(project, name)):
-            os.symlink(f"../../{name}", f"{at}/{name}")
-    for path, (_, data, kinds) in local.items():
-        below = os.path.dirname(os.path.join(at, path))
-        os.makedirs(below, exist_ok=True)
-        if kinds:
-            put(os.path.join(at, path), data)
+    links = {name: f"../../{name}" for name in FILES if os.path.isfile(os.path.join(project, name))}
+    links |= {kind: f"../{name}" for kind, name in made.items()}
+    links |= {path: "../" * (path.count("/") + 2) + path for path, (*_, kinds) in local.items() if not kinds}
+    for path in [*links, *(path for path in local if path not in links)]:
+        os.makedirs(os.path.dirname(os.path.join(at, path)), exist_ok=True)
+        if path in links:
+            os.symlink(links[path], os.path.join(at, path))
         else:
-            os.symlink("../" * (path.count("/") + 2) + path, os.path.join(at, path))
-    for kind, name in made.items():
-        os.symlink(f"../{name}", f"{at}/{kind}")
+            put(os.path.join(at, path), local[path][1])
 
 
 def say_changes(lines, is_rewritten, say):
@@ -168,19 +166,23 @@ def made_folder(project, asked, say):
 
 def linked(project, own, local, made, is_rewritten, say):
     """Sets the links, says what stands where, and returns the folder to plan in."""
-    kept, where = dict(made), "."
-    if any(kinds for *_, kinds in local.values()):
-        stated = [(path, hash_of(data), sorted(kinds)) for path, (_, data, kinds) in sorted(local.items())]
-        key = code() + repr((made, [it for it in FILES if os.path.isfile(os.path.join(project, it))], stated))
-        kept[PROJECT] = own.make(PROJECT, key, lambda at: fill_project(at, project, local, made))
-        own.link(os.path.join(own.path, PROJECT), kept[PROJECT])
-        where = f"{OWN}/{PROJECT}"
-        for path, kinds in ((path, kinds) for path, (_, _, kinds) in local.items() if kinds):
-            say(f"{path} stays as it is, and a rewritten copy of it is planned, in {where}: {'; '.join(sorted(kinds))}")
+    copies = [(path, kinds) for path, (*_, kinds) in local.items() if kinds]
+    names = {*made.values(), own_project(project, own, local, made, say, copies), PROJECT} if copies else {*made.values()}
     for kind, name in made.items():
         own.link(os.path.join(project, kind), f"{OWN}/{name}")
-    own.keep({*kept.values(), PROJECT if PROJECT in kept else ""})
+    own.keep(names)
     changes = read(os.path.join(own.path, made[INDEX], CHANGED)).decode("utf-8", "surrogateescape")
     say_changes(changes.removesuffix("\n").split("\n"), is_rewritten, say)
     say(f"for .gitignore: /{OWN}/ /{INDEX} /{INSTALLED}")
-    return where
+    return f"{OWN}/{PROJECT}" if copies else "."
+
+
+def own_project(project, own, local, made, say, copies):
+    """Makes the folder that stands for a project of which some local files are rewritten, and returns its name."""
+    stated = [(path, hash_of(data), sorted(kinds)) for path, (_, data, kinds) in sorted(local.items())]
+    key = code() + repr((made, [it for it in FILES if os.path.isfile(os.path.join(project, it))], stated))
+    name = own.make(PROJECT, key, lambda at: fill_project(at, project, local, made))
+    own.link(os.path.join(own.path, PROJECT), name)
+    for path, kinds in copies:
+        say(f"{path} stays as it is, and a rewritten copy of it is planned, in {OWN}/{PROJECT}: {'; '.join(sorted(kinds))}")
+    return name

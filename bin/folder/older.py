@@ -171,15 +171,14 @@ def with_tools(items, name):
 
 def renamed(items):
     """Gives components names of letters, digits, `-` and `_`."""
-    found = set()
-    for it in items:
-        if isinstance(it, Section) and it.name in COMPONENTS and re.search(r"[^A-Za-z0-9_-]", it.args):
-            plain = re.sub(r"[^A-Za-z0-9_-]", "_", it.args.strip('"'))
-            taken = {other.args for other in items if isinstance(other, Section) and other.name in COMPONENTS}
-            while plain in taken:
-                plain += "_"
-            it.args, found = plain, {NAMES}
-    return found
+    components = [it for it in items if isinstance(it, Section) and it.name in COMPONENTS]
+    taken = {it.args for it in components}
+    odd = [it for it in components if re.search(r"[^A-Za-z0-9_-]", it.args)]
+    for it in odd:
+        plain = re.sub(r"[^A-Za-z0-9_-]", "_", it.args.strip('"'))
+        it.args = next(name for name in (plain + "_" * count for count in range(len(taken) + 1)) if name not in taken)
+        taken.add(it.args)
+    return {NAMES} if odd else set()
 
 
 __all__ = ["Misread", "is_read", "rewritten"]
