@@ -6,6 +6,7 @@ links and copies that stands for it; the folder to plan in, and the words of the
 import collections
 import glob
 import os
+import re
 
 import closure
 from compiler import compiler
@@ -41,7 +42,7 @@ def local_packages(project, is_rewritten, say):
 
 def own_name(data):
     """Returns the name that a `.cabal` file states."""
-    found = closure.re.search(rb"(?im)^[ \t]*name[ \t]*:\s*([A-Za-z0-9-]+)", data)
+    found = re.search(rb"(?im)^[ \t]*name[ \t]*:\s*([A-Za-z0-9-]+)", data)
     return found[1].decode() if found else ""
 
 
@@ -173,8 +174,17 @@ def linked(project, own, local, made, is_rewritten, say):
     own.keep(names)
     changes = read(os.path.join(own.path, made[INDEX], CHANGED)).decode("utf-8", "surrogateescape")
     say_changes(changes.removesuffix("\n").split("\n"), is_rewritten, say)
-    say(f"for .gitignore: /{OWN}/ /{INDEX} /{INSTALLED}")
+    say_ignored(project, say)
     return f"{OWN}/{PROJECT}" if copies else "."
+
+
+def say_ignored(project, say):
+    """Says which lines `.gitignore` lacks."""
+    path = os.path.join(project, ".gitignore")
+    there = read(path).decode("utf-8", "replace").split() if os.path.isfile(path) else []
+    lacking = [it for it in (f"/{OWN}/", f"/{INDEX}", f"/{INSTALLED}") if it not in there]
+    if lacking:
+        say("\n".join(["lines for .gitignore:", *lacking]))
 
 
 def own_project(project, own, local, made, say, copies):

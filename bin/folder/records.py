@@ -3,6 +3,7 @@
 In: a compiler. Out: the records of its global database, and behind them those of cabal's store for it: for each its file's name, its unit, its
 package and the units that it needs, and a path to link to, or its bytes where it was cut out of a dump."""
 
+import hashlib
 import os
 import re
 
@@ -33,8 +34,6 @@ class Record:
 
 def hash_of(data):
     """Returns some digits of the SHA-256 of bytes."""
-    import hashlib
-
     return hashlib.sha256(data).hexdigest()[:24]
 
 
