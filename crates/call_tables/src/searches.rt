@@ -81,16 +81,16 @@ fn outcome(alloc: Global, problem: Option<Written>) -> Result<String, NoMemory> 
 
 // A problem that counts two of the questions that it is asked.
 #[derive(Drop)]
-struct Asked {
-    choices: Written,
+struct Asked<C> {
+    choices: C,
     orders: Cell<u64>,
     demands: Cell<u64>,
 }
 
-impl Choices for Asked {
-    ghost problem = { λ a. Written.problem a.choices };
+impl<C: Choices> Choices for Asked<C> {
+    ghost problem = { λ a. C.problem a.choices };
 
-    ghost lawful = { λ a. Written.lawful a.choices };
+    ghost lawful = { λ a. C.lawful a.choices };
 
     fn known(&self, v: Var) -> bool {
         self.choices.known(v)
@@ -119,14 +119,14 @@ impl Choices for Asked {
     }
 }
 
-impl Asked {
+impl<C> Asked<C> {
     fn amount(&self) -> &'static str {
         let are_few = self.orders.get() <= 17 && self.demands.get() <= 20;
         if are_few { "few" } else { "many" }
     }
 }
 
-fn found(alloc: Global, problem: &Asked) -> Result<String, NoMemory> {
+fn found(alloc: Global, problem: &Asked<Written>) -> Result<String, NoMemory> {
     let outcome = searched(alloc, problem)?;
     shown(alloc, &outcome)
 }
