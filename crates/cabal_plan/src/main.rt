@@ -89,12 +89,7 @@ fn status_for<F: Folder, S: Sink>(
     }
 }
 
-fn status_over<F: Folder, S: Sink>(
-    alloc: Global,
-    args: Args,
-    folder: &mut F,
-    out: &mut S,
-) -> Status
+fn status_over<F: Folder, S: Sink>(alloc: Global, args: Args, folder: &mut F, out: &mut S) -> Status
     ensures { IsRunOver F.tells F.faults (words_of (map string_bytes (into_iter_items args))) folder.old folder.new
         (taken S.bytes S.faults out.old) (taken S.bytes S.faults out.new) result }
 {
