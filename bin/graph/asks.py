@@ -1,0 +1,141 @@
+"""What the files of a folder ask for. In: a folder with its project files, `index` and `installed`, and the names to look at. Out: which versions
+of each are there, and who asks for which range of whom. It reads layouts by their indents, and takes all that a file says whatever its conditions
+are: they are told beside the range. It decides nothing: whether a range holds a version is the program's to say."""
+
+import glob
+import os
+import re
+
+FIELDS = {"build-depends": "lib", "setup-depends": "setup", "build-tool-depends": "tool"}
+PROJECT = ("cabal.project", "cabal.project.freeze", "cabal.project.local")
+ENTRY = re.compile(r"([A-Za-z0-9-]+)\s*(?::\s*(\{[^}]*\}|[\w-]+))?\s*(.*)", re.S)
+
+
+class BadFile(Exception):
+    """A file can't be read: its path, and why."""
+
+
+class Ask:
+    """An owner in some version asks for a range of another: as `lib`, `setup` or `tool`, in a section and under conditions."""
+
+    def __init__(self, owner, version, kind, name, text, places):
+        self.owner, self.version, self.kind, self.name, self.places = owner, version, kind, name, places
+        self.text = re.sub(r"\s+", " ", text).strip() or "any version"
+
+
+def text_of(path):
+    try:
+        with open(path, encoding="utf-8") as file:
+            return file.read()
+    except OSError as error:
+        raise BadFile(f"{path}: {error.strerror}") from error
+    except UnicodeDecodeError as error:
+        raise BadFile(f"{path}: byte {error.start + 1} isn't UTF-8") from error
+
+
+def lines_of(text):
+    """Yields each line that says something: its indent, and its text without braces at the end."""
+    for line in text.splitlines():
+        body = line.strip()
+        if body and not body.startswith("--") and body.strip("{} "):
+            yield len(line) - len(line.lstrip()), re.sub(r"^\}\s*|\s*\{$", "", body)
+
+
+def fields(text):
+    """Returns the fields of a file: the sections and branches that each stands in, its name, its value."""
+    found, open_, field = [], [], None
+    for indent, body in lines_of(text):
+        if field is not None and indent > field:
+            found[-1][2] += "\n" + body
+            continue
+        open_, told = [it for it in open_ if it[0] < indent], re.match(r"([A-Za-z][\w-]*)\s*:(.*)", body)
+        field = indent if told else None
+        if told:
+            found.append([[it[1] for it in open_], told[1].lower(), told[2].strip()])
+        else:
+            open_.append((indent, body))
+    return found
+
+
+def entries(value):
+    """Returns the entries between commas, of which none inside braces counts."""
+    return [it.strip() for it in re.split(r",(?![^{]*\})", value) if it.strip()]
+
+
+def package_of(text):
+    """Returns the name and the version that a `.cabal` file states."""
+    top = {name: value for places, name, value in fields(text) if not places}
+    return top.get("name", ""), top.get("version", "")
+
+
+def asks_of(owner, version, text, names):
+    """Yields what a `.cabal` file asks of the names."""
+    for places, field, value in fields(text):
+        for told in filter(None, map(ENTRY.match, entries(value) if field in FIELDS else ())):
+            if told[1] in names:
+                yield Ask(owner, version, FIELDS[field], told[1], told[3], [it for it in places if it != "library"])
+
+
+def record(path):
+    """Returns name, version, id and needs of a record of `installed`."""
+    told = {name: value.split() for _, name, value in fields(text_of(path))}
+    name, version, unit = (" ".join(told.get(it, [])) for it in ("name", "version", "id"))
+    return name, version, unit, told.get("depends", [])
+
+
+def settings(folder):
+    """Returns what the project files say, each setting with its entries."""
+    found = {}
+    for path in (f"{folder}/{it}" for it in PROJECT if os.path.isfile(f"{folder}/{it}")):
+        for places, name, value in fields(text_of(path)):
+            found.setdefault(" ".join([*places, name]), []).extend(entries(re.sub(r"\s+", " ", value)))
+    return found
+
+
+def local_files(folder, told):
+    """Returns the local `.cabal` files: those that the entries of the project match."""
+    named = [it for key in ("packages", "optional-packages") for entry in told.get(key, []) for it in entry.split()]
+    if not os.path.isfile(f"{folder}/cabal.project"):
+        named = ["*.cabal"]
+    found = [it for entry in named for it in glob.glob(f"{folder}/{entry}")]
+    return sorted({it for path in found for it in (glob.glob(f"{path.rstrip('/')}/*.cabal") if os.path.isdir(path) else [path]) if it.endswith(".cabal")})
+
+
+def by_number(path):
+    return [int(it) for it in re.findall(r"\d+", os.path.basename(os.path.dirname(path)))]
+
+
+class Folder:
+    """What a folder has of some names: `versions` of each, in the order of the files, `asks` among them, `settings` of the project."""
+
+    def __init__(self, folder, index, installed, names):
+        self.settings, self.versions, self.asks = settings(folder), {it: [] for it in names}, []
+        self.add_local(folder, names)
+        self.add_units(f"{folder}/{installed}", names)
+        self.add_index(f"{folder}/{index}", names)
+
+    def add_local(self, folder, names):
+        self.local = set()
+        for path in local_files(folder, self.settings):
+            text = text_of(path)
+            name, version = package_of(text)
+            if name in names:
+                self.local.add(name)
+                self.versions[name].append(f"{version} local")
+                self.asks += asks_of(name, version, text, names)
+
+    def add_units(self, folder, names):
+        records = [record(it) for it in sorted(glob.glob(f"{folder}/*.conf"))]
+        known = {unit: (name, version) for name, version, unit, _ in records}
+        for name, version, _, needs in records:
+            if name in names and name not in self.local:
+                self.versions[name].append(f"{version} installed")
+                met = [known[it] for it in needs if it in known and known[it][0] in names]
+                self.asks += [Ask(name, f"{version} installed", "lib", other, f"=={there}", []) for other, there in met]
+
+    def add_index(self, folder, names):
+        paths = [it for name in sorted(names - self.local) for it in sorted(glob.glob(f"{folder}/{name}/*/{name}.cabal"), key=by_number)]
+        for path in paths:
+            name, version = path.split("/")[-1][: -len(".cabal")], path.split("/")[-2]
+            self.versions[name].append(version)
+            self.asks += asks_of(name, version, text_of(path), names)
