@@ -194,10 +194,12 @@ def of_folders(known):
 
 
 def of_rows(page, known):
-    """Yields for each row of a table that begins with a folder of examples which of the lines that its cells show no run over it prints."""
+    """Yields for each row of a table of folders of examples which of the lines that its cells show no run over it prints."""
     base = next((f"{it.rstrip('/')}/" for it in names("\n".join(page.prose)) if it.rstrip("/") in TABLES), None)
+    is_ours = False
     for number, line in enumerate(page.prose, 1):
-        first = names(cells(line)[0])[:1] if base and cells(line) else []
+        is_ours = base and bool(cells(line)) and (is_ours or cells(line)[0] == "Folder") or is_ours and line.startswith("|---")
+        first = names(cells(line)[0])[:1] if is_ours and cells(line) else []
         if first:
             printed = "".join(run.output.decode() for case in known if case.name == base + first[0] for run in case.runs)
             lines = [it for cell in cells(line)[1:] for it in names(cell) if LINE.match(it)]

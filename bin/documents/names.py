@@ -27,14 +27,14 @@ OF_TEXT = re.compile(r"^ *(?!use\b)(?:(?:abbrev|unfoldable|pub|data|record|law|l
 # A name of code.
 IS_CODE = re.compile(r"[a-z]\w*_\w+|[A-Z][a-z]\w*[A-Z]\w*")
 # What is told of other programs stands in no source.
-COMMANDS = ("cabal ", "ghc ", "git ", "grep ", "ln ", "mkdir ", "mv ", "rt ", "rattle-kit")
+COMMANDS = ("cabal ", "find ", "ghc ", "git ", "grep ", "ln ", "mkdir ", "mv ", "rt ", "rattle-kit")
 FOREIGN = {
     "fields and files of cabal, and words of its command line, that this program passes over or refuses": "--allow-newer --constraint --dry-run "
     "--enable-tests --version --with-compiler dry enable ghc-options pkgconfig pkgconfig-depends preferred-versions program-options solve "
     "with-compiler",
     "the compiler's words": "--numeric-version numeric",
     "an archive of a package server": "tar",
-    "what stands for a word of the user": "COMPONENT PACKAGE RANGE VALUE",
+    "what stands for a word of the user or of an answer": "CAUSE COMPONENT LINE PACKAGE RANGE VALUE",
     "an example of a name in capitals": "MinGW32",
 }
 KNOWN_ELSEWHERE = {word for words in FOREIGN.values() for word in words.split()}

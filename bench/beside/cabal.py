@@ -1,0 +1,109 @@
+"""cabal-install without a network. In: the folder of a project, and the files of its index. Out: its verdict and its plan, as `planner.py` has them."""
+
+import io
+import json
+import os
+import shutil
+import subprocess
+import tarfile
+import time
+
+import plans
+
+SECONDS = 120
+CONFIG = "repository here\n  url: file+noindex://{}\n"
+NO_PLAN, LIMIT = "Could not resolve dependencies", "Backjump limit reached"
+
+
+class Missing(Exception):
+    """A program that is needed isn't installed."""
+
+
+def number_of(program):
+    """Returns the release of a program on the path."""
+    if not shutil.which(program):
+        raise Missing(f"{program} isn't installed: Debian has it in the packages ghc and cabal-install")
+    return subprocess.run([program, "--numeric-version"], stdout=subprocess.PIPE, text=True, check=True).stdout.strip()
+
+
+def archive(package, version, text, path):
+    """Makes an archive of a package that holds nothing but its `.cabal` file: a plan needs no more."""
+    with tarfile.open(path, "w:gz", compresslevel=1) as tar:
+        told = tarfile.TarInfo(f"{package}-{version}/{package}.cabal")
+        told.size = len(text)
+        tar.addfile(told, io.BytesIO(text))
+
+
+class Home:
+    """A home of cabal with one repository in a folder: `.cabal` files by package and version."""
+
+    def __init__(self, room):
+        self.room = os.path.abspath(room)
+        os.makedirs(f"{self.room}/home", exist_ok=True)
+        os.makedirs(f"{self.room}/repository", exist_ok=True)
+        with open(f"{self.room}/home/config", "w", encoding="utf-8") as file:
+            file.write(CONFIG.format(f"{self.room}/repository"))
+
+    def offer(self, index, made):
+        """Puts these packages into the repository, and no others; `made` keeps archives between calls, by package and version."""
+        shutil.rmtree(f"{self.room}/repository")
+        os.makedirs(f"{self.room}/repository")
+        for (package, version), text in index.items():
+            key = f"{package}-{version}.tar.gz"
+            if not os.path.exists(f"{made}/{key}"):
+                archive(package, version, text, f"{made}/{key}")
+            os.link(f"{made}/{key}", f"{self.room}/repository/{key}")
+
+    def plan(self, folder, words):
+        """Runs cabal in a folder, and returns what it answers."""
+        environment = {**os.environ, "CABAL_DIR": f"{self.room}/home", "HOME": f"{self.room}/home", "CABAL_CONFIG": f"{self.room}/home/config"}
+        begun = time.monotonic()
+        try:
+            ran = subprocess.run(
+                ["cabal", "build", "all", "--dry-run", *words], cwd=folder, env=environment, stdin=subprocess.DEVNULL, stdout=subprocess.PIPE,
+                stderr=subprocess.STDOUT, timeout=SECONDS, check=False,
+            )
+        except subprocess.TimeoutExpired:
+            return plans.Answer("no answer", SECONDS, f"none after {SECONDS} seconds")
+        seconds, told = time.monotonic() - begun, ran.stdout.decode("utf-8", "replace")
+        if ran.returncode == 0:
+            return plans.Answer("plan", seconds, told, *read(f"{folder}/dist-newstyle/cache/plan.json"))
+        verdict = "gave up" if LIMIT in told else "no plan" if NO_PLAN in told else "refused"
+        return plans.Answer(verdict, seconds, told)
+
+
+def needs_of(unit):
+    """Returns the identifiers of what a unit needs, for all of its components."""
+    parts = [unit, *unit.get("components", {}).values()]
+    return [it for part in parts for key in ("depends", "exe-depends") for it in part.get(key, [])]
+
+
+def needed(units):
+    """Returns the units that a local one leads to. cabal also lists libraries and executables that nothing needs, and builds none of them."""
+    by_id = {it["id"]: it for it in units}
+    open_, seen = [it["id"] for it in units if it.get("style") == "local"], set()
+    while open_:
+        one = open_.pop()
+        if one not in seen:
+            seen.add(one)
+            open_ += needs_of(by_id[one])
+    return [it for it in units if it["id"] in seen]
+
+
+def parts_of(unit):
+    """Returns the components of a unit; one with a setup script is built as a whole."""
+    if "components" not in unit:
+        return [unit.get("component-name", "lib")]
+    return ["package"] if "setup" in unit["components"] else list(unit["components"])
+
+
+def read(path):
+    """Returns the components that are needed and the flags of a `plan.json`."""
+    with open(path, encoding="utf-8") as file:
+        units = needed(json.load(file)["install-plan"])
+    components, flags = set(), {}
+    for unit in units:
+        key = unit["pkg-name"], unit["pkg-version"]
+        components |= {(*key, it) for it in parts_of(unit)}
+        flags.setdefault(key, {}).update(unit.get("flags", {}))
+    return components, flags

@@ -1,0 +1,94 @@
+"""Folders to plan with both. In: the examples, an index of real packages, or a number to draw from. Out: projects, each with the files of its own and
+the files of its index, as this program and as cabal-install are given them."""
+
+import glob
+import os
+import random
+
+
+class BadIndex(Exception):
+    """A folder isn't an index: what is wrong."""
+
+
+class Project:
+    """A folder: its name, its local files by path, and its index by package and version; `ours` where this program is given other texts."""
+
+    def __init__(self, name, local, index, ours=None, ours_index=None, has_units=False):
+        self.name, self.local, self.index, self.has_units = name, local, index, has_units
+        self.ours, self.ours_index = local if ours is None else ours, index if ours_index is None else ours_index
+
+
+def bytes_of(path):
+    with open(path, "rb") as file:
+        return file.read()
+
+
+def index_of(folder):
+    """Returns the `.cabal` files of an index by package and version."""
+    found = {}
+    for path in sorted(glob.glob(f"{folder}/*/*/*.cabal")):
+        package, version, name = path.split("/")[-3:]
+        if name == f"{package}.cabal":
+            found[package, version] = bytes_of(path)
+    if not found:
+        raise BadIndex(f"{folder}: it has no file NAME/VERSION/NAME.cabal")
+    return found
+
+
+def example(folder):
+    """Returns a folder of examples."""
+    local = {}
+    for at, inner, inside in os.walk(folder):
+        inner[:] = sorted(it for it in inner if it not in ("index", "installed", "dist-newstyle"))
+        local.update({os.path.relpath(f"{at}/{it}", folder): bytes_of(f"{at}/{it}") for it in sorted(inside)})
+    return Project(os.path.basename(folder), local, index_of(f"{folder}/index"))
+
+
+def real(index, rewritten):
+    """Yields each package of an index as the local one, with the others as its index. `rewritten` gives the text that this program can read."""
+    ours = {key: rewritten(text) for key, text in index.items()}
+    for key in sorted(index):
+        others = {it: text for it, text in index.items() if it[0] != key[0]}
+        name = f"{key[0]}.cabal"
+        yield Project(key[0], {name: index[key]}, others, {name: ours[key]}, ours, True)
+
+
+def bounds(draw, versions):
+    """Returns a range over versions, that mostly holds some of them."""
+    at = draw.choice(versions)
+    return draw.choice(["", "", f" >={at}", f" <={at}", f" =={at}", f" <{at}", f" >{at}", f" =={at} || >{at}"])
+
+
+def section(draw, names, versions, most):
+    """Returns the lines of a section that depends on some of the names."""
+    needs = draw.sample(names, min(len(names), draw.randint(0, most)))
+    return [f"  build-depends: {', '.join(it + bounds(draw, versions[it]) for it in needs)}"] if needs else []
+
+
+def package(draw, name, version, names, versions, is_local):
+    """Returns the text of a drawn package: a library, at times with a flag, an executable, a tool that it needs, and tests where it is local."""
+    lines = ["cabal-version: 2.4", f"name: {name}", f"version: {version}"]
+    body = ["library", *section(draw, names, versions, 3 if is_local else 2)]
+    if names and draw.random() < 0.3:
+        lines += ["flag fast", f"  default: {draw.choice(['True', 'False'])}"]
+        body += [f"  if {draw.choice(['', '!'])}flag(fast)"] + ["  " + it for it in section(draw, names, versions, 2) or ["  build-depends:"]]
+    if name.startswith("t"):
+        body += [f"executable {name}", "  main-is: Main.hs", *section(draw, names, versions, 1)]
+    tools = [it for it in names if it.startswith("t")]
+    if tools and draw.random() < 0.3:
+        tool = draw.choice(tools)
+        body.insert(1, f"  build-tool-depends: {tool}:{tool}{bounds(draw, versions[tool])}")
+    if is_local:
+        body += ["test-suite spec", "  type: exitcode-stdio-1.0", "  main-is: Spec.hs", *section(draw, names, versions, 2)]
+    return "\n".join([*lines, *body, ""]).encode()
+
+
+def drawn(number):
+    """Returns the folder of a number: the same for the same number."""
+    draw = random.Random(number)
+    names = [f"p{at}" if draw.random() < 0.7 else f"t{at}" for at in range(draw.randint(3, 7))]
+    versions = {it: [str(at) for at in range(1, draw.randint(2, 4))] for it in names}
+    index = {}
+    for at, name in enumerate(names):
+        index.update({(name, it): package(draw, name, it, names[:at], versions, False) for it in versions[name]})
+    return Project(f"drawn-{number}", {"main.cabal": package(draw, "main", "1", names, versions, True)}, index)
