@@ -6,11 +6,9 @@ import os
 import shutil
 import subprocess
 import tarfile
-import time
 
 import plans
 
-SECONDS = 120
 CONFIG = "repository here\n  url: file+noindex://{}\n"
 NO_PLAN, LIMIT = "Could not resolve dependencies", "Backjump limit reached"
 
@@ -38,35 +36,29 @@ class Home:
     """A home of cabal with one repository in a folder: `.cabal` files by package and version."""
 
     def __init__(self, room):
-        self.room = os.path.abspath(room)
+        self.room, self.index = os.path.abspath(room), None
         os.makedirs(f"{self.room}/home", exist_ok=True)
         os.makedirs(f"{self.room}/repository", exist_ok=True)
         with open(f"{self.room}/home/config", "w", encoding="utf-8") as file:
             file.write(CONFIG.format(f"{self.room}/repository"))
 
-    def offer(self, index, made):
-        """Puts these packages into the repository, and no others; `made` keeps archives between calls, by package and version."""
+    def offer(self, index):
+        """Puts these packages into the repository, and no others. Those of the last call stay there where they are the same."""
+        if self.index is index:
+            return
         shutil.rmtree(f"{self.room}/repository")
         os.makedirs(f"{self.room}/repository")
         for (package, version), text in index.items():
-            key = f"{package}-{version}.tar.gz"
-            if not os.path.exists(f"{made}/{key}"):
-                archive(package, version, text, f"{made}/{key}")
-            os.link(f"{made}/{key}", f"{self.room}/repository/{key}")
+            archive(package, version, text, f"{self.room}/repository/{package}-{version}.tar.gz")
+        self.index = index
 
     def plan(self, folder, words):
         """Runs cabal in a folder, and returns what it answers."""
         environment = {**os.environ, "CABAL_DIR": f"{self.room}/home", "HOME": f"{self.room}/home", "CABAL_CONFIG": f"{self.room}/home/config"}
-        begun = time.monotonic()
-        try:
-            ran = subprocess.run(
-                ["cabal", "build", "all", "--dry-run", *words], cwd=folder, env=environment, stdin=subprocess.DEVNULL, stdout=subprocess.PIPE,
-                stderr=subprocess.STDOUT, timeout=SECONDS, check=False,
-            )
-        except subprocess.TimeoutExpired:
-            return plans.Answer("no answer", SECONDS, f"none after {SECONDS} seconds")
-        seconds, told = time.monotonic() - begun, ran.stdout.decode("utf-8", "replace")
-        if ran.returncode == 0:
+        status, told, seconds = plans.run(["cabal", "build", "all", "--dry-run", *words], folder, environment)
+        if status is None:
+            return plans.Answer("no answer", seconds, told)
+        if status == 0:
             return plans.Answer("plan", seconds, told, *read(f"{folder}/dist-newstyle/cache/plan.json"))
         verdict = "gave up" if LIMIT in told else "no plan" if NO_PLAN in told else "refused"
         return plans.Answer(verdict, seconds, told)

@@ -45,12 +45,12 @@ def example(folder):
 
 
 def real(index, rewritten):
-    """Yields each package of an index as the local one, with the others as its index. `rewritten` gives the text that this program can read."""
+    """Yields each package of an index as the local one, over the whole index: the local package hides its own file there. `rewritten` gives the text
+    that this program can read."""
     ours = {key: rewritten(text) for key, text in index.items()}
     for key in sorted(index):
-        others = {it: text for it, text in index.items() if it[0] != key[0]}
         name = f"{key[0]}.cabal"
-        yield Project(key[0], {name: index[key]}, others, {name: ours[key]}, ours, True)
+        yield Project(key[0], {name: index[key]}, index, {name: ours[key]}, ours, True)
 
 
 def bounds(draw, versions):

@@ -1,5 +1,11 @@
 """What a planner answers, and how two answers compare."""
 
+import resource
+import subprocess
+
+# After so many seconds of the clock there is no answer.
+SECONDS = 600
+
 
 class Answer:
     """A verdict (`plan`, `no plan`, `gave up`, `refused`), its seconds, what was printed; of a plan its components (package, version, component)
@@ -10,6 +16,24 @@ class Answer:
 
     def versions(self):
         return {it[:2] for it in self.components}
+
+
+def spent():
+    """Returns the seconds of processor time of all that was run so far."""
+    told = resource.getrusage(resource.RUSAGE_CHILDREN)
+    return told.ru_utime + told.ru_stime
+
+
+def run(words, folder, environment=None):
+    """Runs a program in a folder, and returns its status, or none where it doesn't end, what it printed, and its seconds of processor time."""
+    begun = spent()
+    try:
+        ran = subprocess.run(
+            words, cwd=folder, env=environment, stdin=subprocess.DEVNULL, stdout=subprocess.PIPE, stderr=subprocess.STDOUT, timeout=SECONDS, check=False
+        )
+    except subprocess.TimeoutExpired:
+        return None, f"none after {SECONDS} seconds", spent() - begun
+    return ran.returncode, ran.stdout.decode("utf-8", "replace").strip(), spent() - begun
 
 
 def words_of(components):

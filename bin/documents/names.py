@@ -30,8 +30,10 @@ IS_CODE = re.compile(r"[a-z]\w*_\w+|[A-Z][a-z]\w*[A-Z]\w*")
 COMMANDS = ("cabal ", "find ", "ghc ", "git ", "grep ", "ln ", "mkdir ", "mv ", "rt ", "rattle-kit")
 FOREIGN = {
     "fields and files of cabal, and words of its command line, that this program passes over or refuses": "--allow-newer --constraint --dry-run "
-    "--enable-tests --version --with-compiler dry enable ghc-options pkgconfig pkgconfig-depends preferred-versions program-options solve "
+    "--enable-tests --version --with-compiler dry enable ghc-options pkgconfig pkgconfig-depends preferred-versions program-options reject-unconstrained-dependencies solve "
     "with-compiler",
+    "keys of cabal's plan, and values of them": "arch bin-file cabal-lib-version cabal-version compiler-id configured dist-dir global pkg-cabal-sha256 "
+    "pkg-src pkg-src-sha256 pre-existing",
     "the compiler's words": "--numeric-version numeric",
     "an archive of a package server": "tar",
     "what stands for a word of the user or of an answer": "CAUSE COMPONENT LINE PACKAGE RANGE VALUE",

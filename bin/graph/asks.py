@@ -68,11 +68,12 @@ def package_of(text):
     return top.get("name", ""), top.get("version", "")
 
 
-def asks_of(owner, version, text, names):
-    """Yields what a `.cabal` file asks of the names."""
+def asks_of(owner, version, text, names, is_local):
+    """Yields what a `.cabal` file asks of other names. Of packages of the index tests and benchmarks have no say."""
     for places, field, value in fields(text):
-        for told in filter(None, map(ENTRY.match, entries(value) if field in FIELDS else ())):
-            if told[1] in names:
+        counts = field in FIELDS and (is_local or not " ".join(places).startswith(("test-suite", "benchmark")))
+        for told in filter(None, map(ENTRY.match, entries(value) if counts else ())):
+            if told[1] in names and told[1] != owner:
                 yield Ask(owner, version, FIELDS[field], told[1], told[3], [it for it in places if it != "library"])
 
 
@@ -122,7 +123,7 @@ class Folder:
             if name in names:
                 self.local.add(name)
                 self.versions[name].append(f"{version} local")
-                self.asks += asks_of(name, version, text, names)
+                self.asks += asks_of(name, version, text, names, True)
 
     def add_units(self, folder, names):
         records = [record(it) for it in sorted(glob.glob(f"{folder}/*.conf"))]
@@ -138,4 +139,4 @@ class Folder:
         for path in paths:
             name, version = path.split("/")[-1][: -len(".cabal")], path.split("/")[-2]
             self.versions[name].append(version)
-            self.asks += asks_of(name, version, text_of(path), names)
+            self.asks += asks_of(name, version, text_of(path), names, False)
