@@ -24,13 +24,12 @@ class Ask:
 
 
 def text_of(path):
+    """Returns the text of a file. A byte that isn't UTF-8 says nothing of a range."""
     try:
-        with open(path, encoding="utf-8") as file:
+        with open(path, encoding="utf-8", errors="replace") as file:
             return file.read()
     except OSError as error:
         raise BadFile(f"{path}: {error.strerror}") from error
-    except UnicodeDecodeError as error:
-        raise BadFile(f"{path}: byte {error.start + 1} isn't UTF-8") from error
 
 
 def lines_of(text):
@@ -107,13 +106,14 @@ def by_number(path):
 
 
 class Folder:
-    """What a folder has of some names: `versions` of each, in the order of the files, `asks` among them, `settings` of the project."""
+    """What a folder has of some names: `versions` of each, in the order of the files, `asks` among them, `settings` of the project. Files that the
+    program skipped ask for nothing."""
 
-    def __init__(self, folder, index, installed, names):
+    def __init__(self, folder, index, installed, names, skipped):
         self.settings, self.versions, self.asks = settings(folder), {it: [] for it in names}, []
         self.add_local(folder, names)
         self.add_units(f"{folder}/{installed}", names)
-        self.add_index(f"{folder}/{index}", names)
+        self.add_index(folder, index, names, {re.sub(r"(:\d+)? \w+$", "", it) for it in skipped})
 
     def add_local(self, folder, names):
         self.local = set()
@@ -134,9 +134,10 @@ class Folder:
                 met = [known[it] for it in needs if it in known and known[it][0] in names]
                 self.asks += [Ask(name, f"{version} installed", "lib", other, f"=={there}", []) for other, there in met]
 
-    def add_index(self, folder, names):
-        paths = [it for name in sorted(names - self.local) for it in sorted(glob.glob(f"{folder}/{name}/*/{name}.cabal"), key=by_number)]
-        for path in paths:
-            name, version = path.split("/")[-1][: -len(".cabal")], path.split("/")[-2]
-            self.versions[name].append(version)
-            self.asks += asks_of(name, version, text_of(path), names, False)
+    def add_index(self, folder, index, names, skipped):
+        found = [it for name in sorted(names - self.local) for it in sorted(glob.glob(f"{folder}/{index}/{name}/*/{name}.cabal"), key=by_number)]
+        for path in found:
+            version, name = path.split("/")[-2], path.split("/")[-1][: -len(".cabal")]
+            is_skipped = f"{index}/{name}/{version}/{name}.cabal" in skipped
+            self.versions[name].append(version + " skipped" * is_skipped)
+            self.asks += [] if is_skipped else asks_of(name, version, text_of(path), names, False)
