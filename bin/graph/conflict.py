@@ -99,7 +99,7 @@ def twins(names):
 def picture(answer, at):
     """Returns the DOT of a conflict; `at` has the paths of the folder, its index and its records."""
     names = [Name(it) for it in answer["conflict"]]
-    folder = asks.Folder(*at, {it.package for it in names}, answer.get("skipped", []))
+    folder = asks.Folder(*at, {it.package for it in names}, [it for it in answer.get("skipped", []) if isinstance(it, str)])
     lines = [dot.node(it.text, look(it, folder)) for it in names]
     lines += [*between(names, folder), *parts(names), *twins(names), *of_project(names, folder.settings)]
     return dot.graph(TITLE if any(folder.versions.values()) else WITHOUT_FILES, "TB", lines)
