@@ -54,6 +54,14 @@ pub fn numbers_of(cond: &Cond, env: &Env) -> Numbers
     }
 }
 
+/// How many paths of a condition there are on which it has this value, or the greatest number if there are more.
+pub fn count_paths(cond: &Cond, env: &Env, want: bool) -> u64
+    ensures { result ≡ min (length (paths_of env.now cond.now want)) (2 ^ 64 - 1) }
+{
+    let numbers = numbers_of(cond, env);
+    if want { numbers.yes } else { numbers.no }
+}
+
 fn one(holds: bool) -> Numbers
     ensures yes { result.yes ≡ length (fixed holds true) }
     ensures no { result.no ≡ length (fixed holds false) }
