@@ -1,13 +1,32 @@
 -- What is found out of conditions, each from those that it is put together of.
-use Rattle.std.specs.Prelude.{◌≡◌, true, List, [], ◌∷◌, Option, IfSome, IsFalse}
+use Rattle.std.specs.Prelude.{◌≡◌, Bool, true, false, List, [], ◌∷◌, Option, Some, None, IfSome, IsFalse, slice_get}
 use Rattle.std.specs.List.{list_any}
 use Rattle.plan_types.specs.declared.condition.Cond.{Cond}
 use Rattle.plan_types.specs.declared.condition.Env.{Env}
+use Rattle.plan_types.specs.declared.conditions.Row.{Row}
+use Rattle.plan_types.specs.declared.conditions.Row.TheVariants.{Own, Negated, Both}
 use Rattle.conditionals.specs.Paths.{Path, holds}
 use Rattle.conditionals.specs.Value.{Flags, value}
 use Rattle.conditionals.specs.declared.value.Tri.TheVariants.{Yes}
 use Rattle.condition_outlook.specs.Settled.{AreSet}
 use Rattle.condition_outlook.specs.declared.known.Known.{Known}
+
+-- whether a row has tests of its own
+abbrev pub has_tests : Row → Bool
+has_tests (Own cond) = true
+has_tests (Negated inner) = false
+has_tests (Both front last) = false
+
+-- whether there is a row here that has
+abbrev pub has_tests_at : Option Row → Bool
+has_tests_at None = false
+has_tests_at (Some row) = has_tests row
+
+-- whether a row has tests of its own, or is `!` of a row that has
+abbrev pub is_own : List Row → Row → Bool
+is_own rows (Own cond) = true
+is_own rows (Negated inner) = has_tests_at (slice_get rows inner)
+is_own rows (Both front last) = false
 
 -- flags are set as is known
 pub record IsMet (flags : Flags) (known : Known) : Type 0 where

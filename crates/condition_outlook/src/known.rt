@@ -6,7 +6,7 @@ ghost use Rattle.plan_types.specs.declared.condition.Cond.{Cond};
 ghost use Rattle.conditionals.specs.Count.{numbers_of};
 ghost use Rattle.conditionals.specs.Paths.{holds};
 ghost use Rattle.conditionals.specs.Value.{Flags};
-ghost use Rattle.condition_outlook.specs.Known.{AreKnown, ArePathsOf, IsKnown, IsMet, OneHolds};
+ghost use Rattle.condition_outlook.specs.Known.{AreKnown, ArePathsOf, IsKnown, IsMet, OneHolds, is_own};
 ghost use Rattle.condition_outlook.specs.Settled.{AreSet};
 
 use crate::settled::Settled;
@@ -63,7 +63,9 @@ pub fn known_of(
 }
 
 // Whether a row is of its own tests, or of `!` of such ones.
-fn is_own(rows: &[Row], row: &Row) -> bool {
+fn is_own(rows: &[Row], row: &Row) -> bool
+    ensures { result ≡ is_own rows.now row.now }
+{
     match row {
         Row::Own(_) => true,
         Row::Negated(inner) => match rows.get(*inner) {

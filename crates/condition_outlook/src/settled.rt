@@ -1,5 +1,5 @@
 // What flags are set to.
-ghost use Rattle.std.specs.Prelude.{◌≡◌, ◌∷◌, [], true, Some, IfOk, OnOk, IfSome, IsTrue};
+ghost use Rattle.std.specs.Prelude.{◌≡◌, ◌↔◌, ◌∷◌, [], true, Some, IfOk, OnOk, IfSome, IsTrue};
 ghost use Rattle.conditionals.specs.Paths.{holds};
 ghost use Rattle.conditionals.specs.Value.{Flags};
 ghost use Rattle.condition_outlook.specs.Settled.{AreSet, AreSaid};
@@ -50,7 +50,9 @@ impl Settled {
     }
 
     /// Whether a copy of it copies all that is known.
-    pub fn is_short(&self) -> bool {
+    pub fn is_short(&self) -> bool
+        ensures { IsTrue result ↔ (self.now.shared ≡ []) }
+    {
         self.shared.is_empty()
     }
 
