@@ -1,6 +1,6 @@
 // Names, each once.
 
-ghost use Rattle.std.specs.Prelude.{◌≡◌, [], not, IfOk, OnOk};
+ghost use Rattle.std.specs.Prelude.{◌≡◌, [], not, IfOk, OnErr, OnOk};
 ghost use Rattle.stanza_imports.specs.Names.{has, number_of, with_name};
 
 use indexmap::IndexSet;
@@ -41,6 +41,7 @@ impl<'a> NameSet<'a> {
     pub fn insert(&mut self, name: &'a str) -> Result<bool, NoMemory>
         ensures new { IfOk result (λ new. new ≡ not (has self.old name.now)) }
         ensures names { OnOk result (self.new ≡ with_name self.old name.now) }
+        ensures unchanged { OnErr result (self.new ≡ self.old) }
     {
         let new = self.set.insert(name)?;
         Ok(new)
