@@ -22,7 +22,7 @@ use Rattle.plan_types.specs.declared.index.Origin.{Origin}
 use Rattle.plan_types.specs.declared.index.Origin.TheVariants as origin
 use Rattle.plan_types.specs.declared.index.Package.{Package}
 use Rattle.plan_types.specs.Members.{order}
-use Rattle.plan_types.specs.Name.{is_package_name, is_flag_name}
+use Rattle.plan_types.specs.Name.{is_package_name, is_flag_name, is_lower}
 use Rattle.version_range.specs.Version.{is_version, has_versions}
 use Rattle.flatten.specs.Conditions.{asks_well}
 use Rattle.flatten.specs.Demands.{outward, demands_of, first_beyond}
@@ -67,6 +67,7 @@ pub record IsDescription (d : Description) : Type 0 where
   -- flags in the order of their names, each once
   pub flags_rise : IsStrictlySortedBy (slice_cmp nat_cmp) (map (λ flag. flag.name) d.flags)
   pub flag_names : list_all (λ flag. is_flag_name flag.name) d.flags ≡ true
+  pub flags_lower : list_all (λ flag. is_lower flag.name) d.flags ≡ true
   -- no two components have one name, whatever their kinds, and no library that of the package
   pub components_once : IsDistinct same_text (map (λ component. component.name) d.components)
   pub libraries_apart : list_all (λ component. not (is_library component.kind && same_text component.name d.name)) d.components ≡ true

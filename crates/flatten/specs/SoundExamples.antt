@@ -88,6 +88,7 @@ unfolding IsDistinct IsStrictlySortedBy
 main_is_well = record {
   flags_rise = (tt, tt);
   flag_names = refl;
+  flags_lower = refl;
   components_once = (tt, tt);
   libraries_apart = refl;
   component_kinds = refl;

@@ -11,7 +11,6 @@ ghost use Rattle.cabal_problem.specs.WholeDemands.{whole_problem};
 ghost use Rattle.freeze_text.specs.Reads.{IsPlainConstraint, project_with};
 ghost use Rattle.frozen_choices.specs.Barred.{BarsNone};
 ghost use Rattle.frozen_choices.specs.Frozen.{frozen, is_setup_of, setups_in};
-ghost use Rattle.frozen_choices.specs.Plain.{AreLower};
 ghost use Rattle.freeze_file.specs.Steps.{AddsOwner, AreThose, is_setup_in};
 
 use crate::numbers::{add, has};
@@ -38,7 +37,7 @@ pub fn freeze(
         → IsWholeValid (whole_problem env index.now.packages project names.now orders) (value_in trail.now)
         → BarsNone index.now.packages names.now made.constraints trail.now) }
     ensures plain { IfOk result (λ made. (env : Env) (project : TheProject) (orders : List (List ℕ))
-        → IsSound env index.now → AreLower index.now.packages
+        → IsSound env index.now
         → IsWholeValid (whole_problem env index.now.packages project names.now orders) (value_in trail.now)
         → AllByRecursion IsPlainConstraint made.constraints) }
 {

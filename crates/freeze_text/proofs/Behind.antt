@@ -12,7 +12,7 @@ use Rattle.plan_types.specs.declared.constraint.What.TheVariants as what
 use Rattle.plan_types.specs.declared.range.Range.TheVariants.{Equal}
 use Rattle.plan_types.specs.declared.range.Spec.TheVariants.{V3_0}
 use Rattle.plan_types.specs.declared.version.Version.{Version}
-use Rattle.plan_types.specs.Name.{is_component_byte, is_flag_name}
+use Rattle.plan_types.specs.Name.{is_component_byte, is_flag_name, is_lower}
 use Rattle.text_grammar.specs.Parts.{led, one}
 use Rattle.version_range.specs.declared.operator.Operator.TheVariants as operators
 use Rattle.version_range.specs.Version.{is_version, version_text}
@@ -25,7 +25,7 @@ use Rattle.constraint_text.specs.Constraints.{Flag, Asked, Asks}
 use Rattle.constraint_text.specs.Constraints as constraints
 use Rattle.common_laws.specs.Passing.{all-less}
 use Rattle.common_laws.specs.Small.{same-is}
-use Rattle.freeze_text.specs.Reads.{IsPlain, are_flags, is_lower, is_plain_flag, is_range_word}
+use Rattle.freeze_text.specs.Reads.{IsPlain, are_flags, is_plain_flag, is_range_word}
 use Rattle.freeze_text.specs.Reads as plain
 use Rattle.freeze_text.specs.Text.{flag_text, what_text}
 use Rattle.freeze_text.proofs.Plain.{flag-name, is_plain_byte, text-equal, what-plain, word-components}

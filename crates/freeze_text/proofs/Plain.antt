@@ -18,7 +18,7 @@ use Rattle.plan_types.specs.declared.range.Range.TheOpen as layer
 use Rattle.plan_types.specs.declared.range.Range.TheFolds.{fold-roll-Range}
 use Rattle.plan_types.specs.declared.range.Range.TheVariants.{Equal, rolls-Equal}
 use Rattle.plan_types.specs.declared.version.Version.{Version}
-use Rattle.plan_types.specs.Name.{is_component_byte, is_component_name, is_flag_name, is_group, is_letter, is_letter_or_digit, is_package_name}
+use Rattle.plan_types.specs.Name.{is_component_byte, is_component_name, is_flag_name, is_group, is_letter, is_letter_or_digit, is_lower, is_package_name}
 use Rattle.version_range.specs.declared.print.RangePlace.{RangePlace}
 use Rattle.version_range.specs.declared.print.RangePlace.TheVariants.{Whole}
 use Rattle.version_range.specs.Print.{range_text, text_in, text_step}
@@ -26,7 +26,7 @@ use Rattle.version_range.specs.Version.{IsVersion, version_text}
 use Rattle.version_range.proofs.Numbers.{decimal_digits, version_from}
 use Rattle.entry_text.specs.Words.{is_name_byte}
 use Rattle.common_laws.specs.Passing.{all-less}
-use Rattle.freeze_text.specs.Reads.{IsPlain, version, installed, source, flags, IsPlainConstraint, is_lower, is_plain_flag, is_plain_scope}
+use Rattle.freeze_text.specs.Reads.{IsPlain, version, installed, source, flags, IsPlainConstraint, is_plain_flag, is_plain_scope}
 use Rattle.freeze_text.specs.Text.{constraint_text, flag_text, scope_text, what_text}
 
 first-in : (p : ℕ → Bool) (b : ℕ) (groups : List (List ℕ)) → list_all (list_all p) (onto_first b groups) ≡ true → (p b ≡ true) × (list_all (list_all p) groups ≡ true)

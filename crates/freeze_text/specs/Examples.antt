@@ -3,7 +3,8 @@ use Rattle.std.specs.Prelude.{◌≡◌, ℕ, Bool, true, false, List, [], ◌�
 use Rattle.plan_types.specs.declared.condition.FlagSet.{FlagSet}
 use Rattle.plan_types.specs.declared.constraint.Scope.TheVariants.{Any, SetupOf}
 use Rattle.plan_types.specs.declared.constraint.What.TheVariants.{Flags, Installed}
-use Rattle.freeze_text.specs.Reads.{are_flags, is_lower}
+use Rattle.plan_types.specs.Name.{is_lower}
+use Rattle.freeze_text.specs.Reads.{are_flags}
 use Rattle.freeze_text.specs.Text.{freeze_text}
 
 abbrev set_to : Bool → List ℕ → FlagSet

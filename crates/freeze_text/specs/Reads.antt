@@ -1,6 +1,5 @@
 -- Constraints whose text is read as they are.
-use Rattle.std.specs.Prelude.{◌≡◌, ℕ, Bool, true, false, not, ◌&&◌, ◌||◌, List, [], ◌∷◌, map, codes, Ok}
-use Rattle.std.specs.Char.{to_ascii_lowercase}
+use Rattle.std.specs.Prelude.{◌≡◌, ℕ, Bool, true, false, not, ◌&&◌, ◌||◌, List, [], ◌∷◌, codes, Ok}
 use Rattle.std.specs.List.{list_all}
 use Rattle.plan_types.specs.declared.condition.Env.{Env}
 use Rattle.plan_types.specs.declared.condition.FlagSet.{FlagSet}
@@ -13,7 +12,7 @@ use Rattle.plan_types.specs.declared.project.Project.{Project}
 use Rattle.plan_types.specs.declared.range.Range.TheVariants.{Equal}
 use Rattle.plan_types.specs.declared.version.Version.{Version}
 use Rattle.plan_types.specs.Bytes.{same_text}
-use Rattle.plan_types.specs.Name.{is_flag_name, is_package_name}
+use Rattle.plan_types.specs.Name.{is_flag_name, is_lower, is_package_name}
 use Rattle.version_range.specs.Version.{is_version}
 use Rattle.project_file.specs.Project.{project_from}
 use Rattle.project_file.specs.Read.{IsProject}
@@ -27,10 +26,6 @@ abbrev pub are_flags : List FlagSet → Bool
 are_flags [] = false
 are_flags (set ∷ []) = not (is_range_word set)
 are_flags (set ∷ next ∷ sets) = true
-
--- a name in lower case
-abbrev pub is_lower : List ℕ → Bool
-is_lower name = same_text (map to_ascii_lowercase name) name
 
 -- a flag as it is read
 abbrev pub is_plain_flag : FlagSet → Bool

@@ -4,7 +4,7 @@ use Rattle.std.specs.List.{AllByRecursion, Contains, list_all}
 use Rattle.std.proofs.lemmas.Bool.{and_from}
 use Rattle.std.proofs.lemmas.List.Elements.{Contains-get_or, recursion_from_All}
 use Rattle.common_laws.specs.Lists.{all-at, all-from, all-where, contains-none}
-use Rattle.plan_types.specs.Name.{is_flag_name}
+use Rattle.plan_types.specs.Name.{is_flag_name, is_lower}
 use Rattle.plan_types.specs.Packages.{declared_by, entries_of, is_installed, no_package, package_at}
 use Rattle.plan_types.specs.declared.condition.Env.{Env}
 use Rattle.plan_types.specs.declared.condition.FlagSet.{FlagSet}
@@ -19,7 +19,7 @@ use Rattle.plan_types.specs.declared.index.Index.{Index}
 use Rattle.plan_types.specs.declared.index.Package.{Package}
 use Rattle.flatten.specs.Sound.{IsBody, IsSound}
 use Rattle.freeze_text.specs.Reads as plain
-use Rattle.freeze_text.specs.Reads.{IsPlain, IsPlainConstraint, is_lower, is_plain_flag, is_plain_scope}
+use Rattle.freeze_text.specs.Reads.{IsPlain, IsPlainConstraint, is_plain_flag, is_plain_scope}
 use Rattle.qualified_goals.specs.declared.variable.Qual.{Qual}
 use Rattle.qualified_goals.specs.Names.{NameTable}
 use Rattle.choice_problem.specs.declared.problem.Choice.{Choice}
@@ -27,11 +27,11 @@ use Rattle.choice_problem.specs.Trail.{choice_of}
 use Rattle.solver_index.specs.Places.{entry_at, no_entry}
 use Rattle.cabal_problem.specs.Values.{package_var}
 use Rattle.frozen_choices.specs.Frozen.{frozen}
-use Rattle.frozen_choices.specs.Plain.{AreInDomains, AreLower}
+use Rattle.frozen_choices.specs.Plain.{AreInDomains}
 use Rattle.frozen_choices.proofs.Entries.{entry-sound, package-sound}
 use Rattle.frozen_choices.proofs.Made.{IsMade, Reaches, Tells, alike, flags, frozen-made, kind, local, setup, top, version}
 
-module _ (env : Env) (index : Index) (names : NameTable) (trail : List Choice) (sound : IsSound env index) (lower : AreLower index.packages)
+module _ (env : Env) (index : Index) (names : NameTable) (trail : List Choice) (sound : IsSound env index)
     (within : AreInDomains index.packages trail) where
   abbrev packages : List Package
   packages = index.packages
@@ -47,14 +47,9 @@ module _ (env : Env) (index : Index) (names : NameTable) (trail : List Choice) (
   flag-named (Source d flats offer) source decl h = all-at (λ (f : FlagDecl). is_flag_name f.name) d.flags decl source.description.flag_names h
   flag-named (Installed unit needs) units decl h = absurd (contains-none decl h)
 
-  flag-lower : (p i : ℕ) → p < length packages → i < length (entries_of packages p) → (decl : FlagDecl)
-      → Contains (declared_by (entry_at (entries_of packages p) i).body) decl → is_lower decl.name ≡ true
-  flag-lower p i below inside decl h =
-      let test = λ (e : Entry). list_all (λ (f : FlagDecl). is_lower f.name) (declared_by e.body) in
-      let e = entry_at (entries_of packages p) i in
-      let here = all-at (λ (x : Package). list_all test x.entries) packages (package_at packages p) lower (Contains-get_or packages p no_package below) in
-      all-at (λ (f : FlagDecl). is_lower f.name) (declared_by e.body) decl
-      (all-at test (entries_of packages p) e here (Contains-get_or (entries_of packages p) i no_entry inside)) h
+  flag-lower : (body : Body) → IsBody env index body → (decl : FlagDecl) → Contains (declared_by body) decl → is_lower decl.name ≡ true
+  flag-lower (Source d flats offer) source decl h = all-at (λ (f : FlagDecl). is_lower f.name) d.flags decl source.description.flags_lower h
+  flag-lower (Installed unit needs) units decl h = absurd (contains-none decl h)
 
   made-plain : (q : Qual) (p i : ℕ) → p < length packages → i < length (entries_of packages p) → (at : Scope) → is_plain_scope at ≡ true
       → (k : Constraint) → Tells packages names trail at (package_at packages p).name (choice_of (package_var q p) i) k → IsPlainConstraint k
@@ -69,11 +64,11 @@ module _ (env : Env) (index : Index) (names : NameTable) (trail : List Choice) (
       }
   made-plain q p i below inside at scoped k (flags sets beside) =
       let e = entry_at (entries_of packages p) i in
+      let body = (entry-sound env index sound p i below inside).body in
       let all : list_all is_plain_flag sets ≡ true = all-from is_plain_flag sets (λ s h.
       let found = beside.each s h in
       subst (λ (x : FlagSet). is_plain_flag x ≡ true) found.2
-      (and_from (is_flag_name found.0.name) (is_lower found.0.name) (flag-named e.body (entry-sound env index sound p i below inside).body found.0 found.1)
-      (flag-lower p i below inside found.0 found.1))) in
+      (and_from (is_flag_name found.0.name) (is_lower found.0.name) (flag-named e.body body found.0 found.1) (flag-lower e.body body found.0 found.1))) in
       record { scope = scoped; name = (package-sound env index sound p below).name; what = plain.flags sets beside.are_flags_is all }
 
   one-plain : (k : Constraint) → IsMade packages names trail k → IsPlainConstraint k

@@ -13,7 +13,7 @@ ghost use Rattle.cabal_problem.specs.WholeDemands.{whole_problem};
 ghost use Rattle.freeze_text.specs.Reads.{IsPlainConstraint};
 ghost use Rattle.frozen_choices.specs.Barred.{BarsNone};
 ghost use Rattle.frozen_choices.specs.Frozen.{frozen};
-ghost use Rattle.frozen_choices.specs.Plain.{AreInDomains, AreLower};
+ghost use Rattle.frozen_choices.specs.Plain.{AreInDomains};
 
 /// None of the constraints of a trail that is as a map whole and valid bars a choice of it.
 pub fn frozen_bars_none()
@@ -23,9 +23,8 @@ pub fn frozen_bars_none()
         → BarsNone index.packages names (frozen index.packages names trail) trail }
 {}
 
-/// They have the forms in which constraints are read from a text, where the names of flags are in lower case. A choice of an instance
-/// that isn't there would have no version.
+/// They have the forms in which constraints are read from a text. A choice of an instance that isn't there would have no version.
 pub fn frozen_is_plain()
-    ensures { (env : Env) (index : Index) (names : NameTable) (trail : List Choice) → IsSound env index → AreLower index.packages
+    ensures { (env : Env) (index : Index) (names : NameTable) (trail : List Choice) → IsSound env index
         → AreInDomains index.packages trail → AllByRecursion IsPlainConstraint (frozen index.packages names trail) }
 {}

@@ -1,6 +1,8 @@
 -- The forms of names.
-use Rattle.std.specs.Prelude.{ℕ, Bool, false, ◌&&◌, ◌||◌, not, List, [], ◌∷◌, ◌==◌, nat_le}
+use Rattle.std.specs.Prelude.{ℕ, Bool, false, ◌&&◌, ◌||◌, not, List, [], ◌∷◌, ◌==◌, map, nat_le}
+use Rattle.std.specs.Char.{to_ascii_lowercase}
 use Rattle.std.specs.List.{list_all, list_any, slice_split}
+use Rattle.plan_types.specs.Bytes.{same_text}
 
 -- an ASCII letter
 abbrev pub is_letter : ℕ → Bool
@@ -35,3 +37,7 @@ is_component_name (b ∷ bs) = list_all is_component_byte (b ∷ bs)
 abbrev pub is_flag_name : List ℕ → Bool
 is_flag_name [] = false
 is_flag_name (b ∷ bs) = not (b == 45) && is_component_name (b ∷ bs)
+
+-- a name in lower case
+abbrev pub is_lower : List ℕ → Bool
+is_lower name = same_text (map to_ascii_lowercase name) name

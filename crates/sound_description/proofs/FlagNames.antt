@@ -1,10 +1,11 @@
 -- Flags that are declared have names of their form, and are found among those of a package.
-use Rattle.std.proofs.Common.{◌≡◌, ℕ, Bool, true, false, ◌&&◌, ◌||◌, if◌then◌else◌, List, [], ◌∷◌, refl, ap, ◌∙◌, is_lt, nat_cmp, inl, inr}
+use Rattle.std.proofs.Common.{◌≡◌, ℕ, Bool, true, false, ◌&&◌, ◌||◌, if◌then◌else◌, List, [], ◌∷◌, refl, ap, ◌∙◌, subst, is_lt, nat_cmp, inl, inr}
 use Rattle.std.specs.List.{list_all, list_any, AllByRecursion}
 use Rattle.std.specs.Cmp.Lexicographic.{slice_cmp}
 use Rattle.std.proofs.lemmas.Bool.{false≢true, and_parts, and_from, or_left, or_right, or_cases}
-use Rattle.plan_types.specs.Name.{is_flag_name}
+use Rattle.plan_types.specs.Name.{is_flag_name, is_lower}
 use Rattle.plan_types.specs.declared.description.FlagDecl.{FlagDecl}
+use Rattle.plan_types.specs.declared.range.Spec.{Spec}
 use Rattle.section_syntax.specs.declared.part.File.{File}
 use Rattle.section_syntax.specs.declared.part.Section.{Section}
 use Rattle.section_syntax.specs.declared.part.SectionKind.{SectionKind}
@@ -14,12 +15,16 @@ use Rattle.package_declarations.specs.Flags.{AreFlags, flag_of, declared_flags}
 use Rattle.package_declarations.proofs.FlagOrder.{insert, by_name, flags-are}
 use Rattle.description.specs.Faults.{has_good_name}
 use Rattle.sound_description.proofs.Faultless.{IsFaultless}
-use Rattle.common_laws.specs.Passing.{all-append, any-front, any-back}
+use Rattle.sound_description.proofs.Said.{IsReadSection, is_kept_name}
+use Rattle.common_laws.specs.Passing.{all-append, any-front, any-back, each-less}
 use Rattle.sound_description.proofs.Names.{same-back}
 use Rattle.plan_types.specs.Bytes.{same_text}
 
 abbrev is_named : FlagDecl → Bool
 is_named flag = is_flag_name flag.name
+
+abbrev is_in_lower_case : FlagDecl → Bool
+is_in_lower_case flag = is_lower flag.name
 
 module _ (p : FlagDecl → Bool) where
   all-insert : (flag : FlagDecl) (others : List FlagDecl) → p flag ≡ true → list_all p others ≡ true → list_all p (insert flag others) ≡ true
@@ -58,21 +63,35 @@ module _ (p : FlagDecl → Bool) where
     | inr e ↦ or_right (p flag) (list_any p (by_name others)) (any-sorted others e)
   ])
 
-one_named : (section : Section) (kind : SectionKind) → section.kind ≡ kind → has_good_name kind section.name ≡ true → list_all is_named (if is_flag section.kind then flag_of section ∷ [] else []) ≡ true
-one_named section (kinds.Component kind) is good = rw is refl
-one_named section kinds.Common is good = rw is refl
-one_named section kinds.Flag is good = rw is (and_from (is_flag_name section.name) true good refl)
-one_named section kinds.Setup is good = rw is refl
+  -- the flag of a section passes
+  abbrev Passes : Section → Type 0
+  Passes section = section.kind ≡ kinds.Flag → p (flag_of section) ≡ true
 
-all_named : (file : File) (sections : List Section) → AllByRecursion (IsFaultless file) sections → list_all is_named (declared_flags sections) ≡ true
-all_named file [] each = refl
-all_named file (section ∷ sections) each =
-    all-append is_named (if is_flag section.kind then flag_of section ∷ [] else []) (declared_flags sections) (one_named section section.kind refl each.0.name) (all_named file sections each.1)
+  one-passes : (section : Section) (kind : SectionKind) → section.kind ≡ kind → Passes section → list_all p (if is_flag section.kind then flag_of section ∷ [] else []) ≡ true
+  one-passes section (kinds.Component kind) is passes = rw is refl
+  one-passes section kinds.Common is passes = rw is refl
+  one-passes section kinds.Flag is passes = rw is (and_from (p (flag_of section)) true (passes is) refl)
+  one-passes section kinds.Setup is passes = rw is refl
+
+  all-pass : (sections : List Section) → AllByRecursion Passes sections → list_all p (declared_flags sections) ≡ true
+  all-pass [] each = refl
+  all-pass (section ∷ sections) each =
+      all-append p (if is_flag section.kind then flag_of section ∷ [] else []) (declared_flags sections) (one-passes section section.kind refl each.0) (all-pass sections each.1)
+
+  flags-pass : (sections : List Section) (flags : List FlagDecl) → AreFlags sections flags → AllByRecursion Passes sections → list_all p flags ≡ true
+  flags-pass sections flags are each = ap (list_all p) (flags-are sections flags are) ∙ all-sorted (declared_flags sections) (all-pass sections each)
 
 pub flag_names : (file : File) (sections : List Section) (flags : List FlagDecl) → AreFlags sections flags → AllByRecursion (IsFaultless file) sections
-    → list_all (λ flag. is_flag_name flag.name) flags ≡ true
+    → list_all is_named flags ≡ true
 flag_names file sections flags are each =
-    ap (list_all is_named) (flags-are sections flags are) ∙ all-sorted is_named (declared_flags sections) (all_named file sections each)
+    flags-pass is_named sections flags are
+    (each-less (IsFaultless file) (Passes is_named) (λ section faultless is. subst (λ kind. has_good_name kind section.name ≡ true) is faultless.name) sections each)
+
+pub flags_lower : (spec : Spec) (sections : List Section) (flags : List FlagDecl) → AreFlags sections flags → AllByRecursion (IsReadSection spec) sections
+    → list_all is_in_lower_case flags ≡ true
+flags_lower spec sections flags are each =
+    flags-pass is_in_lower_case sections flags are
+    (each-less (IsReadSection spec) (Passes is_in_lower_case) (λ section read is. subst (λ kind. is_kept_name kind section.name ≡ true) is read.name) sections each)
 
 -- ---- a flag that sections declare
 

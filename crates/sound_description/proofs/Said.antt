@@ -1,15 +1,18 @@
 -- What a file says in its heads and sections was read.
-use Rattle.std.proofs.Common.{◌≡◌, ℕ, Bool, true, false, if◌then◌else◌, List, [], ◌∷◌, Option, Some, None, refl, sym, ap, ◌∙◌, subst}
+use Rattle.std.proofs.Common.{◌≡◌, ℕ, Bool, true, false, if◌then◌else◌, List, [], ◌∷◌, map, Option, Some, None, refl, sym, ap, ◌∙◌, subst}
+use Rattle.std.specs.Char.{to_ascii_lowercase}
 use Rattle.std.specs.Option.{option_or}
 use Rattle.std.specs.List.{list_all, AllByRecursion}
 use Rattle.std.proofs.lemmas.Bool.{and_parts, and_from}
-use Rattle.plan_types.specs.Bytes.{joined_text}
-use Rattle.plan_types.specs.Name.{is_package_name}
+use Rattle.std.proofs.lemmas.Slice.Eq.{bytes_eq-Decides}
+use Rattle.std.proofs.lemmas.Str.Ascii.{lowercase-lowercase}
+use Rattle.plan_types.specs.Bytes.{joined_text, same_text}
+use Rattle.plan_types.specs.Name.{is_lower, is_package_name}
 use Rattle.plan_types.specs.declared.range.Spec.{Spec}
 use Rattle.plan_types.specs.declared.version.Version.{Version}
 use Rattle.version_range.specs.Version.{is_version, IsVersionOf}
 use Rattle.text_grammar.specs.Words.{package_name}
-use Rattle.section_syntax.specs.File.{HeadSays, headed, SectionIs, Says}
+use Rattle.section_syntax.specs.File.{HeadSays, headed, SectionIs, Says, section_name}
 use Rattle.section_syntax.specs.Items.{AreParts}
 use Rattle.cabal_lexer.specs.Tree.{Tree, end, field, section}
 use Rattle.section_syntax.specs.Words.{head_word, section_kind}
@@ -18,6 +21,7 @@ use Rattle.section_syntax.specs.declared.part.Head.TheVariants as head
 use Rattle.section_syntax.specs.declared.part.HeadField.{HeadField}
 use Rattle.section_syntax.specs.declared.part.Section.{Section}
 use Rattle.section_syntax.specs.declared.part.SectionKind.{SectionKind}
+use Rattle.section_syntax.specs.declared.part.SectionKind.TheVariants as kinds
 use Rattle.section_syntax.specs.declared.words.HeadWord.{HeadWord}
 use Rattle.section_syntax.specs.declared.words.HeadWord.TheVariants as words
 use Rattle.package_declarations.specs.Declarations.{joined, name_said, own_name}
@@ -25,16 +29,34 @@ use Rattle.text_grammar.specs.Last.{last_said}
 use Rattle.description.specs.Description.{version_said, version_of}
 use Rattle.common_laws.specs.Passing.{all-append}
 
--- a section whose parts are the items of a tree
+-- a name as it is kept of a section of this kind: that of a flag in lower case
+abbrev pub is_kept_name : SectionKind → List ℕ → Bool
+is_kept_name (kinds.Component kind) name = true
+is_kept_name kinds.Common name = true
+is_kept_name kinds.Flag name = is_lower name
+is_kept_name kinds.Setup name = true
+
+lower-twice : (text : List ℕ) → map to_ascii_lowercase (map to_ascii_lowercase text) ≡ map to_ascii_lowercase text
+lower-twice [] = refl
+lower-twice (b ∷ text) = ap (λ v. v ∷ map to_ascii_lowercase (map to_ascii_lowercase text)) (lowercase-lowercase b) ∙ ap (λ v. to_ascii_lowercase b ∷ v) (lower-twice text)
+
+kept-name : (kind : SectionKind) (args : List ℕ) → is_kept_name kind (section_name kind args) ≡ true
+kept-name (kinds.Component kind) args = refl
+kept-name kinds.Common args = refl
+kept-name kinds.Flag args = ap (λ x. same_text x (map to_ascii_lowercase args)) (lower-twice args) ∙ (bytes_eq-Decides (map to_ascii_lowercase args) (map to_ascii_lowercase args)).1 refl
+kept-name kinds.Setup args = refl
+
+-- a section whose parts are the items of a tree, and whose name is kept
 pub record IsReadSection (spec : Spec) (section : Section) : Type 0 where
   pub tree : Tree
   pub items : AreParts spec section.kind tree section.parts
+  pub name : is_kept_name section.kind section.name ≡ true
 
 one_section : (spec : Spec) (kind : Option SectionKind) (line : ℕ) (args : List ℕ) (items : Tree) (Behind : List Section → Type 0)
     → ((sections : List Section) → Behind sections → AllByRecursion (IsReadSection spec) sections) → (sections : List Section) → SectionIs spec kind line args items Behind sections → AllByRecursion (IsReadSection spec) sections
 one_section spec None line args items Behind behind sections says = behind sections says
 one_section spec (Some kind) line args items Behind behind sections says =
-    subst (AllByRecursion (IsReadSection spec)) (sym says.4) (record { tree = items; items = says.2 }, behind says.1 says.3)
+    subst (AllByRecursion (IsReadSection spec)) (sym says.4) (record { tree = items; items = says.2; name = kept-name kind args }, behind says.1 says.3)
 
 pub sections-read : (spec : Spec) (tree : Tree) (heads : List HeadField) (sections : List Section) → Says spec tree heads sections → AllByRecursion (IsReadSection spec) sections
 unfolding Says

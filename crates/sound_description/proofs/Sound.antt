@@ -32,7 +32,7 @@ use Rattle.flatten.specs.Sound.{IsDescription, asked_packages, component_deps, c
 use Rattle.sound_description.proofs.Apart.{libraries_apart}
 use Rattle.sound_description.proofs.Described.{IsOf, is_of}
 use Rattle.sound_description.proofs.Faultless.{IsFaultless}
-use Rattle.sound_description.proofs.FlagNames.{flag_found, flag_names}
+use Rattle.sound_description.proofs.FlagNames.{flag_found, flag_names, flags_lower}
 use Rattle.sound_description.proofs.FlagsRise.{flags_rise}
 use Rattle.sound_description.proofs.Kept.{components-well, is_component_well, is_guarded_well, is_stated, replaced-well}
 use Rattle.common_laws.specs.Passing.{all-append, all-filter, all-flat, all-less, all-map}
@@ -117,6 +117,7 @@ module _ (spec : Spec) (file : File) (digest name : List ℕ) (version : Version
   sound flags_once none = record {
     flags_rise = flags_rise file.sections flags flags_are flags_once;
     flag_names = flag_names file file.sections flags flags_are faultless;
+    flags_lower = flags_lower spec file.sections flags flags_are read;
     components_once = components-distinct;
     libraries_apart = libraries_apart file name named file.sections faultless;
     component_kinds = all-less (is_kept name all_components) (λ dep. is_of_components dep.kind) (λ dep e. (kept-parts dep e).0) (component_deps whole) deps-kept;

@@ -22,11 +22,11 @@ returns-clause-bars_none c = λ env project orders sound numbers valid.
     (c.frozen_bars_none.ensures env c.args.index.now project names orders trail sound numbers c.requires valid)
 
 pub returns-clause-plain : goal.returns-clause-plain
-returns-clause-plain c = λ env project orders sound lower valid.
+returns-clause-plain c = λ env project orders sound valid.
     let packages = c.args.index.now.packages in
     let names = c.args.names.now in
     let trail = c.args.trail.now in
     let same : c.project_with.result.constraints ≡ frozen packages names trail =
     ap (λ (p : Project). p.constraints) c.project_with.ensures ∙ c.in_ok-constraints.ensures
     ∙ ap (λ (t : List Choice). frozen c.as_slice-2.result.now names t) c.as_slice.ensures ∙ ap (λ (ps : List Package). frozen ps names trail) c.as_slice-2.ensures in
-    subst (AllByRecursion IsPlainConstraint) (sym same) (c.frozen_is_plain.ensures env c.args.index.now names trail sound lower (valid-in-domains env packages project names orders trail c.requires valid))
+    subst (AllByRecursion IsPlainConstraint) (sym same) (c.frozen_is_plain.ensures env c.args.index.now names trail sound (valid-in-domains env packages project names orders trail c.requires valid))
