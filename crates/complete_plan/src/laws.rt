@@ -18,12 +18,15 @@ ghost use Rattle.elaborate.specs.Whole.{LacksNone};
 ghost use Rattle.command_line.specs.declared.reading.Options.{Options};
 ghost use Rattle.outside_folder.specs.Files.{Bytes, Files};
 ghost use Rattle.choice_problem.specs.Trail.{value_in};
+ghost use Rattle.command_line.specs.declared.reading.Command.{Command};
 ghost use Rattle.plan_command.specs.Form.{form_of};
 ghost use Rattle.plan_command.specs.Meaning.{PlansValid};
+ghost use Rattle.plan_command.specs.Run.{OutputInOrder};
 ghost use Rattle.plan_search.specs.declared.search.Picking.{Picking};
 
 use cabal_problem::{listed_as_whole, problem_is_lawful};
 use elaborate::no_node_is_lacking;
+use plan_search::what_is_found_is_right;
 
 /// Each node of the plan that a whole valid assignment makes of a sound index has a line.
 pub fn every_node_has_a_line()
@@ -50,11 +53,17 @@ pub fn valid_plan_lacks_none()
     no_node_is_lacking();
 }
 
-/// Nothing is lacking of a plan that a run prints: each node of what its whole valid assignment makes has a line among those that
+/// Nothing is lacking of a plan that a run prints: each node of what its valid assignment makes has a line among those that
 /// are printed.
 pub fn printed_plan_lacks_none()
-    ensures { (picking : Picking) (options : Options) (files : Files) (text : Bytes) (plan : PlansValid picking (form_of options) options files text)
+    // for the command `plan` over a folder in memory
+    ensures meant { (picking : Picking) (options : Options) (files : Files) (text : Bytes) (plan : PlansValid picking (form_of options) options files text)
         → LacksNone (selection_from plan.task.index plan.names plan.task.settings.env (value_in plan.trail)) plan.nodes }
+
+    // for each command over any folder
+    ensures in_order { (command : Command) (printed : OutputInOrder command) → LacksNone
+        (selection_from printed.1.task.index printed.1.finding.names printed.1.task.settings.env (value_in printed.1.trail)) printed.1.nodes }
 {
+    what_is_found_is_right();
     valid_plan_lacks_none();
 }

@@ -143,6 +143,10 @@ pub record IsInOrder (picking : Picking) (minimize : Bool) (IsForm : Form → Ty
   pub planned : IsPlanned form task.index finding.names trail nodes counts output
   pub told_before : AreToldBefore nodes
 
+-- an output of a command with a plan in order
+abbrev pub OutputInOrder : Command → Type 0
+OutputInOrder command = (output : Output) × IsInOrder (picking_for command) (minimizes command) (IsFormOf command) output
+
 -- where a command prints a plan, it is one in order; the usage line is no plan
 abbrev pub BuildsInOrder : Option Command → Output → Type 0
 BuildsInOrder None output = output.status ≢ status.Planned

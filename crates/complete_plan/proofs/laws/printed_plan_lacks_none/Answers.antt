@@ -6,9 +6,10 @@ use Rattle.choice_problem.specs.declared.problem.Choice.{Choice}
 use Rattle.choice_problem.specs.General.{General}
 use Rattle.choice_problem.specs.Trail.{value_in}
 use Rattle.choice_problem.specs.Valid.{IsWholeValid}
-use Rattle.plan_search.specs.Meaning.{IsWholeProblem, MeansTrail}
+use Rattle.plan_search.specs.Meaning.{IsWholeProblem, MeansOutcome, MeansTrail}
 use Rattle.plan_search.specs.declared.search.Picking.{Picking}
 use Rattle.plan_search.specs.declared.search.Picking.TheVariants.{Least, MostMet}
+use Rattle.plan_command.specs.Run.{minimizes, picking_for}
 use Rattle.complete_plan.proofs.laws.printed_plan_lacks_none.Goals as goal
 
 -- a problem with whole conditions, and that a trail is as a map whole and valid for it
@@ -21,10 +22,25 @@ valid-for : (picking : Picking) (index : Index) (settings : Settings) (names : N
 valid-for Least index settings names trail h = record { problem = h.problem; problem_is = h.problem_is; whole_valid = h.first.whole_valid }
 valid-for MostMet index settings names trail h = record { problem = h.problem; problem_is = h.problem_is; whole_valid = h.whole_valid }
 
-pub returns : goal.returns
-returns c picking options files text plan =
+pub returns-clause-meant : goal.returns-clause-meant
+returns-clause-meant c picking options files text plan =
     let for = valid-for picking plan.task.index plan.task.settings plan.names plan.trail plan.means in
     let is = for.problem_is in
     let valid = subst (λ (g : General). IsWholeValid g (value_in plan.trail)) is.problem_is for.whole_valid in
     c.valid_plan_lacks_none.ensures plan.task.settings.env plan.task.index plan.task.settings.project plan.names is.orders (value_in plan.trail) plan.nodes
     plan.ready.sound is.numbers is.orders_are plan.ready.there valid plan.planned
+
+pub returns-clause-in_order : goal.returns-clause-in_order
+returns-clause-in_order c command printed =
+    let plan = printed.1 in
+    let picking = picking_for command in
+    let index = plan.task.index in
+    let settings = plan.task.settings in
+    let names = plan.finding.names in
+    let right = c.what_is_found_is_right.ensures picking (minimizes command) index settings plan.finding plan.ready.sound plan.ready.there plan.found in
+    let means : MeansTrail picking index settings names plan.trail = subst (MeansOutcome picking index settings names) plan.outcome_is right in
+    let for = valid-for picking index settings names plan.trail means in
+    let is = for.problem_is in
+    let valid = subst (λ (g : General). IsWholeValid g (value_in plan.trail)) is.problem_is for.whole_valid in
+    c.valid_plan_lacks_none.ensures settings.env index settings.project names is.orders (value_in plan.trail) plan.nodes
+    plan.ready.sound is.numbers is.orders_are plan.ready.there valid plan.nodes_are
