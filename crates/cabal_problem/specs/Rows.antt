@@ -1,13 +1,14 @@
 -- The demands of a choice by what its instance asks for in numbers.
-use Rattle.std.specs.Prelude.{ℕ, Bool, ◌&&◌, List, [], ◌∷◌, ◌++◌, map, if◌then◌else◌}
+use Rattle.std.specs.Prelude.{ℕ, Bool, true, ◌&&◌, List, [], ◌∷◌, ◌++◌, flat_map, map, if◌then◌else◌}
+use Rattle.std.specs.List.{list_all}
 use Rattle.plan_types.specs.declared.dependency.DepKind.{DepKind}
 use Rattle.plan_types.specs.declared.dependency.DepKind.TheVariants as kind
 use Rattle.plan_types.specs.declared.description.Description.{Description}
 use Rattle.plan_types.specs.declared.description.FlagDecl.{FlagDecl}
-use Rattle.plan_types.specs.declared.index.FlatDep.{FlatDep}
-use Rattle.plan_types.specs.declared.index.Package.{Package}
+use Rattle.plan_types.specs.declared.index.Package.{Package as ThePackage}
 use Rattle.plan_types.specs.declared.project.Project.{Project}
-use Rattle.qualified_goals.specs.declared.variable.Part.TheVariants.{Flag, Tests, Benches}
+use Rattle.qualified_goals.specs.declared.variable.Part.{Part}
+use Rattle.qualified_goals.specs.declared.variable.Part.TheVariants.{Package, Flag, Tests, Benches}
 use Rattle.qualified_goals.specs.Names.{NameTable}
 use Rattle.choice_problem.specs.declared.problem.Choice.{Choice}
 use Rattle.choice_problem.specs.declared.problem.Demand.{Demand}
@@ -18,7 +19,7 @@ use Rattle.solver_index.specs.declared.dependencies.Setting.{Setting}
 use Rattle.solver_index.specs.declared.dependencies.Target.{Target}
 use Rattle.cabal_problem.specs.Variables.{has_kind, is_benchmark, is_suite}
 use Rattle.cabal_problem.specs.Values.{package_var}
-use Rattle.cabal_problem.specs.ListedDemands.{can_count, flag_values, has_stanzas, part_beside, qual_for, setup_if, stanza_if}
+use Rattle.cabal_problem.specs.ListedDemands.{flag_values, has_stanzas, part_beside, qual_for, setup_if, stanza_if}
 
 -- what each item makes with the row of its place
 abbrev pub in_pairs : {X Y Z : Type 0} → (X → Y → List Z) → List X → List Y → List Z
@@ -42,10 +43,21 @@ target_demand owner when kind target = record {
   allowed = target.allowed;
 }
 
+-- whether a part has a variable: a stanza has one only where the package's stanzas have
+abbrev pub has_variable : Bool → Part → Bool
+has_variable stanzas Package = true
+has_variable stanzas (Flag f) = true
+has_variable stanzas Tests = stanzas
+has_variable stanzas Benches = stanzas
+
+-- whether all these parts have variables
+abbrev pub can_be_set : Bool → List Setting → Bool
+can_be_set stanzas settings = list_all (λ setting. has_variable stanzas setting.part) settings
+
 -- the demand of a dependency that can count
-abbrev pub dep_row : Bool → Choice → FlatDep → ConditionalDep → List Demand
-dep_row stanzas owner flat dep =
-    if can_count stanzas flat then target_demand owner (owner ∷ map (choice_at owner) dep.when) flat.dep.kind dep.target ∷ [] else []
+abbrev pub dep_row : Bool → Choice → ConditionalDep → List Demand
+dep_row stanzas owner dep =
+    if can_be_set stanzas dep.when then target_demand owner (owner ∷ map (choice_at owner) dep.when) dep.kind dep.target ∷ [] else []
 
 -- the demand of a setup dependency
 abbrev pub setup_demand_to : Choice → Target → Demand
@@ -56,10 +68,10 @@ abbrev pub need_demand : Choice → Need → Demand
 need_demand owner need = record { when = owner ∷ []; target = package_var owner.var.qual need.«package»; allowed = need.allowed }
 
 -- the demands of a source instance
-abbrev pub source_rows : List Package → Project → NameTable → Choice → Dependencies → Description → List FlatDep → List Demand
-source_rows packages project names owner dependencies d flats =
+abbrev pub source_rows : List ThePackage → Project → NameTable → Choice → Dependencies → Description → List Demand
+source_rows packages project names owner dependencies d =
     in_pairs (flag_row project names owner) d.flags dependencies.flags
     ++ stanza_if (has_stanzas packages owner.var && has_kind is_suite d) owner Tests
     ++ stanza_if (has_stanzas packages owner.var && has_kind is_benchmark d) owner Benches
-    ++ in_pairs (dep_row (has_stanzas packages owner.var) owner) flats dependencies.deps
+    ++ flat_map (dep_row (has_stanzas packages owner.var) owner) dependencies.deps
     ++ setup_if d.custom (map (setup_demand_to owner) dependencies.setup)

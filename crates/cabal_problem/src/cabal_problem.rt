@@ -20,7 +20,7 @@ use crate::variables::{domain_of, is_known};
 use choice_problem::{Choice, Choices, Demand, Part, Qual, Trail, Var};
 use constraint_set::Constraints;
 use plan_types::{
-    Body, Description, Entry, FlagDecl, FlatDep, Index, Instance, List, NoMemory, Package, Settings,
+    Body, Description, Entry, FlagDecl, Index, Instance, List, NoMemory, Package, Settings,
 };
 use qualified_goals::Names;
 use solver_index::{Dependencies, Tables};
@@ -197,13 +197,11 @@ impl<'a> CabalProblem<'a> {
         alloc: Global,
         owner: Choice,
         d: &Description,
-        flats: &[FlatDep],
         dependencies: &Dependencies,
     ) -> Result<List<Demand>, NoMemory>
-        requires flags { length dependencies.now.flags ≡ length d.now.flags }
-        requires deps { length dependencies.now.deps ≡ length flats.now }
+        requires { length dependencies.now.flags ≡ length d.now.flags }
         ensures { IfOk result (λ found. found ≡ source_rows self.now.index.now.packages self.now.settings.now.project
-            self.now.names owner dependencies.now d.now flats.now) }
+            self.now.names owner dependencies.now d.now) }
     {
         let packages = self.index.packages.as_slice();
         let mut found = List::new(alloc);
@@ -220,7 +218,6 @@ impl<'a> CabalProblem<'a> {
             &mut found,
             packages,
             owner,
-            flats,
             dependencies.deps.as_slice(),
         )?;
         push_custom(alloc, &mut found, owner, d, dependencies.setup.as_slice())?;
@@ -240,11 +237,9 @@ impl<'a> CabalProblem<'a> {
             self.now.names owner entry.now) }
     {
         match &entry.body {
-            Body::Source {
-                description,
-                flat,
-                ..
-            } => self.source_demands(alloc, owner, description, flat.as_slice(), dependencies),
+            Body::Source { description, .. } => {
+                self.source_demands(alloc, owner, description, dependencies)
+            }
             Body::Installed { .. } => unit_demands(alloc, owner, dependencies.needs.as_slice()),
         }
     }

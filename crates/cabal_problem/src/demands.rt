@@ -1,14 +1,14 @@
 // The demands of a choice, from its rows.
-ghost use Rattle.std.specs.Prelude.{◌≡◌, ◌++◌, ◌∷◌, ◌&&◌, [], IfOk, OnOk, length, map, slice_index_or};
+ghost use Rattle.std.specs.Prelude.{◌≡◌, ◌++◌, ◌∷◌, ◌&&◌, [], IfOk, OnOk, flat_map, map};
 ghost use Rattle.qualified_goals.specs.declared.variable.Part.TheVariants.{Tests, Benches};
 ghost use Rattle.cabal_problem.specs.Variables.{has_kind, is_benchmark, is_suite};
-ghost use Rattle.cabal_problem.specs.ListedDemands.{can_count, has_part, has_stanzas, part_beside, qual_for, setup_if, stanza_demand, stanza_if};
-ghost use Rattle.cabal_problem.specs.Rows.{choice_at, dep_row, in_pairs, need_demand, setup_demand_to, target_demand};
+ghost use Rattle.cabal_problem.specs.ListedDemands.{has_stanzas, part_beside, qual_for, setup_if, stanza_demand, stanza_if};
+ghost use Rattle.cabal_problem.specs.Rows.{can_be_set, choice_at, dep_row, has_variable, need_demand, setup_demand_to, target_demand};
 
 use crate::values::package_var;
 use crate::variables::{has_benchmark, has_suite, is_top};
 use choice_problem::{Choice, Demand};
-use plan_types::{DepKind, Description, FlatDep, List, NoMemory, Package, PartName};
+use plan_types::{DepKind, Description, List, NoMemory, Package};
 use qualified_goals::{Part, Qual, Var};
 use solver_index::{ConditionalDep, Need, Setting, Target, is_local};
 use std::alloc::Global;
@@ -100,15 +100,13 @@ pub(crate) fn push_deps(
     found: &mut List<Demand>,
     packages: &[Package],
     owner: Choice,
-    flats: &[FlatDep],
     deps: &[ConditionalDep],
 ) -> Result<(), NoMemory>
-    requires { length deps.now ≡ length flats.now }
-    ensures { OnOk result (found.new ≡ found.old ++ in_pairs (dep_row (has_stanzas packages.now owner.var) owner) flats.now deps.now) }
+    ensures { OnOk result (found.new ≡ found.old ++ flat_map (dep_row (has_stanzas packages.now owner.var) owner) deps.now) }
 {
     let stanzas = has_stanzas(packages, owner.var);
-    for (place, flat) in flats.iter().enumerate() {
-        push_dep(alloc, found, owner, stanzas, flat, &deps[place])?;
+    for dep in deps {
+        push_dep(alloc, found, owner, stanzas, dep)?;
     }
     Ok(())
 }
@@ -118,34 +116,31 @@ fn push_dep(
     found: &mut List<Demand>,
     owner: Choice,
     stanzas: bool,
-    flat: &FlatDep,
     dep: &ConditionalDep,
 ) -> Result<(), NoMemory>
-    ensures { OnOk result (found.new ≡ found.old ++ dep_row stanzas owner flat.now dep.now) }
+    ensures { OnOk result (found.new ≡ found.old ++ dep_row stanzas owner dep.now) }
 {
-    if can_count(stanzas, flat) {
+    if can_be_set(stanzas, dep.when.as_slice()) {
         let when = when_of(alloc, owner, dep.when.as_slice())?;
-        found.push(target_demand(alloc, owner, when, flat.dep.get().kind, &dep.target)?)?;
+        found.push(target_demand(alloc, owner, when, dep.kind, &dep.target)?)?;
     }
     Ok(())
 }
 
-fn can_count(stanzas: bool, flat: &FlatDep) -> bool
-    ensures { result ≡ can_count stanzas flat.now }
+fn can_be_set(stanzas: bool, settings: &[Setting]) -> bool
+    ensures { result ≡ can_be_set stanzas settings.now }
 {
-    flat.when
-        .as_slice()
+    settings
         .iter()
-        .all(|literal| has_part(stanzas, &literal.part))
+        .all(|setting| has_variable(stanzas, setting.part))
 }
 
-fn has_part(stanzas: bool, part: &PartName) -> bool
-    ensures { result ≡ has_part stanzas part.now }
+fn has_variable(stanzas: bool, part: Part) -> bool
+    ensures { result ≡ has_variable stanzas part }
 {
     match part {
-        PartName::Flag(_) => true,
-        PartName::Tests => stanzas,
-        PartName::Benches => stanzas,
+        Part::Package | Part::Flag(_) => true,
+        Part::Tests | Part::Benches => stanzas,
     }
 }
 

@@ -53,6 +53,7 @@ dep_target packages names allows kind dep = record {
 abbrev pub conditional_dep : List Package → NameTable → (Dep → Version → Bool) → FlatDep → ConditionalDep
 conditional_dep packages names allows flat = record {
   when = map (setting_of names) flat.when;
+  kind = flat.dep.kind;
   target = dep_target packages names allows flat.dep.kind flat.dep;
 }
 

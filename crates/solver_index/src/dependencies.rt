@@ -1,6 +1,6 @@
 // What an instance depends on, by numbers and places.
 use crate::place_runs::PlaceRuns;
-use plan_types::List;
+use plan_types::{DepKind, List};
 use qualified_goals::Part;
 
 /// A flag or a stanza, and its value.
@@ -21,6 +21,7 @@ pub struct Target {
 #[derive(Debug, Drop)]
 pub struct ConditionalDep {
     pub when: List<Setting>,
+    pub kind: DepKind,
     pub target: Target,
 }
 

@@ -122,7 +122,11 @@ impl<'a> Sources<'a> {
         let when = settings(alloc, self.names, flat.when.as_slice())?;
         let dep = flat.dep.get();
         let target = self.target(alloc, owner, dep.kind, dep)?;
-        Ok(ConditionalDep { when, target })
+        Ok(ConditionalDep {
+            when,
+            kind: dep.kind,
+            target,
+        })
     }
 
     fn conditional_deps(

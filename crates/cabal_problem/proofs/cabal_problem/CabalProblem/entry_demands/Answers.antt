@@ -1,5 +1,4 @@
 use Rattle.std.proofs.Common.{◌≡◌, IfOk, List, map, ap, ◌∙◌, sym, subst}
-use Rattle.plan_types.specs.declared.index.FlatDep.{FlatDep}
 use Rattle.choice_problem.specs.declared.problem.Demand.{Demand}
 use Rattle.solver_index.specs.declared.dependencies.Dependencies.{Dependencies}
 use Rattle.solver_index.specs.declared.dependencies.Need.{Need}
@@ -21,8 +20,7 @@ returns-in-Source c =
     let flats = c.in-Source.flat in
     let dependencies = c.requires ∙ ap (body_dependencies packages names allows) c.in-Source.is in
     let same =
-    ap (λ (fs : List FlatDep). source_rows packages project names owner c.args.dependencies.now d fs) c.as_slice.ensures
-    ∙ ap (λ (a : Dependencies). source_rows packages project names owner a d flats) dependencies
+    ap (λ (a : Dependencies). source_rows packages project names owner a d) dependencies
     ∙ source-is packages project names owner allows d flats c.in-Source.exposed
     ∙ sym (ap (body_demands packages project names owner allows) c.in-Source.is) in
     subst (λ (ds : List Demand). IfOk c.source_demands.result (λ found. found ≡ ds)) same c.source_demands.ensures
