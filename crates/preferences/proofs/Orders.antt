@@ -49,6 +49,6 @@ candidate-total p =
 nat-ties : (a b : ℕ) → nat_cmp a b ≡ Equal → a ≡ b
 nat-ties a b h = by_ranked (a < b) (a ≡ b) (b < a) (nat_cmp a b) (ranked a b (nat_cmp a b) refl) (λ e k. absurd (cc (e, h))) (λ e k. k) (λ e k. absurd (cc (e, h)))
 
--- places that tie are one
+-- two places that compare as equal are the same
 pub place-ties : (p : Policy) (preferred : List Range) (instances : List Instance) (a b : ℕ) → place_cmp p preferred instances a b ≡ Equal → a ≡ b
 place-ties p preferred instances a b h = nat-ties a b (second-equal (instance_cmp p preferred (instance_at instances a) (instance_at instances b)) (nat_cmp a b) h)

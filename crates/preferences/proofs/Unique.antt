@@ -1,4 +1,4 @@
--- A sorted list of numbers is the only one of its numbers, where none but equal numbers tie.
+-- A sorted list of numbers is unique among its permutations, where only equal numbers compare as equal.
 use Rattle.std.proofs.Common.{◌≡◌, ℕ, suc, ◌+◌, ◌<◌, Bool, true, false, List, [], ◌∷◌, length, nat_eq, get_or, refl, sym, ap, ◌∙◌, subst, inl, inr, arith}
 use Rattle.std.specs.List.{sum_by}
 use Rattle.std.specs.List.Sorted.{IsSorted, IsPermutation}
@@ -17,7 +17,7 @@ bit false = 0
 abbrev one : ℕ → ℕ → ℕ
 one v n = bit (nat_eq n v)
 
--- how often v stands in a list
+-- how often v occurs in a list
 abbrev count : ℕ → List ℕ → ℕ
 count v xs = sum_by (one v) xs
 
@@ -31,7 +31,7 @@ one-other v x ne =
       | false ↦ λ e. refl
     ] refl
 
--- a number that is counted stands in the list
+-- a number with a count above 0 occurs in the list
 found : (v : ℕ) (xs : List ℕ) → 0 < count v xs → (k : ℕ) × (k < length xs) × (get_or xs k v ≡ v)
 found v [] h = absurd (omega (arith, h))
 found v (x ∷ xs) h =

@@ -1,4 +1,4 @@
--- What is compared in place of an instance.
+-- Candidates: an instance with what its order compares.
 use Rattle.std.specs.Prelude.{◌≡◌, List}
 use Rattle.std.specs.declared.cmp.Ordering.{Ordering}
 use Rattle.std.specs.Ordering.{nat_cmp, ordering_then}

@@ -23,7 +23,7 @@ is_installed Local = false
 is_installed Source = false
 is_installed Installed = true
 
--- what is so comes before what is not
+-- true before false
 abbrev pub true_first : Bool → Bool → Ordering
 true_first a b = bool_cmp b a
 
@@ -57,7 +57,7 @@ by_unit a b = slice_cmp nat_cmp a.unit b.unit
 abbrev pub instance_cmp : Policy → List Range → Instance → Instance → Ordering
 instance_cmp p preferred a b = ordering_then (ordering_then (preferred_first preferred a b) (by_policy p a b)) (by_unit a b)
 
--- what a place beyond the last is read as
+-- the instance that is read at a place beyond the last
 abbrev pub no_instance : Instance
 no_instance = record { name = []; version = record { parts = [] }; origin = Source; unit = [] }
 
@@ -65,11 +65,11 @@ no_instance = record { name = []; version = record { parts = [] }; origin = Sour
 abbrev pub instance_at : List Instance → ℕ → Instance
 instance_at instances place = slice_index_or instances place no_instance
 
--- equal instances go by their places
+-- the order of two places: by their instances, equal ones by place
 abbrev pub place_cmp : Policy → List Range → List Instance → ℕ → ℕ → Ordering
 place_cmp p preferred instances a b = ordering_then (instance_cmp p preferred (instance_at instances a) (instance_at instances b)) (nat_cmp a b)
 
--- each place once, in order
+-- all places of the instances, each once, sorted
 pub record IsOrder (p : Policy) (preferred : List Range) (instances : List Instance) (places : List ℕ) : Type 0 where
   pub each : IsPermutation (range_with_len 0 (length instances)) places
   pub sorted : IsSorted (place_cmp p preferred instances) places

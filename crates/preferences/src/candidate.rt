@@ -1,4 +1,4 @@
-// Instances with what orders them.
+// Instances with what their order compares.
 ghost use Rattle.std.specs.Prelude.{◌≡◌, length, IfOk, map, All};
 ghost use Rattle.std.specs.List.{range_with_len};
 ghost use Rattle.preferences.specs.Places.{is_preferred, is_installed, by_policy, installed_first};
@@ -9,7 +9,7 @@ use plan_types::{Instance, NoMemory, Origin, Range};
 use std::alloc::Global;
 use std::cmp::Ordering;
 
-/// An instance, and what it takes to compare it.
+/// An instance with what the order compares: whether it lies in the preferred ranges, and its place.
 #[derive(Drop)]
 pub(crate) struct Candidate<'a> {
     pub preferred: bool,

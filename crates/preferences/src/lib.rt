@@ -1,5 +1,5 @@
-//! Preferences between the instances of a package. In go the instances, the preferred ranges of versions and a
-//! policy; out come the places of the instances, in the order in which they are tried.
+//! The order in which the instances of a package are tried. In go the instances, the preferred ranges of versions and
+//! a policy. Out come the places of the instances, each once, sorted by `instance_cmp`; equal instances go by place.
 #![tactic(auto)]
 
 mod candidate;
