@@ -1,4 +1,4 @@
--- The kept rules and settings answer as the constraints do.
+-- The kept rules and settings bar and require what the constraints do.
 use Rattle.std.proofs.Common.{◌≡◌, ℕ, Bool, true, false, ◌&&◌, ◌||◌, List, [], ◌∷◌, Option, Some, None, refl, sym, ap, ◌∙◌, if◌then◌else◌}
 use Rattle.std.specs.List.{list_any, flat_map}
 use Rattle.std.proofs.lemmas.List.Folds.{list_any-append}
@@ -32,7 +32,7 @@ setup-not-tool : (o : Option ℕ) (p t : ℕ) → numbered_holds (setup_of o) (E
 setup-not-tool None p t = refl
 setup-not-tool (Some n) p t = refl
 
--- a scope by its number holds where the scope does
+-- the scope with a number covers what the scope does
 numbered-holds : (names : NameTable) (scope : Scope) (qual : Qual) → numbered_holds (numbered names scope) qual ≡ holds names scope qual
 numbered-holds names AtTop Top = refl
 numbered-holds names AtTop (Setup p) = refl
@@ -93,7 +93,7 @@ settings-ask names v on (c ∷ cs) =
     ∙ ap (λ b. b || list_any (is_set v.qual on) (flat_map (settings_on names v.«package» v.part) cs)) (one-setting names v on c)
     ∙ ap (λ b. (is_met names c v && asks names c.what v.part on) || b) (settings-ask names v on cs)
 
--- in whatever scope
+-- whatever the scope
 
 named-values : (scope : NumberedScope) (on : Bool) (values : List Bool) → list_any (λ (s : Setting). is_value s.on on) (settings_as scope values) ≡ list_any (λ value. is_value value on) values
 named-values scope on [] = refl

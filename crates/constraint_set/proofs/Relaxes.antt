@@ -1,4 +1,4 @@
--- Cuts that are relaxed at one end and then at the other are a range relaxed so.
+-- Cuts relaxed at one end and then at the other are those of the range relaxed at both.
 use Rattle.std.proofs.Common.{◌≡◌, Bool, false, List, inl, inr, sym, ◌∙◌, subst}
 use Rattle.std.specs.Prelude.{IsTrue}
 use Rattle.std.proofs.lemmas.Bool.{false≢true}

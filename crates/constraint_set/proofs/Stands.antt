@@ -1,4 +1,4 @@
--- What is kept answers as the project does.
+-- The kept constraints bar and relax what the project does.
 use Rattle.std.proofs.Common.{◌≡◌, Bool, not, ◌&&◌, ◌||◌, nat_eq, ap, ◌∙◌}
 use Rattle.std.specs.List.{list_any}
 use Rattle.plan_types.specs.declared.index.Instance.{Instance}

@@ -19,7 +19,7 @@ use Rattle.qualified_goals.specs.declared.variable.Part.TheVariants.{Package, Fl
 use Rattle.qualified_goals.specs.declared.variable.Var.{Var}
 use Rattle.qualified_goals.specs.Names.{Name, NameTable, number_of, is_listed}
 
--- whether a number is there and is this one
+-- whether the number exists and is this one
 abbrev pub is_number : Option ℕ → ℕ → Bool
 is_number None n = false
 is_number (Some m) n = nat_eq m n
@@ -28,8 +28,8 @@ is_number (Some m) n = nat_eq m n
 abbrev pub is_on : NameTable → Constraint → ℕ → Bool
 is_on names c p = is_number (number_of names.packages c.«package») p
 
--- Whether a scope holds under a qualifier: nothing at top level, `any.` everywhere, `setup.` in each setup, `p:setup.` in
--- the setup of p.
+-- Whether a scope covers a qualifier: no prefix the top level, `any.` everything, `setup.` each setup, `p:setup.` the
+-- setup of p.
 abbrev pub holds : NameTable → Scope → Qual → Bool
 holds names AtTop Top = true
 holds names AtTop (Setup p) = false
@@ -44,7 +44,7 @@ holds names (InSetupOf owner) Top = false
 holds names (InSetupOf owner) (Setup p) = is_number (number_of names.packages owner) p
 holds names (InSetupOf owner) (Exe p t) = false
 
--- whether a constraint is on the package of a variable, and in scope there
+-- whether a constraint is on the package of a variable, and its scope covers the variable's qualifier
 abbrev pub is_met : NameTable → Constraint → Var → Bool
 is_met names c v = is_on names c v.«package» && holds names c.scope v.qual
 
@@ -54,7 +54,7 @@ is_unit Local = false
 is_unit OfSource = false
 is_unit OfUnit = true
 
--- whether what is asked of a package excludes an instance
+-- whether a constraint excludes an instance of its package
 abbrev pub excludes : What → Instance → Bool
 excludes (Range range) i = not (members range i.version)
 excludes Installed i = not (is_unit i.origin)
@@ -63,32 +63,32 @@ excludes (Flags sets) i = false
 excludes Tests i = false
 excludes Benches i = false
 
--- the values that are asked of a flag
+-- the values that settings of flags require of one flag
 abbrev pub flag_values : NameTable → List FlagSet → ℕ → List Bool
 flag_values names sets f = flat_map (λ s. if is_number (number_of names.flags s.name) f then s.on ∷ [] else []) sets
 
--- the values that settings of flags ask of a part
+-- the values that settings of flags require of a part
 abbrev pub set_values : NameTable → List FlagSet → Part → List Bool
 set_values names sets Package = []
 set_values names sets (Flag f) = flag_values names sets f
 set_values names sets TestPart = []
 set_values names sets BenchPart = []
 
--- the value that `test` asks of a part
+-- the value that `test` requires of a part
 abbrev pub test_values : Part → List Bool
 test_values Package = []
 test_values (Flag f) = []
 test_values TestPart = true ∷ []
 test_values BenchPart = []
 
--- the value that `bench` asks of a part
+-- the value that `bench` requires of a part
 abbrev pub bench_values : Part → List Bool
 bench_values Package = []
 bench_values (Flag f) = []
 bench_values TestPart = []
 bench_values BenchPart = true ∷ []
 
--- the values that a constraint asks of a part
+-- the values that a constraint requires of a part
 abbrev pub values_of : NameTable → What → Part → List Bool
 values_of names (Range range) part = []
 values_of names Installed part = []
@@ -97,16 +97,16 @@ values_of names (Flags sets) part = set_values names sets part
 values_of names Tests part = test_values part
 values_of names Benches part = bench_values part
 
--- whether two values are one
+-- whether two values are equal
 abbrev pub is_value : Bool → Bool → Bool
 is_value true on = on
 is_value false on = not on
 
--- whether a part is asked to have this value
+-- whether a constraint requires this value of a part
 abbrev pub asks : NameTable → What → Part → Bool → Bool
 asks names what part on = list_any (λ value. is_value value on) (values_of names what part)
 
--- whether the project asks for a stanza of every package
+-- whether the project requires this stanza of every package
 abbrev pub wants : Bool → Bool → Part → Bool
 wants tests benchmarks Package = false
 wants tests benchmarks (Flag f) = false
@@ -121,14 +121,14 @@ boot_libraries = codes "base" ∷ codes "ghc-bignum" ∷ codes "ghc-prim" ∷ co
 abbrev pub is_boot : Project → Instance → Bool
 is_boot project i = is_listed boot_libraries i.name && not (is_unit i.origin) && not project.boot_installs
 
--- an instance is barred where a constraint in scope excludes it, and where it is a boot library
+-- an instance is barred if a constraint in scope excludes it, or if it is a boot library that may not be built
 abbrev pub bars : Project → NameTable → Var → Instance → Bool
 bars project names v i = list_any (λ c. is_met names c v && excludes c.what i) project.constraints || is_boot project i
 
--- the value of a part is barred where the other one is asked for in scope
+-- the value of a part is barred if a constraint in scope or the project requires the other value
 abbrev pub bars_part : Project → NameTable → Var → Bool → Bool
 bars_part project names v on = list_any (λ c. is_met names c v && asks names c.what v.part (not on)) project.constraints || (wants project.tests project.benchmarks v.part && not on)
 
--- whether a constraint on the package, in whatever scope, asks for the value
+-- whether a constraint on the package, whatever its scope, requires the value
 abbrev pub names_flag : Project → NameTable → Var → Bool → Bool
 names_flag project names v on = list_any (λ c. is_on names c v.«package» && asks names c.what v.part on) project.constraints

@@ -1,4 +1,4 @@
--- Small examples of what is barred and relaxed.
+-- Small examples of what is barred and what is relaxed.
 use Rattle.std.specs.Prelude.{◌≡◌, refl, true, false, List, [], ◌∷◌, codes, None, Some}
 use Rattle.plan_types.specs.declared.constraint.Constraint.{Constraint}
 use Rattle.plan_types.specs.declared.constraint.Scope.TheVariants.{Top as AtTop, Setup as InSetups, SetupOf as InSetupOf}
@@ -44,7 +44,7 @@ flag_of_a qual = record { qual = qual; «package» = 2; part = Flag 0 }
 abbrev a_1 : Instance
 a_1 = record { name = codes "a"; version = record { parts = 1 ∷ [] }; origin = Source; unit = [] }
 
--- `a installed` holds at top level alone
+-- `a installed` covers the top level alone
 abbrev units_alone : Constraint
 units_alone = record { scope = AtTop; «package» = codes "a"; what = OfUnit }
 
@@ -54,14 +54,14 @@ at-top = refl
 in-setup : bars (with_constraints (units_alone ∷ [])) names (of_a (Setup 1)) a_1 ≡ false
 in-setup = refl
 
--- `main:setup.` holds in the setup of main
+-- `main:setup.` covers the setup of main
 owner : holds names (InSetupOf (codes "main")) (Setup 1) ≡ true
 owner = refl
 
 other-owner : holds names (InSetupOf (codes "main")) (Setup 2) ≡ false
 other-owner = refl
 
--- `setup.a +f` bars off in a setup, and names on everywhere
+-- `setup.a +f` bars off in a setup, and names on under each qualifier
 abbrev set_in_setups : Constraint
 set_in_setups = record { scope = InSetups; «package» = codes "a"; what = Flags (record { name = codes "f"; on = true } ∷ []) }
 
@@ -77,7 +77,7 @@ off-at-top = refl
 named-at-top : names_flag (with_constraints (set_in_setups ∷ [])) names (flag_of_a Top) true ≡ true
 named-at-top = refl
 
--- the project asks for tests, and not for benchmarks
+-- the project requires tests, and no benchmarks
 no-tests : bars_part (with_constraints []) names (record { qual = Top; «package» = 1; part = TestPart }) false ≡ true
 no-tests = refl
 
@@ -91,7 +91,7 @@ boot-local = refl
 boot-installed : bars (with_constraints []) names (record { qual = Top; «package» = 0; part = Package }) (record { name = codes "base"; version = record { parts = 4 ∷ [] }; origin = Installed; unit = codes "base-4" }) ≡ false
 boot-installed = refl
 
--- `a-1:b` is about the version 1 of a, and not about 1.0
+-- `a-1:b` means version 1 of a, and not 1.0
 released : relaxes (record { owner = Release (codes "a") (record { parts = 1 ∷ [] }); dep = Some (codes "b") } ∷ []) a_1 (codes "b") ≡ true
 released = refl
 

@@ -1,4 +1,4 @@
--- Scopes by numbers.
+-- Scopes with their packages as numbers.
 use Rattle.std.specs.Prelude.{ℕ, Bool, true, false, Option, Some, None, nat_eq}
 use Rattle.plan_types.specs.declared.constraint.Scope.{Scope}
 use Rattle.plan_types.specs.declared.constraint.Scope.TheVariants.{Top as AtTop, Any, Setup as InSetups, SetupOf as InSetupOf}
@@ -8,19 +8,19 @@ use Rattle.qualified_goals.specs.Names.{NameTable, number_of}
 use Rattle.constraint_set.specs.declared.numbered_scope.NumberedScope.{NumberedScope}
 use Rattle.constraint_set.specs.declared.numbered_scope.NumberedScope.TheVariants.{Top, Everywhere, Setups, SetupOf, Nowhere}
 
--- the setup of the package with a number
+-- the setup of the package with this number, if there is one
 abbrev pub setup_of : Option ℕ → NumberedScope
 setup_of None = Nowhere
 setup_of (Some p) = SetupOf p
 
--- a scope with the number of its package
+-- a scope with its package as a number
 abbrev pub numbered : NameTable → Scope → NumberedScope
 numbered names AtTop = Top
 numbered names Any = Everywhere
 numbered names InSetups = Setups
 numbered names (InSetupOf owner) = setup_of (number_of names.packages owner)
 
--- whether it holds under a qualifier
+-- whether the scope covers a qualifier
 abbrev pub numbered_holds : NumberedScope → Qual → Bool
 numbered_holds Top TopLevel = true
 numbered_holds Top (Setup p) = false

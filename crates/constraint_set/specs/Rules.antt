@@ -1,4 +1,4 @@
--- What is kept of constraints: by packages and parts what is asked of them, in the order of the constraints, and where.
+-- The kept form of constraints: what they require by package and part, in the order of the constraints, with scopes.
 use Rattle.std.specs.Prelude.{◌≡◌, ℕ, Bool, true, false, not, ◌&&◌, List, [], ◌∷◌, ◌++◌, map, flat_map, nat_eq, if◌then◌else◌}
 use Rattle.indexmap.specs.IndexMap.{IndexMap}
 use Rattle.plan_types.specs.Members.{members}
@@ -21,7 +21,7 @@ use Rattle.constraint_set.specs.declared.rules.Setting.{Setting}
 use Rattle.constraint_set.specs.declared.rules.PartOf.{PartOf}
 use Rattle.constraint_set.specs.declared.rules.Rules.{Rules}
 
--- whether what is asked of a package excludes an instance
+-- whether a requirement excludes an instance
 abbrev pub excluded : Wanted → Instance → Bool
 excluded (Range range) i = not (members range i.version)
 excluded Installed i = not (is_unit i.origin)
@@ -31,11 +31,11 @@ excluded Source i = is_unit i.origin
 abbrev pub rule_bars : Qual → Instance → Rule → Bool
 rule_bars qual i rule = numbered_holds rule.scope qual && excluded rule.wanted i
 
--- whether a setting asks for a value under a qualifier
+-- whether a setting requires a value under a qualifier
 abbrev pub is_set : Qual → Bool → Setting → Bool
 is_set qual on setting = numbered_holds setting.scope qual && is_value setting.on on
 
--- whether two parts are one
+-- whether two parts are equal
 abbrev pub is_part : Part → Part → Bool
 is_part Package Package = true
 is_part Package (Flag g) = false
@@ -54,15 +54,15 @@ is_part BenchPart (Flag g) = false
 is_part BenchPart TestPart = false
 is_part BenchPart BenchPart = true
 
--- whether two parts of packages are one
+-- whether two parts of packages are equal
 abbrev pub is_part_of : PartOf → PartOf → Bool
 is_part_of a b = nat_eq a.«package» b.«package» && is_part a.part b.part
 
--- the settings that stand beside a part of a package
+-- the settings of a part of a package
 abbrev pub settings_at : {S : Type 0} → IndexMap PartOf (List Setting) S → ℕ → Part → List Setting
 settings_at parts p part = items_at is_part_of parts (record { «package» = p; part = part })
 
--- what a constraint asks of its package
+-- what a constraint requires of its package
 abbrev pub wanted_of : What → List Wanted
 wanted_of (OfRange range) = Range range ∷ []
 wanted_of OfUnit = Installed ∷ []
@@ -71,11 +71,11 @@ wanted_of (Flags sets) = []
 wanted_of Tests = []
 wanted_of Benches = []
 
--- rules in a scope
+-- these requirements as rules of one scope
 abbrev pub rules_as : NumberedScope → List Wanted → List Rule
 rules_as scope wanted = map (λ w. record { scope = scope; wanted = w }) wanted
 
--- settings in a scope
+-- these values as settings of one scope
 abbrev pub settings_as : NumberedScope → List Bool → List Setting
 settings_as scope values = map (λ on. record { scope = scope; on = on }) values
 
@@ -83,35 +83,35 @@ settings_as scope values = map (λ on. record { scope = scope; on = on }) values
 abbrev pub rules_of : NameTable → Constraint → List Rule
 rules_of names c = rules_as (numbered names c.scope) (wanted_of c.what)
 
--- the settings that it makes for a part of its package
+-- the settings that a constraint makes for a part of its package
 abbrev pub settings_of : NameTable → Part → Constraint → List Setting
 settings_of names part c = settings_as (numbered names c.scope) (values_of names c.what part)
 
--- those where the constraint is on the package
+-- the rules that a constraint makes for a given package
 abbrev pub rules_on : NameTable → ℕ → Constraint → List Rule
 rules_on names p c = if is_on names c p then rules_of names c else []
 
--- the same for settings
+-- the settings that a constraint makes for a part of a given package
 abbrev pub settings_on : NameTable → ℕ → Part → Constraint → List Setting
 settings_on names p part c = if is_on names c p then settings_of names part c else []
 
--- these items at the number of one package, and none at others
+-- these items for one package, none for others
 abbrev pub at_package : {X : Type 0} → ℕ → List X → ℕ → List X
 at_package «package» items p = if nat_eq «package» p then items else []
 
--- a setting at one part of one package, and none at others
+-- one setting for one part of one package, none for others
 abbrev pub at_part : ℕ → Part → Setting → ℕ → Part → List Setting
 at_part «package» part setting p other = if nat_eq «package» p && is_part part other then setting ∷ [] else []
 
--- more rules came behind those of each package
+-- more rules are appended to those of each package
 abbrev pub AddsRules : Rules → Rules → (ℕ → List Rule) → Type 0
 AddsRules old new more = (p : ℕ) → items_at nat_eq new.packages p ≡ items_at nat_eq old.packages p ++ more p
 
--- more settings came behind those of each part
+-- more settings are appended to those of each part
 abbrev pub AddsSettings : Rules → Rules → (ℕ → Part → List Setting) → Type 0
 AddsSettings old new more = (p : ℕ) (part : Part) → settings_at new.parts p part ≡ settings_at old.parts p part ++ more p part
 
--- what is kept is what these constraints ask
+-- the kept rules and settings are those of the constraints
 pub record RulesAre (names : NameTable) (constraints : List Constraint) (rules : Rules) : Type 0 where
   pub packages_are : (p : ℕ) → items_at nat_eq rules.packages p ≡ flat_map (rules_on names p) constraints
   pub parts_are : (p : ℕ) (part : Part) → settings_at rules.parts p part ≡ flat_map (settings_on names p part) constraints

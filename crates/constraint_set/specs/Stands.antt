@@ -1,4 +1,4 @@
--- What is kept stands for the constraints of a project.
+-- The kept constraints represent those of a project.
 use Rattle.std.specs.Prelude.{◌≡◌}
 use Rattle.plan_types.specs.declared.project.Project.{Project}
 use Rattle.qualified_goals.specs.Names.{NameTable}
@@ -6,7 +6,7 @@ use Rattle.constraint_set.specs.declared.constraints.Constraints.{Constraints}
 use Rattle.constraint_set.specs.Relaxing.{RelaxesAs}
 use Rattle.constraint_set.specs.Rules.{RulesAre}
 
--- the rules, what is relaxed and the settings are those of the project, by these numbers
+-- the kept rules, relaxing and settings are those of the project, by these numbers
 pub record StandsFor (project : Project) (names : NameTable) (kept : Constraints) : Type 0 where
   pub rules_are : RulesAre names project.constraints kept.rules
   pub newer_are : RelaxesAs project.newer kept.newer

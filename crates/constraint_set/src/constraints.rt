@@ -1,4 +1,4 @@
-// What the constraints of a project bar, as the search asks it.
+// What the constraints of a project bar, as tests for the search.
 ghost use Rattle.std.specs.Prelude.{◌≡◌, ◌&&◌, ◌||◌, not, true, false, nat_eq, IfOk};
 ghost use Rattle.std.specs.List.{list_any};
 ghost use Rattle.plan_types.specs.Members.{members};
@@ -20,8 +20,8 @@ use qualified_goals::{Names, Part, Var};
 use std::alloc::Global;
 use version_range::Cuts;
 
-/// What the constraints of a project bar, and what it relaxes. What is asked of a package or a part stands beside
-/// its number, so that a test looks at nothing else.
+/// What the constraints of a project bar, and what it relaxes. Rules and settings are kept by the number of their
+/// package or part, so that a test looks at no others.
 #[derive(Debug)]
 pub struct Constraints {
     rules: Rules,
@@ -32,7 +32,7 @@ pub struct Constraints {
     boot_installs: bool,
 }
 
-// Written out, so that it is proved once and not at each exit of each function that owns one.
+// Explicit, so that it is proved once: a derived one is expanded at each exit.
 impl Drop for Constraints {
     fn drop(self) {
         let Constraints {
@@ -47,7 +47,7 @@ impl Drop for Constraints {
 }
 
 impl Constraints {
-    /// The constraints of a project, by the numbers of the names that they speak of.
+    /// The constraints of a project, by the numbers of their names.
     pub fn of(alloc: Global, project: &Project, names: &Names) -> Result<Constraints, NoMemory>
         ensures { IfOk result (λ kept. StandsFor project.now names.now kept) }
     {
@@ -78,14 +78,14 @@ impl Constraints {
         self.is_asked(v, !on) || (self.wants(v.part) && !on)
     }
 
-    /// Whether some constraint on the package of a variable, whatever its scope, gives the flag this value.
+    /// Whether some constraint on the package of a variable, whatever its scope, requires this value of the flag.
     pub fn names_flag(&self, v: Var, on: bool) -> bool
         ensures { (project : Project) (names : NameTable) → StandsFor project names self.now → result ≡ names_flag project names v on }
     {
         self.is_named(v, on)
     }
 
-    /// The versions that a dependency of an instance allows, once its range is relaxed.
+    /// The versions that a dependency of an instance allows, after the project's relaxing.
     pub fn relaxed(
         &self,
         alloc: Global,
@@ -144,7 +144,7 @@ impl Constraints {
         items_at(&self.rules.parts, &part)
     }
 
-    // Whether the project asks for a stanza of every package.
+    // Whether the project requires this stanza of every package.
     fn wants(&self, part: Part) -> bool
         ensures { result ≡ wants self.now.tests self.now.benchmarks part }
     {

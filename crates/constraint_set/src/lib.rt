@@ -1,6 +1,7 @@
-//! What the constraints of a project bar. A value that is barred isn't chosen, whatever else is: an instance that a
-//! constraint in scope excludes, a boot library that would have to be built, and the value of a flag or a stanza of
-//! which a constraint in scope or the project asks for the other one. Ranges are relaxed as the project says.
+//! What the constraints of a project bar. In go a project and the numbers of names; out come tests on values.
+//! A constraint in scope bars the instances that it excludes. A boot library that may not be built is barred.
+//! Where a constraint in scope or the project requires a value of a flag or stanza, the other value is barred.
+//! Each test agrees with its definition in `Bars`. The ranges of dependencies are relaxed as the project sets.
 #![tactic(auto)]
 
 mod constraints;

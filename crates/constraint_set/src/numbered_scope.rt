@@ -1,18 +1,18 @@
-// Scopes with the numbers of their packages.
+// Scopes with their packages as numbers.
 ghost use Rattle.std.specs.Prelude.{◌≡◌};
 ghost use Rattle.constraint_set.specs.NumberedScope.{numbered_holds, numbered};
 
 use plan_types::Scope;
 use qualified_goals::{Names, Qual};
 
-/// A scope, whose package has its number.
+/// A scope with its package as a number.
 #[derive(Clone, Copy, Debug, Drop)]
 pub(crate) enum NumberedScope {
     Top,
     Everywhere,
     Setups,
     SetupOf(u64),
-    /// In the setup of a package that isn't in the index.
+    /// The setup of a package that isn't in the index.
     Nowhere,
 }
 

@@ -1,4 +1,4 @@
-// Whose ranges a project relaxes, found by the names that it speaks of.
+// Whose ranges a project relaxes, kept by name.
 ghost use Rattle.std.specs.Prelude.{◌≡◌, ◌++◌, [], ◌∷◌, IfOk, OnOk, if◌then◌else◌};
 ghost use Rattle.std.specs.List.{list_any};
 ghost use Rattle.qualified_goals.specs.Names.{Name};
@@ -15,15 +15,15 @@ use std::alloc::Global;
 /// Whose ranges are relaxed.
 #[derive(Debug)]
 pub(crate) struct Relaxing {
-    /// Those of every package, whatever they depend on.
+    /// Whether all ranges of all packages are relaxed.
     pub everything: bool,
-    /// By its own name those of a package, whatever they depend on.
+    /// Owners whose ranges are all relaxed, by the owner's name.
     pub owners: Lists<Text, RelaxOwner>,
-    /// By the name of a dependency those on it.
+    /// Owners whose ranges on one dependency are relaxed, by the dependency's name.
     pub dependencies: Lists<Text, RelaxOwner>,
 }
 
-// Written out, so that it is proved once and not at each exit of each function that owns one.
+// Explicit, so that it is proved once: a derived one is expanded at each exit.
 impl Drop for Relaxing {
     fn drop(self) {
         let Relaxing {
@@ -35,7 +35,7 @@ impl Drop for Relaxing {
 }
 
 impl Relaxing {
-    /// What a project relaxes.
+    /// What some settings of a project relax.
     pub(crate) fn of(alloc: Global, relaxed: &[Relax]) -> Result<Relaxing, NoMemory>
         ensures { IfOk result (RelaxesAs relaxed.now) }
     {

@@ -1,4 +1,4 @@
-// What constraints ask, kept by the numbers of the packages and parts that they are on.
+// What constraints require, kept by the numbers of their packages and parts.
 ghost use Rattle.std.specs.Prelude.{◌≡◌, [], ◌∷◌, OnOk, IfOk};
 ghost use Rattle.qualified_goals.specs.declared.variable.Part.TheVariants.{Flag, Tests, Benches};
 ghost use Rattle.constraint_set.specs.Bars.{is_unit, is_value, set_values};
@@ -12,7 +12,7 @@ use plan_types::{Constraint, FlagSet, Instance, NoMemory, Origin, Range, What};
 use qualified_goals::{Names, Part, Qual};
 use std::alloc::Global;
 
-/// What is asked of the instance of a package.
+/// What a constraint requires of an instance.
 #[derive(Debug, Drop)]
 pub(crate) enum Wanted {
     Range(Range),
@@ -20,14 +20,14 @@ pub(crate) enum Wanted {
     Source,
 }
 
-/// What a constraint asks of a package, and where.
+/// What a constraint requires of a package, and in which scope.
 #[derive(Debug, Drop)]
 pub(crate) struct Rule {
     pub scope: NumberedScope,
     pub wanted: Wanted,
 }
 
-/// The value that a constraint asks of a part, and where.
+/// The value that a constraint requires of a part, and in which scope.
 #[derive(Clone, Copy, Debug, Drop)]
 pub(crate) struct Setting {
     pub scope: NumberedScope,
@@ -41,14 +41,14 @@ pub(crate) struct PartOf {
     pub part: Part,
 }
 
-/// What constraints ask, by the packages and parts that they are on.
+/// What constraints require, by package and by part.
 #[derive(Debug)]
 pub(crate) struct Rules {
     pub packages: Lists<u64, Rule>,
     pub parts: Lists<PartOf, Setting>,
 }
 
-// Written out, so that it is proved once and not at each exit of each function that owns one.
+// Explicit, so that it is proved once: a derived one is expanded at each exit.
 impl Drop for Rules {
     fn drop(self) {
         let Rules {
@@ -102,7 +102,7 @@ impl Setting {
 }
 
 impl Rules {
-    /// What some constraints ask.
+    /// What some constraints require.
     pub(crate) fn of(
         alloc: Global,
         constraints: &[Constraint],

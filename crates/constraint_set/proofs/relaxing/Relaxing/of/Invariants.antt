@@ -1,4 +1,4 @@
--- what those so far relax
+-- what the settings so far relax
 use Rattle.std.proofs.Common.{take}
 use Rattle.constraint_set.specs.Relaxing.{RelaxesAs}
 use Rattle.constraint_set.proofs.relaxing.Relaxing.of.Given as goal

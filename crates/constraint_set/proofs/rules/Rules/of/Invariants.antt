@@ -1,4 +1,4 @@
--- what the constraints so far ask
+-- what the constraints so far require
 use Rattle.std.proofs.Common.{take}
 use Rattle.constraint_set.specs.Rules.{RulesAre}
 use Rattle.constraint_set.proofs.rules.Rules.of.Given as goal
