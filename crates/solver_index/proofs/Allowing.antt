@@ -1,4 +1,4 @@
--- Those of the instances inside a range that have what a dependency is on are the instances that it allows.
+-- Filtering the instances inside a range by what they have gives the instances that the dependency allows.
 use Rattle.std.proofs.Common.{◌≡◌, Bool, ◌&&◌, List, length, refl, ap, ◌∙◌}
 use Rattle.std.specs.List.{filter}
 use Rattle.std.proofs.lemmas.Option.{slice_get-get_or}

@@ -1,4 +1,4 @@
--- The members of an operator are an interval of versions, which begins at a version that is known.
+-- The members of an operator are an interval of versions, with a known first version.
 use Rattle.std.proofs.Common.{◌≡◌, Bool, true, false, not, ◌&&◌, [], ◌∷◌, refl, sym, ap, ◌∙◌, arith}
 use Rattle.std.proofs.lemmas.Bool.{not-true, not_from_false, and_parts, and_from}
 use Rattle.std.proofs.lemmas.List.{length-append}
@@ -15,7 +15,7 @@ use Rattle.version_range.proofs.Numbers.{version_from}
 use Rattle.version_range.proofs.Relaxing.{least}
 use Rattle.solver_index.specs.AllowedVersions.{least_version, next_version}
 
--- no member is below the start, and what lies between the start and a member is one
+-- no member lies below the start, and each version from the start up to a member is one
 pub record IsInterval (has : Version → Bool) (start : Version) : Type 0 where
   pub numbers : HasNumbers start
   pub low : (w : Version) → HasNumbers w → has w ≡ true → is_below w start ≡ false

@@ -1,4 +1,4 @@
--- Between the turns of a range it is calm, and what its relaxed range lets in follows it.
+-- Membership is constant between the turns of a range, and tests of its relaxed range are so too.
 use Rattle.std.proofs.Common.{◌≡◌, ℕ, ◌<◌, ◌≤◌, Bool, true, false, List, [], ◌∷◌, ◌++◌, refl, sym, ap, ◌∙◌, inl, inr, arith, append_assoc}
 use Rattle.std.specs.List.{Contains}
 use Rattle.std.proofs.lemmas.Bool.{false≢true, cases_lt}
@@ -20,7 +20,7 @@ use Rattle.common_laws.specs.Lists.{contains-head, contains-tail, contains-none,
 
 -- ---- an operator
 
--- two places of which both lie in front of the members, among them or behind them
+-- two places that both lie in front of the members, among them or behind them
 module _ (r : Range) (is : IsOperator r) (entries : List Entry) (from to first last : ℕ) (block : IsBlock entries from to)
     (low : from ≤ first) (middle : first ≤ last) (high : last ≤ to)
     (front : (k : ℕ) → from ≤ k → k < first → before r (version_at entries k) ≡ true) (reached : (k : ℕ) → first ≤ k → k < to → before r (version_at entries k) ≡ false)
@@ -28,7 +28,7 @@ module _ (r : Range) (is : IsOperator r) (entries : List Entry) (from to first l
   abbrev v : ℕ → Version
   v k = version_at entries k
 
-  -- nothing between two places that lie in front of the members is one
+  -- between two places in front of the members there are no members
   in-front : (a b : ℕ) → from ≤ a → a ≤ b → b < first → IsCalm (members r) (v a) (v b)
   in-front a b la ab bf u n behind le =
       let nb = block.numbers b (omega (arith, la, ab)) (omega (arith, bf, middle, high)) in
@@ -39,7 +39,7 @@ module _ (r : Range) (is : IsOperator r) (entries : List Entry) (from to first l
   among a b fa ab bl u n behind le =
       let na = block.numbers a (omega (arith, low, fa)) (omega (arith, ab, bl, high)) in
       let nb = block.numbers b (omega (arith, low, fa, ab)) (omega (arith, bl, high)) in
-      -- u isn't in front: else the first of the two were
+      -- u isn't in front of the members, since then the earlier place were too
       let there : before r u ≡ false = false-back (before r u) (before r (v a)) (λ h. is.front (v a) u na n behind h) (reached a fa (omega (arith, ab, bl, high))) in
       is.down u (v b) n nb there le (inner b (omega (arith, fa, ab)) bl) ∙ sym (inner a fa (omega (arith, ab, bl)))
 
@@ -123,7 +123,7 @@ module _ (newer older : Bool) (has f : Version → Bool) (relaxes : Relaxes newe
   same : has w ≡ has v
   same = calm w nw le (not_itself w)
 
-  -- where neither is a member, none between them is
+  -- where neither end is a member, none between them is
   none-between : has v ≡ false → (u : Version) → HasNumbers u → has u ≡ true → is_below u v ≡ false → is_below w u ≡ false → ⊥
   none-between none u n m behind below = false≢true (sym (calm u n behind below ∙ none) ∙ m)
 
@@ -170,6 +170,6 @@ relaxed-follows newer older has f relaxes v w nv nw le calm = relaxed-same newer
 pub itself-follows : (has : Version → Bool) → Follows has has
 itself-follows has v w nv nw le calm = sym (calm w nw le (not_itself w))
 
--- and what is the same on versions with numbers
+-- a test equal on versions with numbers follows membership too
 pub same-follows : (has f g : Version → Bool) → ((v : Version) → HasNumbers v → g v ≡ f v) → Follows has f → Follows has g
 same-follows has f g is h v w nv nw le calm = is v nv ∙ h v w nv nw le calm ∙ sym (is w nw)

@@ -1,4 +1,4 @@
--- The defaults of one flag more.
+-- The table of defaults with one more flag.
 use Rattle.std.proofs.Common.{◌≡◌, Bool, true, false, cond, List, [], ◌∷◌, ◌++◌, Some, None, refl, sym, ap, ◌∙◌}
 use Rattle.std.specs.Prelude.{Option, find, is_some}
 use Rattle.std.specs.Option.{option_map}
@@ -16,7 +16,7 @@ some-is : (o : Option Bool) → is_some o ≡ true → (on : Bool) × (o ≡ Som
 some-is None h = absurd (false≢true h)
 some-is (Some on) h = (on, refl)
 
--- what is found first stays so
+-- the first one found stays the first
 found-stays : (test : FlagDecl → Bool) (flags : List FlagDecl) (decl : FlagDecl) (o : Option Bool) → default_kept_of (find test flags) ≡ o → (test decl ≡ true → (on : Bool) × (o ≡ Some on))
     → default_kept_of (find test (flags ++ decl ∷ [])) ≡ o
 found-stays test [] decl o is there =
@@ -30,7 +30,7 @@ found-stays test (x ∷ flags) decl o is there =
       | false ↦ λ k. found-stays test flags decl o k there
     ] is
 
--- what isn't found is found last
+-- where none was found, the new one is
 found-last : (test : FlagDecl → Bool) (flags : List FlagDecl) (decl : FlagDecl) → default_kept_of (find test flags) ≡ None → test decl ≡ true → default_kept_of (find test (flags ++ decl ∷ [])) ≡ Some decl.default
 found-last test [] decl none is = ap (λ b. default_kept_of (cond b (Some decl) None)) is
 found-last test (x ∷ flags) decl none is =
@@ -39,7 +39,7 @@ found-last test (x ∷ flags) decl none is =
       | false ↦ λ k. found-last test flags decl k is
     ] none
 
--- a default that is put in where none is
+-- an absent default is inserted
 pub put-first : (test : FlagDecl → Bool) (flags : List FlagDecl) (decl : FlagDecl) (o : Option Bool) → o ≡ default_kept_of (find test flags) → (test decl ≡ true → is_some o ≡ false)
     → cond (test decl) (Some decl.default) o ≡ default_kept_of (find test (flags ++ decl ∷ []))
 put-first test flags decl o is free =
@@ -48,7 +48,7 @@ put-first test flags decl o is free =
       | false ↦ λ e. sym (found-stays test flags decl o (sym is) (λ k. absurd (false≢true (sym e ∙ k))))
     ] refl
 
--- a default that is there stays
+-- a present default stays
 pub first-stays : (test : FlagDecl → Bool) (flags : List FlagDecl) (decl : FlagDecl) (o : Option Bool) → o ≡ default_kept_of (find test flags) → (test decl ≡ true → is_some o ≡ true)
     → o ≡ default_kept_of (find test (flags ++ decl ∷ []))
 first-stays test flags decl o is there = sym (found-stays test flags decl o (sym is) (λ e. some-is o (there e)))

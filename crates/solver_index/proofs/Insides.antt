@@ -1,4 +1,4 @@
--- What is inside the cuts of a dependency is what its relaxed range lets in.
+-- The versions inside a dependency's cuts are those of its relaxed range.
 use Rattle.std.proofs.Common.{◌≡◌, ℕ, zero, suc, Bool, true, List, [], ◌∷◌, length, Result, Ok, Err, IfOk}
 use Rattle.std.specs.List.{Contains}
 use Rattle.std.proofs.lemmas.List.Elements.{Contains-get_or}
@@ -53,7 +53,7 @@ places-same f g entries h =
     filter-same (λ i. f (entry_at entries i).instance.version) (λ i. g (entry_at entries i).instance.version) (rising (length entries)) (λ i k.
     h (entry_at entries i) (Contains-get_or entries i no_entry (rising-below (length entries) i k)))
 
--- what is let in follows the members of the range
+-- the allowed versions follow the members of the range
 pub lets-follow : (project : Project) (owner : Instance) (kind : DepKind) (dep : Dep) → has_versions dep.range ≡ true → Follows (members dep.range) (allowed_for kind (allowed_versions project owner dep) dep.range)
 lets-follow project owner Library dep versions = relaxed-follows _ _ (members dep.range) (allowed_versions project owner dep) (are-relaxed project owner dep versions)
 lets-follow project owner Tool dep versions = itself-follows (members dep.range)

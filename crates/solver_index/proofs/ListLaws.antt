@@ -57,7 +57,7 @@ rising-below n x h = (between-has 0 n x (subst (λ l. Contains l x) (rising-betw
 pub filter-more : (test : ℕ → Bool) (a i : ℕ) (b : Bool) → a ≤ i → test i ≡ b → filter test (between a (i + 1)) ≡ filter test (between a i) ++ cond b (i ∷ []) []
 filter-more test a i b low is = ap (filter test) (between-more a i low) ∙ filter-append test (between a i) (i ∷ []) ∙ ap (λ c. filter test (between a i) ++ cond c (i ∷ []) []) is
 
--- one more that passes, and one more that doesn't
+-- one more number that passes, and one that doesn't
 pub kept-more : (test : ℕ → Bool) (front : List ℕ) (a i : ℕ) → a ≤ i → test i ≡ true → (front ++ filter test (between a i)) ++ i ∷ [] ≡ front ++ filter test (between a (i + 1))
 kept-more test front a i low is = append_assoc front (filter test (between a i)) (i ∷ []) ∙ ap (λ l. front ++ l) (sym (filter-more test a i true low is))
 

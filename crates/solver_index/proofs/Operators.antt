@@ -1,4 +1,4 @@
--- A range that is no join: its members are an interval.
+-- The members of a range that joins no others are an interval.
 use Rattle.std.proofs.Common.{◌≡◌, Bool, true, false, refl, sym, ap, ◌∙◌, subst}
 use Rattle.std.proofs.lemmas.Bool.{false≢true}
 use Rattle.plan_types.specs.declared.range.Range.{Range, roll-Range, map-Range}
@@ -19,7 +19,7 @@ use Rattle.solver_index.proofs.Atoms.{IsInterval, above-interval, any-interval, 
 abbrev Claim : Range → Type 0
 Claim r = has_versions r ≡ true → is_operator r ≡ true → IsOperator r
 
--- what is before an operator is below the start of its interval
+-- `before` holds for the versions below the start of the interval
 from-interval : (r : Range) (start : Version) → IsInterval (members r) start → ((v : Version) → HasNumbers v → before r v ≡ is_below v start) → IsOperator r
 from-interval r start i b = record {
   outside = λ v n h. elim (members r v) as (λ t. members r v ≡ t → t ≡ false) [

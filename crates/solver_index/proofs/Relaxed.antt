@@ -1,4 +1,4 @@
--- The test of the relaxed range tells the relaxed range.
+-- The test for a relaxed range is right.
 use Rattle.std.proofs.Common.{◌≡◌, Bool, true, false, not, ◌&&◌, ◌||◌, IsTrue, List, [], ◌∷◌, ◌++◌, refl, sym, ap, ◌∙◌, subst, inl, inr}
 use Rattle.std.specs.List.{Contains}
 use Rattle.std.proofs.lemmas.Bool.{false≢true, and_parts, and_from, or_left, or_right, or_cases}
@@ -17,13 +17,13 @@ use Rattle.solver_index.proofs.Atoms.{IsInterval, above-interval, any-interval, 
 use Rattle.common_laws.specs.Lists.{contains-head, contains-none, contains-cases, any-at, any-from}
 use Rattle.common_laws.specs.Small.{not-from, not-to}
 
--- what lies between one version and another, with both, is a member
+-- each version from the start up to w is a member
 record IsStart (has : Version → Bool) (start w : Version) : Type 0 where
   numbers : HasNumbers start
   low : is_below w start ≡ false
   each : (u : Version) → HasNumbers u → is_below u start ≡ false → is_below w u ≡ false → has u ≡ true
 
--- each member lies behind a start, and each start has numbers
+-- each member has a start at or below it, and each start has numbers
 record IsStarted (r : Range) : Type 0 where
   start_of : (w : Version) → HasNumbers w → members r w ≡ true → (start : Version) × Contains (starts r) start × IsStart (members r) start w
   numbers : (start : Version) → Contains (starts r) start → HasNumbers start
@@ -158,7 +158,7 @@ module _ (r : Range) (s : IsStarted r) (v : Version) where
       let a = any-at (λ t. members r t && is_below v t) (starts r) h in
       (a.0, s.numbers a.0 a.1, (and_parts (members r a.0) (is_below v a.0) a.2).0, (and_parts (members r a.0) (is_below v a.0) a.2).1)
 
-  -- where v is none itself, a member above it has its start above it
+  -- where v is no member, a member above it has its start above v
   above-from : HasNumbers v → members r v ≡ false → SomeAbove (members r) v → starts_above r v ≡ true
   above-from numbers none (w, n, member, over) =
       let a = s.start_of w n member in

@@ -1,4 +1,4 @@
--- Rows that are kept by numbers: one more, one that is there, and one that isn't.
+-- Rows kept by index: one more, a present one, an absent one.
 use Rattle.std.proofs.Common.{◌≡◌, ◌⊎◌, ℕ, zero, suc, ◌+◌, List, [], ◌∷◌, ◌++◌, length, refl, sym, ap, ◌∙◌, subst, inl, inr, arith}
 use Rattle.std.specs.Prelude.{Some, slice_get}
 use Rattle.std.proofs.lemmas.List.{length-append}

@@ -1,4 +1,4 @@
--- What is kept of segments of places, of which one tells of all.
+-- Segments of places whose versions are all inside the cuts or all outside.
 use Rattle.std.proofs.Common.{◌≡◌, ℕ, ◌<◌, ◌≤◌, Bool, true, false, List, [], ◌++◌, length, get_or, sym, ap, ◌∙◌, inl, inr, arith, append_assoc}
 use Rattle.std.specs.List.{filter}
 use Rattle.std.specs.List.Sorted.{IsNonDecreasing}
@@ -40,7 +40,7 @@ free-segment turns index first i rise here earlier less t (k, below, is) after =
       | inr behind ↦ let most = rise index k 0 behind below in omega (arith, most, same, less)
     ]
 
--- nor in the one behind the last
+-- no turn lies in the segment behind the last turn
 pub free-end : (turns : List ℕ) (first i : ℕ) → ((k : ℕ) → k < length turns → get_or turns k 0 ≤ first) → IsFree turns first i
 free-end turns first i earlier t (k, below, is) after =
     let same : get_or turns k 0 ≡ t = get_or_default turns k 0 t below ∙ is in

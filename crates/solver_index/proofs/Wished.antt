@@ -1,4 +1,4 @@
--- What is found by a name, as one more is added.
+-- Lookups by name, with one more entry.
 use Rattle.std.proofs.Common.{◌≡◌, ℕ, ◌+◌, ◌<◌, Bool, true, false, cond, ◌||◌, List, [], ◌∷◌, ◌++◌, map, length, take, get_or, refl, ap, ◌∙◌}
 use Rattle.std.specs.List.{filter}
 use Rattle.std.specs.Prelude.{if◌then◌else◌}
@@ -34,7 +34,7 @@ one-more name [] n = first (same_text n.name name) n
 one-more name (m ∷ all) n =
     behind (same_text m.name name) m (with_name name all) (with_name name (all ++ n ∷ [])) (if same_text n.name name then n.range ∷ [] else []) (one-more name all n)
 
--- the ranges for a name among the first of some
+-- the ranges for a name, with one more entry
 pub ranges-more : (name : Name) (all : List Named) (i : ℕ) (n : Named) → i < length all → n ≡ get_or all i n
     → ranges_for name (take (i + 1) all) ≡ ranges_for name (take i all) ++ (if same_text n.name name then n.range ∷ [] else [])
 ranges-more name all i n within is = ap (ranges_for name) (take_at all i n within is) ∙ one-more name (take i all) n

@@ -1,4 +1,4 @@
--- Which versions the relaxed ranges let in.
+-- The versions in the relaxed ranges.
 use Rattle.std.specs.Prelude.{◌≡◌, Bool, true, not, ◌&&◌, ◌||◌, List, [], ◌∷◌, ◌++◌}
 use Rattle.std.specs.List.{list_any}
 use Rattle.plan_types.specs.Members.{members}
@@ -13,16 +13,16 @@ use Rattle.version_range.specs.Cuts.{Relaxes, is_below}
 use Rattle.version_range.specs.Version.{has_versions}
 use Rattle.constraint_set.specs.Relaxed.{relaxes}
 
--- The versions in the relaxed range of a dependency of an instance. On versions with numbers there is one such test.
+-- Tests of versions, for each dependency of each instance. On versions with numbers only one fits a project.
 abbrev pub VersionTests : Type 0
 VersionTests = Instance → Dep → Version → Bool
 
--- these tests tell the relaxed ranges of all dependencies
+-- each test holds for the versions in the relaxed range of its dependency
 abbrev pub AreRelaxedRanges : Project → VersionTests → Type 0
 AreRelaxedRanges project allows = (owner : Instance) (dep : Dep) → has_versions dep.range ≡ true
     → Relaxes (relaxes project.newer owner dep.«package») (relaxes project.older owner dep.«package») (members dep.range) (allows owner dep)
 
--- ---- a test that is one
+-- ---- a test that fits
 
 -- the least version with numbers
 abbrev pub least_version : Version
@@ -32,7 +32,7 @@ least_version = record { parts = 0 ∷ [] }
 abbrev pub next_version : Version → Version
 next_version x = record { parts = x.parts ++ 0 ∷ [] }
 
--- where the members of a layer of a range begin
+-- the versions at which the members of one layer of a range may begin
 abbrev pub starts_step : Range-F (List Version) → List Version
 starts_step Any = least_version ∷ []
 starts_step Nothing = []
@@ -46,19 +46,19 @@ starts_step (Major x) = x ∷ []
 starts_step (Both left right) = left ++ right
 starts_step (Either left right) = left ++ right
 
--- versions among which are all at which members of a range begin
+-- versions that include each one at which a run of members begins
 abbrev pub starts : Range → List Version
 starts = fold-Range (List Version) starts_step
 
--- whether a member that begins a run lies below a version
+-- whether the start of a run of members lies below a version
 abbrev pub starts_below : Range → Version → Bool
 starts_below range v = list_any (λ s. members range s && is_below s v) (starts range)
 
--- whether one lies above it
+-- whether the start of a run of members lies above a version
 abbrev pub starts_above : Range → Version → Bool
 starts_above range v = list_any (λ s. members range s && is_below v s) (starts range)
 
--- the members, and what is above all of them or below all of them where that is let in
+-- the members, with the versions above all of them if newer ones are allowed, and those below all if older ones are
 unfoldable pub relaxed_range : Bool → Bool → Range → Version → Bool
 relaxed_range newer older range v =
     members range v

@@ -1,4 +1,4 @@
--- The operators of a range, and what is below all that one of them lets in.
+-- Operators, which are ranges that join no others, and the versions below their members.
 use Rattle.std.specs.Prelude.{Bool, true, false}
 use Rattle.std.specs.Ordering.{is_le, is_lt}
 use Rattle.plan_types.specs.Members.{order}
@@ -9,7 +9,7 @@ use Rattle.plan_types.specs.declared.version.Version.{Version}
 use Rattle.version_range.specs.Cuts.{IsSplit}
 use Rattle.version_range.specs.declared.merge.Joint.{Joint}
 
--- whether a layer of a range is no join
+-- whether a layer of a range joins no others
 abbrev pub operator_step : Range-F Bool → Bool
 operator_step Any = true
 operator_step Nothing = true
@@ -23,15 +23,15 @@ operator_step (Major x) = true
 operator_step (Both left right) = false
 operator_step (Either left right) = false
 
--- whether a range is no join of two
+-- whether a range joins no others
 abbrev pub is_operator : Range → Bool
 is_operator = fold-Range Bool operator_step
 
--- the range is a join of these two
+-- the range joins these two
 abbrev pub IsJoin : Range → Range → Range → Type 0
 IsJoin range left right = (joint : Joint) × IsSplit joint range left right
 
--- whether a version is below where the members of a layer begin
+-- whether a version lies below the first member of a layer
 abbrev pub before_step : Range-F (Version → Bool) → Version → Bool
 before_step Any v = false
 before_step Nothing v = false
@@ -45,6 +45,6 @@ before_step (Major x) v = is_lt (order v.parts x.parts)
 before_step (Both left right) v = false
 before_step (Either left right) v = false
 
--- whether a version is below where the members of an operator begin
+-- whether a version lies below the first member of an operator
 abbrev pub before : Range → Version → Bool
 before = fold-Range (Version → Bool) before_step

@@ -1,4 +1,4 @@
--- The order in which the instances of a package stand, and what is found by halves there.
+-- Blocks: the releases of a package, then its units, with rising versions. Tests that hold for a prefix of a block.
 use Rattle.std.specs.Prelude.{◌≡◌, ⊤, ℕ, ◌<◌, ◌≤◌, Bool, true, false, not, List, [], ◌∷◌, length}
 use Rattle.std.specs.List.{AllByRecursion}
 use Rattle.plan_types.specs.Members.{members}
@@ -13,7 +13,7 @@ use Rattle.solver_index.specs.Before.{before}
 use Rattle.solver_index.specs.Places.{entry_at}
 use Rattle.plan_types.specs.Packages.{is_installed, entries_of}
 
--- no release stands behind a unit, and neither of two releases nor of two units does the later one have the earlier version
+-- b may come after a: units come after releases, and versions of one kind don't fall
 abbrev pub MayFollow : Entry → Entry → Type 0
 MayFollow a b = (is_installed a.body ≡ true → is_installed b.body ≡ true) × (is_installed a.body ≡ is_installed b.body → is_below b.instance.version a.instance.version ≡ false)
 
@@ -22,7 +22,7 @@ abbrev pub AreInBlocks : List Entry → Type 0
 AreInBlocks [] = ⊤
 AreInBlocks (e ∷ entries) = AllByRecursion (MayFollow e) entries × AreInBlocks entries
 
--- the same of each package
+-- the instances of each package are in blocks
 abbrev pub AllAreInBlocks : List Package → Type 0
 AllAreInBlocks packages = (p : ℕ) → AreInBlocks (entries_of packages p)
 
@@ -30,7 +30,7 @@ AllAreInBlocks packages = (p : ℕ) → AreInBlocks (entries_of packages p)
 abbrev pub version_at : List Entry → ℕ → Version
 version_at entries i = (entry_at entries i).instance.version
 
--- from one place up to another stand instances with rising versions
+-- the instances from one place up to another have rising versions
 pub record IsBlock (entries : List Entry) (from to : ℕ) : Type 0 where
   pub low : from ≤ to
   pub high : to ≤ length entries
@@ -43,6 +43,6 @@ passes IsSource range e = not (is_installed e.body)
 passes IsBefore range e = before range e.instance.version
 passes IsMember range e = members range e.instance.version
 
--- from one place up to another, what stands in front of what passes does too
+-- in these places, each instance before one that passes also passes
 abbrev pub Falls : (Entry → Bool) → List Entry → ℕ → ℕ → Type 0
 Falls test entries from to = (i j : ℕ) → from ≤ i → i ≤ j → j < to → test (entry_at entries j) ≡ true → test (entry_at entries i) ≡ true

@@ -12,35 +12,35 @@ use Rattle.qualified_goals.specs.Names.{NameTable}
 use Rattle.solver_index.specs.Places.{entry_at, flag_number}
 use Rattle.solver_index.specs.Rows.{AreRows}
 
--- the default of a flag that may be declared
+-- the default of a declaration; off without one
 abbrev pub default_in : Option FlagDecl → Bool
 default_in None = false
 default_in (Some decl) = decl.default
 
--- whether a flag has this number, where a name without a number counts as the first
+-- whether a declared flag has this number; a name without a number counts as 0
 abbrev pub has_number : NameTable → ℕ → FlagDecl → Bool
 has_number names f decl = nat_eq (flag_number names decl.name) f
 
--- the default that an instance declares for a flag
+-- the default that an instance declares for a flag; off without a declaration
 abbrev pub default_of : NameTable → ℕ → Body → Bool
 default_of names f body = default_in (find (has_number names f) (declared_by body))
 
--- defaults that are kept by the numbers of flags
+-- a table of defaults by the numbers of flags
 abbrev pub DefaultTable : Type 0
 DefaultTable = IndexMap ℕ Bool (BuildHasherDefault FoldHasher)
 
--- the default that is kept for a flag, and off where none is
+-- the default in the table; off for a flag that isn't in it
 abbrev pub default_kept : DefaultTable → ℕ → Bool
 default_kept table f = unwrap_or (get nat_eq table f) false
 
--- these are the defaults that an instance declares
+-- the table has the defaults that an instance declares
 abbrev pub AreDefaultsOf : NameTable → Entry → DefaultTable → Type 0
 AreDefaultsOf names e table = (f : ℕ) → default_kept table f ≡ default_of names f e.body
 
--- those of each instance of a package
+-- one such table for each instance of a package
 abbrev pub AreDefaultsIn : List Entry → NameTable → List DefaultTable → Type 0
 AreDefaultsIn entries names = AreRows (length entries) (λ i. AreDefaultsOf names (entry_at entries i))
 
--- those of each instance, by package and instance
+-- one such table for each instance of each package
 abbrev pub AreDefaults : List Package → NameTable → List (List DefaultTable) → Type 0
 AreDefaults packages names = AreRows (length packages) (λ p. AreDefaultsIn (entries_of packages p) names)

@@ -1,4 +1,4 @@
--- What each instance depends on, by numbers and places.
+-- What each instance depends on, with names as numbers and ranges as places.
 use Rattle.std.specs.Prelude.{ℕ, Bool, true, false, List, [], length, map, slice_index_or}
 use Rattle.plan_types.specs.declared.dependency.Dep.{Dep}
 use Rattle.plan_types.specs.declared.dependency.DepKind.{DepKind}
@@ -27,29 +27,29 @@ use Rattle.solver_index.specs.Places.{rising, number, flag_number}
 use Rattle.plan_types.specs.Packages.{entries_of, package_at}
 use Rattle.plan_types.specs.declared.description.Description.{Description}
 
--- the number of a value
+-- a flag's value as a number
 abbrev pub bit : Bool → ℕ
 bit true = 1
 bit false = 0
 
--- a part of a package, with the number of its flag
+-- a part of a package, a flag by its number
 abbrev pub part_of : NameTable → PartName → Part
 part_of names (literal.Flag name) = Flag (flag_number names name)
 part_of names literal.Tests = Tests
 part_of names literal.Benches = Benches
 
--- a setting that a dependency waits for
+-- a literal as a setting by numbers
 abbrev pub setting_of : NameTable → Literal → Setting
 setting_of names l = record { part = part_of names l.part; val = bit l.on }
 
--- the package of a dependency, and the places of its instances that are allowed
+-- the package of a dependency, and the places of the instances that it allows
 abbrev pub dep_target : List Package → NameTable → (Dep → Version → Bool) → DepKind → Dep → Target
 dep_target packages names allows kind dep = record {
   «package» = number packages names dep.«package»;
   allowed = allowed_by kind (allows dep) dep (entries_of packages (number packages names dep.«package»));
 }
 
--- a dependency and what has to be set for it to count
+-- a dependency, and the settings under which it counts
 abbrev pub conditional_dep : List Package → NameTable → (Dep → Version → Bool) → FlatDep → ConditionalDep
 conditional_dep packages names allows flat = record {
   when = map (setting_of names) flat.when;
@@ -57,14 +57,14 @@ conditional_dep packages names allows flat = record {
   target = dep_target packages names allows flat.dep.kind flat.dep;
 }
 
--- the unit with an id, of a package of this name
+-- the unit with an id, of the package with a name
 abbrev pub need_of : List Package → NameTable → Name → Name → Need
 need_of packages names id name = record {
   «package» = number packages names name;
   allowed = allowed_unit id (package_at packages (number packages names name));
 }
 
--- the unit that a record needs at a place
+-- the k-th unit that a record needs
 abbrev pub need_at : List Package → NameTable → List Name → List Name → ℕ → Need
 need_at packages names ids needs k = need_of packages names (slice_index_or ids k []) (slice_index_or needs k [])
 
@@ -91,6 +91,6 @@ body_dependencies packages names allows (Installed record_of needs) = record {
 abbrev pub entry_dependencies : List Package → Project → NameTable → Entry → Dependencies
 entry_dependencies packages project names e = body_dependencies packages names (allowed_versions project e.instance) e.body
 
--- by package and instance
+-- what each instance depends on, by package and instance
 abbrev pub all_dependencies : List Package → Project → NameTable → List (List Dependencies)
 all_dependencies packages project names = map (λ p. map (entry_dependencies packages project names) p.entries) packages

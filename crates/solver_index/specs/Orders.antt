@@ -13,15 +13,15 @@ use Rattle.qualified_goals.specs.Names.{Name}
 use Rattle.plan_types.specs.Bytes.{same_text}
 use Rattle.plan_types.specs.Packages.{package_at}
 
--- whether a package is asked for besides
+-- whether a package is an extra one
 abbrev pub is_extra : Project → Name → Bool
 is_extra project name = list_any (λ n. same_text n.name name) project.extra
 
--- which instances of a package are tried first
+-- the policy by which the instances of a package are ordered
 abbrev pub policy_of : Project → Package → Policy
 policy_of project p = if project.prefer_oldest then Oldest else (if p.local || is_extra project p.name then Latest else Installed)
 
--- the ranges that stand beside a name
+-- the ranges given for a name
 abbrev pub ranges_for : Name → List Named → List Range
 ranges_for name named = map (λ n. n.range) (filter (λ n. same_text n.name name) named)
 
@@ -37,7 +37,7 @@ instances_of p = map (λ e. e.instance) p.entries
 abbrev pub IsOrderOf : Project → Package → List ℕ → Type 0
 IsOrderOf project p values = IsOrder (policy_of project p) (preferred_of project p.name) (instances_of p) values
 
--- n rows, each of which fits its number
+-- n rows, each of which fits its index
 pub record IsTable {X : Type 0} (n : ℕ) (Fits : ℕ → X → Type 0) (none : X) (rows : List X) : Type 0 where
   pub count : length rows ≡ n
   pub each : (k : ℕ) → k < n → Fits k (slice_index_or rows k none)

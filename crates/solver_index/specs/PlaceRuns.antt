@@ -1,4 +1,4 @@
--- Places that are kept as runs.
+-- Places kept as runs.
 use Rattle.std.specs.Prelude.{ℕ, List, flat_map}
 use Rattle.solver_index.specs.declared.place_runs.Run.{Run}
 use Rattle.solver_index.specs.Places.{between}

@@ -17,11 +17,11 @@ rising (suc n) = rising n ++ n ∷ []
 abbrev pub between : ℕ → ℕ → List ℕ
 between low high = range_with_len low (high - low)
 
--- what stands at a number behind the last
+-- the body that is read at a place beyond the last
 abbrev pub no_body : Body
 no_body = Installed (record { name = []; version = record { parts = [] }; id = []; depends = [] }) []
 
--- an entry for what isn't there
+-- the entry that is read at a place beyond the last
 abbrev pub no_entry : Entry
 no_entry = record { instance = no_instance; body = no_body }
 
@@ -33,10 +33,10 @@ entry_at entries i = slice_index_or entries i no_entry
 abbrev pub places : (Entry → Bool) → List Entry → List ℕ
 places test entries = filter (λ i. test (entry_at entries i)) (rising (length entries))
 
--- the number behind the last stands for a name that no package has
+-- the number of a package; one behind the last for an unknown name
 abbrev pub number : List Package → NameTable → Name → ℕ
 number packages names name = unwrap_or (number_of names.packages name) (length packages)
 
--- the number of a flag; a name that no package declares has that of the first
+-- the number of a flag; 0 for a name that no package declares
 abbrev pub flag_number : NameTable → Name → ℕ
 flag_number names name = unwrap_or (number_of names.flags name) 0

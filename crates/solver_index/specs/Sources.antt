@@ -1,4 +1,4 @@
--- Of what the tables are made.
+-- The input of the tables.
 use Rattle.std.specs.Prelude.{◌≡◌, Bool, true, List, length, map}
 use Rattle.plan_types.specs.declared.dependency.Dep.{Dep}
 use Rattle.plan_types.specs.declared.dependency.DepKind.{DepKind}
@@ -25,7 +25,7 @@ use Rattle.solver_index.specs.Blocks.{AllAreInBlocks}
 use Rattle.solver_index.specs.Units.{AreUnits}
 use Rattle.solver_index.specs.Versions.{packages_have_versions}
 
--- the versions inside the cuts are those that a dependency of a kind lets in
+-- on versions with numbers, being inside the cuts is being allowed by a dependency of a kind
 abbrev pub AreAllowed : DepKind → (Version → Bool) → Range → List Version → Type 0
 AreAllowed kind allows range cuts = (v : Version) → HasNumbers v → inside cuts v ≡ allowed_for kind allows range v
 
@@ -33,11 +33,11 @@ AreAllowed kind allows range cuts = (v : Version) → HasNumbers v → inside cu
 abbrev pub target_in : Sources → Instance → DepKind → Dep → Target
 target_in s owner = dep_target s.packages.now s.names.now (allowed_versions s.project.now owner)
 
--- a dependency of an instance, with what has to be set for it to count
+-- a dependency of an instance, and the settings under which it counts
 abbrev pub dep_in : Sources → Instance → FlatDep → ConditionalDep
 dep_in s owner = conditional_dep s.packages.now s.names.now (allowed_versions s.project.now owner)
 
--- the unit with an id, of a package of this name
+-- the unit with an id, of the package with a name
 abbrev pub need_in : Sources → Name → Name → Need
 need_in s = need_of s.packages.now s.names.now
 
@@ -57,7 +57,7 @@ body_in s owner = body_dependencies s.packages.now s.names.now (allowed_versions
 abbrev pub entry_in : Sources → Entry → Dependencies
 entry_in s = entry_dependencies s.packages.now s.project.now s.names.now
 
--- what is kept stands for the project, and the units are those of the packages
+-- the constraints and units are those of the project and the packages; versions are well-formed, instances in blocks
 pub record AreReady (s : Sources) : Type 0 where
   pub stands : StandsFor s.project.now s.names.now s.constraints.now
   pub units : AreUnits s.packages.now (length s.packages.now) s.units

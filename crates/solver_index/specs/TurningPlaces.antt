@@ -1,4 +1,4 @@
--- Places between which instances pass neither in nor out of a range.
+-- Places at which instances enter or leave a range.
 use Rattle.std.specs.Prelude.{◌≡◌, ℕ, ◌<◌, ◌≤◌, Bool, true, false, List, ◌++◌, Contains}
 use Rattle.plan_types.specs.Members.{members}
 use Rattle.plan_types.specs.declared.index.Entry.{Entry}
@@ -8,41 +8,41 @@ use Rattle.version_range.specs.Cuts.{HasNumbers, inside, is_below}
 use Rattle.solver_index.specs.Before.{before}
 use Rattle.solver_index.specs.Blocks.{version_at}
 
--- from one version up to another all are members, or none is
+-- membership is constant on the versions from v up to w
 abbrev pub IsCalm : (Version → Bool) → Version → Version → Type 0
 IsCalm has v w = (u : Version) → HasNumbers u → is_below u v ≡ false → is_below w u ≡ false → has u ≡ has v
 
--- a test that says the same where all are members, or none is
+-- the test f is equal at two versions wherever membership is constant from one up to the other
 abbrev pub Follows : (Version → Bool) → (Version → Bool) → Type 0
 Follows has f = (v w : Version) → HasNumbers v → HasNumbers w → is_below w v ≡ false → IsCalm has v w → f v ≡ f w
 
--- none of these places is behind one and up to another
+-- no turn lies behind place a and at or before place b
 abbrev pub IsFree : List ℕ → ℕ → ℕ → Type 0
 IsFree turns a b = (t : ℕ) → Contains turns t → a < t → b < t
 
--- between places with no turn among them, the same is inside the cuts
+-- where no turn lies between two places, their versions are both inside the cuts or both outside
 abbrev pub AreEven : List Version → List ℕ → List Entry → ℕ → ℕ → Type 0
 AreEven cuts turns entries from to =
     (a b : ℕ) → from ≤ a → a ≤ b → b < to → IsFree turns a b → inside cuts (version_at entries a) ≡ inside cuts (version_at entries b)
 
--- from one place up to another, all versions are inside the cuts or none is
+-- the versions from one place up to another are all inside the cuts or all outside
 abbrev pub IsEven : List Version → List Entry → ℕ → ℕ → Type 0
 IsEven cuts entries first last = (i : ℕ) → first ≤ i → i < last → inside cuts (version_at entries first) ≡ inside cuts (version_at entries i)
 
--- what lies below the start of an operator is no member, and behind it members come before all others
+-- the members of an operator are an interval, and `before` holds for the versions below it
 pub record IsOperator (range : Range) : Type 0 where
   pub outside : (v : Version) → HasNumbers v → before range v ≡ true → members range v ≡ false
   pub front : (u w : Version) → HasNumbers u → HasNumbers w → is_below w u ≡ false → before range w ≡ true → before range u ≡ true
   pub down : (u w : Version) → HasNumbers u → HasNumbers w → before range u ≡ false → is_below w u ≡ false → members range w ≡ true → members range u ≡ true
 
--- more turns were put behind those that were there: between them it is calm
+-- more turns are appended; membership is constant between them
 pub record AreTurns (has : Version → Bool) (entries : List Entry) (from to : ℕ) (old new : List ℕ) : Type 0 where
   pub more : List ℕ
   pub extends : new ≡ old ++ more
   pub within : (t : ℕ) → Contains more t → (from ≤ t) × (t ≤ to)
   pub calm : (a b : ℕ) → from ≤ a → a ≤ b → b < to → IsFree more a b → IsCalm has (version_at entries a) (version_at entries b)
 
--- the same once the rest of a range is calm
+-- the same, where membership in the rest of the range is constant between them
 pub record AreTurnsBut (has rest : Version → Bool) (entries : List Entry) (from to : ℕ) (old new : List ℕ) : Type 0 where
   pub more : List ℕ
   pub extends : new ≡ old ++ more

@@ -15,10 +15,10 @@ use Rattle.plan_types.specs.Packages.{package_at}
 abbrev pub UnitPlaces : Type 0
 UnitPlaces = IndexMap Name (List ℕ) (BuildHasherDefault FoldHasher)
 
--- these are the places of the units of a package
+-- the places are those of the units of a package
 abbrev pub AreUnitsOf : Package → UnitPlaces → Type 0
 AreUnitsOf p units = (id : Name) → items_at same_text units id ≡ allowed_unit id p
 
--- and these those of the first n packages
+-- the same for each of the first n packages
 abbrev pub AreUnits : List Package → ℕ → List UnitPlaces → Type 0
 AreUnits packages n = AreRows n (λ p. AreUnitsOf (package_at packages p))

@@ -1,4 +1,4 @@
--- Each version of an instance, and each that a range names, can be written.
+-- Each version of an instance, and each version in a range, is well-formed.
 use Rattle.std.specs.Prelude.{Bool, true, ◌&&◌, List}
 use Rattle.std.specs.List.{list_all}
 use Rattle.plan_types.specs.declared.dependency.Dep.{Dep}
@@ -9,27 +9,27 @@ use Rattle.plan_types.specs.declared.index.FlatDep.{FlatDep}
 use Rattle.plan_types.specs.declared.index.Package.{Package}
 use Rattle.version_range.specs.Version.{has_versions, is_version}
 
--- the ranges of dependencies
+-- for the ranges of flattened dependencies
 abbrev pub flats_have_versions : List FlatDep → Bool
 flats_have_versions flats = list_all (λ flat. has_versions flat.dep.range) flats
 
--- the ranges of setup dependencies
+-- for the ranges of setup dependencies
 abbrev pub deps_have_versions : List Dep → Bool
 deps_have_versions deps = list_all (λ dep. has_versions dep.range) deps
 
--- the ranges of an instance
+-- for the ranges of an instance
 abbrev pub body_has_versions : Body → Bool
 body_has_versions (Source d flats exposed) = flats_have_versions flats && deps_have_versions d.setup
 body_has_versions (Installed record_of needs) = true
 
--- an instance and its ranges
+-- for an instance and its ranges
 abbrev pub entry_has_versions : Entry → Bool
 entry_has_versions e = is_version e.instance.version.parts && body_has_versions e.body
 
--- the instances of a package
+-- for the instances of a package
 abbrev pub entries_have_versions : List Entry → Bool
 entries_have_versions entries = list_all entry_has_versions entries
 
--- all instances
+-- for all instances
 abbrev pub packages_have_versions : List Package → Bool
 packages_have_versions packages = list_all (λ p. entries_have_versions p.entries) packages

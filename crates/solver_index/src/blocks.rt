@@ -1,4 +1,4 @@
-// Places at which a test stops to hold, found by halves.
+// Binary search for the place at which a test begins to fail.
 ghost use Rattle.std.specs.Prelude.{◌≡◌, ℕ, ◌<◌, ◌≤◌, true, false, not, length};
 ghost use Rattle.solver_index.specs.Before.{before};
 ghost use Rattle.solver_index.specs.Blocks.{Falls, passes};
@@ -7,16 +7,16 @@ ghost use Rattle.plan_types.specs.Packages.{is_installed};
 
 use plan_types::{Body, Entry, Range, Version};
 
-/// What is asked of an instance.
+/// A test of an instance.
 #[derive(Clone, Copy, Debug, Drop)]
 pub(crate) enum Test {
     IsSource,
-    /// That it lies below where the members of an operator begin.
+    /// The version lies below the first member of an operator.
     IsBefore,
     IsMember,
 }
 
-/// The first place from which no instance passes, where those that do come first.
+/// The first place whose instance fails the test, where those that pass come first; `to` if all pass.
 pub(crate) fn first_without(
     test: Test,
     range: &Range,
@@ -64,7 +64,7 @@ fn is_source(body: &Body) -> bool
     }
 }
 
-// Whether a version is below where the members of an operator begin.
+// Whether a version lies below the first member of an operator.
 fn before(range: &Range, version: &Version) -> bool
     ensures { result ≡ before range.now version.now }
 {

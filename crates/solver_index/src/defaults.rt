@@ -15,7 +15,7 @@ use std::alloc::Global;
 /// The defaults of the flags that an instance declares, by their numbers.
 pub type Defaults = IndexMap<u64, bool>;
 
-/// Those of each instance, by package and instance.
+/// The defaults by package and instance.
 pub(crate) fn defaults_of(
     alloc: Global,
     packages: &[Package],
@@ -54,7 +54,7 @@ fn flag_defaults(alloc: Global, names: &Names, flags: &[FlagDecl]) -> Result<Def
     Ok(defaults)
 }
 
-/// The default of a flag as an instance declares it.
+/// The default that an instance declares for a flag; off without a declaration.
 pub(crate) fn default_at(rows: &[List<Defaults>], p: u64, i: u64, f: u64) -> bool
     ensures { (packages : List Package) (names : NameTable) → AreDefaults packages names rows.now
         → result ≡ default_of names f (entry_at (entries_of packages p) i).body }

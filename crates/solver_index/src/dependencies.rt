@@ -1,4 +1,4 @@
-// What an instance depends on, by numbers and places.
+// What an instance depends on, with names as numbers and ranges as places.
 use crate::place_runs::PlaceRuns;
 use plan_types::{DepKind, List};
 use qualified_goals::Part;
@@ -17,7 +17,7 @@ pub struct Target {
     pub allowed: PlaceRuns,
 }
 
-/// A dependency, and what has to be set for it to count.
+/// A dependency, and the settings under which it counts.
 #[derive(Debug, Drop)]
 pub struct ConditionalDep {
     pub when: List<Setting>,
@@ -32,7 +32,7 @@ pub struct Need {
     pub allowed: List<u64>,
 }
 
-/// What an instance asks for. Each list is in the order of that of which it is made.
+/// What an instance depends on. Each list keeps the order of its source.
 #[derive(Debug)]
 pub struct Dependencies {
     /// The numbers of its flags.
@@ -42,7 +42,7 @@ pub struct Dependencies {
     pub needs: List<Need>,
 }
 
-// Written out, so that it is proved once and not at each exit of each function that owns one.
+// Explicit, so that it is proved once: a derived one is expanded at each exit.
 impl Drop for Dependencies {
     fn drop(self) {
         let Dependencies {

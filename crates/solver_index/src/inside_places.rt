@@ -16,8 +16,8 @@ use plan_types::{Entry, List, NoMemory, Range};
 use std::alloc::Global;
 use version_range::Cuts;
 
-/// The places of the instances whose versions are inside the cuts of a range. They are found by halves: between the
-/// places at which versions pass into an operator of the range or out of it, one version tells of all.
+/// The places of the instances whose versions are inside the cuts of a range. Binary search finds the places at which
+/// versions enter or leave an operator of the range. Between two of these, one version decides for all.
 pub(crate) fn places_inside(
     alloc: Global,
     cuts: &Cuts,
@@ -82,7 +82,7 @@ fn push_segments(
     push_segment(found, cuts, entries, first, to as u64)
 }
 
-// One instance tells of all.
+// The versions of a segment are all inside or all outside, so one decides.
 fn push_segment(
     found: &mut PlaceRuns,
     cuts: &Cuts,

@@ -1,7 +1,7 @@
-//! What is made once of an index and a project. In go the packages, their names by numbers and the constraints; out
-//! come the order in which the instances of each package are tried, what each instance asks for, and the defaults of
-//! its flags: names as numbers, and dependencies as the places of the instances that they allow, so that a choice
-//! filters nothing. The ranges are relaxed as the project says.
+//! Tables made once from an index and a project, so that a choice filters nothing. In go packages, the numbers of
+//! their names, the project and its constraints. Out come the order in which the instances of each package are tried,
+//! the dependencies of each instance, and the defaults of its flags. Names are numbers there, and a dependency lists
+//! the places of the instances that it allows. Its range is relaxed as the project sets.
 #![tactic(auto)]
 
 mod blocks;

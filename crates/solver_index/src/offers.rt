@@ -1,4 +1,4 @@
-// Which instances a dependency allows, of those whose versions it allows.
+// Which instances inside a dependency's versions it allows.
 ghost use Rattle.std.specs.Prelude.{◌≡◌, ◌++◌, IfOk, OnOk, filter};
 ghost use Rattle.std.specs.List.{list_all, list_any};
 ghost use Rattle.solver_index.specs.Places.{between};
@@ -10,7 +10,7 @@ use crate::place_runs::{PlaceRuns, Run};
 use plan_types::{Body, Dep, DepKind, Entry, LibName, List, NoMemory, Range, Text};
 use std::alloc::Global;
 
-/// What a dependency of a kind allows, of the instances whose versions are let in: those that have what it is on.
+/// The instances that a dependency allows: those inside its versions that have its libraries or its executable.
 pub(crate) fn allowed_by(
     alloc: Global,
     kind: DepKind,

@@ -1,4 +1,4 @@
-// Places that are kept as runs.
+// Places kept as runs.
 ghost use Rattle.std.specs.Prelude.{◌≡◌, ◌++◌, [], IfOk, OnOk};
 ghost use Rattle.solver_index.specs.Places.{between};
 ghost use Rattle.solver_index.specs.PlaceRuns.{places_in};
@@ -38,7 +38,7 @@ impl PlaceRuns {
         }
     }
 
-    /// Appends the places from one up to another, of which there may be none.
+    /// Appends the places from one up to another; none where the run is empty.
     pub(crate) fn push_run(&mut self, from: u64, to: u64) -> Result<(), NoMemory>
         ensures { OnOk result (self.new ≡ self.old ++ between from to) }
     {

@@ -37,7 +37,7 @@ pub fn flag_number(names: &Names, name: &Text) -> u64
     }
 }
 
-/// The numbers below one.
+/// The numbers below `count`, rising.
 pub fn rising(alloc: Global, count: usize) -> Result<List<u64>, NoMemory>
     ensures { IfOk result (λ numbers. numbers ≡ rising count) }
 {

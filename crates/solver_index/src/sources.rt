@@ -20,7 +20,7 @@ use qualified_goals::{Names, Part};
 use std::alloc::Global;
 use version_range::Cuts;
 
-/// Of what the tables are made.
+/// The input of the tables.
 pub(crate) struct Sources<'a> {
     pub packages: &'a [Package],
     pub project: &'a Project,
@@ -29,7 +29,7 @@ pub(crate) struct Sources<'a> {
     pub units: List<UnitPlaces>,
 }
 
-// Written out, so that it is proved once and not at each exit of each function that owns one.
+// Explicit, so that it is proved once: a derived one is expanded at each exit.
 impl<'a> Drop for Sources<'a> {
     fn drop(self) {
         let Sources {

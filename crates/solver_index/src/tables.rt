@@ -1,4 +1,4 @@
-// All that is made once of an index and a project.
+// All tables of an index and a project.
 ghost use Rattle.std.specs.Prelude.{◌≡◌, List, IfOk, true};
 ghost use Rattle.plan_types.specs.declared.index.Package.{Package};
 ghost use Rattle.plan_types.specs.Packages.{entries_of};
@@ -21,7 +21,7 @@ use plan_types::{List, NoMemory, Package, Project};
 use qualified_goals::Names;
 use std::alloc::Global;
 
-/// What is made once.
+/// The tables of an index and a project.
 #[derive(Debug)]
 pub struct Tables {
     /// The instances of each package, the best first.
@@ -32,7 +32,7 @@ pub struct Tables {
     pub defaults: List<List<Defaults>>,
 }
 
-// Written out, so that it is proved once and not at each exit of each function that owns one.
+// Explicit, so that it is proved once: a derived one is expanded at each exit.
 impl Drop for Tables {
     fn drop(self) {
         let Tables {
@@ -44,7 +44,7 @@ impl Drop for Tables {
 }
 
 impl Tables {
-    /// The tables of some packages and of a project whose constraints are kept.
+    /// The tables of some packages and a project, by the project's kept constraints.
     pub fn of(
         alloc: Global,
         packages: &[Package],
@@ -77,7 +77,7 @@ impl Tables {
         })
     }
 
-    /// The default of a flag as an instance declares it, and off where it doesn't.
+    /// The default that an instance declares for a flag; off without a declaration.
     pub fn default_of(&self, p: u64, i: u64, f: u64) -> bool
         ensures { (packages : List Package) (names : NameTable) → AreDefaults packages names self.now.defaults
             → result ≡ default_of names f (entry_at (entries_of packages p) i).body }

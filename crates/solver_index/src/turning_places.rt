@@ -1,4 +1,4 @@
-// Places at which instances pass into a range or out of it.
+// Places at which instances enter or leave a range.
 ghost use Rattle.std.specs.Prelude.{◌≡◌, OnOk, MatchOption, true};
 ghost use Rattle.plan_types.specs.Members.{members};
 ghost use Rattle.version_range.specs.Version.{has_versions};
@@ -9,7 +9,7 @@ ghost use Rattle.solver_index.specs.TurningPlaces.{AreTurns};
 use crate::blocks::{Test, first_without};
 use plan_types::{Entry, List, NoMemory, Range};
 
-/// The places in a block at which instances may pass into a range or out of it.
+/// Appends the places in a block at which instances may enter or leave a range.
 pub(crate) fn push_turns(
     turns: &mut List<u64>,
     range: &Range,

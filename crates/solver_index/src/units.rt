@@ -17,7 +17,7 @@ use std::alloc::Global;
 /// The places of the units of a package, by their ids.
 pub(crate) type UnitPlaces = Lists<Text, u64>;
 
-/// Those of all packages.
+/// The places of the units of each package, by their ids.
 pub(crate) fn units_of(alloc: Global, packages: &[Package]) -> Result<List<UnitPlaces>, NoMemory>
     ensures { IfOk result (AreUnits packages.now (length packages.now)) }
 {

@@ -1,4 +1,4 @@
-// What a project asks of packages, by their names.
+// The extra packages of a project and its preferred ranges, kept by name.
 ghost use Rattle.std.specs.Prelude.{◌≡◌, ◌++◌, IfOk, OnOk, List};
 ghost use Rattle.keyed_lists.specs.Lists.{items_at};
 ghost use Rattle.plan_types.specs.Bytes.{same_text};
@@ -12,13 +12,13 @@ use keyed_lists::{Lists, items_at, push_at};
 use plan_types::{List, Named, NoMemory, Project, Range, Text};
 use std::alloc::Global;
 
-/// The packages that are asked for besides, and the ranges that are preferred.
+/// The extra packages, and the preferred ranges.
 pub(crate) struct Wishes {
     pub(crate) extra: IndexSet<Text>,
     pub(crate) preferred: Lists<Text, Range>,
 }
 
-// Written out, so that it is proved once and not at each exit of each function that owns one.
+// Explicit, so that it is proved once: a derived one is expanded at each exit.
 impl Drop for Wishes {
     fn drop(self) {
         let Wishes {
@@ -58,7 +58,7 @@ fn ranges_of(alloc: Global, all: &[Named]) -> Result<Lists<Text, Range>, NoMemor
 }
 
 impl Wishes {
-    /// Whether a package is asked for besides.
+    /// Whether a package is an extra one.
     pub(crate) fn asks_for(&self, name: &Text) -> bool
         ensures { result ≡ is_listed self.now.extra.keys name.now }
     {

@@ -1,4 +1,4 @@
--- what is in front of the bounds passes, and what is behind them doesn't
+-- places in front of the bounds pass, and places behind them fail
 use Rattle.std.proofs.Common.{◌≡◌, ℕ, ◌-◌, ◌<◌, ◌≤◌, true, false}
 use Rattle.solver_index.specs.Blocks.{passes}
 use Rattle.solver_index.specs.Places.{entry_at}

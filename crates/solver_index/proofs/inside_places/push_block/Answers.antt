@@ -4,7 +4,7 @@ use Rattle.std.specs.List.Sorted.{IsNonDecreasing, IsPermutation}
 use Rattle.std.proofs.lemmas.List.Sorted.{Contains-permutation, IsNonDecreasingBy-from_sort, IsPermutation-sym}
 use Rattle.solver_index.proofs.inside_places.push_block.Goals as goal
 
--- the turns, sorted, are those that were found
+-- the sorted turns have the same members
 record AreSorted (more sorted : List ℕ) : Type 0 where
   there : (t : ℕ) → Contains more t → Contains sorted t
   back : (t : ℕ) → Contains sorted t → Contains more t

@@ -1,4 +1,4 @@
--- those of the places so far whose versions are inside; the last turn lies between those so far and the others
+-- the places so far whose versions are inside; the last turn lies between these places and the others
 use Rattle.std.proofs.Common.{◌≡◌, ℕ, ◌<◌, ◌≤◌, ◌++◌, length, get_or}
 use Rattle.std.specs.List.{filter}
 use Rattle.version_range.specs.Cuts.{inside}

@@ -1,4 +1,4 @@
--- those of the places so far whose versions are in the range
+-- the places so far whose versions are in the range
 use Rattle.std.proofs.Common.{◌≡◌}
 use Rattle.std.specs.List.{filter}
 use Rattle.plan_types.specs.Members.{members}

@@ -1,4 +1,4 @@
--- what the runs so far give
+-- the allowed places of the runs so far
 use Rattle.std.proofs.Common.{◌≡◌, take}
 use Rattle.std.specs.List.{filter}
 use Rattle.solver_index.specs.Allowed.{has_at}

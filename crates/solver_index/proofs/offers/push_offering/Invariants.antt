@@ -1,4 +1,4 @@
--- those of the places so far whose instances pass, the last of them not pushed yet
+-- the places so far whose instances pass, without the last run of them
 use Rattle.std.proofs.Common.{◌≡◌, ◌++◌, ◌≤◌, max}
 use Rattle.std.specs.List.{filter}
 use Rattle.solver_index.specs.Allowed.{has_at}

@@ -1,4 +1,4 @@
--- where the rest is calm, the whole is
+-- membership in the range is constant where it is so in the rest
 use Rattle.std.proofs.Common.{◌≡◌, ◌≤◌, true}
 use Rattle.plan_types.specs.Members.{members}
 use Rattle.plan_types.specs.declared.range.Range.{size-Range}
