@@ -1,4 +1,4 @@
--- Numbers each once, with one number more.
+-- Numbers, each once, with one more appended.
 use Rattle.std.proofs.Common.{◌≡◌, ℕ, true, false, cond, not, ◌||◌, List, [], ◌∷◌, ◌++◌, Some, refl, sym, ap, ◌∙◌}
 use Rattle.std.specs.Prelude.{nat_eq}
 use Rattle.std.specs.List.{filter}
@@ -7,7 +7,7 @@ use Rattle.std.proofs.lemmas.List.Elements.{filter-append}
 use Rattle.choice_problem.specs.Assignment.{is_one_of}
 use Rattle.cabal_problem.specs.Values.{each_once}
 
--- what differs from a number that is taken out stays
+-- taking out one number keeps the others
 one-kept : (x y : ℕ) → nat_eq x y ≡ false → (rest : List ℕ) → is_one_of (Some y) (filter (λ m. not (nat_eq x m)) rest) ≡ is_one_of (Some y) rest
 one-kept x y other [] = refl
 one-kept x y other (z ∷ rest) =
@@ -19,7 +19,7 @@ one-kept x y other (z ∷ rest) =
       | false ↦ λ e. ap (λ b. nat_eq y z || b) more
     ] refl
 
--- the last one among the others, once the first was taken out
+-- the appended number, after the first one is taken out
 last-one : (x y : ℕ) (rest : List ℕ) → filter (λ m. not (nat_eq x m)) (cond (is_one_of (Some y) rest) [] (y ∷ []))
     ≡ cond (is_one_of (Some y) (x ∷ filter (λ m. not (nat_eq x m)) rest)) [] (y ∷ [])
 last-one x y rest =
@@ -40,7 +40,7 @@ last-one x y rest =
           ]
     ] refl
 
--- a number behind others stays where none of them is it
+-- an appended number is kept if it is new
 pub each_once-push : (xs : List ℕ) (y : ℕ) → each_once (xs ++ y ∷ []) ≡ each_once xs ++ cond (is_one_of (Some y) (each_once xs)) [] (y ∷ [])
 each_once-push [] y = refl
 each_once-push (x ∷ xs) y =

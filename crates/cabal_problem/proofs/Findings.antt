@@ -1,4 +1,4 @@
--- In a sound index all that an instance asks for is found, and its ranges have versions that can be written.
+-- In a sound index all packages and flags of an instance's demands exist, and its ranges have well-formed versions.
 use Rattle.std.proofs.Common.{◌≡◌, ℕ, suc, ◌+◌, ◌<◌, Bool, true, false, cond, not, ◌&&◌, ◌||◌, nat_eq, List, [], ◌∷◌, ◌++◌, length, map, flat_map, Some, None, refl, sym, ap, ◌∙◌, subst, inl, inr, arith}
 use Rattle.std.specs.Prelude.{unwrap_or, Contains}
 use Rattle.std.specs.List.{AllByRecursion, list_all, list_any, position_or_len}
@@ -54,7 +54,7 @@ same-self (x ∷ a) = and_from (nat_eq x x) (pointwise nat_eq a a) (eq-eqb x x r
 listed-from : (names : List Name) (name : Name) → Contains names name → is_listed names name ≡ true
 listed-from names name h = any-from (same_text name) names name h (same-self name)
 
--- a name that is listed has a place
+-- a listed name has a place
 record HasPlace (names : List Name) (name : Name) : Type 0 where
   place : ℕ
   below : place < length names
@@ -74,7 +74,7 @@ listed-place names name h =
     let below = place-below (same_text name) names h in
     record { place = place; below = below; is = ap (λ b. cond b (Some place) None) (lt-ltb place (length names) below) }
 
--- a dependency that is flattened, and where it stands
+-- a flattened dependency, with its component and condition
 pub record IsOutward (d : Description) (dep : Dep) : Type 0 where
   pub component : Component
   pub guarded : GuardedDep
@@ -125,7 +125,7 @@ module _ (index : Index) (names : NameTable) (numbers : AreNumbers index.package
       let same : length names.packages ≡ length packages = ap length numbers.packages_are ∙ length-map packages (λ (p : Package). p.name) in
       lt-ltb (number packages names name) (length packages) (omega (arith, number_is, same, has.below))
 
-  -- the number of a package that is there is its own
+  -- an existing package has its own number
   package-number : (name : Name) → has_package index name ≡ true → is_number (number_of names.packages name) (number packages names name) ≡ true
   package-number name h =
       let has = package-place name h in
@@ -151,7 +151,7 @@ module _ (index : Index) (names : NameTable) (numbers : AreNumbers index.package
       (any-from (λ (g : GuardedDep). is_tool_of names t g.dep) component.deps guarded k
       (and_from (not guarded.dep.internal && is_tool guarded.dep.kind) (is_number (number_of names.packages guarded.dep.«package») t) (and_from (not guarded.dep.internal) (is_tool guarded.dep.kind) out tool) is))
 
-  -- a qualifier under which the dependency's package has variables
+  -- the qualifier of the dependency has variables
   pub kind-found : (p : ℕ) (e : Entry) (d : Description) (flats : List FlatDep) (offer : Exposed) (guarded : GuardedDep) (component : Component) (k : DepKind) → guarded.dep.kind ≡ k
       → Contains (entries_of packages p) e → e.body ≡ Source d flats offer → Contains d.components component → Contains component.deps guarded → not guarded.dep.internal ≡ true
       → is_of_components guarded.dep.kind ≡ true → has_package index guarded.dep.«package» ≡ true → has_qual_for packages names p k guarded.dep.«package» ≡ true

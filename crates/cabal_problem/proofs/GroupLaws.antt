@@ -11,11 +11,11 @@ use Rattle.std.proofs.Math.Bool.{or-false}
 
 -- ---- groups
 
--- what holds of its member holds in a group of one
+-- a property of the one member is one of each member
 pub one-same : (r : Request) (d e : Demand) → AsksForSame r d → Contains (d ∷ []) e → AsksForSame r e
 one-same r d e same h = elim (contains-cases d [] e h) [ inl is ↦ subst (AsksForSame r) is same | inr none ↦ absurd (contains-none e none) ]
 
--- a demand is listed for itself
+-- a demand is its own group
 itself : (d : Demand) → IsGroup (request_of d) (d ∷ [])
 itself d = record {
   same = λ e h. one-same (request_of d) d e (record { owner = refl; target = refl; allowed = refl }) h;
@@ -32,14 +32,14 @@ groups-append (r ∷ xs) ys ds es h k = (h.0, h.1 ++ es, ap (λ (l : List Demand
 
 -- ---- what is Yes
 
--- one of the listed demands asks for the same, and is Yes
+-- one of the listed demands has the request's owner, target and values, and is Yes
 pub record IsListed (A : Assignment) (r : Request) (demands : List Demand) : Type 0 where
   pub demand : Demand
   pub there : Contains demands demand
   pub same : AsksForSame r demand
   pub yes : is_yes A demand ≡ true
 
--- one of the requests asks for the same, and is Yes
+-- one of the requests has the demand's owner, target and values, and is Yes
 pub record IsRequested (A : Assignment) (d : Demand) (requests : List Request) : Type 0 where
   pub request : Request
   pub there : Contains requests request

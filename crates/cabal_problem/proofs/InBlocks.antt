@@ -1,4 +1,4 @@
--- In a sound index the instances of each package stand in blocks.
+-- In a sound index the instances of each package are in blocks.
 use Rattle.std.proofs.Common.{◌≡◌, zero, suc, Bool, true, false, not, List, [], ◌∷◌, ◌++◌, map, refl, sym, ap, ◌∙◌, subst}
 use Rattle.std.specs.List.{AllByRecursion, Contains}
 use Rattle.std.specs.List.Sorted.{IsStrictlySortedBy}
@@ -30,7 +30,7 @@ tail-of kind e entries h f k = h f (contains-tail e entries f k)
 
 -- ---- one kind
 
--- a release may follow one of a lower version
+-- a release may follow one with a lower version
 release-follows : (a b : Entry) → is_installed a.body ≡ false → order a.instance.version.parts b.instance.version.parts ≡ Less → MayFollow a b
 release-follows a b source less = (λ h. absurd (false≢true (sym source ∙ h)), λ same. not_below_back a.instance.version b.instance.version (ap is_lt less))
 
@@ -42,7 +42,7 @@ not-later Less p h = refl
 not-later Equal p h = refl
 not-later Greater p h = absurd (cc h)
 
--- a unit may follow one of no higher version
+-- a unit may follow one with the same or a lower version
 unit-follows : (a b : Entry) → is_installed b.body ≡ true → unit_order a b ≡ Less → MayFollow a b
 unit-follows a b unit less =
     let v = a.instance.version in

@@ -1,4 +1,4 @@
--- What is made of a sound index passes the test of the laws.
+-- The tables of a sound index pass the test for lawfulness.
 use Rattle.std.proofs.Common.{◌≡◌, ℕ, true, ◌&&◌, nat_eq, List, [], length, subst}
 use Rattle.std.specs.Prelude.{slice_index_or}
 use Rattle.std.specs.List.{list_all, range_with_len}

@@ -1,4 +1,4 @@
--- There is one table of the orders of the packages of an index.
+-- The table of the orders of an index is unique.
 use Rattle.std.proofs.Common.{◌≡◌, ℕ, ◌<◌, List, [], length, sym, ◌∙◌, arith}
 use Rattle.std.proofs.lemmas.List.{get_or_default, same_lists}
 use Rattle.plan_types.specs.declared.index.Instance.{Instance}
@@ -10,7 +10,7 @@ use Rattle.preferences.specs.Places.{IsOrder}
 use Rattle.solver_index.specs.Orders.{AreOrders, IsOrderOf, IsTable, instances_of, policy_of, preferred_of}
 use Rattle.plan_types.specs.Packages.{package_at}
 
--- where one row alone fits each number
+-- a table is unique if each of its rows is
 one-rows : {X : Type 0} (n : ℕ) (Fits : ℕ → X → Type 0) (none : X) → ((k : ℕ) → k < n → (x y : X) → Fits k x → Fits k y → x ≡ y)
     → (rows others : List X) → IsTable n Fits none rows → IsTable n Fits none others → rows ≡ others
 one-rows n Fits none one rows others is also =

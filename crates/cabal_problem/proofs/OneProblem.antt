@@ -1,4 +1,4 @@
--- An index and a project have one problem.
+-- The problem of an index and a project is unique.
 use Rattle.std.proofs.Common.{◌≡◌, ℕ, List, sym, ◌∙◌}
 use Rattle.plan_types.specs.declared.index.Index.{Index}
 use Rattle.plan_types.specs.declared.index.Instance.{Instance}

@@ -1,4 +1,4 @@
--- There is one table of the names of an index.
+-- The table of the names of an index is unique.
 use Rattle.std.proofs.Common.{◌≡◌, true, false, ◌||◌, List, [], ◌∷◌, refl, sym, ap, ◌∙◌, subst, inl, inr}
 use Rattle.std.specs.List.{AllByRecursion}
 use Rattle.std.specs.List.Sorted.{IsStrictlySortedBy}
@@ -35,7 +35,7 @@ listed-behind name other (n ∷ names) h e =
       | inr rest ↦ listed-behind name other names h.1 rest
     ]
 
--- the first of each list is in the other
+-- two sorted lists that contain each other's first name begin with the same name
 first-same : (x y : Name) (xs ys : List Name) → IsBefore x xs → IsBefore y ys → is_listed (y ∷ ys) x ≡ true → is_listed (x ∷ xs) y ≡ true → x ≡ y
 first-same x y xs ys before also h k =
     elim (or_cases (same_text x y) (is_listed ys x) h) [
@@ -56,7 +56,7 @@ rest-same x xs ys before also same n =
       | false ↦ λ e s. s
     ] refl (same n)
 
--- names that rise are one list of these names
+-- strictly sorted lists with the same members are equal
 one-list : (xs ys : List Name) → IsStrictlySortedBy by_bytes xs → IsStrictlySortedBy by_bytes ys → ((n : Name) → is_listed xs n ≡ is_listed ys n) → xs ≡ ys
 one-list [] [] s t same = refl
 one-list [] (y ∷ ys) s t same = absurd (false≢true (same y ∙ head-listed y ys))

@@ -1,4 +1,4 @@
--- What an instance asks for in numbers makes the demands that it has by the names.
+-- The rows of an instance make the demands that its description makes.
 use Rattle.std.proofs.Common.{◌≡◌, ℕ, zero, suc, ◌+◌, ◌<◌, Bool, true, false, cond, ◌&&◌, List, [], ◌∷◌, ◌++◌, length, flat_map, get_or, map, take, refl, sym, ap, ◌∙◌, arith, append_assoc}
 use Rattle.std.specs.List.{filter, list_all}
 use Rattle.plan_types.specs.declared.dependency.Dep.{Dep}

@@ -1,4 +1,4 @@
--- The demands that are searched are listed for those with whole conditions, one group after another.
+-- The listed demands are the groups of those with whole conditions.
 use Rattle.std.proofs.Common.{◌≡◌, ℕ, zero, suc, ◌<◌, Bool, true, false, cond, ◌&&◌, ◌||◌, nat_eq, List, [], ◌∷◌, ◌++◌, length, map, Some, None, refl, sym, ap, ◌∙◌, subst, inl, inr, arith}
 use Rattle.std.specs.Prelude.{Option, Contains}
 use Rattle.std.specs.List.{filter, flat_map, list_all, list_any}
@@ -130,7 +130,7 @@ module _ (env : Env) (index : Index) (project : Project) (names : NameTable) (or
         (λ i. yes-is A flat i || any-yes A flats i)
         ∙ sym (and-or_distrib_left (is_made A owner) (are_met (parts_under names owner A) flat.when) (list_any (λ f. are_met (parts_under names owner A) f.when) flats))
 
-    -- an entry of a dependency asks for the same
+    -- each entry of a dependency has its owner, target and values
     entry-same : (at : Outward) (d : Demand) → Contains (map demand (demands_at env at)) d → AsksForSame (request at) d
     entry-same at d h =
         let found = contains-map demand (demands_at env at) d h in
@@ -143,7 +143,7 @@ module _ (env : Env) (index : Index) (project : Project) (names : NameTable) (or
       yes = λ A. sym (any-yes A (demands_at env at) ∙ ap (λ b. is_made A owner && b) (counts at (parts_under names owner A)));
     }
 
-    -- all entries of a dependency can count, or none can
+    -- either all paths of a dependency can count, or none can
     paths-kept : (k : CompKind) (dep : Dep) (paths : List Path) → filter (can_count stanzas) (map (flat_of k dep) paths) ≡ cond (list_all (λ literal. has_part stanzas literal.part) (stanza_of k)) (map (flat_of k dep) paths) []
     paths-kept k dep [] = none-kept (list_all (λ literal. has_part stanzas literal.part) (stanza_of k)) [] refl
     paths-kept k dep (path ∷ paths) =

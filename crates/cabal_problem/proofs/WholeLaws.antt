@@ -1,4 +1,4 @@
--- The problem with whole conditions keeps the laws.
+-- The problem with whole conditions is lawful.
 use Rattle.std.proofs.Common.{◌≡◌, ℕ, ◌<◌, Bool, true, false, not, ◌&&◌, List, ◌++◌, length, map, refl, sym, ap, ◌∙◌, subst, inl, inr}
 use Rattle.std.specs.Prelude.{Contains}
 use Rattle.std.specs.List.{filter, list_all}
@@ -69,7 +69,7 @@ module _ (env : Env) (index : Index) (project : Project) (names : NameTable) (or
   abbrev whole : General
   whole = whole_problem env packages project names orders
 
-  -- a listed demand is one of an owner as a request too
+  -- an owned demand is owned as a request too
   owned-request : (owner : Choice) (one : Demand) → IsOwned (problem_of packages project names orders) owner one → IsOwnedRequest whole owner (request_of one)
   owned-request owner one is =
       record {

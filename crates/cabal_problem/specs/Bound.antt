@@ -1,4 +1,4 @@
--- A finite range in which the variables lie.
+-- A finite list that has each variable.
 use Rattle.std.specs.Prelude.{ℕ, List, ◌∷◌, ◌++◌, length, map, flat_map}
 use Rattle.plan_types.specs.declared.index.Package.{Package}
 use Rattle.qualified_goals.specs.declared.variable.Qual.{Qual}
@@ -9,11 +9,11 @@ use Rattle.qualified_goals.specs.declared.variable.Var.{Var}
 use Rattle.qualified_goals.specs.Names.{NameTable}
 use Rattle.solver_index.specs.Places.{rising}
 
--- top level, the setup of each owner, and each of these tools for each owner
+-- top level, the setup of each owner, and each tool of each owner
 abbrev pub all_quals : List ℕ → List ℕ → List Qual
 all_quals owners tools = Top ∷ map Setup owners ++ flat_map (λ p. map (Exe p) tools) owners
 
--- all parts that a package may have, where flags have these numbers
+-- all parts of a package whose flags have these numbers
 abbrev pub all_parts : List ℕ → List Part
 all_parts flags = ThePackage ∷ Tests ∷ Benches ∷ map Flag flags
 
@@ -26,6 +26,6 @@ abbrev pub all_vars : List Package → NameTable → List Var
 all_vars packages names =
     flat_map (vars_of (rising (length packages)) (all_parts (rising (length names.flags)))) (all_quals (rising (length packages)) (rising (length names.packages)))
 
--- how many variables there are at most
+-- an upper bound on the number of variables
 abbrev pub bound_of : List Package → NameTable → ℕ
 bound_of packages names = length (all_vars packages names)

@@ -94,7 +94,7 @@ no-setup = refl
 no-tool : is_qual packages names (Exe 1 0) ≡ false
 no-tool = refl
 
--- the tests of main have a variable at top level alone
+-- the tests of main have a variable only at top level
 tests-at-top : is_known packages names (record { qual = Top; «package» = 1; part = Tests }) ≡ true
 tests-at-top = refl
 
@@ -107,7 +107,7 @@ flag-in-setup = refl
 one-instance : domain_of packages 1 ThePackage ≡ 1
 one-instance = refl
 
--- a flag is off first until an instance is chosen that declares it, and then as that says; a stanza is on first
+-- a flag is off first, or has the default of the chosen instance first; a stanza is on first
 not-chosen : order_of packages names [] Top 1 (Flag 0) [] ≡ 0 ∷ 1 ∷ []
 not-chosen = refl
 
@@ -117,7 +117,7 @@ chosen-first = refl
 chosen-elsewhere : order_of packages names [] (Setup 1) 1 (Flag 0) (record { var = package_var Top 1; val = 0 } ∷ []) ≡ 0 ∷ 1 ∷ []
 chosen-elsewhere = refl
 
--- an instance that was chosen in a setup comes first, once, also where preference has it last; that of the variable itself doesn't count
+-- an instance chosen in a setup comes first, and once, even if preferred last; the variable's own choice doesn't count
 abbrev taken : Var → ℕ → Choice
 taken v n = record { var = v; val = n }
 
@@ -128,14 +128,14 @@ reused-first = refl
 on-before-off : order_of packages names [] Top 1 Tests [] ≡ 1 ∷ 0 ∷ []
 on-before-off = refl
 
--- a manual flag has its default alone
+-- a manual flag has only its default
 manual : flag_values project names (record { qual = Top; «package» = 1; part = Flag 0 }) (fast true) ≡ 1 ∷ []
 manual = refl
 
 automatic : flag_values project names (record { qual = Top; «package» = 1; part = Flag 0 }) (fast false) ≡ 0 ∷ 1 ∷ []
 automatic = refl
 
--- the very unit, and none where the package is local
+-- the unit with this id, and nothing for a local package
 that-unit : allowed_unit (codes "base-4") (base false) ≡ 0 ∷ []
 that-unit = refl
 
@@ -145,7 +145,7 @@ another-unit = refl
 hidden-unit : allowed_unit (codes "base-4") (base true) ≡ []
 hidden-unit = refl
 
--- a unit has the main library, a source instance what it exposes
+-- a unit has the main library, a source instance those that it exposes
 unit-main : has_lib base_unit Main ≡ true
 unit-main = refl
 
@@ -158,13 +158,13 @@ not-exposed = refl
 exposed-library : has_lib main_body (Named (codes "sub")) ≡ true
 exposed-library = refl
 
--- a setup dependency is chosen in the setup of its package, wherever that is chosen
+-- a setup dependency is chosen in the setup of the owner's package, whatever the owner's qualifier
 in-setup : qual_for kind.Setup (package_var Top 1) 0 ≡ Setup 1
 in-setup = refl
 
 for-a-tool : qual_for kind.Tool (package_var Top 1) 0 ≡ Exe 1 0
 for-a-tool = refl
 
--- a value beyond off and on says nothing
+-- a value above 1 is no setting
 beyond-on : on_or_off 2 ≡ None
 beyond-on = refl

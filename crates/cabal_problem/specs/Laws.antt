@@ -1,4 +1,4 @@
--- The problem of an index and a project keeps the laws where the test says so.
+-- The problem of an index and a project is lawful if the test says so.
 use Rattle.std.specs.Prelude.{◌≡◌, ℕ, zero, suc, ◌<◌, Bool, true, false, cond, not, ◌&&◌, nat_eq, nat_lt, IsTrue, List, [], ◌∷◌, ◌++◌, length, map, filter, flat_map, slice_index_or, Some, None, position, Contains, refl}
 use Rattle.std.specs.List.{list_all, list_any, position_or_len}
 use Rattle.std.proofs.Common.{sym, ap, ◌∙◌, subst, inl, inr, arith}
@@ -67,7 +67,7 @@ on-first-order true = order-at (1 ∷ 0 ∷ []) refl
 on-first-order false = order-at (0 ∷ 1 ∷ []) refl
 
 module _ (packages : List Package) (names : NameTable) where
-  -- ---- the range of the variables
+  -- ---- the bound on the variables
 
   pub within : (test : Entry → Bool) (p : ℕ) → list_any test (entries_of packages p) ≡ true → p < length packages
   within test p h =
@@ -157,7 +157,7 @@ module _ (packages : List Package) (names : NameTable) where
 
   -- ---- orders
 
-  -- the value of a choice of a package's instance is the place of one
+  -- the value of a choice of an instance is its place
   instance-below : (p : ℕ) (c : Choice) → is_of_package p c ≡ true → c.val < domain_of packages c.var.«package» c.var.part → c.val < length (entries_of packages p)
   instance-below p c of below =
       let parts = and_parts (is_whole c.var.part) (nat_eq c.var.«package» p) of in
@@ -243,7 +243,7 @@ module _ (packages : List Package) (project : Project) (names : NameTable) (orde
         target = h;
       }
 
-  -- what is known where a choice of a package is one
+  -- what is known of the choice of an instance
   record IsOwner (owner : Choice) (body : Body) : Type 0 where
     qual : is_qual packages names owner.var.qual ≡ true
     below : owner.var.«package» < length packages

@@ -1,5 +1,5 @@
--- The demands that are searched: roots, and those of each choice, in their order. A dependency stands once for each way to
--- set flags so that it counts.
+-- The listed demands: the roots, and those of each choice in their order. A dependency has one for each path of its
+-- condition.
 use Rattle.std.specs.Prelude.{ℕ, Bool, true, false, not, ◌&&◌, ◌||◌, List, [], ◌∷◌, ◌++◌, length, map, filter, slice_index_or}
 use Rattle.std.specs.List.{list_all}
 use Rattle.plan_types.specs.declared.dependency.Dep.{Dep}
@@ -42,7 +42,7 @@ use Rattle.plan_types.specs.Packages.{entries_of, package_at}
 abbrev pub part_beside : Choice → Part → Var
 part_beside owner part = record { qual = owner.var.qual; «package» = owner.var.«package»; part = part }
 
--- where a package is chosen on which the owner depends so
+-- the qualifier under which the package of the owner's dependency is chosen
 abbrev pub qual_for : DepKind → Var → ℕ → Qual
 qual_for kind.Library owner t = owner.qual
 qual_for kind.Tool owner t = Exe owner.«package» t
@@ -52,7 +52,7 @@ qual_for kind.Setup owner t = Setup owner.«package»
 abbrev pub target_for : List Package → NameTable → Var → DepKind → Name → Var
 target_for packages names owner kind name = package_var (qual_for kind owner (number packages names name)) (number packages names name)
 
--- the demand of a dependency under these choices
+-- the demand of a dependency under this condition
 abbrev pub dep_demand : List Package → NameTable → Choice → List Choice → DepKind → (Version → Bool) → Dep → Demand
 dep_demand packages names owner when kind allows dep = record {
   when = when;
@@ -62,11 +62,11 @@ dep_demand packages names owner when kind allows dep = record {
 
 -- ---- flags and stanzas
 
--- A manual flag may have its default, and the values that constraints give it.
+-- A manual flag may have its default, and the values that constraints on the package require.
 abbrev pub flag_allows : Project → NameTable → Var → FlagDecl → Bool → Bool
 flag_allows project names v decl on = (not decl.manual || is_same decl.default on) || names_flag project names v on
 
--- a value where it is allowed
+-- a value, if it is allowed
 abbrev pub one_if : Bool → ℕ → List ℕ
 one_if true n = n ∷ []
 one_if false n = []
@@ -75,17 +75,17 @@ one_if false n = []
 abbrev pub flag_values : Project → NameTable → Var → FlagDecl → List ℕ
 flag_values project names v decl = one_if (flag_allows project names v decl false) 0 ++ one_if (flag_allows project names v decl true) 1
 
--- a flag is chosen where its package's instance is
+-- the demand on a flag, once an instance of its package is chosen
 abbrev pub flag_demand : Project → NameTable → Choice → FlagDecl → Demand
 flag_demand project names owner decl =
     let v = part_beside owner (Flag (flag_number names decl.name)) in
     record { when = owner ∷ []; target = v; allowed = flag_values project names v decl }
 
--- a stanza is chosen where its package's instance is
+-- the demand on a stanza, once an instance of its package is chosen
 abbrev pub stanza_demand : Choice → Part → Demand
 stanza_demand owner stanza = record { when = owner ∷ []; target = part_beside owner stanza; allowed = 0 ∷ 1 ∷ [] }
 
--- the same where the package has the stanza
+-- the same if the package has the stanza
 abbrev pub stanza_if : Bool → Choice → Part → List Demand
 stanza_if true owner stanza = stanza_demand owner stanza ∷ []
 stanza_if false owner stanza = []
@@ -100,25 +100,25 @@ has_stanzas packages owner = is_top owner.qual && (package_at packages owner.«p
 abbrev pub choice_beside : NameTable → Choice → Literal → Choice
 choice_beside names owner literal = record { var = part_beside owner (part_of names literal.part); val = bit literal.on }
 
--- the owner, and the settings that a dependency waits for
+-- the owner, with the literals of a path as choices
 abbrev pub when_of : NameTable → Choice → List Literal → List Choice
 when_of names owner literals = owner ∷ map (choice_beside names owner) literals
 
--- a literal on a stanza counts only where the stanza has a variable
+-- a literal on a stanza needs a variable of that stanza
 abbrev pub has_part : Bool → PartName → Bool
 has_part stanzas (literal.Flag name) = true
 has_part stanzas literal.Tests = stanzas
 has_part stanzas literal.Benches = stanzas
 
--- whether all parts that a dependency waits for have variables
+-- whether all parts in a dependency's condition have variables
 abbrev pub can_count : Bool → FlatDep → Bool
 can_count stanzas flat = list_all (λ literal. has_part stanzas literal.part) flat.when
 
--- the dependencies that can count, each under its settings
+-- the demand of a dependency, under the owner and its path
 abbrev pub flat_demand : List Package → NameTable → Choice → (Dep → Version → Bool) → FlatDep → Demand
 flat_demand packages names owner allows flat = dep_demand packages names owner (when_of names owner flat.when) flat.dep.kind (allows flat.dep) flat.dep
 
--- those of all dependencies that can count
+-- the demands of all dependencies that can count
 abbrev pub flat_demands : List Package → NameTable → Choice → (Dep → Version → Bool) → List FlatDep → List Demand
 flat_demands packages names owner allows flats = map (flat_demand packages names owner allows) (filter (can_count (has_stanzas packages owner.var)) flats)
 
@@ -126,16 +126,16 @@ flat_demands packages names owner allows flats = map (flat_demand packages names
 abbrev pub setup_demand : List Package → NameTable → Choice → (Dep → Version → Bool) → Dep → Demand
 setup_demand packages names owner allows dep = dep_demand packages names owner (owner ∷ []) kind.Setup (allows dep) dep
 
--- those of all setup dependencies
+-- the demands of all setup dependencies
 abbrev pub setup_demands : List Package → NameTable → Choice → (Dep → Version → Bool) → List Dep → List Demand
 setup_demands packages names owner allows deps = map (setup_demand packages names owner allows) deps
 
--- the same where the instance has a setup script of its own
+-- the same if the instance has a setup script of its own
 abbrev pub setup_if : Bool → List Demand → List Demand
 setup_if true demands = demands
 setup_if false demands = []
 
--- a unit needs that very unit of the package that is named beside it
+-- a unit needs the unit with this id, of the package named beside it
 abbrev pub unit_demand_on : List Package → NameTable → Choice → Name → Name → Demand
 unit_demand_on packages names owner id need = record {
   when = owner ∷ [];
@@ -143,17 +143,17 @@ unit_demand_on packages names owner id need = record {
   allowed = allowed_unit id (package_at packages (number packages names need));
 }
 
--- the demand for the unit at a place of a record
+-- the demand on the k-th unit that a record needs
 abbrev pub unit_demand : List Package → NameTable → Choice → List Name → List Name → ℕ → Demand
 unit_demand packages names owner ids needs k = unit_demand_on packages names owner (slice_index_or ids k []) (slice_index_or needs k [])
 
--- those for all units that a record needs
+-- the demands on all units that a record needs
 abbrev pub unit_demands : List Package → NameTable → Choice → List Name → List Name → List Demand
 unit_demands packages names owner ids needs = map (unit_demand packages names owner ids needs) (rising (length needs))
 
 -- ---- a choice
 
--- the demands of a source instance that is chosen
+-- the demands of a chosen source instance
 abbrev pub source_demands : List Package → Project → NameTable → Choice → (Dep → Version → Bool) → Description → List FlatDep → List Demand
 source_demands packages project names owner allows d flats =
     map (flag_demand project names owner) d.flags
@@ -162,16 +162,16 @@ source_demands packages project names owner allows d flats =
     ++ flat_demands packages names owner allows flats
     ++ setup_if d.custom (setup_demands packages names owner allows d.setup)
 
--- what an instance asks for that is chosen
+-- the demands of a chosen instance with this body
 abbrev pub body_demands : List Package → Project → NameTable → Choice → (Dep → Version → Bool) → Body → List Demand
 body_demands packages project names owner allows (Source d flats exposed) = source_demands packages project names owner allows d flats
 body_demands packages project names owner allows (Installed record_of needs) = unit_demands packages names owner record_of.depends needs
 
--- those of the instance of an entry
+-- the demands of the chosen instance of an entry
 abbrev pub entry_demands : List Package → Project → NameTable → Choice → Entry → List Demand
 entry_demands packages project names owner e = body_demands packages project names owner (allowed_versions project e.instance) e.body
 
--- flags and stanzas ask for nothing
+-- choices of flags and stanzas have no demands
 abbrev pub part_demands : List Demand → Part → List Demand
 part_demands demands ThePackage = demands
 part_demands demands (Flag f) = []
@@ -185,15 +185,15 @@ demands_of packages project names owner =
 
 -- ---- roots
 
--- a local package may have any of its instances
+-- the demand on a local package, which allows all instances
 abbrev pub local_root : List Package → ℕ → Demand
 local_root packages p = record { when = []; target = package_var Top p; allowed = rising (length (entries_of packages p)) }
 
--- those of all local packages
+-- the demands on all local packages
 abbrev pub local_roots : List Package → List Demand
 local_roots packages = map (local_root packages) (filter (λ p. (package_at packages p).local) (rising (length packages)))
 
--- a package that is asked for besides may have an instance in its range
+-- the demand on an extra package, which allows the instances in its range
 abbrev pub extra_root : List Package → NameTable → Named → Demand
 extra_root packages names extra = record {
   when = [];
@@ -201,6 +201,6 @@ extra_root packages names extra = record {
   allowed = allowed_in extra.range (entries_of packages (number packages names extra.name));
 }
 
--- the roots: local packages, and those that are asked for besides
+-- the roots: the demands on local packages, then those on extra ones
 abbrev pub roots_of : List Package → Project → NameTable → List Demand
 roots_of packages project names = local_roots packages ++ map (extra_root packages names) project.extra

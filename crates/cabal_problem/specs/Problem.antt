@@ -24,7 +24,7 @@ barred_part packages project names c (Flag f) = bars_part project names c.var (i
 barred_part packages project names c Tests = bars_part project names c.var (is_on c.val)
 barred_part packages project names c Benches = bars_part project names c.var (is_on c.val)
 
--- orders has the instances of each package, the best first
+-- the problem with these orders of the instances of each package, the best first
 abbrev pub problem_of : List Package → Project → NameTable → List (List ℕ) → Problem
 problem_of packages project names orders = record {
   bound = bound_of packages names;
@@ -36,7 +36,7 @@ problem_of packages project names orders = record {
   demands = demands_of packages project names;
 }
 
--- the problem of an index whose packages stand in goal order and of a project, by the numbers of the index's names
+-- the problem of an index in goal order and of a project, by the numbers of the index's names
 pub record IsProblemOf (index : Index) (project : Project) (names : NameTable) (p : Problem) : Type 0 where
   pub in_goal_order : AreInGoalOrder index.packages
   pub numbers : AreNumbers index.packages names

@@ -1,4 +1,4 @@
--- Reused instances and the others are all values, each once.
+-- Reused instances and the others together are all values, each once.
 use Rattle.std.specs.Prelude.{◌≡◌, ◌≢◌, ℕ, ◌<◌, Bool, true, false, cond, not, nat_eq, List, [], ◌∷◌, ◌++◌, map, filter, Some, AllPairs, Contains, refl}
 use Rattle.std.proofs.Common.{sym, ap, ◌∙◌, subst, inl, inr}
 use Rattle.std.proofs.lemmas.Bool.{false≢true, eqb-true, eq-eqb, not-true, not_from_false}
@@ -15,14 +15,14 @@ use Rattle.cabal_problem.specs.Values.{each_once, elsewhere, reused, with_others
 abbrev Differ : ℕ → ℕ → Type 0
 Differ x y = x ≢ y
 
--- a number is one of some where they hold it
+-- a member of the list is one of its numbers
 pub one-of : (ns : List ℕ) (n : ℕ) → Contains ns n → is_one_of (Some n) ns ≡ true
 one-of ns n h = any-from (λ m. nat_eq n m) ns n h (eq-eqb n n refl)
 
 pub of-one : (ns : List ℕ) (n : ℕ) → is_one_of (Some n) ns ≡ true → Contains ns n
 of-one ns n h = let (m, among, same) = any-at (λ m. nat_eq n m) ns h in subst (λ x. Contains ns x) (sym (eqb-true n m same)) among
 
--- what is kept of distinct numbers is distinct
+-- filtering keeps numbers distinct
 filter-once : (test : ℕ → Bool) (ns : List ℕ) → AllPairs Differ ns → AllPairs Differ (filter test ns)
 filter-once test [] h = pairs-nil Differ
 filter-once test (n ∷ ns) h =
@@ -41,7 +41,7 @@ append-once (x ∷ xs) ys h k apart =
     ])
     (append-once xs ys (pairs-tail Differ x xs h) k (λ a b i j. apart a b (contains-tail x xs a i) j))
 
--- each once: no more, and no less
+-- ---- each once: the same members, all distinct
 
 once-of : (ns : List ℕ) (n : ℕ) → Contains (each_once ns) n → Contains ns n
 once-of [] n h = h
@@ -71,7 +71,7 @@ once-once (x ∷ ns) =
     (λ m k same. false≢true (sym (not-true (nat_eq x m) (contains-filter test (each_once ns) m k).1) ∙ eq-eqb x m same))
     (filter-once test (each_once ns) (once-once ns))
 
--- values that were taken before, and the others of an order
+-- ---- some values, then the others of an order
 
 pub others-ordered : (first policy : List ℕ) (n : ℕ) → AllPairs Differ first → ((x : ℕ) → Contains first x → x < n) → IsOrderBelow n policy → IsOrderBelow n (with_others first policy)
 others-ordered first policy n once below order =
@@ -90,7 +90,7 @@ others-ordered first policy n once below order =
           false≢true (sym (not-true (is_one_of (Some y) first) (contains-filter test policy y j).1) ∙ ap (λ z. is_one_of (Some z) first) (sym same) ∙ one-of first x i));
     }
 
--- what is reused was chosen for the package
+-- a reused instance was chosen for the package
 pub reused-of : (trail : List Choice) (v : Var) (n : ℕ) → Contains (reused trail v) n → (c : Choice) × Contains trail c × (is_of_package v.«package» c ≡ true) × (c.val ≡ n)
 reused-of trail v n h =
     let choices = filter (is_of_package v.«package») trail in

@@ -1,4 +1,4 @@
--- The demands of a choice by what its instance asks for in numbers.
+-- The demands of a choice, from the rows of the tables.
 use Rattle.std.specs.Prelude.{ℕ, Bool, true, ◌&&◌, List, [], ◌∷◌, ◌++◌, flat_map, map, if◌then◌else◌}
 use Rattle.std.specs.List.{list_all}
 use Rattle.plan_types.specs.declared.dependency.DepKind.{DepKind}
@@ -21,13 +21,13 @@ use Rattle.cabal_problem.specs.Variables.{has_kind, is_benchmark, is_suite}
 use Rattle.cabal_problem.specs.Values.{package_var}
 use Rattle.cabal_problem.specs.ListedDemands.{flag_values, has_stanzas, part_beside, qual_for, setup_if, stanza_if}
 
--- what each item makes with the row of its place
+-- what each item makes with the row at its index
 abbrev pub in_pairs : {X Y Z : Type 0} → (X → Y → List Z) → List X → List Y → List Z
 in_pairs make [] rows = []
 in_pairs make (x ∷ xs) [] = []
 in_pairs make (x ∷ xs) (y ∷ rows) = make x y ++ in_pairs make xs rows
 
--- the demand for a flag by its number
+-- the demand on a flag with this number
 abbrev pub flag_row : Project → NameTable → Choice → FlagDecl → ℕ → List Demand
 flag_row project names owner decl f = record { when = owner ∷ []; target = part_beside owner (Flag f); allowed = flag_values project names (part_beside owner (Flag f)) decl } ∷ []
 
@@ -35,7 +35,7 @@ flag_row project names owner decl f = record { when = owner ∷ []; target = par
 abbrev pub choice_at : Choice → Setting → Choice
 choice_at owner setting = record { var = part_beside owner setting.part; val = setting.val }
 
--- the demand for a target under these choices
+-- the demand on a target under this condition
 abbrev pub target_demand : Choice → List Choice → DepKind → Target → Demand
 target_demand owner when kind target = record {
   when = when;
@@ -43,7 +43,7 @@ target_demand owner when kind target = record {
   allowed = target.allowed;
 }
 
--- whether a part has a variable: a stanza has one only where the package's stanzas have
+-- the demand of a dependency, if it can count
 abbrev pub has_variable : Bool → Part → Bool
 has_variable stanzas Package = true
 has_variable stanzas (Flag f) = true
@@ -63,7 +63,7 @@ dep_row stanzas owner dep =
 abbrev pub setup_demand_to : Choice → Target → Demand
 setup_demand_to owner target = target_demand owner (owner ∷ []) kind.Setup target
 
--- the demand for a unit
+-- the demand on a unit
 abbrev pub need_demand : Choice → Need → Demand
 need_demand owner need = record { when = owner ∷ []; target = package_var owner.var.qual need.«package»; allowed = need.allowed }
 

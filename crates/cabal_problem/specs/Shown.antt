@@ -1,9 +1,9 @@
--- What a problem shows of what it was made of.
+-- The parts of a problem that can be read.
 use Rattle.plan_types.specs.declared.index.Index.{Index}
 use Rattle.qualified_goals.specs.Names.{NameTable}
 use Rattle.cabal_problem.specs.declared.cabal_problem.CabalProblem.{CabalProblem}
 
--- the index of which it was made
+-- the index behind the problem
 abbrev pub index_in : CabalProblem → Index
 index_in problem = problem.index.now
 

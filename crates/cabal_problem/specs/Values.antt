@@ -27,7 +27,7 @@ on_first false = 0 ∷ 1 ∷ []
 abbrev pub is_flag : NameTable → ℕ → FlagDecl → Bool
 is_flag names f decl = is_number (number_of names.flags decl.name) f
 
--- the default as the instance that is chosen declares it, and off where none is chosen or it doesn't declare it
+-- the default that the chosen instance declares for a flag; off without an instance or a declaration
 abbrev pub chosen_default : NameTable → ℕ → List Entry → Option ℕ → Bool
 chosen_default names f entries None = false
 chosen_default names f entries (Some i) = default_of names f (entry_at entries i).body
@@ -40,37 +40,37 @@ package_var q p = record { qual = q; «package» = p; part = ThePackage }
 abbrev pub chosen : List Choice → Qual → ℕ → Option ℕ
 chosen trail q p = value_in trail (package_var q p)
 
--- ---- instances that were taken before
+-- ---- instances chosen under other qualifiers
 
--- some numbers, each once, where it stands first
+-- the numbers, each once, at its first place
 abbrev pub each_once : List ℕ → List ℕ
 each_once [] = []
 each_once (n ∷ ns) = n ∷ filter (λ m. not (nat_eq n m)) (each_once ns)
 
--- those of some choices that are of other variables
+-- the choices of other variables
 abbrev pub elsewhere : Var → List Choice → List Choice
 elsewhere v choices = filter (λ c. not (same_var c.var v)) choices
 
--- the values of some choices of other variables, each once
+-- the values chosen for other variables, each once
 abbrev pub values_elsewhere : Var → List Choice → List ℕ
 values_elsewhere v choices = each_once (map (λ c. c.val) (elsewhere v choices))
 
--- the instances of a package that were chosen for it under other qualifiers, in the order of the trail
+-- the instances chosen for a package under other qualifiers, in the order of the trail
 abbrev pub reused : List Choice → Var → List ℕ
 reused trail v = values_elsewhere v (filter (is_of_package v.«package») trail)
 
--- the numbers of an order that are none of some
+-- the numbers of an order that aren't among the first ones
 abbrev pub others : List ℕ → List ℕ → List ℕ
 others first order = filter (λ n. not (is_one_of (Some n) first)) order
 
--- some numbers, and then the others of an order
+-- some numbers, then the others of an order
 abbrev pub with_others : List ℕ → List ℕ → List ℕ
 with_others first order = first ++ others first order
 
 -- ---- a variable
 
--- The values, the best first: of a package the instances that were chosen for it under other qualifiers, and then the others by
--- preference. orders has those of each package by preference.
+-- The values, the best first. For a package: the instances chosen for it under other qualifiers, then the others by
+-- preference, where orders has those of each package.
 abbrev pub order_of : List Package → NameTable → List (List ℕ) → Qual → ℕ → Part → List Choice → List ℕ
 order_of packages names orders q p ThePackage trail = with_others (reused trail (package_var q p)) (slice_index_or orders p [])
 order_of packages names orders q p (Flag f) trail = on_first (chosen_default names f (entries_of packages p) (chosen trail q p))

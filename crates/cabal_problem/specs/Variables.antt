@@ -39,20 +39,20 @@ is_tool Library = false
 is_tool Tool = true
 is_tool SetupDep = false
 
--- a dependency on an executable of the package with this number
+-- a dependency on an executable of the package with this number, not of the own package
 abbrev pub is_tool_of : NameTable → ℕ → Dep → Bool
 is_tool_of names t dep = not dep.internal && is_tool dep.kind && is_number (number_of names.packages dep.«package») t
 
--- whether a component depends on such a tool
+-- whether a component depends on this tool
 abbrev pub component_asks : NameTable → ℕ → Component → Bool
 component_asks names t component = list_any (λ guarded. is_tool_of names t guarded.dep) component.deps
 
--- a source instance that depends on such a tool, under whatever condition
+-- whether a source instance depends on this tool, under any condition
 abbrev pub asks_for_tool : NameTable → ℕ → Body → Bool
 asks_for_tool names t (Source description flat exposed) = list_any (component_asks names t) description.components
 asks_for_tool names t (Installed record_of needs) = false
 
--- top level, the setup of a package that has one, and the tools that a package depends on
+-- the qualifiers: top level, the setups of packages with a setup script, and the tools that a package depends on
 abbrev pub is_qual : List Package → NameTable → Qual → Bool
 is_qual packages names Top = true
 is_qual packages names (Setup p) = list_any (λ e. is_custom e.body) (entries_of packages p)
@@ -80,16 +80,16 @@ is_benchmark kind.Test = false
 is_benchmark kind.Bench = true
 is_benchmark kind.Foreign = false
 
--- a component of such a kind
+-- whether a description has a component of this kind
 abbrev pub has_kind : (CompKind → Bool) → Description → Bool
 has_kind is_wanted d = list_any (λ component. is_wanted component.kind) d.components
 
--- whether an instance has a component of such a kind
+-- whether an instance has a component of this kind
 abbrev pub body_has_kind : (CompKind → Bool) → Body → Bool
 body_has_kind is_wanted (Source description flat exposed) = has_kind is_wanted description
 body_has_kind is_wanted (Installed record_of needs) = false
 
--- the package, the flags that its source instances declare, and at top level the stanzas of a local package
+-- the parts: the package, the flags that its instances declare, and at top level the stanzas of a local package
 abbrev pub is_part : NameTable → Qual → Package → Part → Bool
 is_part names q p ThePackage = true
 is_part names q p (Flag f) = list_any (λ e. declares names f e.body) p.entries
@@ -103,7 +103,7 @@ abbrev pub is_known : List Package → NameTable → Var → Bool
 is_known packages names v =
     is_qual packages names v.qual && (nat_lt v.«package» (length packages) && is_part names v.qual (package_at packages v.«package») v.part)
 
--- the values of a package are its instances; a flag or a stanza is off or on
+-- the number of values: the instances of a package; two for a flag or a stanza
 abbrev pub domain_of : List Package → ℕ → Part → ℕ
 domain_of packages p ThePackage = length (entries_of packages p)
 domain_of packages p (Flag f) = 2

@@ -1,4 +1,5 @@
--- The demands with whole conditions: a dependency asks once, where its component's stanza is on and its condition is Yes.
+-- Demands with whole conditions. A dependency has one, which is Yes if its component's stanza is on and its whole
+-- condition is Yes.
 use Rattle.std.specs.Prelude.{ℕ, zero, suc, Bool, true, false, ◌&&◌, List, [], ◌++◌, map, filter, Option, Some, None}
 use Rattle.std.specs.List.{list_all}
 use Rattle.plan_types.specs.declared.condition.Env.{Env}
@@ -33,28 +34,28 @@ use Rattle.cabal_problem.specs.Problem.{barred_part}
 use Rattle.cabal_problem.specs.Bound.{bound_of}
 use Rattle.plan_types.specs.Packages.{entries_of}
 
--- what a value says of a flag or a stanza
+-- a value as off or on; none for other values
 abbrev pub on_or_off : ℕ → Option Bool
 on_or_off zero = Some false
 on_or_off (suc zero) = Some true
 on_or_off (suc (suc n)) = None
 
--- what a choice says of a flag or a stanza
+-- a chosen value as off or on; none without a choice
 abbrev pub is_set : Option ℕ → Option Bool
 is_set None = None
 is_set (Some n) = on_or_off n
 
--- the flags and stanzas that an assignment has on or off for the owner's package, under its qualifier
+-- an assignment's values of the flags and stanzas of the owner's package, under its qualifier
 abbrev pub parts_under : NameTable → Choice → Assignment → Parts
 parts_under names owner A part = is_set (A (part_beside owner (part_of names part)))
 
--- the owner is chosen, the component's stanza is on where it has one, and the whole condition is Yes
+-- the owner is chosen, its stanza is on where there is one, and the whole condition is Yes
 abbrev pub is_whole_yes : Env → NameTable → Choice → Outward → Assignment → Bool
 is_whole_yes env names owner at A =
     let parts = parts_under names owner A in
     is_made A owner && (are_met parts (stanza_of at.component.kind) && is_wanted true (value env (flags_of parts) (whole_condition at.component at.guarded)))
 
--- what a dependency asks for, with its whole condition
+-- the request of a dependency, with its whole condition
 abbrev pub whole_request : Env → List Package → NameTable → Choice → (Dep → Version → Bool) → Outward → Request
 whole_request env packages names owner allows at =
     let dep = at.guarded.dep in
@@ -65,7 +66,7 @@ whole_request env packages names owner allows at =
       is_yes = is_whole_yes env names owner at;
     }
 
--- a component whose stanza has no variable asks for nothing
+-- a component whose stanza has no variable makes no request
 abbrev pub can_ask : Bool → Outward → Bool
 can_ask stanzas at = list_all (λ literal. has_part stanzas literal.part) (stanza_of at.component.kind)
 
@@ -73,16 +74,16 @@ can_ask stanzas at = list_all (λ literal. has_part stanzas literal.part) (stanz
 abbrev pub requests_of : List Demand → List Request
 requests_of demands = map request_of demands
 
--- what asks under no condition but that its owner is chosen: flags and stanzas, and setup dependencies
+-- Requests whose only condition is their owner: those on flags and stanzas, and those of setup dependencies.
 
--- what a source instance asks of its flags and stanzas
+-- the demands on the flags and stanzas of a source instance
 abbrev pub front_demands : List Package → Project → NameTable → Choice → Description → List Demand
 front_demands packages project names owner d =
     map (flag_demand project names owner) d.flags
     ++ stanza_if (has_stanzas packages owner.var && has_kind is_suite d) owner Tests
     ++ stanza_if (has_stanzas packages owner.var && has_kind is_benchmark d) owner Benches
 
--- what a setup dependency asks for
+-- the request of a setup dependency
 abbrev pub setup_request : List Package → NameTable → Choice → (Dep → Version → Bool) → Dep → Request
 setup_request packages names owner allows dep = record {
   owner = Some owner;
@@ -91,12 +92,12 @@ setup_request packages names owner allows dep = record {
   is_yes = λ A. is_made A owner;
 }
 
--- the same where the instance has a setup script of its own
+-- the same if the instance has a setup script of its own
 abbrev pub setup_requests : Bool → List Request → List Request
 setup_requests true requests = requests
 setup_requests false requests = []
 
--- what an instance asks for
+-- the requests of an instance with this body
 abbrev pub body_requests : Env → List Package → Project → NameTable → Choice → (Dep → Version → Bool) → Body → List Request
 body_requests env packages project names owner allows (Source d flats exposed) =
     requests_of (front_demands packages project names owner d)
@@ -104,20 +105,20 @@ body_requests env packages project names owner allows (Source d flats exposed) =
     ++ setup_requests d.custom (map (setup_request packages names owner allows) d.setup)
 body_requests env packages project names owner allows (Installed record_of needs) = requests_of (unit_demands packages names owner record_of.depends needs)
 
--- flags and stanzas ask for nothing
+-- choices of flags and stanzas make no requests
 abbrev pub part_requests : List Request → Part → List Request
 part_requests requests ThePackage = requests
 part_requests requests (Flag f) = []
 part_requests requests Tests = []
 part_requests requests Benches = []
 
--- what a choice asks for
+-- the requests of a choice
 abbrev pub whole_demands : Env → List Package → Project → NameTable → Choice → List Request
 whole_demands env packages project names owner =
     let e = entry_at (entries_of packages owner.var.«package») owner.val in
     part_requests (body_requests env packages project names owner (allowed_versions project e.instance) e.body) owner.var.part
 
--- the problem of an index and a project with whole conditions
+-- the problem of an index and a project, with whole conditions
 abbrev pub whole_problem : Env → List Package → Project → NameTable → List (List ℕ) → General
 whole_problem env packages project names orders = record {
   bound = bound_of packages names;

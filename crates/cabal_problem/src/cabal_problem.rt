@@ -1,4 +1,4 @@
-// The problem of an index and a project, as the search asks it.
+// The problem of an index and a project, as calls for the search.
 ghost use Rattle.std.specs.Prelude.{◌≡◌, ◌++◌, [], ◌<◌, IfOk, IsTrue, OnOk, length, map, slice_index_or, true};
 ghost use Rattle.std.specs.List.{list_all};
 ghost use Rattle.constraint_set.specs.Bars.{bars, bars_part, names_flag};
@@ -40,7 +40,7 @@ pub struct CabalProblem<'a> {
     ghost dependencies: { tables.dependencies ≡ all_dependencies index.now.packages settings.now.project names },
 }
 
-// Written out, so that it is proved once and not at each exit of each function that owns one.
+// Explicit, so that it is proved once: a derived one is expanded at each exit.
 impl<'a> Drop for CabalProblem<'a> {
     fn drop(self) {
         let CabalProblem {
@@ -57,7 +57,7 @@ impl<'a> CabalProblem<'a> {
     ghost use Rattle.cabal_problem.specs.Problem.{IsProblemOf};
     ghost use Rattle.cabal_problem.specs.Shown.{index_in, names_in};
 
-    /// The problem of an index that is sound in the environment, and has each package that is asked for besides.
+    /// The problem of an index that is sound in the environment and has each extra package.
     pub fn new(
         alloc: Global,
         index: &'a Index,
@@ -82,7 +82,7 @@ impl<'a> CabalProblem<'a> {
         })
     }
 
-    /// The index of which it was made.
+    /// The index behind the problem.
     pub fn index(&self) -> &Index
         ensures { result.now ≡ index_in self.now }
     {
@@ -96,7 +96,7 @@ impl<'a> CabalProblem<'a> {
         &self.names
     }
 
-    /// The names, where the problem isn't needed any more.
+    /// The names, from a problem that isn't needed any more.
     pub fn into_names(self) -> Names
         ensures { result ≡ names_in self.entry }
     {
@@ -137,7 +137,7 @@ impl<'a> CabalProblem<'a> {
         self.bars(c.var, &entries[c.val as usize].instance)
     }
 
-    // A manual flag may have its default, and the values that constraints give it.
+    // A manual flag may have its default, and the values that constraints on the package require.
     fn flag_allows(&self, v: Var, decl: &FlagDecl, on: bool) -> bool
         ensures { result ≡ flag_allows self.now.settings.now.project self.now.names v decl.now on }
     {
@@ -256,7 +256,7 @@ impl<'a> CabalProblem<'a> {
         self.entry_demands(alloc, owner, &entries[place], &row[place])
     }
 
-    // What each instance of a package asks for.
+    // What each instance of a package depends on.
     fn asked_by(&self, p: u64) -> &[Dependencies]
         ensures { result.now ≡ map (entry_dependencies self.now.index.now.packages self.now.settings.now.project
             self.now.names) (entries_of self.now.index.now.packages p) }
@@ -267,7 +267,7 @@ impl<'a> CabalProblem<'a> {
         }
     }
 
-    // The instances of a package: those that were chosen for it under other qualifiers, and then the others by preference.
+    // The instances of a package: first those chosen for it under other qualifiers, then the others by preference.
     fn instances(
         &self,
         alloc: Global,
@@ -286,7 +286,7 @@ impl<'a> CabalProblem<'a> {
         )
     }
 
-    // The default of a flag as the instance declares it that was chosen.
+    // The default that the chosen instance declares for a flag.
     fn default_after(&self, f: u64, p: u64, instance: Option<u64>) -> bool
         ensures { result ≡ chosen_default self.now.names f (entries_of self.now.index.now.packages p) instance }
     {

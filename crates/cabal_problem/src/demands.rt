@@ -1,4 +1,4 @@
-// The demands of a choice, from its rows.
+// The demands of a choice, made from the rows of the tables.
 ghost use Rattle.std.specs.Prelude.{◌≡◌, ◌++◌, ◌∷◌, ◌&&◌, [], IfOk, OnOk, flat_map, map};
 ghost use Rattle.qualified_goals.specs.declared.variable.Part.TheVariants.{Tests, Benches};
 ghost use Rattle.cabal_problem.specs.Variables.{has_kind, is_benchmark, is_suite};
@@ -37,7 +37,7 @@ fn has_stanzas(packages: &[Package], owner: Var) -> bool
     is_top(owner.qual) && is_local(packages, owner.package)
 }
 
-/// The stanzas of a local package at top level, the tests first.
+/// The demands on the stanzas of a local package at top level, the tests first.
 pub(crate) fn push_stanzas(
     alloc: Global,
     found: &mut List<Demand>,
@@ -94,7 +94,7 @@ fn stanza_demand(alloc: Global, owner: Choice, stanza: Part) -> Result<Demand, N
     })
 }
 
-/// The dependencies of an instance, each once for each way in which it counts.
+/// The demands of an instance's dependencies, one for each path of a condition.
 pub(crate) fn push_deps(
     alloc: Global,
     found: &mut List<Demand>,
@@ -163,7 +163,7 @@ fn choice_at(owner: Choice, setting: Setting) -> Choice
     }
 }
 
-/// The qualifier under which a dependency of this kind is chosen, by the variable of the package that has it.
+/// The qualifier under which the package of a dependency is chosen, given the owner's variable.
 pub fn qual_for(kind: DepKind, owner: Var, package: u64) -> Qual
     ensures { result ≡ qual_for kind owner «package» }
 {
@@ -192,7 +192,7 @@ fn target_demand(
     })
 }
 
-/// The dependencies of the setup script of an instance that has one.
+/// The demands of the setup dependencies, where the instance has a setup script.
 pub(crate) fn push_custom(
     alloc: Global,
     found: &mut List<Demand>,
@@ -229,7 +229,7 @@ fn setup_demand_to(alloc: Global, owner: Choice, target: &Target) -> Result<Dema
     target_demand(alloc, owner, when, DepKind::Setup, target)
 }
 
-/// The units that an installed unit needs.
+/// The demands on the units that an installed unit needs.
 pub(crate) fn unit_demands(
     alloc: Global,
     owner: Choice,

@@ -1,4 +1,4 @@
-// A project's problem with whole conditions, and that there is one.
+// Laws of the problem of an index and a project.
 ghost use Rattle.std.specs.Prelude.{◌≡◌, ℕ, List, true};
 ghost use Rattle.std.specs.List.{list_all};
 ghost use Rattle.plan_types.specs.declared.index.Index.{Index};
@@ -18,8 +18,8 @@ use choice_problem::{general_is_lawful, valid_alike};
 use flatten::counts_as_its_condition;
 use preferences::one_order;
 
-/// The demands that are searched are listed for those with whole conditions, one group after another in their order: a
-/// demand with a whole condition is Yes exactly where one of its group is.
+/// The listed demands come in groups, one for each demand with a whole condition and in their order. A demand with a
+/// whole condition is Yes exactly if a demand of its group is.
 pub fn listed_as_whole()
     ensures groups { (env : Env) (index : Index) (project : Project) (names : NameTable) (orders : List (List ℕ))
         → IsSound env index → AreNumbers index.packages names
@@ -32,8 +32,8 @@ pub fn listed_as_whole()
     counts_as_its_condition();
 }
 
-/// So what is valid with whole conditions is what is valid in the problem that is searched, and both have the same
-/// first.
+/// Both problems, with whole conditions and with listed demands, have the same valid assignments and the same first
+/// one.
 pub fn valid_as_whole()
     ensures { (env : Env) (index : Index) (project : Project) (names : NameTable) (orders : List (List ℕ))
         → IsSound env index → AreNumbers index.packages names → AreOrders project index.packages orders
@@ -45,14 +45,14 @@ pub fn valid_as_whole()
     valid_alike();
 }
 
-/// The problem of a sound index that has each package asked for besides keeps the laws of problems.
+/// The problem of a sound index that has each extra package is lawful.
 pub fn problem_is_lawful()
     ensures { (env : Env) (index : Index) (project : Project) (names : NameTable) (p : Problem)
         → IsSound env index → list_all (λ named. has_package index named.name) project.extra ≡ true
         → IsProblemOf index project names p → Lawful p }
 {}
 
-/// An index and a project have one problem, by one table of names.
+/// The problem of an index and a project is unique, and so are the numbers of its names.
 pub fn one_problem()
     ensures { (index : Index) (project : Project) (names others : NameTable) (p q : Problem)
         → IsProblemOf index project names p → IsProblemOf index project others q → (names ≡ others) × (p ≡ q) }

@@ -1,6 +1,7 @@
-//! The problem of choices that an index and the settings of a plan make: which instance of each package is chosen, with
-//! which flags and stanzas, under which qualifier. It tells which variables there are, which of their values are barred,
-//! in which order they are tried, and what each choice asks for.
+//! The problem that the search explores. In go an index and settings. Out come the variables (packages, flags and
+//! stanzas under qualifiers), the values of each in the order in which they are tried, which values are barred, and
+//! the demands of each choice. It is the one problem of the index and the project (`IsProblemOf`).
+//! Its valid assignments are those of the problem with whole conditions (`valid_as_whole`).
 #![tactic(auto)]
 
 mod cabal_problem;

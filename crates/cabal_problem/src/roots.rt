@@ -1,4 +1,4 @@
-// The demands with which a plan begins.
+// The demands without condition.
 ghost use Rattle.std.specs.Prelude.{◌≡◌, ◌++◌, IfOk, OnOk, map};
 ghost use Rattle.cabal_problem.specs.ListedDemands.{extra_root, local_root, local_roots};
 
@@ -9,7 +9,7 @@ use qualified_goals::{Names, Qual};
 use solver_index::{allowed_in, number, rising};
 use std::alloc::Global;
 
-/// The local packages, and then those that are asked for besides.
+/// The demands on the local packages, then those on the extra ones.
 pub(crate) fn roots_of(
     alloc: Global,
     packages: &[Package],

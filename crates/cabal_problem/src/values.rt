@@ -1,4 +1,4 @@
-// The values of flags and stanzas in the order in which they are tried.
+// The values of a variable in the order in which they are tried.
 ghost use Rattle.std.specs.Prelude.{◌≡◌, ◌++◌, ◌∷◌, [], cond, map, IfOk, OnOk, Some, slice_index_or};
 ghost use Rattle.choice_problem.specs.Assignment.{is_one_of};
 ghost use Rattle.cabal_problem.specs.Values.{each_once, elsewhere, on_first, others, package_var, values_elsewhere, with_others};
@@ -24,7 +24,7 @@ fn copied(alloc: Global, values: &[u64]) -> Result<List<u64>, NoMemory>
     Ok(List::from_vec(Vec::from_slice(alloc, values)?))
 }
 
-/// The values that choices of other variables have, each once.
+/// The values chosen for other variables, each once.
 pub(crate) fn values_elsewhere(
     alloc: Global,
     choices: &[Choice],
@@ -75,7 +75,7 @@ fn push_new(found: &mut Vec<u64>, n: u64) -> Result<(), NoMemory>
     Ok(())
 }
 
-/// Some values, and then the others of an order.
+/// Some values, and then the other values of an order.
 pub(crate) fn with_others(
     alloc: Global,
     first: &[u64],
@@ -99,7 +99,7 @@ fn push_other(all: &mut Vec<u64>, first: &[u64], n: u64) -> Result<(), NoMemory>
     Ok(())
 }
 
-/// The values of a flag or a stanza, of which the better one is given.
+/// Both values of a flag or stanza, the given one first.
 pub(crate) fn on_first(alloc: Global, on: bool) -> Result<List<u64>, NoMemory>
     ensures { IfOk result (λ values. values ≡ on_first on) }
 {

@@ -1,4 +1,4 @@
-// Which variables an index has.
+// The variables of an index.
 ghost use Rattle.std.specs.Prelude.{◌≡◌, ◌&&◌, nat_lt, length};
 ghost use Rattle.std.specs.List.{list_any};
 ghost use Rattle.constraint_set.specs.Bars.{is_number};

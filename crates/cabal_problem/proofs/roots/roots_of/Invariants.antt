@@ -1,4 +1,4 @@
--- the local packages, and those so far
+-- the local packages, and the extra ones so far
 use Rattle.std.proofs.Common.{◌≡◌, ◌++◌, map, take}
 use Rattle.cabal_problem.specs.ListedDemands.{extra_root, local_roots}
 use Rattle.cabal_problem.proofs.roots.roots_of.Given as goal
