@@ -1,4 +1,4 @@
--- What a search over the problem of packages finds, by the problem with whole conditions.
+-- The meaning of a finding, by the problem with whole conditions.
 use Rattle.std.proofs.Common.{◌≡◌, ◌≢◌, ℕ, zero, suc, Bool, true, false, List, [], ◌∷◌, ◌++◌, map, Some, None, refl, sym, ap, ap₂, subst, ◌∙◌}
 use Rattle.std.specs.List.{Contains, list_all}
 use Rattle.plan_types.specs.declared.condition.Env.{Env}
@@ -69,7 +69,7 @@ abbrev pub OneProblem : Type 0
 OneProblem = (index : Index) (project : Project) (names others : NameTable) (p q : Problem)
     → IsProblemOf index project names p → IsProblemOf index project others q → (names ≡ others) × (p ≡ q)
 
--- a trail of an assignment names each variable once
+-- the trail of an assignment names each variable once
 trail-new : (g : General) (A : Assignment) (fuel : ℕ) (trail : List Choice) → AreNew trail → AreNew (trail_from fuel g A trail)
 trail-new g A zero trail new = new
 trail-new g A (suc fuel) trail new =
@@ -85,7 +85,7 @@ module _ (g : General) (A : Assignment) (trail : List Choice) (valid : IsWholeVa
   passes : Passes A trail
   passes = subst (λ (t : List Choice). Passes A t) (sym is) (passes-trail g A g.bound [] (λ c k. absurd (contains-none c k)))
 
-  -- as a map the trail of a whole valid assignment is that assignment
+  -- as an assignment, the trail of a complete, valid assignment is that assignment
   as-map : A ≡ value_in trail
   as-map = passes-all A trail passes (λ v some. subst (λ (t : List Choice). Contains (map (λ (c : Choice). c.var) t) v) (sym is) ((valid.reached v).0 some))
 
@@ -112,7 +112,7 @@ module _ (valid : ValidAsWhole) (index : Index) (settings : Settings) (sound : I
       subst (λ q. AreOne whole (general q)) (sym is.problem_is)
       (valid settings.env index settings.project names is.orders sound is.numbers is.orders_are there)
 
-  -- a part of a set from which nothing can be dropped is one with whole conditions too
+  -- a minimal part is minimal with whole conditions too
   tight-whole : (set : List Var) (shrunk : ShrunkSet) → IsTight (general p) set shrunk → IsTight whole set shrunk
   tight-whole set shrunk tight = record {
     within = tight.within;
@@ -140,7 +140,7 @@ module _ (valid : ValidAsWhole) (index : Index) (settings : Settings) (sound : I
     lawful : Lawful p
     lawful = keeps settings.env index settings.project names p sound there is
 
-    -- a search that hasn't given up ends as one without a limit
+    -- a search that doesn't give up ends as one without a limit
     unlimited-end : (picking : Picking) (e : Ended) → (guided_answer (guide_of picking) p settings.limit).ended ≡ e → (e ≡ GaveUp → ⊥) → (guided_answer (guide_of picking) p Unlimited).ended ≡ e
     unlimited-end picking e ended other =
         let same = alike (guide_of picking) p settings.limit (λ gave. other (sym ended ∙ gave)) in
@@ -182,7 +182,7 @@ module _ (valid : ValidAsWhole) (index : Index) (settings : Settings) (sound : I
           admits_none = λ A h. end.0 A ((one.holds (has set) A).0 h);
         }
 
-    -- it gives up at a limit alone
+    -- a search gives up only at a limit
     at-limit : (picking : Picking) (l : Limit) → (guided_answer (guide_of picking) p l).ended ≡ GaveUp → (most : ℕ) × (l ≡ At most)
     at-limit picking Unlimited ended =
         let none : IsValidEnd p GaveUp = subst (IsValidEnd p) ended (valid_ends p (guide_of picking) lawful (is-guide picking)) in
@@ -223,7 +223,7 @@ found-one alike picking minimize index settings a b h k =
     h.blame_is ∙ ap₂ (λ (p : Problem) (o : Outcome). blame_of minimize p settings.limit o) same.1 outcome ∙ sym k.blame_is in
     λ i. record { names = same.0 i; outcome = outcome i; blame = blame i }
 
--- what is found, by one table of names
+-- the finding, by one table of names
 module _ (picking : Picking) (minimize : Bool) (index : Index) (settings : Settings) (p : Problem) (names table : NameTable) (is : IsProblemOf index settings.project names p) (same : table ≡ names) where
   pub finding-is : (outcome : Outcome) (blame : Blame) → outcome ≡ outcome_of (guided_answer (guide_of picking) p settings.limit) → blame ≡ blame_of minimize p settings.limit outcome
       → IsFindingOf picking minimize index settings (record { names = table; outcome = outcome; blame = blame })

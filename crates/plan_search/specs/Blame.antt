@@ -1,4 +1,4 @@
--- What is told of a failure besides the set with which the search failed.
+-- Blame: what a failure reports besides its conflict set.
 use Rattle.std.specs.Prelude.{◌≡◌, ℕ, Bool, true, false, List, if◌then◌else◌}
 use Rattle.plan_types.specs.declared.limit.Limit.{Limit}
 use Rattle.plan_types.specs.declared.limit.Limit.TheVariants.{At}
@@ -11,29 +11,29 @@ use Rattle.conflict_shrink.specs.Shrinking.{IsTight, OverBudget, ShrinkEnd, Tigh
 use Rattle.plan_search.specs.declared.blame.Blame.{Blame}
 use Rattle.plan_search.specs.declared.blame.Blame.TheVariants.{Unasked, Shrunk, TooLong}
 
--- the end of a shrinking
+-- the blame of a shrinking's end
 abbrev pub blame_at : ShrinkEnd → Blame
 blame_at (Tight shrunk) = Shrunk shrunk
 blame_at (OverBudget spent) = TooLong spent
 
--- a set is shrunk where that is asked for, with the limit of the search as budget
+-- the blame of an outcome: on request a failure's set is shrunk, with the limit of the search as budget
 abbrev pub blame_of : Bool → Problem → Limit → Outcome → Blame
 blame_of minimize p limit (outcome.Found trail counts) = Unasked
 blame_of minimize p limit (outcome.NoPlan set counts) = if minimize then blame_at (shrinking p set limit).ended else Unasked
 blame_of minimize p limit (outcome.GaveUp counts) = Unasked
 
--- what is told of a set: a part from which nothing can be dropped, or, under a limit alone, that it took too long
+-- the blame of a set that was shrunk: a minimal part that admits none, or, only under a limit, that it took too long
 abbrev pub IsPart : General → Limit → List Var → Blame → Type 0
 IsPart g limit set Unasked = ⊥
 IsPart g limit set (Shrunk shrunk) = IsTight g set shrunk
 IsPart g limit set (TooLong spent) = (most : ℕ) × (limit ≡ At most)
 
--- where it isn't asked for nothing is told
+-- the blame of a set: that of its shrinking, or `Unasked` without a request
 abbrev pub IsBlame : Bool → General → Limit → List Var → Blame → Type 0
 IsBlame true g limit set blame = IsPart g limit set blame
 IsBlame false g limit set blame = blame ≡ Unasked
 
--- what is told of an outcome
+-- the blame of an outcome; `Unasked` if the search didn't fail
 abbrev pub MeansBlame : Bool → General → Limit → Outcome → Blame → Type 0
 MeansBlame minimize g limit (outcome.Found trail counts) blame = blame ≡ Unasked
 MeansBlame minimize g limit (outcome.NoPlan set counts) blame = IsBlame minimize g limit set blame

@@ -11,12 +11,12 @@ use Rattle.plan_search.specs.declared.search.Finding.{Finding}
 use Rattle.plan_search.specs.declared.search.Picking.{Picking}
 use Rattle.plan_search.specs.declared.search.Picking.TheVariants.{Least, MostMet}
 
--- the guide that picks so
+-- the guide of a picking
 abbrev pub guide_of : Picking → Guide
 guide_of Least = least
 guide_of MostMet = most_met
 
--- the answer of a search over the problem that the packages make, under the limit of the settings, and what is told of a failure
+-- names by which the packages have a problem, the outcome of its search under the settings' limit, and the blame
 pub record IsFindingOf (picking : Picking) (minimize : Bool) (index : Index) (settings : Settings) (finding : Finding) : Type 0 where
   pub problem : Problem
   pub problem_is : IsProblemOf index settings.project finding.names problem

@@ -33,7 +33,7 @@ pub record IsWholeProblem (index : Index) (settings : Settings) (names : NameTab
   pub orders_are : AreOrders settings.project index.packages orders
   pub problem_is : problem ≡ whole_problem settings.env index.packages settings.project names orders
 
--- A trail names each variable once. As a map it is the first of all whole valid assignments, whose trail it is.
+-- The trail names each variable once. As an assignment it is the first complete, valid one, and it is that one's trail.
 pub record IsFirstTrail (index : Index) (settings : Settings) (names : NameTable) (trail : List Choice) : Type 0 where
   pub problem : General
   pub problem_is : IsWholeProblem index settings names problem
@@ -41,26 +41,26 @@ pub record IsFirstTrail (index : Index) (settings : Settings) (names : NameTable
   pub first : IsFirst problem (value_in trail)
   pub trail_is : trail ≡ trail_of problem (value_in trail)
 
--- A trail names each variable once, and is as a map whole and valid; it needn't be the first.
+-- The trail names each variable once. As an assignment it is complete and valid, but needn't be the first.
 pub record IsValidTrail (index : Index) (settings : Settings) (names : NameTable) (trail : List Choice) : Type 0 where
   pub problem : General
   pub problem_is : IsWholeProblem index settings names problem
   pub new : AreNew trail
   pub whole_valid : IsWholeValid problem (value_in trail)
 
--- what a trail means that was found so
+-- the meaning of a trail, by the picking that found it
 abbrev pub MeansTrail : Picking → Index → Settings → NameTable → List Choice → Type 0
 MeansTrail Least index settings names trail = IsFirstTrail index settings names trail
 MeansTrail MostMet index settings names trail = IsValidTrail index settings names trail
 
--- There is no whole valid assignment, and these variables admit none by themselves.
+-- No assignment is complete and valid, and these variables admit none.
 pub record AreToBlame (index : Index) (settings : Settings) (names : NameTable) (set : List Var) : Type 0 where
   pub problem : General
   pub problem_is : IsWholeProblem index settings names problem
   pub none : (assignment : Assignment) → IsWholeValid problem assignment → ⊥
   pub admits_none : AdmitsNone problem (has set)
 
--- A search over the problem meets the limit, so there is one.
+-- There is a limit, and a search over the problem gives up at it.
 pub record MeetsLimit (picking : Picking) (index : Index) (settings : Settings) (names : NameTable) : Type 0 where
   pub problem : Problem
   pub problem_is : IsProblemOf index settings.project names problem
@@ -68,25 +68,25 @@ pub record MeetsLimit (picking : Picking) (index : Index) (settings : Settings) 
   pub limit : settings.limit ≡ At most
   pub ended : (guided_answer (guide_of picking) problem settings.limit).ended ≡ GaveUp
 
--- what an outcome means
+-- the meaning of an outcome
 abbrev pub MeansOutcome : Picking → Index → Settings → NameTable → Outcome → Type 0
 MeansOutcome picking index settings names (outcome.Found trail counts) = MeansTrail picking index settings names trail
 MeansOutcome picking index settings names (outcome.NoPlan set counts) = AreToBlame index settings names set
 MeansOutcome picking index settings names (outcome.GaveUp counts) = MeetsLimit picking index settings names
 
--- what is told of these variables besides
+-- the blame of these variables, by the problem with whole conditions
 pub record IsBlamed (minimize : Bool) (index : Index) (settings : Settings) (names : NameTable) (set : List Var) (blame : Blame) : Type 0 where
   pub problem : General
   pub problem_is : IsWholeProblem index settings names problem
   pub is_so : IsBlame minimize problem settings.limit set blame
 
--- what is told of a failure means
+-- the meaning of a failure's blame
 abbrev pub MeansFailure : Bool → Index → Settings → NameTable → Outcome → Blame → Type 0
 MeansFailure minimize index settings names (outcome.Found trail counts) blame = Unit {0}
 MeansFailure minimize index settings names (outcome.NoPlan set counts) blame = IsBlamed minimize index settings names set blame
 MeansFailure minimize index settings names (outcome.GaveUp counts) blame = Unit {0}
 
--- what a finding means
+-- the meaning of a finding
 pub record Means (picking : Picking) (minimize : Bool) (index : Index) (settings : Settings) (finding : Finding) : Type 0 where
   pub outcome : MeansOutcome picking index settings finding.names finding.outcome
   pub failure : MeansFailure minimize index settings finding.names finding.outcome finding.blame

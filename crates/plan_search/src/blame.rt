@@ -1,4 +1,4 @@
-// What is told of a failure besides the set with which the search failed.
+// Blame: what a failure reports besides its conflict set.
 ghost use Rattle.std.specs.Prelude.{◌≡◌, IfOk};
 ghost use Rattle.choice_problem.specs.Answer.{guided_answer, outcome_of};
 ghost use Rattle.choice_problem.specs.General.{general};
@@ -14,18 +14,18 @@ use plan_types::NoMemory;
 use std::alloc::Global;
 use std::sync::ledger::Ledger;
 
-/// What is told of a failure besides the set with which the search failed.
+/// What a failure reports besides its conflict set.
 #[derive(Debug, Drop)]
 pub enum Blame {
-    /// It wasn't asked for, or the search didn't fail.
+    /// Shrinking wasn't asked for, or the search didn't fail.
     Unasked,
-    /// The part of the set from which nothing can be dropped.
+    /// A minimal part of the conflict set that still admits no assignment.
     Shrunk(Shrunk),
-    /// The limit was met while the set was shrunk, with so many points exhausted.
+    /// Shrinking reached the limit, with this many points exhausted.
     TooLong(u64),
 }
 
-/// What is told of the failure that a search may have ended with.
+/// The blame of a search's outcome. Only a failed search with `minimize` shrinks its set.
 pub(crate) fn blame_of<C: Choices, L: Ledger>(
     alloc: Global,
     minimize: bool,
@@ -52,7 +52,7 @@ pub(crate) fn blame_of<C: Choices, L: Ledger>(
     }
 }
 
-// The part of a set from which nothing can be dropped, within a budget of exhausted points.
+// A minimal part of a set, within a budget of exhausted points.
 fn part_of<C: Choices, L: Ledger>(
     alloc: Global,
     problem: &C,

@@ -1,7 +1,7 @@
-//! What a search over the packages of an index finds, and what that means. In go a sound index and the settings of a plan; out
-//! comes the trail of the first of all whole valid assignments, or of some one where conflicts are counted; or a set of variables
-//! that by itself admits none, exactly where there is no such assignment, and of it, where that is asked for, the part from which nothing
-//! can be dropped; or that the limit was met. Nothing here knows of files, or of what is printed.
+//! What a search over an index finds. In go a sound index and the settings of a plan. Out comes the trail of the first
+//! complete, valid assignment, or of any one under `MostMet`. If there is none, out comes a conflict set that admits no
+//! assignment, and on request a minimal part of it. With a limit the search may give up instead. The promises are
+//! `IsFindingOf`, which is unique, and `Means`.
 #![tactic(auto)]
 
 mod blame;

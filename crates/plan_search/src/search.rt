@@ -1,4 +1,4 @@
-// The problem that an index and settings make is searched.
+// The search over the problem of an index and settings.
 ghost use Rattle.std.specs.Prelude.{◌≡◌, ◌<◌, IfOk, true};
 ghost use Rattle.std.specs.List.{list_all};
 ghost use Rattle.flatten.specs.Sound.{IsSound, has_package};
@@ -20,16 +20,16 @@ use std::alloc::Global;
 use std::marker::Brand;
 use std::sync::ledger::{Blank, Ledger};
 
-/// How a search picks the variable that it tries next.
+/// How a search picks its next variable.
 #[derive(Clone, Copy, Debug, PartialEq, Eq)]
 pub enum Picking {
-    /// The least that is open, in goal order.
+    /// The least open variable, in goal order.
     Least,
-    /// Of those that are open the one that was in the most conflict sets so far, and of these the least.
+    /// The open variable in the most conflict sets so far; the least of several.
     MostMet,
 }
 
-/// What a search ended with, the names that stand behind the numbers in it, and what is told of a failure.
+/// The outcome of a search, the names behind its numbers, and the blame of a failure.
 #[derive(Debug)]
 pub struct Finding {
     pub names: Names,
@@ -37,7 +37,7 @@ pub struct Finding {
     pub blame: Blame,
 }
 
-// Written out, so that it is proved once and not at each exit of each function that owns one.
+// Explicit, so that it is proved once: a derived one is expanded at each exit.
 impl Drop for Finding {
     fn drop(self) {
         let Finding {
@@ -48,8 +48,8 @@ impl Drop for Finding {
     }
 }
 
-/// Searches for a plan of the packages of an index, which is sound and has each package that is asked for besides. Where there is
-/// none, the set that is to blame is shrunk if that is asked for, with the limit counted anew.
+/// Searches for a plan over a sound index that has each extra package. With `minimize`, a failure's conflict set is
+/// shrunk, with the limit counted anew.
 pub fn find_plan(
     alloc: Global,
     picking: Picking,
@@ -81,7 +81,7 @@ pub fn find_plan(
     })
 }
 
-// What a search ends with, and what is told of a failure. The tries are counted over a ledger of the search's own.
+// The outcome of a search and its blame. The tries are counted on a ledger of this search alone.
 fn searched<C: Choices, L: Ledger>(
     alloc: Global,
     picking: Picking,
