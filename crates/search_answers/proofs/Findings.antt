@@ -1,4 +1,4 @@
--- A search over an index finds something; without a limit it finds a first plan, or what is to blame.
+-- A search over an index has a finding. Without a limit it is the first plan, or a conflict set.
 use Rattle.std.proofs.Common.{◌≡◌, Bool, true, false, refl}
 use Rattle.std.specs.List.{list_all}
 use Rattle.plan_types.specs.declared.index.Index.{Index}
@@ -43,7 +43,7 @@ MeansRight = (picking : Picking) (minimize : Bool) (index : Index) (settings : S
     → list_all (λ named. has_package index named.name) settings.project.extra ≡ true → IsFindingOf picking minimize index settings finding
     → MeansOutcome picking index settings finding.names finding.outcome
 
--- the limit is no part of a problem
+-- the limit is no part of a problem with whole conditions
 problem_as : (index : Index) (settings : Settings) (names : NameTable) (problem : _) → IsWholeProblem index (unlimited settings) names problem
     → IsWholeProblem index settings names problem
 problem_as index settings names problem h = record { numbers = h.numbers; orders = h.orders; orders_are = h.orders_are; problem_is = h.problem_is }

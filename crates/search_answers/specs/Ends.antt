@@ -15,14 +15,14 @@ use Rattle.plan_search.specs.declared.search.Picking.TheVariants.{Least}
 abbrev pub unlimited : Settings → Settings
 unlimited settings = record { env = settings.env; project = settings.project; limit = Unlimited }
 
--- A trail that is found is that of the first whole valid assignment; variables that are told admit none, and there is no such
--- assignment; it doesn't give up.
+-- A trail is that of the first complete, valid assignment; a conflict set admits none, and there is no such
+-- assignment; the search doesn't give up.
 abbrev pub EndsFirstOrNone : Index → Settings → NameTable → Outcome → Type 0
 EndsFirstOrNone index settings names (outcome.Found trail counts) = IsFirstTrail index settings names trail
 EndsFirstOrNone index settings names (outcome.NoPlan set counts) = AreToBlame index settings names set
 EndsFirstOrNone index settings names (outcome.GaveUp counts) = ⊥
 
--- a search without a limit finds something, and ends so
+-- a search without a limit has a finding, with such an outcome
 pub record EndsUnlimited (index : Index) (settings : Settings) : Type 0 where
   pub finding : Finding
   pub found : IsFindingOf Least false index (unlimited settings) finding

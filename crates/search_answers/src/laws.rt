@@ -1,4 +1,4 @@
-// Every index has a finding, and without a limit it is a first plan or a conflict.
+// Every index has a finding. Without a limit it is a first plan or a conflict.
 ghost use Rattle.std.specs.Prelude.{◌≡◌, Bool, true};
 ghost use Rattle.std.specs.List.{list_all};
 ghost use Rattle.plan_types.specs.declared.index.Index.{Index};
@@ -12,14 +12,14 @@ ghost use Rattle.search_answers.specs.Ends.{EndsUnlimited};
 
 use plan_search::what_is_found_is_right;
 
-/// A search over an index whose packages stand in goal order finds something, by a table of names that there is.
+/// An index in goal order has a finding.
 pub fn some_finding()
     ensures { (picking : Picking) (minimize : Bool) (index : Index) (settings : Settings) → AreInGoalOrder index.packages
         → (finding : Finding) × IsFindingOf picking minimize index settings finding }
 {}
 
-/// Of a sound index there is the first whole valid assignment, whose trail a search without a limit finds; or there is none, and
-/// such a search finds a set of variables that admits none.
+/// Without a limit, the search over a sound index finds the trail of the first complete, valid assignment. If there is
+/// none, it finds a conflict set that admits none.
 pub fn first_or_none()
     ensures { (index : Index) (settings : Settings) → IsSound settings.env index
         → list_all (λ named. has_package index named.name) settings.project.extra ≡ true → EndsUnlimited index settings }

@@ -1,6 +1,6 @@
-//! Every index whose packages stand in goal order has a finding: there is one table of names and one order of instances for it, and
-//! so one problem, and a search ends. Where the index is sound and no limit is set, a search ends with the first whole valid
-//! assignment, or with a set of variables that admits none, where there is no whole valid assignment. There is no code here.
+//! Laws: every index in goal order has a finding, because its names, its orders of instances and so its problem exist,
+//! and a search ends. Without a limit, the search over a sound index ends with the first complete, valid assignment. If
+//! there is none, it ends with a conflict set that admits none. There is no code here.
 #![tactic(auto)]
 
 mod laws;
