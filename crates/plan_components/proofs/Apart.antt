@@ -1,4 +1,4 @@
--- Flags of a sound index stand in the order of their names, so no instance declares one twice.
+-- In a sound index flags are sorted by name, so no instance declares one twice.
 use Rattle.std.proofs.Common.{◌≡◌, ℕ, zero, suc, true, false, not, ◌||◌, List, [], ◌∷◌, map, Some, None, refl, ap, ◌∙◌, subst, if◌then◌else◌}
 use Rattle.std.specs.List.{AllByRecursion, list_any}
 use Rattle.std.specs.List.Sorted.{IsStrictlySortedBy}

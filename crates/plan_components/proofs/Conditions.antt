@@ -1,4 +1,4 @@
--- A dependency counts where its component is buildable and its branches are taken.
+-- A dependency counts iff its component is buildable and its branches are taken.
 use Rattle.std.proofs.Common.{◌≡◌, ◌<◌, Bool, true, false, not, ◌&&◌, ◌||◌, cond, List, [], ◌∷◌, ◌++◌, map, flat_map, refl, sym, ap, ◌∙◌, arith}
 use Rattle.std.specs.Prelude.{filter}
 use Rattle.std.proofs.lemmas.List.Concat.{flat_map-append}
@@ -30,12 +30,12 @@ both-yes Yes b = refl
 both-yes No b = refl
 both-yes Unknown b = refl
 
--- a chain is Yes where each of its sides is
+-- `&&` is Yes iff both its sides are
 pub sides-hold : (env : Env) (flags : List FlagSet) (whole front last : Cond) → whole ≡ And front last → holds env flags whole ≡ (holds env flags front && holds env flags last)
 sides-hold env flags whole front last is =
     ap (holds env flags) is ∙ ap (is_wanted true) (value-And env (flag_in flags) front last) ∙ both-yes (value env (flag_in flags) front) (value env (flag_in flags) last)
 
--- where the last side is Yes, the others decide, and where it isn't, the whole isn't
+-- if the last side is Yes, the others decide; if it isn't, the whole isn't
 pub others-decide : (env : Env) (flags : List FlagSet) (whole front last : Cond) → whole ≡ And front last → holds env flags last ≡ true → holds env flags front ≡ holds env flags whole
 others-decide env flags whole front last is h = sym (sides-hold env flags whole front last is ∙ ap (λ b. holds env flags front && b) h ∙ and-true (holds env flags front))
 
@@ -52,13 +52,13 @@ whole-holds env flags component guarded =
     ∙ both-yes (value env (flag_in flags) component.buildable) (value env (flag_in flags) guarded.when)
 
 module _ (selection : Selection) (flags : List FlagSet) (own : Bool) (component : Component) where
-  -- where the component is buildable, the branches decide
+  -- if the component is buildable, the branches decide
   pub by_branches : (guarded : GuardedDep) → holds selection.env flags component.buildable ≡ true
       → counts selection flags own component guarded ≡ ((own || not guarded.dep.internal) && holds selection.env flags guarded.when)
   by_branches guarded h =
       ap (λ b. (own || not guarded.dep.internal) && b) (whole-holds selection.env flags component guarded ∙ ap (λ b. b && holds selection.env flags guarded.when) h)
 
-  -- the dependencies of a place, where its branches are taken, and where they aren't
+  -- the dependencies of one group, if its branches are taken, and if they aren't
   module _ (built : holds selection.env flags component.buildable ≡ true) (when : Cond) (node : Node) where
     abbrev here : Dep → GuardedDep
     here dep = record { when = when; dep = dep }
@@ -93,7 +93,7 @@ module _ (selection : Selection) (flags : List FlagSet) (own : Bool) (component 
       ap (flat_map (λ (g : GuardedDep). dep_needs selection node g.dep)) (filter-append (counts selection flags own component) front rest)
       ∙ flat_map-append (λ (g : GuardedDep). dep_needs selection node g.dep) (filter (counts selection flags own component) front) (filter (counts selection flags own component) rest)
 
-  -- and where it isn't, nothing counts
+  -- if the component isn't buildable, no dependency counts
   none-counts : (guarded : GuardedDep) → holds selection.env flags component.buildable ≡ false → counts selection flags own component guarded ≡ false
   none-counts guarded h =
       and_right (own || not guarded.dep.internal) _ (whole-holds selection.env flags component guarded ∙ ap (λ b. b && holds selection.env flags guarded.when) h)

@@ -1,4 +1,4 @@
--- Places of components by their names.
+-- Places of components by name.
 use Rattle.std.proofs.Common.{◌≡◌, ℕ, suc, Bool, true, false, cond, List, [], ◌∷◌, ◌++◌, Some, length, slice_get, refl, ap, ◌∙◌, subst, arith, append_assoc}
 use Rattle.std.specs.Prelude.{filter, if◌then◌else◌}
 use Rattle.std.proofs.lemmas.Bool.{false≢true}
@@ -7,7 +7,7 @@ use Rattle.plan_types.specs.declared.description.Component.{Component}
 use Rattle.plan_components.specs.Known.{Names, has_name, passes_one}
 use Rattle.plan_components.specs.Wanted.{places, places_from}
 
--- one place, where it passes both tests or the second alone
+-- a place is kept if it passes the second test, which implies the first
 step : (a b : Bool) (test : ℕ → Bool) (k : ℕ) (before after : List ℕ) → (b ≡ true → a ≡ true) → test k ≡ b → filter test before ≡ after
     → filter test (if a then k ∷ before else before) ≡ (if b then k ∷ after else after)
 step true true test k before after h e rest = ap (λ x. cond x (k ∷ filter test before) (filter test before)) e ∙ ap (λ l. k ∷ l) rest
@@ -35,6 +35,6 @@ module _ (test : Component → Bool) (name : List ℕ) (all : Names test name) w
       step (has_name name component) (test component) (test_at whole) (length front) (places_from (suc (length front)) (has_name name) rest) (places_from (suc (length front)) test rest)
       (all component) (ap (passes_one test) (at-end front component rest)) behind
 
-  -- the places of components that pass a test are among those of a name that all of these have
+  -- filtering the places of one name gives the components that pass a test, if all of these have the name
   pub among : (components : List Component) → filter (λ i. passes_one test (slice_get components i)) (places (has_name name) components) ≡ places test components
   among components = among-behind [] components

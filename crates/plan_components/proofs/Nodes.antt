@@ -1,4 +1,4 @@
--- Nodes that the derived test finds equal are one.
+-- Nodes that the derived test finds equal are equal.
 use Rattle.std.proofs.Common.{◌≡◌, ◌≢◌, inl, inr, ◌+◌, Bool, true, false, cond, not, List, [], ◌∷◌, length, refl, sym, ap, ◌∙◌, rules, arith}
 use Rattle.std.specs.List.{AllByRecursion, AllPairs, Contains, IsDistinct, list_any, position_or_len}
 use Rattle.std.proofs.lemmas.Bool.{false≢true, or_parts}
@@ -26,7 +26,7 @@ apart n (k ∷ nodes) h m c e =
       | inr r ↦ apart n nodes h.1 m r e
     ]
 
--- nodes of which no two are equal by the derived test differ
+-- nodes that the derived test tells apart are distinct
 pub differ : (nodes : List Node) → IsDistinct eq-value.it nodes → AllPairs (λ a b. a ≢ b) nodes
 unfolding IsDistinct
 differ [] h = pairs-nil (λ a b. a ≢ b)
@@ -40,6 +40,6 @@ none-passes test (x ∷ xs) h =
     let longer : length (x ∷ xs) ≡ 1 + position_or_len test xs = omega (arith, more) in
     longer ∙ ap (λ b. cond (not b) (1 + position_or_len test xs) 0) (sym parts.0)
 
--- what isn't among the nodes has the place behind the last
+-- a node that isn't in the list has the place behind the last
 pub no_place : (nodes : List Node) (n : Node) → list_any (eq-value.it n) nodes ≡ false → length nodes ≡ place_of nodes n
 no_place nodes n h = none-passes (same_node n) nodes (ap (λ (test : Node → Bool). list_any test nodes) (λ i m. sym (derived n m) i) ∙ h)

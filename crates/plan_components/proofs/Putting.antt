@@ -1,4 +1,4 @@
--- Nodes that are put behind others, each once.
+-- Insertion of nodes, each once.
 use Rattle.std.proofs.Common.{◌≡◌, ◌⊎◌, inl, inr, ⊎_elim, ℕ, ◌<◌, ◌+◌, Bool, true, false, List, [], ◌∷◌, ◌++◌, length, map, take, get_or, append_assoc, append-nil, refl, sym, ap, ◌∙◌, subst, if◌then◌else◌}
 use Rattle.std.specs.List.{Contains, list_any}
 use Rattle.std.proofs.lemmas.List.{map-append, take_more}
@@ -67,7 +67,7 @@ puts_key old n = record { more = grows.0; grown = grows.1; members = λ m. (into
         (λ k. ⊎_elim (λ e. subst (Contains (insert_key eq-value.it old n)) e (last old n b refl)) (λ none. absurd (contains-none m none)) (contains-cases n [] m k))
         h
 
--- those and then these
+-- inserting one list and then another inserts both
 pub puts_both : (first second old mid new : List Node) → Puts first old mid → Puts second mid new → Puts (first ++ second) old new
 puts_both first second old mid new p q = record {
   more = p.more ++ q.more;
@@ -87,7 +87,7 @@ puts_both first second old mid new p q = record {
         (λ k. ⊎_elim (λ f. (q.members m).1 (inl ((p.members m).1 (inr f)))) (λ s. (q.members m).1 (inr s)) (contains-append first second m k))
         h
 
--- ---- a turn of a loop
+-- ---- a step of a loop
 
 module _ {A : Type 0} (node : A → Node) (xs : List A) (i : ℕ) (d : A) (within : i < length xs) where
   pub puts_more : (old mid new : List Node) → Puts (map node (take i xs)) old mid → Puts (node (get_or xs i d) ∷ []) mid new → Puts (map node (take (i + 1) xs)) old new

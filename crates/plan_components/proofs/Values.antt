@@ -1,4 +1,4 @@
--- The values of a trail, a choice at a time.
+-- The values of a trail, one choice at a time.
 use Rattle.std.proofs.Common.{◌≡◌, ℕ, true, false, cond, List, [], ◌∷◌, ◌++◌, Option, Some, None, refl, sym, ap, ◌∙◌}
 use Rattle.std.specs.Option.{is_some}
 use Rattle.std.proofs.lemmas.Bool.{false≢true}
@@ -24,7 +24,7 @@ first-alone None = refl
 first-alone (Some n) = refl
 
 module _ (A : Assignment) (c : Choice) (v : Var) where
-  -- a variable that has a value keeps it
+  -- a variable with a value keeps it
   pub value_kept : is_some (A c.var) ≡ true → A v ≡ value_with A c v
   value_kept h =
       elim (same_var c.var v) as (λ b. same_var c.var v ≡ b → A v ≡ first_value (A v) (cond b (Some c.val) None)) [
@@ -36,7 +36,7 @@ module _ (A : Assignment) (c : Choice) (v : Var) where
       has None k = absurd (false≢true k)
       has (Some n) k = refl
 
-  -- one that has none gets it
+  -- a variable without a value gets it
   pub value_given : is_some (A c.var) ≡ false → cond (same_var c.var v) (Some c.val) (A v) ≡ value_with A c v
   value_given h =
       elim (same_var c.var v) as (λ b. same_var c.var v ≡ b → cond b (Some c.val) (A v) ≡ first_value (A v) (cond b (Some c.val) None)) [

@@ -1,4 +1,4 @@
--- What holds while nodes are looked at, one after the other.
+-- The invariant of the walk over the nodes.
 use Rattle.std.proofs.Common.{◌≡◌, ◌<◌, ◌≤◌, ◌↔◌, inl, inr, ⊎_elim, ℕ, zero, suc, ◌+◌, List, [], ◌∷◌, ◌++◌, length, length-append, map, take, refl, sym, ap, ◌∙◌, subst, arith, Some}
 use Rattle.std.specs.List.{Contains, slice_get}
 use Rattle.std.proofs.lemmas.List.{map-append, take_all, take_more, take-append-le}
@@ -12,7 +12,7 @@ use Rattle.plan_components.specs.Plan.{IsInPlan, first, needed}
 use Rattle.plan_components.specs.Steps.{Puts, no_node, node_at}
 use Rattle.plan_components.specs.Wanted.{first_nodes}
 
--- the node that is found at a place
+-- the node found at a place
 pub here_is : (nodes : List Node) (i : ℕ) (node : Node) → slice_get nodes i ≡ Some node → node ≡ node_at nodes i
 here_is [] i node h = absurd (cc h)
 here_is (n ∷ nodes) zero node h = some-same h
@@ -21,7 +21,7 @@ here_is (n ∷ nodes) zero node h = some-same h
     some-same e = cc e
 here_is (n ∷ nodes) (suc i) node h = here_is nodes i node h
 
--- the nodes hold those with which the plan begins, and what the first ones need that were looked at; there are no others
+-- the nodes have the first nodes and the needs of the visited ones, and are all in the plan
 pub record Keeps (selection : Selection) (nodes : List Node) (needs : List (List Need)) : Type 0 where
   pub within : length needs ≤ length nodes
   pub begun : (node : Node) → Contains (first_nodes selection) node → Contains nodes node

@@ -1,4 +1,4 @@
--- What is chosen of the packages of an index: instances, flags and stanzas.
+-- The chosen instances, flags and stanzas of an index.
 use Rattle.std.specs.Prelude.{ℕ, Bool, true, false, List, map, slice_get, Option, Some, None, option_map, option_and_then}
 use Rattle.plan_types.specs.declared.condition.Cond.{Cond}
 use Rattle.plan_types.specs.declared.condition.Env.{Env}
@@ -23,18 +23,18 @@ use Rattle.cabal_problem.specs.Values.{package_var}
 use Rattle.cabal_problem.specs.Variables.{is_on}
 use Rattle.plan_components.specs.declared.chosen.Chosen.{Chosen}
 
--- the packages, the numbers of their names, what conditions ask besides flags, and the values that are chosen
+-- the packages, the numbers of their names, the environment, and the chosen values
 pub record Selection : Type 0 where
   pub packages : List Package
   pub names : NameTable
   pub env : Env
   pub value_of : Assignment
 
--- of an index
+-- the selection of an index
 abbrev pub selection_from : Index → NameTable → Env → Assignment → Selection
 selection_from index names env values = record { packages = index.packages; names = names; env = env; value_of = values }
 
--- the same of what the code is handed
+-- the selection that the code has
 abbrev pub selection_of : Chosen → Selection
 selection_of chosen = selection_from chosen.index.now chosen.names.now chosen.env.now (entry chosen.values.now)
 
@@ -42,20 +42,20 @@ selection_of chosen = selection_from chosen.index.now chosen.names.now chosen.en
 abbrev pub part_var : Qual → ℕ → Part → Var
 part_var q p part = record { qual = q; «package» = p; part = part }
 
--- whether the value of a flag or a stanza is there, and is on
+-- whether a flag or stanza has a value, and it is on
 abbrev pub is_value_on : Option ℕ → Bool
 is_value_on None = false
 is_value_on (Some n) = is_on n
 
--- whether a flag or a stanza is chosen to be on
+-- whether a flag or stanza has a chosen value, and it is on
 abbrev pub is_turned_on : Selection → Qual → ℕ → Part → Bool
 is_turned_on selection q p part = is_value_on (selection.value_of (part_var q p part))
 
--- a declared flag, with the value that is chosen for it
+-- a declared flag, with its chosen value
 abbrev pub chosen_flag : Selection → Qual → ℕ → FlagDecl → FlagSet
 chosen_flag selection q p decl = record { name = decl.name; on = is_turned_on selection q p (Flag (flag_number selection.names decl.name)) }
 
--- those that a description declares, in the order of their names
+-- the flags of a description with their chosen values, in the order of their names
 abbrev pub chosen_flags : Selection → Qual → ℕ → Description → List FlagSet
 chosen_flags selection q p d = map (chosen_flag selection q p) d.flags
 
@@ -63,7 +63,7 @@ chosen_flags selection q p d = map (chosen_flag selection q p) d.flags
 abbrev pub holds : Env → List FlagSet → Cond → Bool
 holds env flags cond = is_wanted true (value env (flag_in flags) cond)
 
--- what is known of the instance of a package that is chosen under a qualifier
+-- the description or record of the instance that is chosen for a package under a qualifier
 abbrev pub body_at : Selection → Qual → ℕ → Option Body
 body_at selection q p =
     let place = selection.value_of (package_var q p) in

@@ -73,11 +73,11 @@ trail value = choice_of (package_var Top 0) 0 ∷ choice_of (package_var Top 1) 
 abbrev selection : ℕ → Selection
 selection value = record { packages = of_base ∷ of_main ∷ []; names = names; env = linux; value_of = value_in (trail value) }
 
--- with the flag on the plan begins with the library
+-- with the flag on, the library is the first node
 begun : first_nodes (selection 1) ≡ node_of Top 1 (One 0) ∷ []
 begun = simp by_kind refl
 
--- with the flag off it isn't buildable, and nothing is wanted
+-- with the flag off, the library isn't buildable, and no component is wanted
 nothing_wanted : first_nodes (selection 0) ≡ []
 nothing_wanted = simp by_kind refl
 
@@ -85,11 +85,11 @@ nothing_wanted = simp by_kind refl
 needs_base : needs_of (selection 1) (node_of Top 1 (One 0)) ≡ need_of dep_kind.Library Top 0 Whole ∷ []
 needs_base = simp by_kind refl
 
--- where it isn't buildable it needs nothing
+-- an unbuildable component needs nothing
 needs_nothing : needs_of (selection 0) (node_of Top 1 (One 0)) ≡ []
 needs_nothing = simp by_kind refl
 
--- nor does the unit
+-- the unit needs nothing either
 unit_needs_nothing : needs_of (selection 1) (node_of Top 0 Whole) ≡ []
 unit_needs_nothing = refl
 
@@ -101,10 +101,10 @@ executables = refl
 one_by_one : as_pieces false (3 ∷ 5 ∷ []) ≡ One 3 ∷ One 5 ∷ []
 one_by_one = refl
 
--- with a setup script of its own a package is one piece
+-- a package with a setup script of its own is one piece
 as_a_whole : as_pieces true (3 ∷ 5 ∷ []) ≡ Whole ∷ []
 as_a_whole = refl
 
--- or none, where none of its components is meant
+-- or none, if none of its components is meant
 not_at_all : as_pieces true [] ≡ []
 not_at_all = refl

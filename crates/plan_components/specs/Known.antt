@@ -1,4 +1,4 @@
--- What is known of a package under a qualifier.
+-- The flags and component places of a package under a qualifier.
 use Rattle.std.specs.Prelude.{◌≡◌, ℕ, Bool, true, false, List, [], slice_get, Option, Some, None}
 use Rattle.std.specs.declared.hash.FoldHasher.{FoldHasher}
 use Rattle.std.specs.declared.hash.BuildHasherDefault.{BuildHasherDefault}
@@ -18,23 +18,23 @@ use Rattle.plan_components.specs.Chosen.{Selection, body_at, chosen_flags}
 use Rattle.plan_components.specs.Needs.{asks}
 use Rattle.plan_components.specs.Wanted.{places}
 
--- the flags of what is chosen of a package: an installed unit has none
+-- the flags of a chosen instance with their values; a unit has none
 abbrev pub flags_by : Selection → Qual → ℕ → Option Body → List FlagSet
 flags_by selection q p None = []
 flags_by selection q p (Some (Installed record_of needs)) = []
 flags_by selection q p (Some (Source d flats exposed)) = chosen_flags selection q p d
 
--- the same of the instance that is chosen under a qualifier
+-- the same for the instance that is chosen under a qualifier
 abbrev pub flags_at : Selection → Qual → ℕ → List FlagSet
 flags_at selection q p = flags_by selection q p (body_at selection q p)
 
--- the components of what is chosen of a package
+-- the components of a chosen instance; a unit has none
 abbrev pub components_by : Option Body → List Component
 components_by None = []
 components_by (Some (Installed record_of needs)) = []
 components_by (Some (Source d flats exposed)) = d.components
 
--- the same of the instance that is chosen under a qualifier
+-- the same for the instance that is chosen under a qualifier
 abbrev pub components_at : Selection → Qual → ℕ → List Component
 components_at selection q p = components_by (body_at selection q p)
 
@@ -46,29 +46,29 @@ NamedPlaces = IndexMap (List ℕ) (List ℕ) (BuildHasherDefault FoldHasher)
 abbrev pub has_name : List ℕ → Component → Bool
 has_name name component = same_text component.name name
 
--- these are the places of some components by their names
+-- the places are those of the components, by name
 abbrev pub AreNamed : List Component → NamedPlaces → Type 0
 AreNamed components named = (name : List ℕ) → items_at same_text named name ≡ places (has_name name) components
 
--- all that pass a test have a name
+-- all components that pass the test have this name
 abbrev pub Names : (Component → Bool) → List ℕ → Type 0
 Names test name = (component : Component) → test component ≡ true → has_name name component ≡ true
 
--- whether a component that may be there passes a test
+-- whether a component passes a test; false if there is none
 abbrev pub passes_one : (Component → Bool) → Option Component → Bool
 passes_one test None = false
 passes_one test (Some component) = test component
 
--- whether a dependency asks for the component at a place
+-- whether a dependency means the component at a place
 abbrev pub asks_at : Dep → List Component → ℕ → Bool
 asks_at dep components place = passes_one (asks dep.kind dep) (slice_get components place)
 
--- the flags and the places are those of the package
+-- the flags and places are those of the owner's package
 pub record IsKnown (selection : Selection) (known : Known) : Type 0 where
   pub flags : known.flags ≡ flags_at selection known.owner.qual known.owner.«package»
   pub named : AreNamed (components_at selection known.owner.qual known.owner.«package») known.places
 
--- a description has the flags and the components of the instance that is chosen for a node
+-- the description has the flags and the components of the instance that is chosen for the node
 pub record IsSourceOf (selection : Selection) (node : Node) (d : Description) : Type 0 where
   pub flags : flags_at selection node.qual node.«package» ≡ chosen_flags selection node.qual node.«package» d
   pub components : components_at selection node.qual node.«package» ≡ d.components

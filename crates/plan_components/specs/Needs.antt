@@ -1,4 +1,4 @@
--- What a node needs, by the value of each whole condition under the chosen flags.
+-- What a node needs, by the whole conditions of its dependencies under the chosen flags.
 use Rattle.std.specs.Prelude.{ℕ, Bool, true, false, not, ◌&&◌, ◌||◌, if◌then◌else◌, List, [], ◌∷◌, ◌++◌, map, filter, flat_map, slice_get, Option, Some, None}
 use Rattle.std.specs.List.{list_any}
 use Rattle.plan_types.specs.declared.condition.FlagSet.{FlagSet}
@@ -26,31 +26,31 @@ use Rattle.plan_components.specs.Wanted.{as_pieces, is_wanted_under, node_of, pl
 
 -- ---- one dependency
 
--- a dependency asks for this component: for a library of its name, or for an executable
+-- whether a dependency means this component: a library or an executable of its name
 abbrev pub asks : DepKind → Dep → Component → Bool
 asks dep_kind.Library dep component = list_any (is_lib component) dep.libs
 asks dep_kind.Tool dep component = is_exe component dep.exe
 asks dep_kind.Setup dep component = list_any (is_lib component) dep.libs
 
--- what a dependency asks for of the instance that is chosen; of an installed unit that is the unit
+-- the pieces of the chosen instance that a dependency means; an installed unit is whole
 abbrev pub asked_pieces : Dep → Option Body → List Piece
 asked_pieces dep None = []
 asked_pieces dep (Some (Installed record_of needs)) = Whole ∷ []
 asked_pieces dep (Some (Source d flats exposed)) = as_pieces d.custom (places (asks dep.kind dep) d.components)
 
--- A package's own components are under its qualifier. Another package is where it is chosen for such a dependency.
+-- the qualifier of a dependency's package: for the own package the node's, for another the one where it is chosen
 abbrev pub qual_of_dep : Node → Dep → ℕ → Qual
 qual_of_dep node dep t = if dep.internal then node.qual else qual_for dep.kind (package_var node.qual node.«package») t
 
--- a piece of a package that is needed by a dependency of this kind
+-- the need of a piece by a dependency of this kind
 abbrev pub need_of : DepKind → Qual → ℕ → Piece → Need
 need_of kind q p piece = record { kind = kind; node = node_of q p piece }
 
--- the same where the package is chosen under this qualifier
+-- the needs for a dependency on a package under a qualifier
 abbrev pub needs_under : Selection → Dep → Qual → ℕ → List Need
 needs_under selection dep q t = map (need_of dep.kind q t) (asked_pieces dep (body_at selection q t))
 
--- what a node needs for a dependency
+-- the needs of a node for a dependency
 abbrev pub dep_needs : Selection → Node → Dep → List Need
 dep_needs selection node dep =
     let t = number selection.packages selection.names dep.«package» in
@@ -58,60 +58,60 @@ dep_needs selection node dep =
 
 -- ---- a component, or a package as a whole
 
--- dependencies on the own package may be left aside
+-- dependencies on the own package are skipped unless `own` is true
 abbrev pub is_asked : Bool → Dep → Bool
 is_asked own dep = own || not dep.internal
 
--- a dependency counts where its whole condition is Yes
+-- whether a dependency counts: its whole condition is Yes
 abbrev pub counts : Selection → List FlagSet → Bool → Component → GuardedDep → Bool
 counts selection flags own component guarded =
     is_asked own guarded.dep && holds selection.env flags (whole_condition component guarded)
 
--- what a node needs for those of these dependencies of a component that count
+-- the needs of a node for those dependencies of a component that count
 abbrev pub needs_among : Selection → Node → List FlagSet → Bool → Component → List GuardedDep → List Need
 needs_among selection node flags own component deps =
     flat_map (λ guarded. dep_needs selection node guarded.dep) (filter (counts selection flags own component) deps)
 
--- and for all of them
+-- the needs of a component
 abbrev pub component_needs : Selection → Node → List FlagSet → Bool → Component → List Need
 component_needs selection node flags own component = needs_among selection node flags own component component.deps
 
--- what a package that is built as a whole needs for its wanted components
+-- the needs of the wanted components of a package that is built as a whole
 abbrev pub wanted_needs : Selection → Node → List FlagSet → List Component → List Need
 wanted_needs selection node flags components =
     flat_map (component_needs selection node flags false) (filter (is_wanted_under selection node.qual node.«package» flags) components)
 
--- what a component needs, where it is there
+-- the needs of a component; none if there is none
 abbrev pub one_needs : Selection → Node → List FlagSet → Option Component → List Need
 one_needs selection node flags None = []
 one_needs selection node flags (Some component) = component_needs selection node flags true component
 
--- A component needs its dependencies that count. A package that is built as a whole needs those of its wanted components,
--- its own components left aside, and those of its setup script.
+-- A component needs its dependencies that count. A package that is built as a whole needs those of its wanted
+-- components, without the own ones, and those of its setup script.
 abbrev pub piece_needs : Selection → Node → List FlagSet → Description → Piece → List Need
 piece_needs selection node flags d Whole = wanted_needs selection node flags d.components ++ flat_map (dep_needs selection node) d.setup
 piece_needs selection node flags d (One place) = one_needs selection node flags (slice_get d.components place)
 
 -- ---- a node
 
--- an installed unit needs the units that its record names, by the names of their packages
+-- an installed unit needs the units of its record, by their packages' names
 abbrev pub unit_need : Selection → Node → Name → Need
 unit_need selection node name = need_of dep_kind.Library node.qual (number selection.packages selection.names name) Whole
 
--- what a node of a source instance needs
+-- the needs of a node of a source instance
 abbrev pub source_needs : Selection → Node → Description → List Need
 source_needs selection node d = piece_needs selection node (chosen_flags selection node.qual node.«package» d) d node.piece
 
--- what a node needs of which this is chosen
+-- the needs of a node, by its chosen instance
 abbrev pub needs_by : Selection → Node → Option Body → List Need
 needs_by selection node None = []
 needs_by selection node (Some (Installed record_of needs)) = map (unit_need selection node) needs
 needs_by selection node (Some (Source d flats exposed)) = source_needs selection node d
 
--- what a node needs
+-- the needs of a node
 abbrev pub needs_of : Selection → Node → List Need
 needs_of selection node = needs_by selection node (body_at selection node.qual node.«package»)
 
--- the nodes among that
+-- the nodes among the needs
 abbrev pub needed_nodes : Selection → Node → List Node
 needed_nodes selection node = map (λ need. need.node) (needs_of selection node)

@@ -1,4 +1,4 @@
--- Whether two nodes are one.
+-- Equality of nodes.
 use Rattle.std.proofs.Common.{◌≡◌, ℕ, Bool, true, false, ◌&&◌, List, nat_eq, refl, ap, ◌∙◌}
 use Rattle.std.proofs.lemmas.Bool.{false≢true, eqb-true, eq-eqb, and_from, and_parts}
 use Rattle.std.specs.List.{position_or_len}
@@ -8,7 +8,7 @@ use Rattle.plan_components.specs.declared.node.Node.{Node}
 use Rattle.plan_components.specs.declared.node.Piece.{Piece}
 use Rattle.plan_components.specs.declared.node.Piece.TheVariants.{Whole, One}
 
--- whether two qualifiers are one
+-- whether two qualifiers are equal
 abbrev pub same_qual : Qual → Qual → Bool
 same_qual Top Top = true
 same_qual Top (Setup q) = false
@@ -20,18 +20,18 @@ same_qual (Exe p t) Top = false
 same_qual (Exe p t) (Setup q) = false
 same_qual (Exe p t) (Exe q u) = nat_eq p q && nat_eq t u
 
--- whether two pieces are one
+-- whether two pieces are equal
 abbrev pub same_piece : Piece → Piece → Bool
 same_piece Whole Whole = true
 same_piece Whole (One j) = false
 same_piece (One i) Whole = false
 same_piece (One i) (One j) = nat_eq i j
 
--- whether two nodes are one
+-- whether two nodes are equal
 abbrev pub same_node : Node → Node → Bool
 same_node m n = same_qual m.qual n.qual && (nat_eq m.«package» n.«package» && same_piece m.piece n.piece)
 
--- the place of a node among some, or how many there are
+-- the place of a node; the number of nodes for any other one
 abbrev pub place_of : List Node → Node → ℕ
 place_of nodes node = position_or_len (same_node node) nodes
 

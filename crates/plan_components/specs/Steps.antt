@@ -1,4 +1,4 @@
--- What holds while the nodes of a plan are gathered.
+-- Definitions for single steps of the walk.
 use Rattle.std.specs.Prelude.{◌≡◌, ◌⊎◌, ◌↔◌, ℕ, Bool, true, ◌&&◌, cond, List, ◌++◌, Contains, slice_index_or, Option, Some, None}
 use Rattle.plan_types.specs.declared.dependency.LibName.TheVariants.{Main}
 use Rattle.plan_types.specs.declared.description.Component.{Component}
@@ -15,36 +15,36 @@ use Rattle.qualified_goals.specs.Variable.{same_var}
 use Rattle.choice_problem.specs.declared.problem.Choice.{Choice}
 use Rattle.choice_problem.specs.Assignment.{Assignment}
 
--- the first value where there is one, else the second
+-- the first value if there is one, else the second
 abbrev pub first_value : Option ℕ → Option ℕ → Option ℕ
 first_value None other = other
 first_value (Some n) other = Some n
 
--- the values, and that of one choice more where its variable has none
+-- an assignment, with the choice's value where its variable has none
 abbrev pub value_with : Assignment → Choice → Assignment
 value_with A c v = first_value (A v) (cond (same_var c.var v) (Some c.val) None)
 
--- whether a component is wanted of the package of a node
+-- whether a component of the node's package is wanted
 abbrev pub wanted_of : Selection → Owner → Component → Bool
 wanted_of selection owner = is_wanted_under selection owner.node.qual owner.node.«package» owner.known.now.flags
 
--- whether wanted components are looked for among such
+-- whether a component is one of those that are sought
 abbrev pub is_among : Among → Component → Bool
 is_among All component = true
 is_among MainLibrary component = is_lib component Main
 is_among Executables component = is_executable component.kind
 
--- whether a component is such a one, and wanted
+-- whether a component is one of those that are sought, and wanted
 abbrev pub is_wanted_among : Selection → Owner → Among → Component → Bool
 is_wanted_among selection owner among component = is_among among component && wanted_of selection owner component
 
--- these nodes are put behind others, unless they are among them
+-- those of these nodes that are new are appended
 pub record Puts (others old new : List Node) : Type 0 where
   pub more : List Node
   pub grown : new ≡ old ++ more
   pub members : (node : Node) → Contains new node ↔ Contains old node ⊎ Contains others node
 
--- what stands at a place behind the last node
+-- the node that is read at a place beyond the last
 abbrev pub no_node : Node
 no_node = record { qual = Top; «package» = 0; piece = Whole }
 

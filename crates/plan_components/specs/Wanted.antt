@@ -1,4 +1,4 @@
--- The nodes with which a plan begins: the components that are wanted for their own sake.
+-- The first nodes of a plan: the components that are wanted for their own sake.
 use Rattle.std.specs.Prelude.{ℕ, suc, Bool, true, false, ◌&&◌, ◌||◌, if◌then◌else◌, List, [], ◌∷◌, length, map, flat_map, Option, Some, None}
 use Rattle.plan_types.specs.declared.condition.FlagSet.{FlagSet}
 use Rattle.plan_types.specs.declared.dependency.LibName.TheVariants.{Main}
@@ -22,17 +22,17 @@ use Rattle.plan_components.specs.Chosen.{Selection, body_at, chosen_flags, holds
 
 -- ---- pieces of a package
 
--- the places of the components that pass a test, where the first has this place
+-- the places of the components that pass a test, counted from k
 abbrev pub places_from : ℕ → (Component → Bool) → List Component → List ℕ
 places_from k test [] = []
 places_from k test (component ∷ components) =
     if test component then k ∷ places_from (suc k) test components else places_from (suc k) test components
 
--- the same, in file order of all components
+-- the places of the components that pass a test, in file order of all components
 abbrev pub places : (Component → Bool) → List Component → List ℕ
 places test components = places_from 0 test components
 
--- A package with a setup script of its own is built as a whole, where any of its components is meant.
+-- A package with a setup script of its own is built as a whole if any of its components is meant.
 abbrev pub as_pieces : Bool → List ℕ → List Piece
 as_pieces false places = map One places
 as_pieces true [] = []
@@ -44,7 +44,7 @@ node_of q p piece = record { qual = q; «package» = p; piece = piece }
 
 -- ---- wanted components
 
--- a test suite is asked for where the tests are on, a benchmark where the benchmarks are, and any other component always
+-- a test suite is asked for if the tests are on, a benchmark if the benchmarks are, any other component always
 abbrev pub is_asked : Selection → Qual → ℕ → CompKind → Bool
 is_asked selection q p Library = true
 is_asked selection q p Executable = true
@@ -52,42 +52,42 @@ is_asked selection q p Test = is_turned_on selection q p Tests
 is_asked selection q p Bench = is_turned_on selection q p Benches
 is_asked selection q p Foreign = true
 
--- a component is asked for, and buildable under the chosen flags
+-- whether a component is asked for, and buildable under the chosen flags
 abbrev pub is_wanted_under : Selection → Qual → ℕ → List FlagSet → Component → Bool
 is_wanted_under selection q p flags component = is_asked selection q p component.kind && holds selection.env flags component.buildable
 
--- those of the first list, or those of the second where it has none
+-- the first list, or the second if that is empty
 abbrev pub or_else : List ℕ → List ℕ → List ℕ
 or_else [] others = others
 or_else (place ∷ places) others = place ∷ places
 
--- of a local package all wanted components; else the main library where it is wanted, or else the wanted executables
+-- all wanted components of a local package; of another one the wanted main library, or else the wanted executables
 abbrev pub first_places : Bool → (Component → Bool) → List Component → List ℕ
 first_places true wanted components = places wanted components
 first_places false wanted components =
     or_else (places (λ c. is_lib c Main && wanted c) components) (places (λ c. is_executable c.kind && wanted c) components)
 
--- those of a source instance at top level
+-- the first pieces of a source instance at top level
 abbrev pub source_pieces : Selection → Bool → ℕ → Description → List Piece
 source_pieces selection local p d =
     as_pieces d.custom (first_places local (is_wanted_under selection Top p (chosen_flags selection Top p d)) d.components)
 
--- an installed unit is one piece
+-- the first pieces of an instance; a unit is one piece
 abbrev pub first_pieces : Selection → Bool → ℕ → Option Body → List Piece
 first_pieces selection local p None = []
 first_pieces selection local p (Some (Installed record_of needs)) = Whole ∷ []
 first_pieces selection local p (Some (Source d flats exposed)) = source_pieces selection local p d
 
--- a plan begins with local packages, and with those that are asked for besides
+-- local packages and extra ones have first nodes
 abbrev pub is_begun : Package → Bool
 is_begun p = p.local || p.extra
 
--- the nodes of one package with which a plan begins
+-- the first nodes of one package
 abbrev pub first_of : Selection → ℕ → List Node
 first_of selection p =
     let of_package = package_at selection.packages p in
     if is_begun of_package then map (node_of Top p) (first_pieces selection of_package.local p (body_at selection Top p)) else []
 
--- those of all packages, at top level
+-- the first nodes of all packages, at top level
 abbrev pub first_nodes : Selection → List Node
 first_nodes selection = flat_map (first_of selection) (rising (length selection.packages))

@@ -1,4 +1,4 @@
-// An index, and what is chosen of it.
+// An index with the choices of a trail.
 ghost use Rattle.std.specs.Prelude.{◌≡◌, ℕ, true};
 ghost use Rattle.plan_types.specs.Packages.{entries_of};
 ghost use Rattle.solver_index.specs.Places.{entry_at};
@@ -8,7 +8,7 @@ use choice_problem::Table;
 use plan_types::{Env, Index};
 use qualified_goals::Names;
 
-/// An index, the numbers of its names, what conditions ask besides flags, and the values that are chosen.
+/// An index, the numbers of its names, the environment, and the chosen values.
 #[derive(Drop)]
 pub struct Chosen<'a> {
     pub(crate) index: &'a Index,

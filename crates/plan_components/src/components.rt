@@ -1,4 +1,4 @@
-// Which components are wanted, and which are meant by a name.
+// Which components are wanted, and which of them a name means.
 ghost use Rattle.std.specs.Prelude.{◌≡◌};
 ghost use Rattle.flatten.specs.OwnComponents.{is_executable, is_lib};
 ghost use Rattle.plan_types.specs.Packages.{is_library};
@@ -13,7 +13,7 @@ use plan_types::{CompKind, Component, LibName};
 use qualified_goals::Part;
 
 impl Owner<'_> {
-    /// Whether a component of the package is asked for and buildable.
+    /// Whether a component is asked for and buildable. Tests and benchmarks are asked for if their stanza is on.
     pub(crate) fn wants(&self, chosen: &Chosen<'_>, component: &Component) -> bool
         ensures { result ≡ wanted_of (selection_of chosen.now) self.now component.now }
     {

@@ -1,4 +1,4 @@
-// What is known of the package of a node, which serves for the other nodes of that package.
+// Flags and component places of a node's package, kept for the next node of the same package.
 ghost use Rattle.std.specs.Prelude.{◌≡◌, IfOk, IfSome, map, true};
 ghost use Rattle.plan_components.specs.Apart.{are_apart};
 ghost use Rattle.plan_components.specs.Chosen.{chosen_flags, selection_of};
@@ -18,7 +18,7 @@ use plan_types::{Component, Description, NoMemory, Text};
 use qualified_goals::Qual;
 use std::alloc::Global;
 
-/// What is known of the package of a node: that of the last one, where it is the same.
+/// The flags and component places of a node's package. Those of the last node serve again for the same package.
 pub(crate) fn known_of(
     alloc: Global,
     chosen: &Chosen<'_>,
@@ -70,14 +70,14 @@ impl Known {
         })
     }
 
-    /// Whether it is of a package under a qualifier.
+    /// Whether these are of the package under this qualifier.
     pub(crate) fn is_of(&self, qual: Qual, package: u64) -> bool
         ensures { result ≡ true → self.now.owner ≡ package_var qual «package» }
     {
         is_same(self.owner, package_var(qual, package))
     }
 
-    /// The places of the components of a name.
+    /// The places of the components with a name.
     pub(crate) fn named(&self, name: &Text) -> &[u64]
         ensures { result.now ≡ items_at same_text self.now.places name.now }
     {

@@ -1,6 +1,6 @@
-//! The components of a plan. In go the packages of an index and what is chosen of them; out come the nodes of the plan, each
-//! once, and beside each the nodes that it needs: the wanted components of local packages and of those that are asked for
-//! besides, and all that they need under the chosen flags. Only what is reached is looked at, each node once.
+//! The components of a plan. In go the packages of an index and the choices of a trail. Out come the nodes of the plan,
+//! each once, and with each the nodes that it needs (`AreReached`). The first nodes are the wanted components of local
+//! and extra packages. The others are all those needed under the chosen flags; only reached nodes are visited.
 #![tactic(auto)]
 
 mod chosen;

@@ -1,4 +1,4 @@
-// What is looked up of a selection: values, flags, instances.
+// Lookups in a selection: values, flags, instances.
 ghost use Rattle.std.specs.Prelude.{◌≡◌, ◌++◌, IfOk, IfSome, OnOk, map, true};
 ghost use Rattle.std.specs.Option.{option_copied};
 ghost use Rattle.choice_problem.specs.Table.{entry};
@@ -34,7 +34,7 @@ pub fn chosen_values(alloc: Global, trail: &[Choice]) -> Result<Table, NoMemory>
     Ok(values)
 }
 
-// The first choice of a variable is the one that counts.
+// Only the first choice of a variable counts.
 fn add_choice(values: &mut Table, choice: &Choice) -> Result<(), NoMemory>
     ensures { OnOk result ((v : Var) → entry values.new v ≡ value_with (entry values.old) choice.now v) }
 {
@@ -45,7 +45,7 @@ fn add_choice(values: &mut Table, choice: &Choice) -> Result<(), NoMemory>
 }
 
 impl<'a> Chosen<'a> {
-    /// What is chosen of a sound index.
+    /// The choices over a sound index.
     pub fn new(index: &'a Index, names: &'a Names, env: &'a Env, values: &'a Table) -> Chosen<'a>
         requires { IsSound env.now index.now }
         ensures { selection_of result ≡ selection_from index.now names.now env.now (entry values.now) }
@@ -64,7 +64,7 @@ impl<'a> Chosen<'a> {
         self.index.packages.as_slice()
     }
 
-    /// What conditions ask besides flags.
+    /// The environment in which conditions are evaluated.
     pub fn env(&self) -> &Env
         ensures { result.now ≡ (selection_of self.now).env }
     {
@@ -78,14 +78,14 @@ impl<'a> Chosen<'a> {
         is_local(self.packages(), package)
     }
 
-    /// The number of a package, or the one behind the last.
+    /// The number of a package; one behind the last for an unknown name.
     pub(crate) fn number(&self, name: &Text) -> u64
         ensures { result ≡ number (selection_of self.now).packages (selection_of self.now).names name.now }
     {
         number(self.packages(), self.names, name)
     }
 
-    /// Whether a flag or a stanza is chosen to be on.
+    /// Whether a flag or stanza has a chosen value, and it is on.
     pub(crate) fn is_turned_on(&self, qual: Qual, package: u64, part: Part) -> bool
         ensures { result ≡ is_turned_on (selection_of self.now) qual «package» part }
     {
@@ -98,7 +98,7 @@ impl<'a> Chosen<'a> {
         )
     }
 
-    /// The flags that a description declares, with their values.
+    /// The flags that a description declares, with their chosen values.
     pub fn flags(
         &self,
         alloc: Global,
@@ -139,8 +139,8 @@ impl<'a> Chosen<'a> {
         Ok(FlagSet { name, on })
     }
 
-    /// Whether a condition is Yes under some flags. A chain of `&&` is where each of its sides is: the last one is asked first, since
-    /// it is most often the one of an `elif` that isn't, and so is the last of what stands inside of other branches.
+    /// Whether a condition is Yes under some flags. `&&` is Yes iff both sides are. The right side is evaluated first: it
+    /// most often isn't Yes, since it is the condition of an `elif` or of the innermost branch.
     pub fn holds(&self, flags: &List<FlagSet>, cond: &Cond) -> bool
         requires { each_once flags.now ≡ true }
         ensures { result ≡ holds self.now.env.now flags.now cond.now }
@@ -162,7 +162,7 @@ impl<'a> Chosen<'a> {
         is_yes(eval(cond, self.env, flags))
     }
 
-    /// What is known of the instance of a package that is chosen under a qualifier.
+    /// The description or record of the instance that is chosen for a package under a qualifier.
     pub fn body(&self, qual: Qual, package: u64) -> Option<&Body>
         ensures body { option_copied result ≡ body_at (selection_of self.now) qual «package» }
         ensures apart { IfSome result (λ body. flags_apart body.now ≡ true) }

@@ -23,7 +23,7 @@ use plan_types::{
 use qualified_goals::Qual;
 use std::alloc::Global;
 
-/// What a node needs, in the order of its dependencies. What is known of the package of the last node serves again.
+/// What a node needs, in the order of its dependencies. The flags and places of the last node's package serve again.
 pub(crate) fn needs_of(
     alloc: Global,
     chosen: &Chosen<'_>,
@@ -43,7 +43,7 @@ pub(crate) fn needs_of(
     }
 }
 
-// The units that an installed unit needs, by the names of their packages.
+// The units that an installed unit needs, by their packages' names.
 fn unit_needs(
     alloc: Global,
     chosen: &Chosen<'_>,
@@ -154,7 +154,7 @@ fn push_one(
     }
 }
 
-// Those of the wanted components of a package that is built as a whole.
+// The needs of the wanted components of a package that is built as a whole.
 fn push_wanted(
     alloc: Global,
     needs: &mut List<Need>,
@@ -190,7 +190,7 @@ fn push_setup(
     Ok(())
 }
 
-// Nothing counts of a component that isn't buildable.
+// A component that isn't buildable has no needs.
 fn push_component(
     alloc: Global,
     needs: &mut List<Need>,
@@ -228,7 +228,7 @@ fn push_deps(
     Ok(())
 }
 
-// The component is buildable, so that the branches alone decide, which are the same for all of a group.
+// The component is buildable, so the branches alone decide. They are the same for the whole group.
 fn push_group(
     alloc: Global,
     needs: &mut List<Need>,
@@ -269,7 +269,7 @@ fn push_asked(
     Ok(())
 }
 
-// Dependencies on the own package may be left aside.
+// Dependencies on the own package are skipped unless `own` is true.
 fn is_asked(own: bool, dep: &Dep) -> bool
     ensures { result ≡ is_asked own dep.now }
 {
@@ -339,7 +339,7 @@ fn asked_pieces(
     }
 }
 
-// Where the components are those that are known, and a dependency is on one name, components of other names aren't looked at.
+// If the package is the known one and the dependency is on one name, only components of that name are tested.
 fn asked_places(
     alloc: Global,
     known: &Known,
@@ -399,7 +399,7 @@ fn asks_at(dep: &Dep, components: &[Component], place: u64) -> bool
     }
 }
 
-// The name that all components have for which a dependency asks, where it is on one alone.
+// The name of the components that a dependency means, if it names only one.
 fn asked_name(alloc: Global, dep: &Dep) -> Result<Option<Text>, NoMemory>
     ensures { IfOk result (λ name. IfSome name (Names (asks dep.now.kind dep.now))) }
 {

@@ -2,8 +2,8 @@
 use plan_types::DepKind;
 use qualified_goals::Qual;
 
-/// What of a package is built or used: all of it, as of an installed unit and of a package with a setup script of its own, or
-/// one component, by its place in file order.
+/// What is built or used of a package: one component, by its place in file order, or the whole package. An installed
+/// unit is whole, and so is a package with a setup script of its own.
 #[derive(Clone, Copy, Debug, Drop, PartialEq, Eq, PartialOrd, Ord, Hash)]
 pub enum Piece {
     Whole,
@@ -18,7 +18,7 @@ pub struct Node {
     pub piece: Piece,
 }
 
-/// A node that another one needs, and the kind of the dependency for which it does.
+/// A needed node, and the kind of the dependency on it.
 #[derive(Clone, Copy, Debug, Drop, PartialEq, Eq)]
 pub struct Need {
     pub kind: DepKind,

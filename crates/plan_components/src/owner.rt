@@ -1,4 +1,4 @@
-// A node whose package has a source, and what is known of that.
+// A node of a source instance, with what is kept of its package.
 ghost use Rattle.std.specs.Prelude.{◌≡◌, true};
 ghost use Rattle.conditionals.specs.Value.{each_once};
 
@@ -7,7 +7,7 @@ use keyed_lists::Lists;
 use plan_types::{FlagSet, List, Text};
 use qualified_goals::Var;
 
-/// A package under a qualifier, the values of its flags, and the places of its components by their names.
+/// A package under a qualifier, its flags with their values, and the places of its components by name.
 pub(crate) struct Known {
     pub owner: Var,
     pub flags: List<FlagSet>,
@@ -15,7 +15,7 @@ pub(crate) struct Known {
     ghost once: { each_once flags ≡ true },
 }
 
-// Written out, so that it is proved once and not at each exit of each function that owns one.
+// Explicit, so that it is proved once: a derived one is expanded at each exit.
 impl Drop for Known {
     fn drop(self) {
         let Known {
@@ -26,7 +26,7 @@ impl Drop for Known {
     }
 }
 
-/// A node and what is known of its package.
+/// A node, with the flags and component places of its package.
 #[derive(Drop)]
 pub(crate) struct Owner<'a> {
     pub node: Node,

@@ -8,7 +8,7 @@ use plan_types::{List, NoMemory};
 use qualified_goals::Qual;
 use std::alloc::Global;
 
-/// The pieces that these components of a package are: each is one, or the package as a whole is where it is built so.
+/// The pieces for these components of a package: one for each, or one for the whole package if it is built so.
 pub(crate) fn as_pieces(alloc: Global, whole: bool, places: &[u64]) -> Result<List<Piece>, NoMemory>
     ensures { IfOk result (λ pieces. pieces ≡ as_pieces whole places.now) }
 {
@@ -27,7 +27,7 @@ fn whole_piece(alloc: Global, places: &[u64]) -> Result<List<Piece>, NoMemory>
     }
 }
 
-/// The one piece that an installed unit is.
+/// The one piece of an installed unit.
 pub(crate) fn only_whole(alloc: Global) -> Result<List<Piece>, NoMemory>
     ensures { IfOk result (λ pieces. pieces ≡ Whole ∷ []) }
 {

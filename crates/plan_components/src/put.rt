@@ -1,4 +1,4 @@
-// Nodes in the order in which they are put, each once.
+// Nodes in order of insertion, each once.
 ghost use Rattle.std.specs.Prelude.{[], ◌∷◌, OnOk, map};
 ghost use Rattle.plan_components.specs.Steps.{Puts};
 
@@ -13,7 +13,7 @@ fn put(nodes: &mut IndexSet<Node>, node: &Node) -> Result<(), NoMemory>
     Ok(())
 }
 
-/// Puts these nodes behind others, unless they are among them.
+/// Appends those of these nodes that aren't in the set yet.
 pub(crate) fn put_all(nodes: &mut IndexSet<Node>, others: &[Node]) -> Result<(), NoMemory>
     ensures { OnOk result (Puts others.now nodes.old.keys nodes.new.keys) }
 {
@@ -23,7 +23,7 @@ pub(crate) fn put_all(nodes: &mut IndexSet<Node>, others: &[Node]) -> Result<(),
     Ok(())
 }
 
-/// Puts the nodes that are needed.
+/// Appends those of the needed nodes that aren't in the set yet.
 pub(crate) fn put_needed(nodes: &mut IndexSet<Node>, needs: &[Need]) -> Result<(), NoMemory>
     ensures { OnOk result (Puts (map (λ need. need.node) needs.now) nodes.old.keys nodes.new.keys) }
 {

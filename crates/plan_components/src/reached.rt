@@ -1,4 +1,4 @@
-// The nodes of a plan are looked at one after the other, each once; behind them stand those that they need.
+// A breadth-first walk over the nodes of a plan: each is visited once, and the nodes that it needs are appended.
 ghost use Rattle.std.specs.Prelude.{◌≡◌, ◌<◌, [], IfOk, IfSome, OnOk, length};
 ghost use Rattle.plan_components.specs.Chosen.{selection_of};
 ghost use Rattle.plan_components.specs.Known.{IsKnown};
@@ -18,14 +18,14 @@ use indexmap::IndexSet;
 use plan_types::{List, NoMemory};
 use std::alloc::Global;
 
-/// The nodes of a plan, and beside each what it needs.
+/// The nodes of a plan, and the needs of each at its index.
 #[derive(Debug)]
 pub struct Reached {
     set: IndexSet<Node>,
     pub needs: List<List<Need>>,
 }
 
-// Written out, so that it is proved once and not at each exit of each function that owns one.
+// Explicit, so that it is proved once: a derived one is expanded at each exit.
 impl Drop for Reached {
     fn drop(self) {
         let Reached {
@@ -36,14 +36,14 @@ impl Drop for Reached {
 }
 
 impl Reached {
-    /// The nodes, those with which the plan begins in front.
+    /// The nodes, the first nodes in front.
     pub fn nodes(&self) -> &[Node]
         ensures { result.now ≡ self.now.set.keys }
     {
         self.set.as_slice()
     }
 
-    /// The place of a node; the number of nodes for what is none of them.
+    /// The place of a node; the number of nodes for any other one.
     pub fn place_of(&self, node: Node) -> usize
         ensures { result ≡ place_of self.now.set.keys node }
     {
@@ -54,7 +54,7 @@ impl Reached {
     }
 }
 
-/// The nodes of a plan: those with which it begins, and all that are needed.
+/// The nodes of a plan: the first nodes and all that are needed.
 pub fn reach(alloc: Global, chosen: &Chosen<'_>) -> Result<Reached, NoMemory>
     ensures { IfOk result (AreReached (selection_of chosen.now)) }
 {
@@ -77,7 +77,7 @@ fn first_set(alloc: Global, chosen: &Chosen<'_>) -> Result<IndexSet<Node>, NoMem
     Ok(nodes)
 }
 
-// What the node at a place needs, which is put behind the others.
+// What the node at a place needs. The needed nodes are appended if they are new.
 fn visit(
     alloc: Global,
     chosen: &Chosen<'_>,

@@ -1,4 +1,4 @@
-// The nodes with which a plan begins.
+// The first nodes of a plan.
 ghost use Rattle.std.specs.Prelude.{◌≡◌, ◌++◌, IfOk, OnOk, map, true};
 ghost use Rattle.plan_types.specs.Packages.{package_at};
 ghost use Rattle.qualified_goals.specs.declared.variable.Qual.TheVariants.{Top};
@@ -16,7 +16,7 @@ use plan_types::{Body, Component, Description, LibName, List, NoMemory, Package}
 use qualified_goals::Qual;
 use std::alloc::Global;
 
-/// Among which components of a package the wanted ones are looked for.
+/// The components of a package among which wanted ones are sought.
 #[derive(Clone, Copy, Drop)]
 pub(crate) enum Among {
     All,
@@ -24,7 +24,7 @@ pub(crate) enum Among {
     Executables,
 }
 
-/// The nodes of all packages with which a plan begins.
+/// The first nodes of all packages.
 pub(crate) fn first_nodes(alloc: Global, chosen: &Chosen<'_>) -> Result<List<Node>, NoMemory>
     ensures { IfOk result (λ nodes. nodes ≡ first_nodes (selection_of chosen.now)) }
 {
@@ -36,7 +36,7 @@ pub(crate) fn first_nodes(alloc: Global, chosen: &Chosen<'_>) -> Result<List<Nod
     Ok(nodes)
 }
 
-// The nodes of one package.
+// The first nodes of one package.
 fn push_first(
     alloc: Global,
     nodes: &mut List<Node>,

@@ -1,4 +1,4 @@
--- the places so far, and those behind
+-- the places so far, and the later ones
 use Rattle.std.proofs.Common.{◌≡◌, ℕ, List, ◌++◌, drop}
 use Rattle.keyed_lists.specs.Lists.{items_at}
 use Rattle.plan_types.specs.Bytes.{same_text}

@@ -9,7 +9,7 @@ use Rattle.plan_components.specs.Steps.{first_value}
 use Rattle.plan_components.proofs.Values.{value_more}
 use Rattle.plan_components.proofs.lookups.chosen_values.Goals as goal
 
--- what stands behind the last choice
+-- the choice that is read beyond the last
 no_choice : Choice
 no_choice = record { var = record { qual = Top; «package» = 0; part = Package }; val = 0 }
 

@@ -1,4 +1,4 @@
--- the places so far, and those behind
+-- the places so far, and the later ones
 use Rattle.std.proofs.Common.{◌≡◌, ◌++◌, drop}
 use Rattle.plan_components.specs.Needs.{asks}
 use Rattle.plan_components.specs.Wanted.{places, places_from}

@@ -1,4 +1,4 @@
--- the needs so far, and those of the dependencies behind
+-- the needs so far, and those of the later dependencies
 use Rattle.std.proofs.Common.{◌≡◌, ◌++◌, drop, flat_map}
 use Rattle.std.specs.Prelude.{filter}
 use Rattle.plan_components.specs.Needs.{dep_needs, is_asked}

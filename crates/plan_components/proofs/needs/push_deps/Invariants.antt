@@ -1,4 +1,4 @@
--- the needs so far, and those of the groups behind
+-- the needs so far, and those of the later groups
 use Rattle.std.proofs.Common.{◌≡◌, ◌++◌, drop}
 use Rattle.plan_types.specs.Guarded.{in_groups}
 use Rattle.plan_components.specs.Needs.{component_needs, needs_among}

@@ -1,4 +1,4 @@
--- the needs so far, and those of the components behind
+-- the needs so far, and those of the later components
 use Rattle.std.proofs.Common.{◌≡◌, ◌++◌, drop}
 use Rattle.plan_components.specs.Needs.{wanted_needs}
 use Rattle.plan_components.specs.Chosen.{selection_of}

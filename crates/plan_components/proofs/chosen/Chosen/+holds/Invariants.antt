@@ -6,7 +6,7 @@ use Rattle.plan_components.proofs.chosen.Chosen.+holds.Given as goal
 abbrev pub decreases-holds : goal.decreases-holds
 decreases-holds l = size-Cond l.cond.now
 
--- where the last sides are Yes, what is left decides, and it is no deeper than the whole
+-- if the last sides are Yes, the rest decides, and it is no larger than the whole
 abbrev pub invariant-loop-left : goal.invariant-loop-left
 invariant-loop-left l = (holds l.self.env.now l.flags l.left ≡ holds l.self.env.now l.flags l.cond) × (size-Cond l.left ≤ size-Cond l.cond)
 
