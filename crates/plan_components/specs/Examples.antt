@@ -1,5 +1,5 @@
--- The definitions on a small index: a local package `main`, whose library is built while the flag `a` is on and then needs
--- `base`, which is installed.
+-- The definitions on a small index. A local package `main` has a library that is buildable if the flag `a` is on, and
+-- needs the installed unit `base` then.
 use Rattle.std.specs.Prelude.{◌≡◌, ℕ, true, false, List, [], ◌∷◌, codes, refl}
 use Rattle.plan_types.specs.declared.dependency.DepKind.TheVariants as dep_kind
 use Rattle.plan_types.specs.declared.description.CompKind.TheVariants.{Library, Executable}

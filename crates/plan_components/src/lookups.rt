@@ -139,8 +139,8 @@ impl<'a> Chosen<'a> {
         Ok(FlagSet { name, on })
     }
 
-    /// Whether a condition is Yes under some flags. `&&` is Yes iff both sides are. The right side is evaluated first: it
-    /// most often isn't Yes, since it is the condition of an `elif` or of the innermost branch.
+    /// Whether a condition is Yes under some flags. `&&` is Yes iff both sides are. The right side is evaluated
+    /// first: it most often isn't Yes, since it is the condition of an `elif` or of the innermost branch.
     pub fn holds(&self, flags: &List<FlagSet>, cond: &Cond) -> bool
         requires { each_once flags.now ≡ true }
         ensures { result ≡ holds self.now.env.now flags.now cond.now }
