@@ -1,4 +1,4 @@
--- What holds while an order is built, from its begin to its end.
+-- The invariant of a build order under construction, from begin to end.
 use Rattle.std.proofs.Common.{◌≡◌, ◌<◌, ◌≤◌, ◌+◌, ◌⊎◌, ◌↔◌, inl, inr, ⊎_elim, ℕ, zero, suc, Bool, true, false, not, cond, List, [], ◌∷◌, ◌++◌, length, get_or, set, replicate, refl, sym, subst, ap, ◌∙◌, arith, length-append}
 use Rattle.std.specs.Prelude.{Contains, All, count_by}
 use Rattle.std.proofs.lemmas.Bool.{cases_eq, cases_lt}
@@ -18,7 +18,7 @@ default_past zero i d = refl
 default_past (suc n) zero d = refl
 default_past (suc n) (suc i) d = default_past n i d
 
--- a place of a list with one more behind it
+-- a split of a list with one more item at its end
 pub push_split : {X : Type 0} (front order rest : List X) (u node : X) → order ++ node ∷ [] ≡ front ++ u ∷ rest
     → ((front ≡ order) × (u ≡ node)) ⊎ ((less : List X) × (order ≡ front ++ u ∷ less))
 push_split [] [] rest u node e = inl (refl, sym (ap (λ l. get_or l 0 node) e))
@@ -29,7 +29,7 @@ push_split (f ∷ fs) (x ∷ xs) rest u node e =
     ⊎_elim (λ b. inl (ap (λ l. f ∷ l) b.0 ∙ ap (λ k. k ∷ xs) (sym h), b.1)) (λ b. inr (b.0, ap (λ k. k ∷ xs) h ∙ ap (λ l. f ∷ l) b.1))
     (push_split fs xs rest u node (ap (λ (l : List _). elim l [ [] ↦ [] | y ∷ ys ↦ ys ]) e))
 
--- the nodes of some waits
+-- u is the node of one of these waits
 abbrev pub IsIn : List Wait → ℕ → Type 0
 IsIn waits u = (w : Wait) × Contains waits w × (w.node ≡ u)
 
@@ -201,7 +201,7 @@ module _ (needs : List (List ℕ)) where
     behind : (u : ℕ) → (Contains order u → ⊥) → (node ≡ u → ⊥) → Contains order' u → ⊥
     behind u o n c = ⊎_elim o n (Contains-push_cases order node u c)
 
-    -- the node that is placed doesn't wait
+    -- the node that is placed doesn't wait itself
     idle : (v : ℕ) (w : Wait) → IsWait needs order v w → node ≡ w.node → ⊥
     idle v w i e = i.unplaced (least.ready.met v (subst (λ k. Needs needs k v) (sym e) (w.place, i.within, get_or_default (needs_of needs w.node) w.place v 0 i.within ∙ i.need)))
 
@@ -282,7 +282,7 @@ module _ (needs : List (List ℕ)) where
           met = λ k lt l. old (get_or (needs_of needs w.node) k 0) (i.before.met k lt l);
         }
 
--- one where there is no mark
+-- 1 for an unmarked place, else 0
 abbrev left : Bool → ℕ
 left b = cond (not b) 1 0
 

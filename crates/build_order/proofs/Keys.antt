@@ -1,4 +1,4 @@
--- The keys of an ordered set of numbers after an insertion, and after the least was taken.
+-- The keys of an ordered set of numbers after an insertion, and after the least is taken out.
 use Rattle.std.proofs.Common.{◌≡◌, ◌<◌, ◌≤◌, ◌⊎◌, ◌↔◌, inl, inr, ⊎_elim, ℕ, zero, suc, true, false, List, ◌∷◌, length, refl, sym, subst, ◌∙◌, arith}
 use Rattle.std.specs.Prelude.{Contains, All, Option, Some, None, IsSome, IfSome, MatchOption}
 use Rattle.std.specs.Ordering.{nat_cmp, is_eq}

@@ -1,4 +1,4 @@
--- A node that isn't placed needs one that isn't placed, and so on, until the walk comes back to a node where it was.
+-- An unplaced node needs an unplaced node, and so on, until a node comes again: the nodes between form a cycle.
 use Rattle.std.proofs.Common.{◌≡◌, ◌<◌, ◌+◌, ◌⊎◌, inl, inr, ⊎_elim, ℕ, zero, suc, Bool, true, false, not, List, [], ◌∷◌, length, get_or, set, replicate, refl, sym, subst, ◌∙◌, arith}
 use Rattle.std.specs.Prelude.{Contains, count_by}
 use Rattle.std.proofs.lemmas.Bool.{cases_eq}
@@ -28,7 +28,7 @@ has (x ∷ xs) v = ⊎_elim (λ e. inl (0, omega arith, e))
     (λ n. ⊎_elim (λ h. inl (in_more x v xs h)) (λ o. inr (λ c. ⊎_elim n o (in_cases x v xs c))) (has xs v))
     (cases_eq x v)
 
--- all of a list are placed, or one isn't
+-- either all nodes of a list are placed, or one isn't
 first_open : (order xs : List ℕ) → ((v : ℕ) → Contains xs v → Contains order v) ⊎ ((v : ℕ) × Contains xs v × (Contains order v → ⊥))
 first_open order [] = inl (λ v c. absurd (contains-none v c))
 first_open order (x ∷ xs) = ⊎_elim

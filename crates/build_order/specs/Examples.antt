@@ -7,7 +7,7 @@ use Rattle.build_order.specs.Order.{IsReady, IsLeastReady, IsBuildOrder}
 abbrev needs : List (List ℕ)
 needs = (2 ∷ []) ∷ [] ∷ [] ∷ []
 
--- 1 can be built at first, and 0 can't
+-- 1 can be built first, and 0 can't
 one_ready : IsReady needs [] 1
 one_ready = record { node = omega arith; unplaced = λ c. omega (arith, c.1); met = λ v n. absurd (omega (arith, n.1)) }
 

@@ -1,5 +1,5 @@
-// An order that is being built. A node waits for the first of its needs that isn't placed yet, and a node whose needs are
-// all placed is ready. Once a node is placed, those that wait for it are settled again, each from that need on.
+// A build order under construction. A node waits for the first of its needs that isn't placed. A node whose needs
+// are all placed is ready. When a node is placed, those that wait for it look at their later needs.
 ghost use Rattle.std.specs.Prelude.{◌≡◌, ◌<◌, ◌++◌, [], ◌∷◌, false, true, not, count_by, length, replicate, All, Contains, IfOk, OnOk, MatchOption, slice_index_or, slice_set};
 ghost use Rattle.build_order.specs.Order.{IsLeastReady};
 ghost use Rattle.common_laws.specs.Graphs.{IsGraph};
@@ -11,7 +11,7 @@ use std::alloc::Global;
 use std::collections::BTreeSet;
 use std::mem;
 
-/// A node waits for its need at a place. All its needs before are placed.
+/// A node waits for its need at a place. All its earlier needs are placed.
 #[derive(Clone, Copy, Drop)]
 pub(crate) struct Wait {
     pub node: usize,
@@ -23,11 +23,11 @@ pub(crate) struct Building {
     /// Whether each node is placed.
     pub placed: List<bool>,
     pub ready: BTreeSet<usize>,
-    /// Who waits for each node.
+    /// The waits for each node.
     pub waiting: Vec<List<Wait>>,
 }
 
-// Written out, so that it is proved once and not at each exit of each function that owns one.
+// Explicit, so that it is proved once: a derived one is expanded at each exit.
 impl Drop for Building {
     fn drop(self) {
         let Building {
@@ -40,7 +40,7 @@ impl Drop for Building {
 }
 
 impl Building {
-    // Nothing is placed, and nobody waits.
+    // No node is placed, and none waits.
     fn empty(alloc: Global, nodes: usize) -> Result<Building, NoMemory>
         ensures order { IfOk result (λ b. b.order ≡ []) }
         ensures placed { IfOk result (λ b. b.placed ≡ replicate nodes false) }
@@ -55,7 +55,7 @@ impl Building {
         })
     }
 
-    /// Nothing is placed, and each node is ready or waits.
+    /// No node is placed, and each is ready or waits.
     pub(crate) fn new(alloc: Global, needs: &[List<usize>]) -> Result<Building, NoMemory>
         requires { IsGraph needs.now }
         ensures { IfOk result (IsSound needs.now NoNode) }
@@ -67,7 +67,7 @@ impl Building {
         Ok(building)
     }
 
-    /// Takes out the least node that is ready.
+    /// Takes out the least ready node.
     pub(crate) fn next(&mut self) -> Option<usize>
         ensures order { self.new.order ≡ self.old.order }
         ensures placed { self.new.placed ≡ self.old.placed }
@@ -77,7 +77,7 @@ impl Building {
         take_least(&mut self.ready)
     }
 
-    /// Places a node, and settles those that wait for it.
+    /// Places a node. Those that waited for it become ready, or wait for a later need.
     pub(crate) fn place(
         &mut self,
         alloc: Global,
@@ -98,7 +98,7 @@ impl Building {
         Ok(())
     }
 
-    // Puts a node behind the order, and takes out who waits for it.
+    // Appends a node to the order, and takes out the waits for it.
     fn mark(&mut self, alloc: Global, node: usize) -> Result<List<Wait>, NoMemory>
         requires placed { node < length self.old.placed }
         requires waiting { node < length self.old.waiting.items }
@@ -113,7 +113,7 @@ impl Building {
         Ok(mem::replace(&mut self.waiting[node], List::new(alloc)))
     }
 
-    // A node waits for its first need from a place on that isn't placed, or becomes ready.
+    // A node waits for its first need from a place on that isn't placed; without one it becomes ready.
     fn settle(&mut self, needs: &[List<usize>], node: usize, from: usize) -> Result<(), NoMemory>
         requires graph { IsGraph needs.now }
         requires node { node < length needs.now }
@@ -163,7 +163,7 @@ fn no_waits(alloc: Global, nodes: usize) -> Result<Vec<List<Wait>>, NoMemory>
     Ok(waits)
 }
 
-// The place of the first need that isn't placed, from a place on.
+// The place of the first need from a place on that isn't placed.
 fn first_unmet(needs: &[usize], placed: &[bool], from: usize) -> Option<usize>
     requires { All (λ v. v < length placed.now) needs.now }
     ensures { MatchOption result (AreMet needs.now placed.now from (length needs.now)) (IsFirstUnmet needs.now placed.now from) }

@@ -7,7 +7,7 @@ use crate::building::Building;
 use plan_types::{List, NoMemory};
 use std::alloc::Global;
 
-/// The order in which the nodes can be built, where `needs` has the nodes that each node needs.
+/// The order in which the nodes can be built. `needs` has the needs of each node.
 pub fn build_order(alloc: Global, needs: &[List<usize>]) -> Result<List<usize>, NoMemory>
     requires { IsGraph needs.now }
     ensures { IfOk result (IsBuildOrder needs.now) }
