@@ -1,4 +1,4 @@
--- A node is kept where its line isn't there.
+-- A node is kept unless its line was printed before.
 use Rattle.std.proofs.Common.{◌≡◌, ℕ, Bool, true, false, ◌||◌, List, [], ◌∷◌, ◌++◌, map, refl, sym, ap, ◌∙◌, if◌then◌else◌}
 use Rattle.std.specs.List.{list_any}
 use Rattle.indexmap.specs.IndexSet.{insert_key}
@@ -15,10 +15,10 @@ module _ (node : PlanNode) (kept : List PlanNode) (lines : List (List ℕ)) (are
   there : (b : Bool) → list_any (same_text (node_line node)) lines ≡ b → list_any (same_line node) kept ≡ b
   there b h = sym (some-line node kept) ∙ ap (list_any (same_text (node_line node))) (sym are) ∙ h
 
-  -- its line is there
+  -- the line was printed before
   pub stays : list_any (same_text (node_line node)) lines ≡ true → kept ≡ insert_key same_line kept node
   stays h = ap (λ b. if b then kept else kept ++ node ∷ []) (sym (there true h))
 
-  -- it isn't
+  -- the line is new
   pub goes : list_any (same_text (node_line node)) lines ≡ false → kept ++ node ∷ [] ≡ insert_key same_line kept node
   goes h = ap (λ b. if b then kept else kept ++ node ∷ []) (sym (there false h))

@@ -19,7 +19,7 @@ tool needs unbuildable = record {
   setups = [];
 }
 
--- what is needed stands in the order of its bytes, each once
+-- identifiers are printed in byte order, each once
 with_needs : node_line (tool (codes "base-4" ∷ codes "alex-3" ∷ []) false)
     ≡ codes "node local tool-1.20 exe:run tool-1.20-inplace-run needs alex-3 base-4\n"
 unfolding digits
@@ -42,7 +42,7 @@ without_needs : node_line bare ≡ codes "node store q-1 lib q-1-0a unbuildable\
 unfolding digits
 without_needs = refl
 
--- a line that was printed isn't printed again, also where another one stands between
+-- an equal line is printed once, even with another one between
 once : each_line_once (bare ∷ tool [] false ∷ bare ∷ []) ≡ bare ∷ tool [] false ∷ []
 unfolding digits
 once = refl

@@ -8,15 +8,15 @@ use Rattle.plan_nodes.specs.declared.node.NodeKind.{NodeKind}
 use Rattle.plan_nodes.specs.declared.node.NodeKind.TheVariants.{Installed, Local, Store}
 use Rattle.plan_nodes.specs.declared.node.PlanNode.{PlanNode}
 
--- texts in the order of their bytes, each once
+-- texts in byte order, each once
 abbrev pub in_order : List (List ℕ) → List (List ℕ)
 in_order texts = fold (insert_key (slice_cmp nat_cmp)) [] texts
 
--- the identifiers of all that a node needs
+-- the identifiers of all needs of a node
 abbrev pub all_needs : PlanNode → List (List ℕ)
 all_needs node = in_order (node.libs ++ node.tools ++ node.setups)
 
--- where what a node stands for is found, in a word
+-- the printed word of a kind
 abbrev pub kind_word : NodeKind → List ℕ
 kind_word Installed = codes "installed"
 kind_word Local = codes "local"
@@ -26,21 +26,21 @@ kind_word Store = codes "store"
 abbrev pub package_text : PlanNode → List ℕ
 package_text node = node.name ++ codes "-" ++ version_text node.version.parts
 
--- a word where the node can't be built
+-- a word for an unbuildable node
 abbrev pub unbuildable_text : Bool → List ℕ
 unbuildable_text true = codes " unbuildable"
 unbuildable_text false = []
 
--- a blank and an identifier
+-- a blank, then an identifier
 abbrev pub behind_blank : List ℕ → List ℕ
 behind_blank id = codes " " ++ id
 
--- what is needed, where there is anything
+-- the printed needs, if there are any
 abbrev pub needs_text : List (List ℕ) → List ℕ
 needs_text [] = []
 needs_text (id ∷ ids) = codes " needs" ++ flat_map behind_blank (id ∷ ids)
 
--- what a node is: kind, package and version, component and identifier
+-- the kind, package with version, component and identifier of a node
 abbrev pub head_text : PlanNode → List ℕ
 head_text node =
     codes "node " ++ kind_word node.kind ++ codes " " ++ package_text node ++ codes " " ++ node.component ++ codes " " ++ node.id
@@ -49,7 +49,7 @@ head_text node =
 abbrev pub node_line : PlanNode → List ℕ
 node_line node = head_text node ++ unbuildable_text node.unbuildable ++ needs_text (all_needs node) ++ codes "\n"
 
--- what stands behind the last node of a list
+-- the node that is read at a place beyond the last
 abbrev pub no_line : PlanNode
 no_line = record {
   kind = Store;

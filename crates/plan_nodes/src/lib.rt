@@ -1,5 +1,5 @@
-//! The nodes of a plan: what a build tool is told of the components that are to be built or are there, in the order in which
-//! they can be built. Plain data, and the line that is printed of a node, each line once.
+//! The nodes of a plan as data: components to build and units that are installed, in build order. `node_line` gives
+//! the printed line of a node. `each_line_once` drops each node whose line was printed before.
 #![tactic(auto)]
 
 mod line;

@@ -33,7 +33,7 @@ pub fn package_text(alloc: Global, node: &PlanNode) -> Result<Text, NoMemory>
     Ok(text)
 }
 
-// What a node is.
+// The kind, package, component and identifier of a node.
 fn head_text(alloc: Global, node: &PlanNode) -> Result<Text, NoMemory>
     ensures { IfOk result (λ text. text ≡ head_text node.now) }
 {
@@ -69,7 +69,7 @@ fn unbuildable_text(unbuildable: bool) -> &'static str
     if unbuildable { " unbuildable" } else { "" }
 }
 
-// The identifiers of all that a node needs.
+// The identifiers of all needs of a node.
 fn push_needs(alloc: Global, text: &mut Text, node: &PlanNode) -> Result<(), NoMemory>
     ensures { OnOk result (text.new ≡ text.old ++ needs_text (all_needs node.now)) }
 {

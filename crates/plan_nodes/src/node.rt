@@ -1,38 +1,38 @@
-// A node: a component with its identifier, and the identifiers of what it needs.
+// A node: a component with its identifier and the identifiers of its needs.
 ghost use Rattle.std.specs.Prelude.{◌≡◌, IfOk};
 
 use plan_types::{List, NoMemory, Text, Version};
 use std::alloc::Global;
 
-/// Where what a node stands for is found.
+/// Whether a node is installed, and where it is built otherwise.
 #[derive(Clone, Copy, Debug, PartialEq, Eq)]
 pub enum NodeKind {
-    /// A unit that is there.
+    /// An installed unit.
     Installed,
-    /// A component of a local package at top level, built in its place.
+    /// A component of a local package at top level, built in place.
     Local,
     /// Any other component, built into the store.
     Store,
 }
 
-/// A component of a plan. Of what it needs each list has the identifiers in the order of their bytes, each once.
+/// A component of a plan. Each list of needs has identifiers in byte order, each once.
 #[derive(Debug)]
 pub struct PlanNode {
     pub kind: NodeKind,
-    /// Of the package.
+    /// The name of the package.
     pub name: Text,
     pub version: Version,
-    /// `lib`, `lib:NAME`, `exe:NAME`, `test:NAME`, `bench:NAME`, `flib:NAME`, or `package` for one that is built as a whole.
+    /// `lib`, `lib:NAME`, `exe:NAME`, `test:NAME`, `bench:NAME`, `flib:NAME`, or `package` for a whole package.
     pub component: Text,
     pub id: Text,
-    /// Whether it isn't buildable under the chosen flags. It needs nothing then.
+    /// Whether it isn't buildable under the chosen flags. Then it has no needs.
     pub unbuildable: bool,
     pub libs: List<Text>,
     pub tools: List<Text>,
     pub setups: List<Text>,
 }
 
-// Written out, so that it is proved once and not at each exit of each function that owns one.
+// Explicit, so that it is proved once: a derived one is expanded at each exit.
 impl Drop for PlanNode {
     fn drop(self) {
         let PlanNode {
@@ -50,7 +50,7 @@ impl Drop for PlanNode {
 }
 
 impl PlanNode {
-    /// The same node, in texts and lists of its own.
+    /// A deep copy of the node.
     pub fn copy(&self, alloc: Global) -> Result<PlanNode, NoMemory>
         ensures { IfOk result (λ copied. copied ≡ self.now) }
     {

@@ -1,4 +1,4 @@
-// Of nodes whose lines are printed alike the first stays.
+// Of nodes with equal lines, only the first is kept.
 ghost use Rattle.std.specs.Prelude.{◌≡◌, IfOk, OnOk, map};
 ghost use Rattle.indexmap.specs.IndexSet.{insert_key};
 ghost use Rattle.plan_nodes.specs.Line.{node_line};
@@ -22,7 +22,7 @@ pub fn each_line_once(alloc: Global, nodes: List<PlanNode>) -> Result<List<PlanN
     Ok(kept)
 }
 
-// Keeps a node unless its line is there.
+// Keeps a node unless its line was printed before.
 fn keep(
     alloc: Global,
     lines: &mut IndexSet<Text>,

@@ -1,4 +1,4 @@
--- the text so far, and the identifiers behind
+-- the text so far, and the later identifiers
 use Rattle.std.proofs.Common.{◌≡◌, ◌++◌, flat_map}
 use Rattle.plan_nodes.specs.Line.{behind_blank}
 use Rattle.plan_nodes.proofs.line.push_words.Given as goal

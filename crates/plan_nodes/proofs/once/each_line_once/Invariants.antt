@@ -1,4 +1,4 @@
--- the nodes so far, and those behind
+-- the nodes so far, and the later ones
 use Rattle.std.proofs.Common.{◌≡◌, map, fold}
 use Rattle.std.specs.Vec.Iter.{into_iter_items}
 use Rattle.indexmap.specs.IndexSet.{insert_key}
