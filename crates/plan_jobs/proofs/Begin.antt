@@ -49,7 +49,7 @@ installed_begun true b e = absurd (cc)
 installed_begun false true e = refl
 installed_begun false false e = absurd (cc)
 
--- an installed node wants nothing
+-- an installed node needs nothing
 pub wants_none : (node : PlanNode) (id : List ℕ) → is_installed node.kind ≡ true → wants node id ≡ true → ⊥
 wants_none node id there wanted =
     let wrong : not true ≡ true = ap not (sym there) ∙ (and_parts (not (is_installed node.kind)) (list_any (same_text id) (node.libs ++ node.tools ++ node.setups)) wanted).0 in cc

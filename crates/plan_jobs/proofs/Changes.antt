@@ -1,4 +1,4 @@
--- What is kept when one node becomes something else.
+-- The invariant, when one node gets another state.
 use Rattle.std.proofs.Common.{◌≡◌, ◌<◌, ◌≤◌, ◌+◌, ◌-◌, inl, inr, ⊎_elim, ℕ, zero, suc, Bool, true, false, cond, List, [], ◌∷◌, length, get_or, set, refl, sym, subst, ap, ◌∙◌, arith}
 use Rattle.std.specs.Prelude.{count_by, slice_index}
 use Rattle.std.proofs.lemmas.Bool.{cases_eq, cases_lt}
@@ -25,23 +25,23 @@ state_here states place state lt = get_or-set_same states place state Waiting lt
 pub state_there : (states : List JobState) (place other : ℕ) (state : JobState) → (other ≡ place → ⊥) → state_at (set states place state) other ≡ state_at states other
 state_there states place other state n = get_or-set_other states place other state Waiting n
 
--- what isn't something else is a node
+-- a place with a state other than Waiting is that of a node
 pub state_within : (states : List JobState) (place : ℕ) (state : JobState) → (Waiting ≡ state → ⊥) → state_at states place ≡ state → place < length states
 state_within [] place state n e = absurd (n e)
 state_within (s ∷ states) zero state n e = omega arith
 state_within (s ∷ states) (suc place) state n e = let k = state_within states place state n e in omega arith
 
--- a node isn't one that is something else
+-- places with different states are distinct
 apart : (states : List JobState) (place other : ℕ) (a b : JobState) → (a ≡ b → ⊥) → state_at states place ≡ a → state_at states other ≡ b → other ≡ place → ⊥
 apart states place other a b n ea eb e = n (sym ea ∙ sym (ap (state_at states) e) ∙ eb)
 
 module _ (users : List (List ℕ)) (states : List JobState) (b : AreBegun users states) where
-  -- from what was begun only what is completed is reached
+  -- from a node that runs or is completed, paths lead only to completed ones
   pub begun_leads : (user need : ℕ) → is_begun (state_at states user) ≡ true → Leads users user need → state_at states need ≡ Completed
   begun_leads user need begun (last i) = b.met user need i begun
   begun_leads user need begun (more {w = next} i p) = begun_leads next need (ap is_begun (b.met user next i begun)) p
 
-  -- the same of what needs only what is completed
+  -- the same from a node that needs only completed ones
   pub met_leads : (user need : ℕ) → ((next : ℕ) → IsUser users user next → state_at states next ≡ Completed) → Leads users user need → state_at states need ≡ Completed
   met_leads user need met (last i) = met need i
   met_leads user need met (more {w = next} i p) = begun_leads next need (ap is_begun (met next i)) p
@@ -61,7 +61,7 @@ module _ (users : List (List ℕ)) (states : List JobState) (b : AreBegun users 
       }
 
   module _ (held : List Bool) (h : AreHeld users states (HasFailed states) held) where
-    -- who waits, and from whom one that has failed is reached, is marked
+    -- a waiting node with a path to a failed one is marked
     pub held_by_way : (user need : ℕ) → state_at states user ≡ Waiting → Leads users user need → HasFailed states need → IsMarked held user
     held_by_way user need w (last i) f = h.closed user need i w (inl f)
     held_by_way user need w (more {w = next} i p) f =
@@ -120,7 +120,7 @@ module _ (users : List (List ℕ)) (states : List JobState) (b : AreBegun users 
         (cases_eq need place))
         (λ need e. ⊎_elim (λ s. inr s) (λ d. inl (sym (state_there states place need Failed d) ∙ e)) (cases_eq need place))
 
--- a node that wasn't ready, and isn't ready now
+-- a node that wasn't waiting gets another state than Waiting
 pub ready_stays : (states : List JobState) (unmet : List ℕ) (ready : List Bool) (place : ℕ) (state : JobState) → (state_at states place ≡ Waiting → ⊥) → (state ≡ Waiting → ⊥) → place < length states
     → AreReady states unmet ready → AreReady (set states place state) unmet ready
 ready_stays states unmet ready place state was n lt r other = ⊎_elim
@@ -134,7 +134,7 @@ ready_stays states unmet ready place state was n lt r other = ⊎_elim
     ))
     (cases_eq other place)
 
--- a node that was ready is started
+-- a ready node is started
 pub ready_less : (states : List JobState) (unmet : List ℕ) (ready : List Bool) (place : ℕ) → place < length states → place < length ready
     → AreReady states unmet ready → AreReady (set states place Running) unmet (set ready place false)
 ready_less states unmet ready place lt room r other = ⊎_elim
@@ -162,7 +162,7 @@ counts_same users states unmet place state was is k =
 
 module _ (users : List (List ℕ)) (states : List JobState) (unmet : List ℕ) (ready held to_hold : List Bool) (running slots : ℕ)
     (k : Keeps users states unmet ready held to_hold running slots) (place : ℕ) where
-  -- what a node needs that is ready is completed
+  -- the needs of a ready node are completed
   pub ready_met : IsMarked ready place → (need : ℕ) → IsUser users place need → state_at states need ≡ Completed
   ready_met m need i =
       let r = (k.first place).0 m in

@@ -1,4 +1,4 @@
--- Counts in lists, and of needs that aren't completed.
+-- Counts in lists, and counts of needs that aren't completed.
 use Rattle.std.proofs.Common.{◌≡◌, ◌<◌, ◌≤◌, ◌+◌, ◌-◌, ⊎_elim, ℕ, zero, suc, true, false, cond, List, [], ◌∷◌, ◌++◌, length, get_or, set, take, drop, refl, sym, subst, ap, ◌∙◌, arith}
 use Rattle.std.specs.Prelude.{◌==◌, Contains}
 use Rattle.std.proofs.lemmas.Bool.{cases_eq}
@@ -33,7 +33,7 @@ times_front users k user =
 times_first : (u : ℕ) (users : List ℕ) (user : ℕ) → times user (u ∷ users) ≡ cond (u == user) 1 0 + times user users
 times_first u users user = sum_by-cons (λ other. cond (other == user) 1 0) u users
 
--- who stands in a list is counted
+-- a member of a list is counted at least once
 pub times_some : (users : List ℕ) (user : ℕ) → Contains users user → 1 ≤ times user users
 times_some [] user c = absurd (contains-none user c)
 times_some (u ∷ users) user c = ⊎_elim
@@ -47,7 +47,7 @@ times_none (u ∷ users) user n =
     let k = times_none users user (λ c. n (contains-tail u users user c)) in
     times_first u users user ∙ subst (λ b. cond b 1 0 + times user users ≡ 0) (sym (other_place u user (λ e. n (subst (λ w. Contains (u ∷ users) w) e (contains-head u users))))) (omega (arith, k))
 
--- where a node isn't completed, each time that it is needed counts
+-- a need that isn't completed is counted each time it is listed
 pub open_at_least : (users : List (List ℕ)) (states : List JobState) (place user : ℕ) → length users ≡ length states → is_completed (state_at states place) ≡ false
     → times user (get_or users place []) ≤ open_needs users states user
 open_at_least [] states place user same not_yet = omega arith
@@ -57,7 +57,7 @@ open_at_least (list ∷ users) (s ∷ states) zero user same not_yet =
 open_at_least (list ∷ users) (s ∷ states) (suc place) user same not_yet =
     let k = open_at_least users states place user (omega (arith, same)) not_yet in omega (arith, k)
 
--- all is completed that a node needs where none of its needs is counted
+-- if no need of a node is counted, all are completed
 pub none_open : (users : List (List ℕ)) (states : List JobState) (place user : ℕ) → length users ≡ length states → open_needs users states user ≡ 0 → IsUser users user place
     → is_completed (state_at states place) ≡ true
 none_open users states place user same count is =
@@ -79,7 +79,7 @@ some_open (list ∷ users) (s ∷ states) user all =
       | false ↦ λ e. let absent = times_none list user (λ c. let wrong : false ≡ true = sym e ∙ all 0 c in cc) in omega (arith, rest, absent)
     ] refl
 
--- a node becomes something else, that isn't completed either
+-- a node gets another state, and isn't completed before or after
 pub open_same : (users : List (List ℕ)) (states : List JobState) (place user : ℕ) (state : JobState) → is_completed (state_at states place) ≡ false → is_completed state ≡ false
     → open_needs users (set states place state) user ≡ open_needs users states user
 open_same [] states place user state was is = refl
@@ -87,7 +87,7 @@ open_same (list ∷ users) [] place user state was is = refl
 open_same (list ∷ users) (s ∷ states) zero user state was is = ap (λ b. cond b 0 (times user list) + open_needs users states user) (is ∙ sym was)
 open_same (list ∷ users) (s ∷ states) (suc place) user state was is = ap (λ n. cond (is_completed s) 0 (times user list) + n) (open_same users states place user state was is)
 
--- a node is completed
+-- a node becomes completed
 pub open_less : (users : List (List ℕ)) (states : List JobState) (place user : ℕ) (state : JobState) → place < length states → is_completed (state_at states place) ≡ false → is_completed state ≡ true
     → open_needs users (set states place state) user + times user (get_or users place []) ≡ open_needs users states user
 open_less [] states place user state lt was is = refl
@@ -98,7 +98,7 @@ open_less (list ∷ users) (s ∷ states) zero user state lt was is =
 open_less (list ∷ users) (s ∷ states) (suc place) user state lt was is =
     let k = open_less users states place user state (omega (arith, lt)) was is in omega (arith, k)
 
--- a user that comes yet has a need that isn't met
+-- a user later in the list still has a need that isn't completed
 pub still_open : (users unmet old : List ℕ) (k : ℕ) → k < length users → times (get_or users k 0) users ≤ get_or old (get_or users k 0) 0
     → get_or unmet (get_or users k 0) 0 + times (get_or users k 0) (take k users) ≡ get_or old (get_or users k 0) 0 → 0 < get_or unmet (get_or users k 0) 0
 still_open users unmet old k lt needed less =
@@ -106,7 +106,7 @@ still_open users unmet old k lt needed less =
     let here = times_more_here users k (get_or users k 0) lt refl in
     omega (arith, less, needed, front, here)
 
--- one need of a user is met
+-- one need of a user fewer
 pub less_by_one : (users unmet old : List ℕ) (k : ℕ) → k < length users → get_or users k 0 < length unmet → 0 < get_or unmet (get_or users k 0) 0
     → ((user : ℕ) → get_or unmet user 0 + times user (take k users) ≡ get_or old user 0)
     → (user : ℕ) → get_or (set unmet (get_or users k 0) (get_or unmet (get_or users k 0) 0 - 1)) user 0 + times user (take (k + 1) users) ≡ get_or old user 0

@@ -1,4 +1,4 @@
--- What holds after every list of events, each with the reply that is due.
+-- The laws of histories.
 use Rattle.std.proofs.Common.{◌≡◌, ◌<◌, ◌≤◌, ◌+◌, ◌||◌, ◌⊎◌, inl, inr, ⊎_elim, ℕ, zero, suc, Bool, true, false, cond, List, [], ◌∷◌, ◌++◌, Result, Ok, Err, length, refl, sym, subst, ap, ◌∙◌, arith, append_assoc}
 use Rattle.std.specs.Prelude.{⊤, count_by}
 use Rattle.std.specs.List.{list_any}
@@ -33,7 +33,7 @@ append-nil : {X : Type 0} (xs : List X) → xs ++ [] ≡ xs
 append-nil [] = refl
 append-nil (x ∷ xs) = ap (λ l. x ∷ l) (append-nil xs)
 
--- what one event makes of the nodes
+-- the effect of one event on the states
 data Change (nodes : List PlanNode) (slots : ℕ) (events : List Event) (event : Event) : Type 0 where
   quiet : ((place : ℕ) → state_after nodes (events ++ event ∷ []) place ≡ state_after nodes events place) → Change nodes slots events event
   begins : (place : ℕ) → IsReady nodes events place → (running_after nodes events ≡ slots → ⊥) → state_after nodes (events ++ event ∷ []) place ≡ Running
@@ -55,7 +55,7 @@ change nodes slots events (fails place (Ok accepted)) r =
     (λ other n. stays_so nodes events (fails place (Ok accepted)) other (other_place place other (λ e. n (sym e))) refl refl)
 change nodes slots events (fails place (Err fault)) r = quiet (λ other. stays_so nodes events (fails place (Err fault)) other refl refl refl)
 
--- what holds at first and stays holds after every history
+-- what holds at first and is kept by each right event holds after every history
 along : (nodes : List PlanNode) (slots : ℕ) (P : List Event → Type 0)
     → ((front : List Event) (event : Event) → P front → IsRight nodes slots front event → P (front ++ event ∷ []))
     → (events front rest : List Event) → IsHistory nodes slots events → events ≡ front ++ rest → P front → P events
@@ -63,7 +63,7 @@ along nodes slots P step events front [] h e p = subst P (sym (e ∙ append-nil 
 along nodes slots P step events front (event ∷ rest) h e p =
     along nodes slots P step events (front ++ event ∷ []) rest h (e ∙ sym (append_assoc front (event ∷ []) rest)) (step front event p (h front rest event e))
 
--- the front of a history is one
+-- a prefix of a history is a history
 front_history : (nodes : List PlanNode) (slots : ℕ) (events front rest : List Event) → IsHistory nodes slots events → events ≡ front ++ rest → IsHistory nodes slots front
 front_history nodes slots events front rest h e first more' event is =
     h first (more' ++ rest) event (e ∙ ap (λ l. l ++ rest) is ∙ append_assoc first (event ∷ more') rest)
@@ -71,7 +71,7 @@ front_history nodes slots events front rest h e first more' event is =
 different : (a b : JobState) → (a ≡ b → ⊥) → (nodes : List PlanNode) (events : List Event) (place other : ℕ) → state_after nodes events place ≡ a → state_after nodes events other ≡ b → other ≡ place → ⊥
 different a b n nodes events place other x y e = n (sym x ∙ sym (ap (state_after nodes events) e) ∙ y)
 
--- what was begun needs what is completed
+-- nodes that run or are completed need only completed ones
 abbrev IsMet : List PlanNode → List Event → Type 0
 IsMet nodes events = (place need : ℕ) → NeedsNode nodes place need → is_begun (state_after nodes events place) ≡ true → state_after nodes events need ≡ Completed
 
@@ -115,7 +115,7 @@ begun_way : (nodes : List PlanNode) (events : List Event) → IsMet nodes events
 begun_way nodes events m place need begun (last n) = m place need n begun
 begun_way nodes events m place need begun (more {w = next} n p) = begun_way nodes events m next need (ap is_begun (m place next n begun)) p
 
--- all that is reached from a node that is ready is completed
+-- from a ready node, paths lead only to completed ones
 ready_way : (nodes : List PlanNode) (events : List Event) → IsMet nodes events → (place need : ℕ) → IsReady nodes events place → IsPath (NeedsNode nodes) place need
     → state_after nodes events need ≡ Completed
 ready_way nodes events m place need ready (last n) = ready.met need n
@@ -212,7 +212,7 @@ few_run nodes slots events h =
 abbrev one_if : JobState → ℕ
 one_if state = cond (is_running state) 1 0
 
--- where nothing runs, no node does
+-- if the count of running nodes is 0, no node runs
 none_does : (nodes : List PlanNode) (events : List Event) → running_after nodes events ≡ 0 → (place : ℕ) → place < length nodes → state_after nodes events place ≡ Running → ⊥
 none_does nodes events none place lt e =
     let count = states_count nodes events in
@@ -221,7 +221,7 @@ none_does nodes events none place lt e =
     omega (arith, n, one, none)
 
 module _ (nodes : List PlanNode) (events : List Event) (rest : IsAtRest nodes events) where
-  -- of the needs below a place, all are completed, or one isn't
+  -- either all needs below a place are completed, or one isn't
   scan : (place k : ℕ) → k ≤ place
       → ((need : ℕ) → need < k → NeedsNode nodes place need → state_after nodes events need ≡ Completed) ⊎ ((need : ℕ) × NeedsNode nodes place need × (state_after nodes events need ≡ Completed → ⊥))
   scan place zero le = inl (λ need lt n. absurd (omega (arith, lt)))

@@ -1,4 +1,4 @@
--- Who needs each node, as one node after another is read.
+-- The users of each node, as the nodes are read one by one.
 use Rattle.std.proofs.Common.{◌≡◌, ◌<◌, ◌≤◌, ◌+◌, ◌||◌, ◌&&◌, ◌⊎◌, inl, inr, ⊎_elim, ℕ, zero, suc, Bool, true, false, not, cond, List, [], ◌∷◌, ◌++◌, length, map, take, get_or, set, refl, sym, subst, ap, ◌∙◌, arith, length-append, take_all}
 use Rattle.std.specs.Prelude.{◌↔◌, ◌==◌, Contains, All, count_by, flat_map}
 use Rattle.std.specs.List.{list_any}
@@ -20,7 +20,7 @@ use Rattle.plan_jobs.specs.Building.{AddsPlace, AreOf, first_state, wanted}
 use Rattle.plan_jobs.proofs.Counts.{other_place, same_place, some_open}
 use Rattle.plan_jobs.proofs.Replies.{needs_within}
 
--- what is known of the first nodes
+-- the tables of the first k nodes
 pub record IsRead (nodes : List PlanNode) (k : ℕ) (needs : Needs) : Type 0 where
   pub states : needs.states ≡ map first_state (take k nodes)
   pub reached : length needs.states ≡ k
@@ -49,7 +49,7 @@ append-nil : {X : Type 0} (xs : List X) → xs ++ [] ≡ xs
 append-nil [] = refl
 append-nil (x ∷ xs) = ap (λ l. x ∷ l) (append-nil xs)
 
--- who is a user once one more list of needs was read
+-- the users after one more entry of a list
 user_more : (users : List (List ℕ)) (user place : ℕ) → place < length users → (a b : ℕ)
     → IsUser (set users place (get_or users place [] ++ user ∷ [])) a b ↔ IsUser users a b ⊎ ((a ≡ user) × (b ≡ place))
 user_more users user place lt a b =
@@ -98,7 +98,7 @@ with_users user (p ∷ places) users all a b =
           c),
     )
 
--- counts once one more list of needs was read
+-- a changed list that counts a user as often leaves the user's count of needs
 open_list : (users : List (List ℕ)) (states : List JobState) (place user : ℕ) (list : List ℕ) → times user list ≡ times user (get_or users place [])
     → open_needs (set users place list) states user ≡ open_needs users states user
 open_list [] states place user list e = refl
@@ -150,7 +150,7 @@ open_push [] (s ∷ states) state user same = absurd (omega (arith, same))
 open_push (l ∷ users) [] state user same = absurd (omega (arith, same))
 open_push (l ∷ users) (s ∷ states) state user same = ap (λ n. cond (is_completed s) 0 (times user l) + n) (open_push users states state user (omega (arith, same)))
 
--- the places of what is wanted
+-- the places of the needed identifiers
 module _ (nodes : List PlanNode) (k : ℕ) (needs : Needs) (r : IsRead nodes k needs) where
   found : (ids : List (List ℕ)) (place : ℕ) → Contains (flat_map (items_at same_text needs.places) ids) place ↔ (place < k) × (list_any (same_text (node_at nodes place).id) ids ≡ true)
   found [] place = ((λ c. absurd (contains-none place c)), λ c. absurd (let e = c.1 in cc))

@@ -1,4 +1,4 @@
--- What the marks say of the nodes after a list of events.
+-- The marks after a list of events, and the right replies.
 use Rattle.std.proofs.Common.{◌≡◌, ◌<◌, ⊎_elim, ℕ, Bool, true, List, length, sym, subst, ap, ◌∙◌, arith}
 use Rattle.std.proofs.lemmas.Bool.{cases_lt}
 use Rattle.std.proofs.lemmas.List.{get_or_past}
@@ -13,7 +13,7 @@ use Rattle.plan_jobs.proofs.Counts.{some_open}
 use Rattle.plan_jobs.proofs.Changes.{held_by_way, ready_met}
 use Rattle.plan_jobs.proofs.Told.{after_count, after_running, after_state}
 
--- what needs a node is a node
+-- only nodes have needs
 pub needs_within : (nodes : List PlanNode) (place need : ℕ) → NeedsNode nodes place need → place < length nodes
 needs_within nodes place need n = ⊎_elim
     (λ lt. lt)

@@ -1,4 +1,4 @@
--- Who is marked as held, while the marks are carried on from users to their users.
+-- The marks of held nodes, while they spread from nodes to their users.
 use Rattle.std.proofs.Common.{◌≡◌, ◌<◌, ◌≤◌, ◌+◌, ◌*◌, ◌⊎◌, inl, inr, ⊎_elim, ℕ, zero, suc, Bool, true, false, not, cond, List, [], ◌∷◌, ◌++◌, length, get_or, set, replicate, refl, sym, subst, ◌∙◌, arith}
 use Rattle.std.specs.Prelude.{◌↔◌, Contains, All, count_by}
 use Rattle.std.proofs.lemmas.Bool.{cases_eq}
@@ -12,7 +12,7 @@ use Rattle.plan_jobs.specs.declared.job.JobState.TheVariants.{Waiting}
 use Rattle.plan_jobs.specs.Marks.{NoneMarked}
 use Rattle.plan_jobs.specs.Board.{AreBegun, AreHeld, HoldsMore, HoldsUsers, IsUser, Leads, state_at}
 
--- a mark is there or not
+-- a place is marked or not
 pub marked_or : (marks : List Bool) (place : ℕ) → IsMarked marks place ⊎ (IsMarked marks place → ⊥)
 marked_or marks place = elim (get_or marks place false) as (λ b. (b ≡ true) ⊎ (b ≡ true → ⊥)) [ true ↦ inl refl | false ↦ inr (λ e. cc) ]
 
@@ -21,7 +21,7 @@ none_there zero place m = cc
 none_there (suc n) zero m = cc
 none_there (suc n) (suc place) m = none_there n place m
 
--- what a set of one mark leaves
+-- the marks after one more is set
 pub marked-set : (marks : List Bool) (at : ℕ) (place : ℕ) → at < length marks → IsMarked (set marks at true) place ↔ IsMarked marks place ⊎ (place ≡ at)
 marked-set marks at place lt = ⊎_elim
     (λ e. ((λ m. inr e), λ m. subst (λ k. IsMarked (set marks at true) k) (sym e) (get_or-set_same marks at true false lt)))
@@ -114,7 +114,7 @@ holds_one states held work user lt count room waits free =
       fewer = omega (arith, cn', cw);
     }
 
--- nothing is marked where the user doesn't wait or is marked
+-- a user that doesn't wait, or is marked already, changes nothing
 pub holds_not : (states : List JobState) (held work : List Bool) (user : ℕ) → (state_at states user ≡ Waiting → IsMarked held user) → HoldsUsers (user ∷ []) states held held work work
 holds_not states held work user done =
     record {
@@ -127,7 +127,7 @@ holds_not states held work user done =
       fewer = omega arith;
     }
 
--- while the marks are carried on: the users of what was marked are marked, but for those that are still to be gone on from
+-- while marks spread, the waiting users of marked nodes are marked, except those of nodes still to be visited
 pub record IsHolding (users : List (List ℕ)) (states : List JobState) (place : ℕ) (old held old_work work : List Bool) : Type 0 where
   pub same : length held ≡ length old
   pub room : length work ≡ length old_work
@@ -209,7 +209,7 @@ fewer_left held held' work work' next users states m lt h =
     omega (arith, f, c')
 
 module _ (users : List (List ℕ)) (states : List JobState) where
-  -- one more has failed, and those that wait for it were marked
+  -- one more node has failed, and its waiting users were marked
   pub held_more : (P Q : ℕ → Type 0) (place : ℕ) (old new : List Bool) → AreHeld users states P old → HoldsMore users states place old new
       → Q place → ((need : ℕ) → P need → Q need) → ((need : ℕ) → Q need → P need ⊎ (need ≡ place)) → AreHeld users states Q new
   held_more P Q place old new h s here up down =

@@ -1,4 +1,4 @@
--- What one more event makes of what the nodes are.
+-- The states after one more event.
 use Rattle.std.proofs.Common.{◌≡◌, ◌<◌, ◌||◌, ◌⊎◌, inl, inr, ⊎_elim, ℕ, Bool, true, false, List, [], ◌∷◌, ◌++◌, Ok, Err, length, get_or, set, refl, sym, subst, ap, ◌∙◌, arith, length-append}
 use Rattle.std.specs.Prelude.{⊤, count_by}
 use Rattle.std.specs.List.{list_any}
@@ -15,7 +15,7 @@ use Rattle.plan_jobs.specs.Board.{AreAfter, Board, state_at}
 use Rattle.plan_jobs.proofs.Counts.{other_place, same_place}
 use Rattle.plan_jobs.proofs.Changes.{state_here, state_there}
 
--- one more test
+-- a test of one more event
 or_none : (a b : Bool) → a || (b || (false || false)) ≡ a || b
 or_none true b = refl
 or_none false true = refl
@@ -44,7 +44,7 @@ module _ (nodes : List PlanNode) (events : List Event) where
   abbrev begun : ℕ → Bool
   begun place = list_any (is_start_of place) events
 
-  -- an event that isn't of a node leaves it as it is
+  -- an event about other nodes leaves the state of a node
   pub stays_so : (event : Event) (place : ℕ) → is_failure_of place event ≡ false → is_completion_of place event ≡ false → is_start_of place event ≡ false
       → state_after nodes (events ++ event ∷ []) place ≡ state_after nodes events place
   stays_so event place f c s =
@@ -85,7 +85,7 @@ module _ (nodes : List PlanNode) (events : List Event) where
       ap (λ x. state_by x ((is_installed (node_at nodes place).kind) || list_any (is_completion_of place) (events ++ event ∷ [])) (list_any (is_start_of place) (events ++ event ∷ [])))
       (any_some (is_failure_of place) events event (node_at nodes place).unbuildable (same_place place place refl))
 
-  -- what each node is in the list
+  -- the state of each node, looked up in the list
   pub state_in : (place : ℕ) → place < length nodes → state_at (states_after nodes events) place ≡ state_after nodes events place
   state_in place lt = get_or-map-range_with_len (state_after nodes events) 0 (length nodes) place place Waiting lt (omega arith)
 
@@ -116,7 +116,7 @@ one_changes nodes events event place state lt now same =
     (λ d. same i d ∙ sym (state_in nodes events i in_nodes) ∙ sym (state_there (states_after nodes events) place i state d))
     (cases_eq i place))
 
--- a place of a list with one more behind it
+-- a split of a list with one more item at its end
 push_split : {X : Type 0} (front order rest : List X) (u node : X) → order ++ node ∷ [] ≡ front ++ u ∷ rest
     → ((front ≡ order) × (u ≡ node)) ⊎ ((less : List X) × (order ≡ front ++ u ∷ less))
 push_split [] [] rest u node e = inl (refl, sym (ap (λ l. get_or l 0 node) e))
@@ -195,7 +195,7 @@ module _ (nodes : List PlanNode) (slots : ℕ) (events : List Event) (board : Bo
       after_change (fails place (Ok accepted)) place Failed r r.0 (fails_now nodes events place accepted)
       (λ other n. stays_so nodes events (fails place (Ok accepted)) other (other_place place other (λ e. n (sym e))) refl refl)
 
-  -- who runs
+  -- running nodes
   pub runs_from : (place : ℕ) → (place < length board.states) × (state_at board.states place ≡ Running) → Runs nodes events place
   runs_from place r = let lt = subst (λ n. place < n) after_count r.0 in (lt, sym (after_state place lt) ∙ r.1)
 

@@ -22,7 +22,7 @@ pub record AreBelow (width at height : ℕ) : Type 0 where
   pub from : width ≤ at * 2 ^ height
   pub to : at * 2 ^ height + 2 ^ height ≤ 2 * width
 
--- on the way to the least mark: a leaf before those below here has no mark
+-- on the way to the least mark: the node is marked, and no leaf before those below it is
 pub record IsOnWay (width : ℕ) (tree : List Bool) (at : ℕ) : Type 0 where
   pub inner : 1 ≤ at
   pub height : ℕ
@@ -30,7 +30,7 @@ pub record IsOnWay (width : ℕ) (tree : List Bool) (at : ℕ) : Type 0 where
   pub marked : get_or tree at false ≡ true
   pub none : (leaf : ℕ) → width ≤ leaf → leaf < at * 2 ^ height → get_or tree leaf false ≡ false
 
--- a node that isn't a leaf has leaves below
+-- a node with children is no leaf
 pub within : (width at height : ℕ) → AreBelow width at (suc height) → at < width
 within width at height b =
     let p : 1 ≤ 2 ^ height = one-le-pow height 2 (omega arith) in
@@ -59,7 +59,7 @@ double : (at height : ℕ) → (2 * at) * 2 ^ height ≡ at * 2 ^ suc height
 double at height = let e : 2 ^ suc height ≡ 2 * 2 ^ height = pow-succ' 2 height in subst (λ p. (2 * at) * 2 ^ height ≡ at * p) (sym e) (omega arith)
 
 module _ (width : ℕ) (tree : List Bool) (t : IsTree width tree) where
-  -- where a node has no mark, no leaf below it has one
+  -- no leaf below an unmarked node is marked
   pub none_below : (height at leaf : ℕ) → 1 ≤ at → AreBelow width at height → at * 2 ^ height ≤ leaf → leaf < at * 2 ^ height + 2 ^ height
       → get_or tree at false ≡ false → get_or tree leaf false ≡ false
   none_below zero at leaf i b low high n = let e : at ≡ leaf = omega (arith, low, high) in subst (λ k. get_or tree k false ≡ false) e n
@@ -152,14 +152,14 @@ module _ (width : ℕ) (tree : List Bool) (t : IsTree width tree) where
       (none_below t.power.0 1 (width + place) (omega arith) (record { from = omega (arith, e); to = omega (arith, e) }) (omega (arith, e)) (omega (arith, e, high)) n)
       leaf.1
 
--- on the way up from a leaf that was set: but for here, all is joined
+-- on the way up from a leaf that was set, each node but this one is joined
 pub record IsOnWayUp (width : ℕ) (old tree : List Bool) (place : ℕ) (mark : Bool) (at : ℕ) : Type 0 where
   pub inside : at < width
   pub count : length tree ≡ length old
   pub joined : (other : ℕ) → 1 ≤ other → other < width → (other ≡ at → ⊥) → IsJoined tree other
   pub leaves : drop width tree ≡ set (drop width old) place mark
 
--- one that is set is neither of these
+-- setting a mark keeps each node joined that is neither the set one nor its parent
 apart : (tree : List Bool) (set_at : ℕ) (mark : Bool) (other : ℕ) → (set_at ≡ other → ⊥) → (set_at ≡ 2 * other → ⊥) → (set_at ≡ 2 * other + 1 → ⊥)
     → IsJoined tree other → IsJoined (set tree set_at mark) other
 apart tree set_at mark other a b c j =

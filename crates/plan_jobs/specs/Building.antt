@@ -1,4 +1,4 @@
--- Who needs each node, as the nodes are read.
+-- The users of each node, as the nodes are read.
 use Rattle.std.specs.Prelude.{◌≡◌, ◌<◌, ◌++◌, ◌↔◌, ℕ, false, List, [], ◌∷◌, if◌then◌else◌, length, flat_map, map, slice_index}
 use Rattle.indexmap.specs.IndexMap.{IndexMap}
 use Rattle.keyed_lists.specs.Lists.{items_at}
@@ -9,11 +9,11 @@ use Rattle.plan_jobs.specs.declared.needs.Needs.{Needs}
 use Rattle.plan_jobs.specs.Events.{NeedsNode, is_installed, state_by}
 use Rattle.plan_jobs.specs.Board.{IsUser, open_needs}
 
--- what a node is before all events
+-- the state of a node before all events
 abbrev pub first_state : PlanNode → JobState
 first_state node = state_by node.unbuildable (is_installed node.kind) false
 
--- the places of what a node wants
+-- the places of the nodes with the identifiers that a node needs
 abbrev pub wanted : {S : Type 0} → IndexMap (List ℕ) (List ℕ) S → PlanNode → List ℕ
 wanted places node =
     if is_installed node.kind then [] else flat_map (items_at same_text places) node.libs ++ flat_map (items_at same_text places) node.tools ++ flat_map (items_at same_text places) node.setups
@@ -22,7 +22,7 @@ wanted places node =
 abbrev pub AddsPlace : {S : Type 0} → IndexMap (List ℕ) (List ℕ) S → List ℕ → ℕ → IndexMap (List ℕ) (List ℕ) S → Type 0
 AddsPlace old id place new = (other : List ℕ) → items_at same_text new other ≡ items_at same_text old other ++ (if same_text id other then place ∷ [] else [])
 
--- this is known of these nodes
+-- the states, users and counts are those of these nodes
 pub record AreOf (nodes : List PlanNode) (needs : Needs) : Type 0 where
   pub states : needs.states ≡ map first_state nodes
   pub count : length needs.users.items ≡ length nodes

@@ -20,7 +20,7 @@ node kind unbuildable id needs = record {
   setups = [];
 }
 
--- `a` is there; `b` and `c` need it, and `d` can't be built
+-- `a` is installed; `b` and `c` need it, and `d` is unbuildable
 abbrev nodes : List PlanNode
 nodes = node Installed false (codes "a") (codes "x" ∷ []) ∷ node Store false (codes "b") (codes "a" ∷ []) ∷ node Store false (codes "c") (codes "a" ∷ [])
     ∷ node Store true (codes "d") [] ∷ []
@@ -38,7 +38,7 @@ both_run = refl
 after_both : states_after nodes (starts (Ok 1) ∷ starts (Ok 2) ∷ fails 2 (Ok tt) ∷ completes 1 (Ok tt) ∷ []) ≡ Completed ∷ Completed ∷ Failed ∷ Failed ∷ []
 after_both = refl
 
--- what is there wants nothing
+-- an installed node needs nothing
 there_wants_nothing : wants (node Installed false (codes "a") (codes "x" ∷ [])) (codes "x") ≡ false
 there_wants_nothing = refl
 

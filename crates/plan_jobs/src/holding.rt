@@ -1,4 +1,4 @@
-// Marks of those that are held: they wait, and something failed that they need, at once or through others.
+// Marks of held nodes. A held node waits, and needs a failed one, directly or through others.
 ghost use Rattle.std.specs.Prelude.{◌≡◌, ◌<◌, ◌≤◌, [], ◌∷◌, length, All, IfOk};
 ghost use Rattle.plan_jobs.specs.Board.{AreBegun, AreHeld, HasFailed, HoldsMore, HoldsUsers};
 ghost use Rattle.plan_jobs.specs.Marks.{NoneMarked, TakesLeast};
@@ -8,15 +8,15 @@ use crate::marks::Marks;
 use plan_types::{List, NoMemory};
 use std::alloc::Global;
 
-/// Marks of those that are held, and room to find more of them.
+/// Marks of held nodes, and room for the search for more of them.
 #[derive(Drop)]
 pub(crate) struct Held {
     pub held: List<bool>,
-    /// Those whose users are still to be looked at. Between two events there are none.
+    /// Newly marked nodes whose users are still to be visited. Empty between two events.
     pub to_go: Marks,
 }
 
-/// Those that are held at first.
+/// The nodes that are held before all events.
 pub(crate) fn held_at_first(
     alloc: Global,
     users: &[List<usize>],
@@ -37,7 +37,7 @@ pub(crate) fn held_at_first(
     Ok(Held { held, to_go })
 }
 
-/// Marks those that wait for a node, and those that wait for what is marked then.
+/// Marks the waiting users of a node, then the waiting users of each newly marked node.
 pub(crate) fn hold(
     users: &[List<usize>],
     states: &[JobState],
@@ -60,7 +60,7 @@ pub(crate) fn hold(
     }
 }
 
-// Takes the least one out.
+// Takes out the least marked place.
 fn take_first(marks: &mut Marks) -> Option<usize>
     ensures { TakesLeast marks.old marks.new result }
 {
@@ -71,7 +71,7 @@ fn take_first(marks: &mut Marks) -> Option<usize>
     first
 }
 
-// Marks those of a node's users that wait, and puts them to those to go on from.
+// Marks those of a node's users that wait, and marks them as still to be visited.
 fn hold_users(users: &[usize], states: &[JobState], held: &mut List<bool>, to_go: &mut Marks)
     requires within { All (λ user. user < length states.now) users.now }
     requires count { length held.old ≡ length states.now }

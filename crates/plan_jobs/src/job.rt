@@ -1,23 +1,23 @@
-// How far the build of a node is, and why a call is refused.
+// The states of a node's build, and the reasons why a call is refused.
 
-/// How far the build of a node is.
+/// The state of a node's build.
 #[derive(Clone, Copy, Debug, PartialEq, Eq)]
 pub enum JobState {
     Waiting,
     Running,
-    /// Also a node that is installed.
+    /// An installed node begins here.
     Completed,
-    /// Also a node that isn't buildable.
+    /// An unbuildable node begins here.
     Failed,
 }
 
-/// Why a call is refused. The jobs are as before then.
+/// Why a call is refused. The jobs are unchanged then.
 #[derive(Clone, Copy, Debug, PartialEq, Eq)]
 pub enum JobFault {
     /// A slot is free, but no node can be started.
     NoneReady,
     /// As many nodes run as there are slots.
     NoSlot,
-    /// The node doesn't run, or there is none.
+    /// No node at the place runs.
     NotRunning,
 }

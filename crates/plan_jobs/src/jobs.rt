@@ -1,4 +1,4 @@
-// The jobs of a build: the nodes of a plan, of which so many may run at once.
+// The jobs of a build: the nodes of a plan, of which at most `slots` run at once.
 ghost use Rattle.std.specs.Prelude.{◌≡◌, ◌<◌, ◌++◌, ◌↔◌, ℕ, List, [], ◌∷◌, length, IfOk, OnErr, IsTrue, MatchResult};
 ghost use Rattle.plan_nodes.specs.declared.node.PlanNode.{PlanNode};
 ghost use Rattle.plan_jobs.specs.declared.job.JobFault.TheVariants.{NotRunning};
@@ -16,23 +16,23 @@ use plan_types::{List, NoMemory};
 use std::alloc::Global;
 use std::marker::Model;
 
-/// The jobs of a build. A place is the number of a node in the plan's list, from 0.
+/// The jobs of a build. A place is the index of a node in the plan's list, from 0.
 pub struct Jobs {
     slots: u32,
     running: u32,
-    /// Who needs each node, once for each time that its identifier stands in a list.
+    /// The users of each node, once for each time that they list its identifier.
     users: Vec<List<usize>>,
     states: List<JobState>,
     /// How many of each node's needs aren't completed.
     unmet: List<usize>,
     ready: Marks,
-    /// Who is held.
+    /// Which nodes are held.
     held: List<bool>,
-    /// Room for those that are to be held.
+    /// Room for the nodes still to be visited while held nodes are marked.
     to_hold: Marks,
 }
 
-// Written out, so that it is proved once and not at each exit of each function that owns one.
+// Explicit, so that it is proved once: a derived one is expanded at each exit.
 impl Drop for Jobs {
     fn drop(self) {
         let Jobs {
@@ -59,7 +59,7 @@ impl Model for Jobs {
 }
 
 impl Jobs {
-    /// Nothing has happened yet. What later calls need of memory is taken here.
+    /// The jobs before all events. Later calls take no memory: all of it is taken here.
     pub fn new(alloc: Global, nodes: &[PlanNode], slots: u32) -> Result<Jobs, NoMemory>
         ensures { IfOk result (AreAfter nodes.now slots []) }
     {
@@ -83,7 +83,7 @@ impl Jobs {
         })
     }
 
-    /// Starts the least node that is ready.
+    /// Starts the least ready node.
     pub fn start_next(&mut self) -> Result<u64, JobFault>
         ensures reply { ForItsEvents self.old (λ nodes slots events. IsStart nodes slots events result) }
         ensures after { ForItsEvents self.old (λ nodes slots events. AreAfter nodes slots (events ++ starts result ∷ []) self.new) }
@@ -101,7 +101,7 @@ impl Jobs {
         Ok(place as u64)
     }
 
-    /// A node that runs is completed.
+    /// Reports that a running node is completed.
     pub fn completed(&mut self, place: u64) -> Result<(), JobFault>
         ensures reply { ForItsEvents self.old (λ nodes slots events. IsEnd nodes events place result) }
         ensures after { ForItsEvents self.old (λ nodes slots events. AreAfter nodes slots (events ++ completes place result ∷ []) self.new) }
@@ -119,7 +119,7 @@ impl Jobs {
         Ok(())
     }
 
-    /// A node that runs has failed.
+    /// Reports that a running node has failed.
     pub fn failed(&mut self, place: u64) -> Result<(), JobFault>
         ensures reply { ForItsEvents self.old (λ nodes slots events. IsEnd nodes events place result) }
         ensures after { ForItsEvents self.old (λ nodes slots events. AreAfter nodes slots (events ++ fails place result ∷ []) self.new) }
@@ -138,14 +138,14 @@ impl Jobs {
         Ok(())
     }
 
-    /// How many nodes there are.
+    /// The number of nodes.
     pub fn node_count(&self) -> usize
         ensures { result ≡ length self.now.states }
     {
         self.states.len()
     }
 
-    /// What a node is.
+    /// The state of a node.
     pub fn state_of(&self, place: u64) -> JobState
         requires { place < length self.now.states }
         ensures state { ForItsEvents self.now (λ nodes slots events. result ≡ state_after nodes events place) }
@@ -153,7 +153,7 @@ impl Jobs {
         self.states.as_slice()[place as usize]
     }
 
-    /// Whether a node waits for what can't be completed any more.
+    /// Whether a node is held: it waits, and needs a failed node, directly or through others.
     pub fn is_held(&self, place: u64) -> bool
         requires { place < length self.now.states }
         ensures { ForItsEvents self.now (λ nodes slots events. IsTrue result ↔ IsHeld nodes events place) }
@@ -162,7 +162,7 @@ impl Jobs {
     }
 }
 
-// The place, if the node there runs.
+// The place, if its node runs.
 fn running_place(states: &[JobState], place: u64) -> Result<usize, JobFault>
     ensures { MatchResult result (λ p. (p ≡ place) × (place < length states.now) × (state_at states.now place ≡ Running))
         (λ fault. (fault ≡ NotRunning) × ((place < length states.now) × (state_at states.now place ≡ Running) → ⊥)) }

@@ -1,41 +1,41 @@
-// What follows of a list of events, each with the reply that is due.
+// Laws of histories, which are lists of events with the right replies.
 ghost use Rattle.std.specs.Prelude.{◌≡◌, ◌<◌, ◌≤◌, ℕ, List, Result, ⊤, length};
 ghost use Rattle.plan_nodes.specs.declared.node.PlanNode.{PlanNode};
 ghost use Rattle.plan_jobs.specs.declared.job.JobFault.{JobFault};
 ghost use Rattle.plan_jobs.specs.Events.{Event, IsEnd, IsHistory, IsStart, running_after};
 ghost use Rattle.plan_jobs.specs.Laws.{HasEnded, IsAtRest, KeepsHeld, StartsAfterNeeds, StartsNoneHeld, StartsOnce};
 
-/// Nothing starts before all that it needs is completed.
+/// When a node starts, all its needs are completed.
 pub fn starts_after_needs()
     ensures { (nodes : List PlanNode) (slots : ℕ) (events : List Event) → IsHistory nodes slots events → StartsAfterNeeds nodes events }
 {}
 
-/// Nothing starts twice.
+/// No node starts twice.
 pub fn starts_once()
     ensures { (nodes : List PlanNode) (slots : ℕ) (events : List Event) → IsHistory nodes slots events → StartsOnce events }
 {}
 
-/// No more run at once than there are slots.
+/// At most as many nodes run as there are slots.
 pub fn at_most_the_slots()
     ensures { (nodes : List PlanNode) (slots : ℕ) (events : List Event) → IsHistory nodes slots events → running_after nodes events ≤ slots }
 {}
 
-/// What is held doesn't start.
+/// No held node starts.
 pub fn starts_none_held()
     ensures { (nodes : List PlanNode) (slots : ℕ) (events : List Event) → IsHistory nodes slots events → StartsNoneHeld nodes events }
 {}
 
-/// What is held stays held.
+/// A held node stays held.
 pub fn stays_held()
     ensures { (nodes : List PlanNode) (slots : ℕ) (events : List Event) → IsHistory nodes slots events → KeepsHeld nodes events }
 {}
 
-/// Where no node runs and none can be started, each is completed, has failed or is held.
+/// If no node runs and none can start, each node is completed, has failed or is held.
 pub fn ends_at_rest()
     ensures { (nodes : List PlanNode) (events : List Event) → IsAtRest nodes events → (place : ℕ) → place < length nodes → HasEnded nodes events place }
 {}
 
-/// To each question there is one answer at most.
+/// At most one reply to a call is right.
 pub fn one_reply()
     ensures start { (nodes : List PlanNode) (slots : ℕ) (events : List Event) (a b : Result ℕ JobFault)
         → IsStart nodes slots events a → IsStart nodes slots events b → a ≡ b }

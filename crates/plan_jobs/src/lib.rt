@@ -1,6 +1,7 @@
-//! Build slots over events. In go the nodes of a plan and a number of slots; then, event by event, a build tool asks for the
-//! next node to build and tells which are completed and which have failed. Nothing is handed out before all that it
-//! needs is completed, nothing twice, never more at once than there are slots, and nothing that needs a failed node.
+//! The build slots of a plan, driven by events. In go the nodes of a plan and a number of slots. Then a build tool asks
+//! for the next node to start, and reports completed and failed nodes. A node starts at most once, after all its needs
+//! are completed, and never if it needs a failed node. At most as many nodes run as there are slots. These laws are in
+//! `laws`; each reply is the only right one (`IsStart`, `IsEnd`).
 #![tactic(auto)]
 
 mod holding;

@@ -1,4 +1,4 @@
-// Marks on places, of which the least marked place is found in a few steps. They take no more memory once they are made.
+// Marks on places. The least marked place is found in logarithmic time, and only creation takes memory.
 ghost use Rattle.std.specs.Prelude.{◌≡◌, ◌<◌, ◌≤◌, length, drop, slice_set, IfOk, MatchOption};
 ghost use Rattle.plan_jobs.specs.Marks.{IsLeastMarked, IsPower, IsTree, NoneMarked};
 
@@ -6,11 +6,11 @@ use plan_types::NoMemory;
 use std::alloc::Global;
 use std::marker::Model;
 
-/// A mark for each place, as the leaves of a binary tree. Behind the root at 1 the children of `i` are `2 * i` and `2 * i + 1`,
-/// and each is marked where one of its children is.
+/// A mark for each place, as the leaves of a binary tree. The root is at 1, and the children of `i` are at `2 * i` and
+/// `2 * i + 1`. A node is marked iff one of its children is.
 #[derive(Drop)]
 pub(crate) struct Marks {
-    /// How many leaves there are, a power of two. They stand last in the tree.
+    /// The number of leaves, a power of two. They are last in the tree.
     width: usize,
     tree: Vec<bool>,
 }
@@ -27,7 +27,7 @@ impl Model for Marks {
 }
 
 impl Marks {
-    /// Room for so many places, none of them marked.
+    /// Room for this many places, none of them marked.
     pub(crate) fn new(alloc: Global, places: usize) -> Result<Marks, NoMemory>
         ensures room { IfOk result (λ marks. places ≤ length marks) }
         ensures none { IfOk result NoneMarked }
@@ -40,7 +40,7 @@ impl Marks {
         Ok(Marks { width, tree })
     }
 
-    /// Marks a place, or takes its mark away.
+    /// Sets or clears the mark of a place.
     pub(crate) fn set(&mut self, place: usize, mark: bool)
         requires { place < length self.old }
         ensures { self.new ≡ slice_set self.old place mark }
@@ -56,7 +56,7 @@ impl Marks {
     }
 }
 
-// The least power of two that is no less.
+// The least power of two that is at least `places`.
 fn width_for(places: usize) -> Result<usize, NoMemory>
     ensures room { IfOk result (λ width. places ≤ width) }
     ensures power { IfOk result IsPower }
@@ -71,7 +71,7 @@ fn width_for(places: usize) -> Result<usize, NoMemory>
     Ok(width)
 }
 
-// Sets the mark of a leaf, and those above it anew.
+// Sets the mark of a leaf, and updates the nodes above it.
 fn set_leaf(tree: &mut [bool], width: usize, place: usize, mark: bool)
     requires tree { IsTree width tree.old }
     requires place { place < width }
@@ -87,7 +87,7 @@ fn set_leaf(tree: &mut [bool], width: usize, place: usize, mark: bool)
     }
 }
 
-// Goes down from the root, to the left where a mark is there.
+// Goes down from the root, to the left child if that is marked.
 fn first_leaf(tree: &[bool], width: usize) -> Option<usize>
     requires { IsTree width tree.now }
     ensures { MatchOption result (NoneMarked (drop width tree.now)) (IsLeastMarked (drop width tree.now)) }

@@ -1,4 +1,4 @@
-// Counts of needs that aren't completed, and the marks of those that are ready.
+// Counts of the needs that aren't completed, and marks of the ready nodes.
 ghost use Rattle.std.specs.Prelude.{◌≡◌, ◌<◌, ◌≤◌, ◌+◌, ◌-◌, ℕ, length, slice_index, slice_set, All, IfOk};
 ghost use Rattle.plan_jobs.specs.Board.{AreReady, times};
 
@@ -7,7 +7,7 @@ use crate::marks::Marks;
 use plan_types::{List, NoMemory};
 use std::alloc::Global;
 
-/// Marks of those that can be started at first.
+/// Marks of the nodes that can start before all events.
 pub(crate) fn ready_at_first(
     alloc: Global,
     states: &[JobState],
@@ -26,7 +26,7 @@ pub(crate) fn ready_at_first(
     Ok(ready)
 }
 
-/// One need of each of these users is met now, and those that wait for no other are ready.
+/// Counts one need of each of these users as completed. Waiting users with no other such need become ready.
 pub(crate) fn meet(users: &[usize], states: &[JobState], unmet: &mut List<usize>, ready: &mut Marks)
     requires within { All (λ user. user < length states.now) users.now }
     requires count { length unmet.old ≡ length states.now }
@@ -43,7 +43,7 @@ pub(crate) fn meet(users: &[usize], states: &[JobState], unmet: &mut List<usize>
     }
 }
 
-// One need of a user is met now.
+// Counts one need of a user as completed.
 fn meet_one(user: usize, states: &[JobState], unmet: &mut List<usize>, ready: &mut Marks)
     requires within { user < length states.now }
     requires count { length unmet.old ≡ length states.now }

@@ -1,4 +1,4 @@
-// Who needs each node, what each node is at first, and how many of its needs aren't completed then.
+// The users of each node, its first state, and how many of its needs aren't completed then.
 ghost use Rattle.std.specs.Prelude.{◌≡◌, ◌<◌, ◌++◌, [], ◌∷◌, length, flat_map, count_by, IfOk, OnOk, All};
 ghost use Rattle.keyed_lists.specs.Lists.{items_at};
 ghost use Rattle.plan_types.specs.Bytes.{same_text};
@@ -12,10 +12,10 @@ use plan_nodes::{NodeKind, PlanNode};
 use plan_types::{List, NoMemory, Text};
 use std::alloc::Global;
 
-/// What is known of the nodes so far.
+/// The tables of the nodes read so far.
 #[derive(Drop)]
 pub(crate) struct Needs {
-    /// The places that each identifier has.
+    /// The places of each identifier.
     pub places: Lists<Text, usize>,
     pub users: Vec<List<usize>>,
     pub states: List<JobState>,
@@ -38,7 +38,7 @@ impl Needs {
         Ok(needs)
     }
 
-    // Adds the node behind those that are there.
+    // Adds a node behind the others.
     fn add(&mut self, alloc: Global, node: &PlanNode) -> Result<(), NoMemory>
         requires wanted { All (λ place. place < length self.old.states) (wanted self.old.places node.now) }
         requires users { length self.old.users.items ≡ length self.old.states }
@@ -58,7 +58,7 @@ impl Needs {
     }
 }
 
-// The places of what a node wants.
+// The places of the nodes with the identifiers that a node needs.
 fn wanted(
     alloc: Global,
     places: &Lists<Text, usize>,
@@ -121,7 +121,7 @@ fn add_user(users: &mut Vec<List<usize>>, user: usize, places: &[usize]) -> Resu
     Ok(())
 }
 
-// What a node is before all events.
+// The state of a node before all events.
 fn first_state(node: &PlanNode) -> JobState
     ensures { result ≡ first_state node.now }
 {
