@@ -29,7 +29,7 @@ no_end (x ∷ xs) e =
       | false ↦ λ k. ap (onto_first x) (no_end xs (omega (arith, k)))
     ] e
 
--- a line that ends
+-- a line that has a line feed
 pub lines_more : (xs : List ℕ) → prefix_len goes xs < length xs
     → lines xs ≡ strip_carriage_return (take (prefix_len goes xs) xs) ∷ lines (drop (prefix_len goes xs + 1) xs)
 lines_more xs lt =
@@ -40,7 +40,7 @@ lines_more xs lt =
 one_line : (x : ℕ) (xs : List ℕ) → lines_of_parts ((x ∷ xs) ∷ []) ≡ (x ∷ xs) ∷ []
 one_line x xs = ap (λ b. cond b [] ((x ∷ xs) ∷ [])) (let e : suc (length xs) == 0 ≡ false = grind (arith, nat_tests) in e)
 
--- the last line, which has no end
+-- the last line, without a line feed
 pub lines_last : (xs : List ℕ) → prefix_len goes xs ≡ length xs → 0 < length xs → lines xs ≡ xs ∷ []
 lines_last [] e lt = absurd (omega (arith, lt))
 lines_last (x ∷ xs) e lt = ap lines_of_parts (no_end (x ∷ xs) e) ∙ one_line x xs

@@ -1,4 +1,4 @@
--- Lines, one after another.
+-- Reading lines one by one.
 use Rattle.std.proofs.Common.{◌≡◌, ◌+◌, ⊎_elim, inl, inr, ℕ, suc, zero, List, [], ◌∷◌, ◌++◌, refl, sym, subst, ap, ◌∙◌, arith, append_assoc}
 use Rattle.replay_text.specs.declared.event.EventsFault.{EventsFault}
 use Rattle.replay_text.specs.declared.event.EventsFault.TheVariants.{NoMemory, Bad}
@@ -33,7 +33,7 @@ module _ (whole rest more : List (List ℕ)) (line : List ℕ) where
   bad_here number (Bad told) split bad b =
       subst (λ k. IsFirstBad whole k) (sym b.0) (bad (suc zero) (subst (λ l. IsFirstBad l (suc zero)) (sym split) (here line b.1)))
 
--- the number that is told of a bad line
+-- a bad line's fault has its number
 pub bad_number : (number : ℕ) (fault : EventsFault) (line : List ℕ) (told : ℕ) → BadAt line number fault → fault ≡ Bad told → told ≡ number
 bad_number number NoMemory line told b e = absurd (cc e)
 bad_number number (Bad n) line told b e = let same : n ≡ told = cc e in sym same ∙ b.0

@@ -1,4 +1,4 @@
--- A file has one reading at most, and a build at events has one text.
+-- The reading of a file and the text of a replay are unique.
 use Rattle.std.proofs.Common.{◌≡◌, ◌+◌, ℕ, zero, suc, inl, inr, List, [], ◌∷◌, ◌++◌, Result, Ok, Err, drop, map, length, get_or, refl, sym, ap, ap₂, subst, ◌∙◌, arith, append_assoc}
 use Rattle.std.specs.Fmt.{decimal}
 use Rattle.std.proofs.lemmas.Fmt.{decimal_injective}
@@ -14,13 +14,13 @@ use Rattle.replay_text.specs.Reading.{AreEvents, AreRead, IsFirstBad, IsGood, Is
 use Rattle.replay_text.specs.Replay.{IsCount, IsCounted, IsReplay, IsStanding, asked, counts_line, told_text, none, yes, no}
 use Rattle.replay_text.proofs.Goes.{append-nil}
 
--- ---- a line tells one event
+-- ---- the event of a line is unique
 
--- numbers from 1 of one text are one
+-- equal texts of numbers from 1 have equal places
 one_place : (p q : ℕ) → IsNumber (p + 1) → IsNumber (q + 1) → decimal (p + 1) ≡ decimal (q + 1) → p ≡ q
 one_place p q i j e = let same = decimal_injective (p + 1) (q + 1) (omega (arith, i)) (omega (arith, j)) e in omega (arith, same)
 
--- the first bytes of two texts differ
+-- texts with different first bytes are different
 apart : (x y : ℕ) (xs ys : List ℕ) → (x ≡ y → ⊥) → x ∷ xs ≡ y ∷ ys → ⊥
 apart x y xs ys other e = other (ap (λ l. get_or l 0 0) e)
 
@@ -43,7 +43,7 @@ no_event Start h = cc h.text
 no_event (Completed p) h = cc h.text
 no_event (Failed p) h = cc h.text
 
--- ---- lines tell one list of events, or have one first that is bad
+-- ---- the reading of lines is unique
 
 one_list : (lines : List (List ℕ)) (xs ys : List JobEvent) → AreEvents lines xs → AreEvents lines ys → xs ≡ ys
 one_list lines xs ys no_lines no_lines = refl
@@ -61,7 +61,7 @@ one_bad lines m n (here line bad) (later line' good k) = absurd (bad good)
 one_bad lines m n (later line good h) (here line' bad) = absurd (bad good)
 one_bad lines m n (later {lines = rest} {number = a} line good h) (later {number = b} line' also k) = ap suc (one_bad rest a b h k)
 
--- not both
+-- lines with events have no bad line
 events_or_bad : (lines : List (List ℕ)) (xs : List JobEvent) (n : ℕ) → AreEvents lines xs → IsFirstBad lines n → ⊥
 events_or_bad lines xs n no_lines f = elim f [ ]
 events_or_bad lines xs n (empty h) (here line bad) = bad (inl refl)
@@ -75,7 +75,7 @@ one-reading lines (Ok xs) (Err n) h k = absurd (events_or_bad lines xs n h k)
 one-reading lines (Err m) (Ok ys) h k = absurd (events_or_bad lines ys m k h)
 one-reading lines (Err m) (Err n) h k = ap Err (one_bad lines m n h k)
 
--- ---- replies are those that are due, so they are one list
+-- ---- the right replies are unique
 
 same_reply : (nodes : List PlanNode) (slots : ℕ) (front : List Event) (a b : Event) → asked a ≡ asked b → IsRight nodes slots front a → IsRight nodes slots front b → a ≡ b
 same_reply nodes slots front (starts r) (starts s) e h k = ap starts (one_start nodes slots front r s h k)
@@ -107,7 +107,7 @@ module _ (nodes : List PlanNode) (slots : ℕ) where
       (subst (IsHistory nodes slots) (sym (append_assoc front (y ∷ []) b)) k) rest in
       λ i. same i ∷ others i
 
--- ---- a number of places is one
+-- ---- counts are unique
 
 one_count : (P : ℕ → Type 0) (places a b : ℕ) → IsCount P places a → IsCount P places b → a ≡ b
 one_count P places a b none none = refl

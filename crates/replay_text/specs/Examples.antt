@@ -10,7 +10,7 @@ use Rattle.replay_text.specs.declared.event.JobEvent.TheVariants.{Start, Complet
 use Rattle.replay_text.specs.Reading.{event_text}
 use Rattle.replay_text.specs.Replay.{counts_line, told_text}
 
--- the last line needs no end, and one carriage return before an end is dropped
+-- the last line needs no line feed, and one carriage return before a line feed is dropped
 three_lines : lines (codes "start\r\n\ncompleted 12") ≡ codes "start" ∷ [] ∷ codes "completed 12" ∷ []
 three_lines = refl
 

@@ -12,7 +12,7 @@ use Rattle.replay_text.specs.declared.event.JobEvent.TheVariants.{Start, Complet
 use Rattle.replay_text.specs.declared.standing.Standing.{Standing}
 use Rattle.replay_text.specs.declared.standing.Standing.TheVariants as standing
 
--- what was asked, without the reply
+-- the event without its reply
 abbrev pub asked : Event → JobEvent
 asked (starts reply) = Start
 asked (completes place reply) = Completed place
@@ -23,12 +23,12 @@ fault_word NoneReady = codes "NoneReady"
 fault_word NoSlot = codes "NoSlot"
 fault_word NotRunning = codes "NotRunning"
 
--- a line that tells which node starts, by its number from 1 and its identifier, or why none does
+-- the line of a start: the number of the node from 1 and its identifier, or why none starts
 abbrev pub start_line : List PlanNode → Result ℕ JobFault → List ℕ
 start_line nodes (Ok place) = codes "start " ++ decimal (place + 1) ++ codes " " ++ (node_at nodes place).id ++ codes "\n"
 start_line nodes (Err fault) = codes "start " ++ fault_word fault ++ codes "\n"
 
--- a line that tells what was said of a node, and why it isn't accepted
+-- the line of a report on a node, with the reason if it is refused
 abbrev pub end_line : List ℕ → ℕ → Result ⊤ JobFault → List ℕ
 end_line word place (Ok accepted) = word ++ decimal (place + 1) ++ codes "\n"
 end_line word place (Err fault) = word ++ decimal (place + 1) ++ codes " " ++ fault_word fault ++ codes "\n"
@@ -39,7 +39,7 @@ event_line nodes (starts reply) = start_line nodes reply
 event_line nodes (completes place reply) = end_line (codes "completed ") place reply
 event_line nodes (fails place reply) = end_line (codes "failed ") place reply
 
--- what a node is at the end; one that is held doesn't count as waiting
+-- a node is in this state at the end; a held node doesn't count as waiting
 abbrev pub IsStanding : List PlanNode → List Event → ℕ → Standing → Type 0
 IsStanding nodes told place standing.Completed = state_after nodes told place ≡ state.Completed
 IsStanding nodes told place standing.Failed = state_after nodes told place ≡ state.Failed
@@ -47,19 +47,19 @@ IsStanding nodes told place standing.Running = state_after nodes told place ≡ 
 IsStanding nodes told place standing.Waiting = (state_after nodes told place ≡ state.Waiting) × (IsHeld nodes told place → ⊥)
 IsStanding nodes told place standing.Held = IsHeld nodes told place
 
--- so many of the first places are so
+-- this many of the first places have the property
 pub data IsCount (P : ℕ → Type 0) : ℕ → ℕ → Type 0 where
   none : IsCount P zero zero
   yes : {places count : ℕ} → P places → IsCount P places count → IsCount P (suc places) (suc count)
   no : {places count : ℕ} → (P places → ⊥) → IsCount P places count → IsCount P (suc places) count
 
--- the line that tells how many nodes are completed, have failed, run, wait and are held
+-- the line with the number of nodes that are completed, have failed, run, wait and are held
 abbrev pub counts_line : ℕ → ℕ → ℕ → ℕ → ℕ → List ℕ
 counts_line completed failed running waiting held =
     codes "completed " ++ decimal completed ++ codes " failed " ++ decimal failed ++ codes " running " ++ decimal running ++ codes " waiting " ++ decimal waiting
     ++ codes " held " ++ decimal held ++ codes "\n"
 
--- behind a text stands that line, with the numbers of nodes after these events
+-- that line is appended, with the numbers of nodes after these events
 pub record IsCounted (plan : List PlanNode) (told : List Event) (nodes : ℕ) (old new : List ℕ) : Type 0 where
   pub completed : ℕ
   pub failed : ℕ
@@ -73,18 +73,18 @@ pub record IsCounted (plan : List PlanNode) (told : List Event) (nodes : ℕ) (o
   pub are_held : IsCount (λ place. IsStanding plan told place standing.Held) nodes held
   pub text : new ≡ old ++ counts_line completed failed running waiting held
 
--- one event was told: its reply is right, and its line stands behind a text
+-- the event gets its right reply, and its line is appended
 pub record IsTold (nodes : List PlanNode) (slots : ℕ) (told : List Event) (event : JobEvent) (board : Board) (old new : List ℕ) : Type 0 where
   pub now : Event
   pub same : asked now ≡ event
   pub after : AreAfter nodes slots (told ++ now ∷ []) board
   pub text : new ≡ old ++ event_line nodes now
 
--- the events so far, a line each
+-- the lines of the events so far
 abbrev pub told_text : List PlanNode → List Event → List ℕ
 told_text nodes told = codes "replay\n" ++ flat_map (event_line nodes) told
 
--- the text of a replay: these events with the replies that are right, and how many nodes are what behind them
+-- the text of a replay: these events with their right replies, and then how many nodes are in each state
 pub record IsReplay (nodes : List PlanNode) (slots : ℕ) (events : List JobEvent) (text : List ℕ) : Type 0 where
   pub told : List Event
   pub history : IsHistory nodes slots told

@@ -1,23 +1,23 @@
-// What a build tool asks or tells.
+// The events of a build.
 ghost use Rattle.std.specs.Prelude.{◌≡◌};
 ghost use Rattle.replay_text.specs.declared.event.EventsFault.TheVariants.{NoMemory as no_memory};
 
 use plan_types::NoMemory;
 
-/// What a build tool asks or tells. A place is the number of a node in the plan's list, from 0; a file has numbers from 1.
+/// An event of a build. A place is the index of a node in the plan's list, from 0; in a file it is a number from 1.
 #[derive(Clone, Copy, Debug, PartialEq, Eq)]
 pub enum JobEvent {
-    /// Which node it may start.
+    /// The question for the next node to start.
     Start,
     Completed(u32),
     Failed(u32),
 }
 
-/// Why events aren't read.
+/// Why a file of events isn't read.
 #[derive(Clone, Copy, Debug, PartialEq, Eq)]
 pub enum EventsFault {
     NoMemory,
-    /// The number of the first line, from 1, that is no event and isn't empty.
+    /// The number, from 1, of the first line that is neither empty nor an event.
     Bad(usize),
 }
 

@@ -1,5 +1,5 @@
-//! Builds that are replayed: reading what a build tool asks and tells, line by line, and printing what a build with so many slots
-//! does at each.
+//! Replays of builds. `read_events` turns a file, with one event a line, into events, or finds its first bad line.
+//! `replay_text` prints the reply to each event in a build with this many slots, then how many nodes are in each state.
 #![tactic(auto)]
 
 mod event;

@@ -13,7 +13,7 @@ use plan_nodes::PlanNode;
 use plan_types::{NoMemory, Text};
 use std::alloc::Global;
 
-/// What a build with so many slots does at each event, and what its nodes are then.
+/// The text of a replay: a line for each event with its reply, then how many nodes are in each state.
 pub fn replay_text(
     alloc: Global,
     nodes: &[PlanNode],
@@ -31,7 +31,7 @@ pub fn replay_text(
     Ok(text)
 }
 
-// What is done at one event.
+// The line of one event with its reply.
 fn push_event(
     alloc: Global,
     text: &mut Text,
@@ -81,7 +81,7 @@ fn push_start(
     text.push_str("\n")
 }
 
-// What is told of a node, and why it isn't accepted.
+// A report on a node, and why it is refused.
 fn push_end(
     alloc: Global,
     text: &mut Text,

@@ -1,4 +1,4 @@
-// Reading events.
+// Reading a file of events.
 ghost use Rattle.std.specs.Prelude.{◌≡◌, ◌+◌, ◌≤◌, ℕ, Err, length, OnOk, MatchOption, MatchResult};
 ghost use Rattle.std.specs.Fmt.{decimal};
 ghost use Rattle.std.specs.Str.Lines.{lines};
@@ -11,7 +11,7 @@ use plan_types::List;
 use std::alloc::Global;
 use version_range::number_at;
 
-/// The events of a file, a line each. Empty lines are passed over.
+/// The events of a file, one a line. Empty lines are skipped.
 pub fn read_events(alloc: Global, bytes: &[u8]) -> Result<List<JobEvent>, EventsFault>
     ensures read { MatchResult result (AreEvents (lines bytes.now)) (FirstBad (lines bytes.now)) }
     ensures within { (number : ℕ) → result ≡ Err (EventsFault.Bad number) → number ≤ length bytes.now }
@@ -41,7 +41,7 @@ fn add_event(events: &mut List<JobEvent>, line: &[u8], number: usize) -> Result<
     }
 }
 
-// The event that a line tells.
+// The event of a line.
 fn event_of(line: &[u8]) -> Option<JobEvent>
     ensures { MatchOption result (NoEvent line.now) (λ event. IsLineOf event line.now) }
 {
@@ -55,7 +55,7 @@ fn event_of(line: &[u8]) -> Option<JobEvent>
     }
 }
 
-// The place that a number tells: one to nine digits, the first not 0.
+// The place of a node's number. The number has one to nine digits, the first not 0.
 fn place_of(text: &[u8]) -> Option<u32>
     ensures { MatchOption result ((place : ℕ) → IsNumber (place + 1) → text.now ≡ decimal (place + 1) → ⊥)
         (λ place. IsNumber (place + 1) × (text.now ≡ decimal (place + 1))) }

@@ -1,4 +1,4 @@
-// What nodes are at the end, and how many are so.
+// The states of nodes at the end, and their counts.
 ghost use Rattle.std.specs.Prelude.{◌<◌, ◌≤◌, ◌↔◌, ℕ, List, length, IsTrue};
 ghost use Rattle.plan_nodes.specs.declared.node.PlanNode.{PlanNode};
 ghost use Rattle.plan_jobs.specs.Events.{Event};
@@ -7,7 +7,7 @@ ghost use Rattle.replay_text.specs.Replay.{IsCount, IsStanding};
 
 use plan_jobs::{JobState, Jobs};
 
-/// What a node is. One that is held isn't counted as waiting.
+/// The state of a node at the end. A held node doesn't count as waiting.
 #[derive(Clone, Copy, Debug)]
 pub(crate) enum Standing {
     Completed,
@@ -17,7 +17,7 @@ pub(crate) enum Standing {
     Held,
 }
 
-/// How many of the first nodes are so.
+/// How many of the first `nodes` nodes are in this state.
 pub(crate) fn count_of(jobs: &Jobs, nodes: usize, standing: Standing) -> usize
     requires { nodes ≤ length jobs.now.states }
     ensures { (plan : List PlanNode) (slots : ℕ) (events : List Event) → AreAfter plan slots events jobs.now
