@@ -1,4 +1,4 @@
--- The file at a path has one outcome, and a step's answer is that of the whole.
+-- The outcome of a file of events is unique. A step that reads no folder answers as one that does.
 use Rattle.std.proofs.Common.{◌≡◌, ℕ, List, Result, Ok, Err, sym, ap, ◌∙◌}
 use Rattle.std.specs.Str.Lines.{lines}
 use Rattle.outside_folder.specs.Files.{Bytes}
@@ -26,7 +26,7 @@ settled P (Err halt.NoMemory) h = h
 settled P (Err halt.Failed) h = absurd h
 settled P (Err (halt.Refused refusal)) h = h
 
--- where no folder is asked, nothing failed
+-- where no folder is read, no read fails
 pub no-failure : {A : Type 0} (P : Result A Refusal → Type 0) (result : Result A Halt) → Settles P result → result ≡ Err halt.Failed → ⊥
 no-failure P (Ok a) h e = cc e
 no-failure P (Err halt.NoMemory) h e = cc e

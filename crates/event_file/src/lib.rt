@@ -1,5 +1,5 @@
-//! The events of a build, as a file of a folder tells them. In go a folder and the path of the file; out come the events, none
-//! where there is no such file, or the refusal of the file.
+//! The events of a build, from a file in a folder. In go a folder and the path of the file. Out come its events, none
+//! if there is no such file, or the refusal of the file: it is too large, or a line is no event (`AreEventsAt`).
 #![tactic(auto)]
 
 mod laws;

@@ -1,4 +1,4 @@
-// The events of a file.
+// Reading a file of events from a folder.
 ghost use Rattle.std.specs.Prelude.{◌≡◌, ◌≤◌, IfOk, IfSome, IsErrOf};
 ghost use Rattle.outside_folder.specs.Calls.{IsWithin, Leaves};
 ghost use Rattle.outside_folder.specs.Folder.{file_limit};
@@ -10,7 +10,7 @@ use plan_types::{Cause, Halt, List, NoMemory, Refusal, Text};
 use replay_text::{EventsFault, JobEvent, read_events};
 use std::alloc::Global;
 
-/// The events that the file at a path tells, none where there is no such file, or the refusal of the file.
+/// The events of the file at a path, none if there is no such file, or the refusal of the file.
 pub fn read_event_file<F: Folder>(
     alloc: Global,
     path: &Text,
@@ -23,7 +23,7 @@ pub fn read_event_file<F: Folder>(
     events_in(alloc, path, &content)
 }
 
-// The events of what was found at the path.
+// The events of the content at the path.
 fn events_in(alloc: Global, path: &Text, content: &Content) -> Result<List<JobEvent>, Halt>
     requires { IsWithin content.now }
     ensures { Settles (AreEventsIn path.now content.now) result }
