@@ -1,4 +1,4 @@
--- What is so or isn't: of numbers, of states, and of all numbers below one.
+-- Decidability of properties of numbers and states, and of all numbers below a bound.
 use Rattle.std.proofs.Common.{◌≡◌, ◌⊎◌, inl, inr, ◌<◌, ◌≤◌, ℕ, zero, suc, Bool, true, false, refl, sym, ◌∙◌, subst, arith}
 use Rattle.std.specs.Prelude.{◌==◌, nat_lt}
 use Rattle.std.proofs.lemmas.Bool.{eqb-false, eqb-true, eq-eqb, false≢true, ltb-false, ltb-true}

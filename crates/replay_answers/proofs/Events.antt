@@ -1,4 +1,4 @@
--- Lines tell events, or have one first that tells none.
+-- Lines have events, or a first bad line.
 use Rattle.std.proofs.Common.{◌≡◌, ◌⊎◌, inl, inr, ◌+◌, ℕ, zero, suc, Bool, true, false, List, [], ◌∷◌, ◌++◌, Option, Some, None, Result, Ok, Err, drop, get_or, refl, sym, ap, ◌∙◌, subst, arith}
 use Rattle.std.specs.Prelude.{◌^◌, codes, nat_lt}
 use Rattle.std.specs.Fmt.{decimal}

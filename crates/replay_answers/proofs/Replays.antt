@@ -1,4 +1,4 @@
--- Replies, event by event, and the text that tells them.
+-- Right replies, event by event, and the text of a replay.
 use Rattle.std.proofs.Common.{◌≡◌, ℕ, List, [], ◌∷◌, ◌++◌, map, refl, sym, subst, append_assoc, append-nil}
 use Rattle.plan_nodes.specs.declared.node.PlanNode.{PlanNode}
 use Rattle.plan_jobs.specs.Events.{Event, IsRight}
@@ -8,7 +8,7 @@ use Rattle.replay_answers.proofs.Replies.{some_reply}
 use Rattle.replay_answers.proofs.Standings.{completed_count, failed_count, held_count, running_count, waiting_count}
 
 module _ (nodes : List PlanNode) (slots : ℕ) where
-  -- what is so of each event behind those before it
+  -- each event is right after those before it
   abbrev IsRightFrom : List Event → List Event → Type 0
   IsRightFrom before events = (front rest : List Event) (event : Event) → events ≡ front ++ event ∷ rest → IsRight nodes slots (before ++ front) event
 

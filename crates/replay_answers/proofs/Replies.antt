@@ -1,4 +1,4 @@
--- To each question a reply is due: of the nodes that could start there is a least one, or there is none.
+-- Each event has a right reply: of the ready nodes one is the least, or none is ready.
 use Rattle.std.proofs.Common.{◌≡◌, inl, inr, ◌<◌, ℕ, true, List, Result, Ok, Err, length, refl}
 use Rattle.std.specs.Prelude.{⊤}
 use Rattle.plan_nodes.specs.declared.node.PlanNode.{PlanNode}

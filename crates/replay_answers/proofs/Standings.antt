@@ -1,4 +1,4 @@
--- At the end each node is something: whether it is held is found from the nodes before it.
+-- At the end each node is in some state. Whether it is held is decided from the nodes before it.
 use Rattle.std.proofs.Common.{◌≡◌, ◌⊎◌, inl, inr, ◌<◌, ℕ, zero, suc, true, List, length, arith}
 use Rattle.common_laws.specs.Graphs.{IsPath, last, more}
 use Rattle.plan_nodes.specs.declared.node.PlanNode.{PlanNode}
@@ -8,11 +8,11 @@ use Rattle.replay_text.specs.Replay.{IsCount, none, yes, no}
 use Rattle.replay_answers.proofs.Decided.{Dec, SomeBelow, both, completed, failed, is_true, never, runs, some_below, waits}
 
 module _ (nodes : List PlanNode) (events : List Event) where
-  -- one that has failed is reached
+  -- a failed node is needed, directly or through others
   abbrev Reaches : ℕ → Type 0
   Reaches place = (need : ℕ) × IsPath (NeedsNode nodes) place need × (state_after nodes events need ≡ Failed)
 
-  -- by this need
+  -- this need is the first step to a failed node
   abbrev By : ℕ → ℕ → Type 0
   By place need = (wants (node_at nodes place) (node_at nodes need).id ≡ true) × ((state_after nodes events need ≡ Failed) ⊎ Reaches need)
 
@@ -55,7 +55,7 @@ some_count P dec zero = (zero, none)
 some_count P dec (suc n) = counted_by P n (dec n) (some_count P dec n)
 
 module _ (nodes : List PlanNode) (events : List Event) where
-  -- of how many nodes something is so
+  -- the number of nodes with a property
   abbrev Counted : (ℕ → Type 0) → Type 0
   Counted P = (count : ℕ) × IsCount P (length nodes) count
 

@@ -1,5 +1,5 @@
-//! Every file of events has a reading, and every build has a text: at each question a reply is due, and at the end each node is
-//! something. The laws beside the readers say that it is one at most; these say that there is one. There is no code here.
+//! Laws: each file of events has a reading, and each replay has a text. For each event a reply is right, and at the end
+//! each node is in some state. The laws beside the readers add that they are unique. There is no code here.
 #![tactic(auto)]
 
 mod laws;
