@@ -1,4 +1,4 @@
--- Node by node the least that is ready is placed, until none is.
+-- Step by step the least ready node is placed, until none is ready.
 use Rattle.std.proofs.Common.{◌≡◌, inl, inr, ◌+◌, ◌<◌, ◌≤◌, ℕ, zero, suc, Bool, true, false, ◌||◌, if◌then◌else◌, List, [], ◌∷◌, ◌++◌, length, refl, sym, ap, ◌∙◌, subst, arith, append_assoc, append-nil}
 use Rattle.std.specs.Prelude.{◌==◌, Contains, slice_index_or}
 use Rattle.std.specs.List.{list_all, list_any}
@@ -88,7 +88,7 @@ module _ (needs : List (List ℕ)) where
 
   -- ---- an order
 
-  -- each is the least that is ready behind those before it
+  -- each node is the least that is ready after those before it
   abbrev AreLeast : List ℕ → List ℕ → Type 0
   AreLeast placed rest = (front behind : List ℕ) (u : ℕ) → rest ≡ front ++ u ∷ behind → IsLeastReady needs (placed ++ front) u
 

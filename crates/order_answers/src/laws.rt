@@ -1,8 +1,8 @@
-// Every graph has a build order.
+// Each graph has a build order.
 ghost use Rattle.std.specs.Prelude.{ℕ, List};
 ghost use Rattle.build_order.specs.Order.{IsBuildOrder};
 
-/// A graph has a build order, whatever its nodes need.
+/// Any lists of needs have a build order, even with cycles.
 pub fn some_order()
     ensures { (needs : List (List ℕ)) → (order : List ℕ) × IsBuildOrder needs order }
 {}

@@ -1,4 +1,4 @@
-//! Every graph has a build order: node by node the least is placed that can be, until none can. There is no code here.
+//! Law: each graph has a build order. Step by step the least ready node is placed, until none is ready. No code.
 #![tactic(auto)]
 
 mod laws;
