@@ -1,4 +1,4 @@
--- Texts and names that compute.
+-- Texts and names, computed.
 use Rattle.std.specs.Prelude.{◌≡◌, ℕ, true, false, List, [], ◌∷◌, ◌++◌, codes, refl}
 use Rattle.std.specs.Fmt.{digits}
 use Rattle.plan_types.specs.declared.condition.Env.{Env}
@@ -53,25 +53,25 @@ flags-are-named = refl
 not-named : names_each_once (declared (codes "fast") ∷ []) [] ≡ false
 not-named = refl
 
--- flags stand in the order in which they are declared
+-- flags are printed in the order in which they are declared
 a-whole-text : id_text node description flags env
     ≡ codes "store 1\npackage tool-1.20\ncomponent exe:run\ncompiler ghc-9.4.7\nos linux\narch x86_64\n"
     ++ codes "flag fast off\nflag small on\ncabal 0ab\nlib base-4.18\nlib zlib-1\ntool alex-3\n"
 unfolding digits
 a-whole-text = refl
 
--- a component has a name of its own behind the colon
+-- a component with a name behind the colon
 an-own-name : own_name (codes "exe:run") ≡ codes "-run"
 an-own-name = refl
 
--- the main library has none, nor has a package that is built as a whole
+-- no name behind a colon: the main library, or a package that is built as a whole
 no-own-name : own_name (codes "lib") ≡ []
 no-own-name = refl
 
 a-whole-package : own_name (codes "package") ≡ []
 a-whole-package = refl
 
--- in its place
+-- built in place
 in-place : in_place_id node ≡ codes "tool-1.20-inplace-run"
 unfolding digits
 in-place = refl

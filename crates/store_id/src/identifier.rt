@@ -1,4 +1,4 @@
-// Identifiers of what has a source: in its place, or with the digest of its text.
+// Identifiers of nodes that are built, in place or into the store.
 ghost use Rattle.std.specs.Prelude.{◌≡◌, ◌++◌, IfOk, IsTrue, OnOk};
 ghost use Rattle.store_id.specs.NodeText.{names_each_once};
 ghost use Rattle.store_id.specs.Identifier.{digest_of, id_of, in_place_id, own_name};
@@ -10,7 +10,7 @@ use plan_types::{Description, Env, FlagSet, List, NoMemory, Text};
 use sha2::{Digest, Sha256};
 use std::alloc::Global;
 
-/// The identifier of what is built into the store: package and version, what follows the colon of the component's name, and
+/// The identifier of a node in the store: package and version, the part of the component's name behind the colon, and
 /// the digest of the node's text.
 pub fn id_of(
     alloc: Global,
@@ -32,8 +32,8 @@ pub fn id_of(
     Ok(id)
 }
 
-/// The identifier of what is built in its place: package and version, `inplace`, and what follows the colon of the component's
-/// name.
+/// The identifier of a node built in place: package and version, `inplace`, and the part of the component's name
+/// behind the colon.
 pub fn in_place_id(alloc: Global, node: &PlanNode) -> Result<Text, NoMemory>
     ensures { IfOk result (λ id. id ≡ in_place_id node.now) }
 {

@@ -1,6 +1,6 @@
-//! Identifiers of what is built. In go a node of a plan, the description of its package, the flags that were chosen and the
-//! environment; out come the text that tells one build into the store from another, and the identifier with the digest of
-//! that text. What is built in its place has an identifier of its own form.
+//! Identifiers of nodes that are built. In go a node of a plan, the description of its package, the chosen flags and the
+//! environment. For a node in the store, out come the text that distinguishes its builds, and an identifier with the
+//! SHA-256 of that text. A node built in place gets an identifier without a digest.
 #![tactic(auto)]
 
 mod identifier;

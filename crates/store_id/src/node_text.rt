@@ -1,4 +1,4 @@
-// The text that tells one build from another, line for line.
+// The text that distinguishes the builds of a node, line by line.
 ghost use Rattle.std.specs.Prelude.{◌≡◌, ◌++◌, IfOk, IsTrue, OnOk, flat_map, count_by};
 ghost use Rattle.store_id.specs.NodeText.{names_each_once, id_text, line, head_lines, compiler_text, env_lines, is_on, switch_text, set_line, flag_line, needs_lines};
 ghost use Rattle.plan_types.specs.Bytes.{same_text};
@@ -8,7 +8,7 @@ use plan_types::{Description, Env, FlagDecl, FlagSet, List, NoMemory, Text};
 use std::alloc::Global;
 use version_range::print_version;
 
-/// Whether the flags name each declared one exactly once.
+/// Whether the flags have each declared one exactly once.
 pub fn names_each_once(declared: &List<FlagDecl>, flags: &List<FlagSet>) -> bool
     ensures { result ≡ names_each_once declared.now flags.now }
 {
@@ -24,8 +24,8 @@ fn count_of(flags: &[FlagSet], name: &Text) -> usize
     flags.iter().filter(|set| set.name == *name).count()
 }
 
-/// The text of a node: all that it says but for its identifier, the environment, each declared flag with its value, the
-/// digest of the file that describes its package, and what it needs.
+/// The text of a node: its package and component, the environment, each declared flag with its value, the digest of the
+/// file that describes its package, and the identifiers of its needs.
 pub fn id_text(
     alloc: Global,
     node: &PlanNode,
