@@ -1,4 +1,4 @@
--- The chosen flags name each declared flag exactly once.
+-- The chosen flags have each declared flag exactly once.
 use Rattle.std.proofs.Common.{◌≡◌, ℕ, ◌+◌, Bool, true, false, cond, not, List, [], ◌∷◌, map, refl, sym, ap, ◌∙◌, arith}
 use Rattle.std.specs.List.{Contains, count_by, list_any}
 use Rattle.std.specs.Prelude.{◌==◌}

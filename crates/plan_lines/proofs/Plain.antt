@@ -1,4 +1,4 @@
--- What a line tells of what is built in place under every flag.
+-- The line of a node that is built in place and buildable under all flags.
 use Rattle.std.proofs.Common.{◌≡◌, Bool, true, false, not, List, [], sym, ap, ◌∙◌}
 use Rattle.plan_types.specs.declared.condition.Cond.{Cond}
 use Rattle.plan_types.specs.declared.condition.Cond.TheFolds.{fold-roll-Cond}

@@ -1,4 +1,4 @@
--- What a plan tells of a node, by the identifiers of what it needs.
+-- The line of a plan's node, by the identifiers of its needs.
 use Rattle.std.specs.Prelude.{ℕ, Bool, false, not, ◌&&◌, if◌then◌else◌, List, [], codes, slice_get, Option, Some, None}
 use Rattle.plan_types.specs.declared.condition.Env.{Env}
 use Rattle.plan_types.specs.declared.condition.FlagSet.{FlagSet}
@@ -22,25 +22,25 @@ use Rattle.plan_lines.specs.declared.needed.Needed.{Needed}
 
 -- ---- kinds
 
--- a local package at top level is built in its place, any other source into the store
+-- a local package at top level is built in place, any other source instance into the store
 abbrev pub source_kind : Selection → Node → NodeKind
 source_kind selection node = if is_top node.qual && (package_at selection.packages node.«package»).local then kind.Local else kind.Store
 
--- ---- what can't be built
+-- ---- unbuildable nodes
 
--- a component that may be there can't be built under these flags
+-- whether a component is unbuildable under these flags; false if there is none
 abbrev pub is_barred_one : Env → List FlagSet → Option Component → Bool
 is_barred_one env flags None = false
 is_barred_one env flags (Some component) = not (holds env flags component.buildable)
 
--- A package that is built as a whole builds what it can.
+-- A package that is built as a whole is never unbuildable: it builds the components that it can.
 abbrev pub is_unbuildable : Env → List FlagSet → List Component → Piece → Bool
 is_unbuildable env flags components Whole = false
 is_unbuildable env flags components (One place) = is_barred_one env flags (slice_get components place)
 
 -- ---- identifiers
 
--- the identifier of what has a source, by its kind
+-- the identifier of a source instance's line, by its kind
 abbrev pub id_by : NodeKind → PlanNode → Description → List FlagSet → Env → List ℕ
 id_by kind.Installed line d flags env = []
 id_by kind.Local line d flags env = in_place_id line
@@ -62,7 +62,7 @@ with_id id line = record {
 
 -- ---- lines
 
--- what is told of a source but for its identifier
+-- the line of a source instance, without its identifier
 abbrev pub source_line : Selection → Node → List FlagSet → Description → Needed → PlanNode
 source_line selection node flags d needed = record {
   kind = source_kind selection node;
@@ -76,13 +76,13 @@ source_line selection node flags d needed = record {
   setups = needed.setups;
 }
 
--- the same with the identifier
+-- the line of a source instance
 abbrev pub source_with_id : Selection → Node → List FlagSet → Description → Needed → PlanNode
 source_with_id selection node flags d needed =
     let line = source_line selection node flags d needed in
     with_id (id_by line.kind line d flags selection.env) line
 
--- what is told of a unit: it is the main library of its package
+-- the line of a unit, which is the main library of its package
 abbrev pub unit_line : List ℕ → Version → List ℕ → Needed → PlanNode
 unit_line name version id needed = record {
   kind = kind.Installed;
@@ -96,13 +96,13 @@ unit_line name version id needed = record {
   setups = needed.setups;
 }
 
--- what is told of a node of which this is chosen
+-- the line of a node, by its chosen instance
 abbrev pub line_by : Selection → Node → Needed → Option Body → Option PlanNode
 line_by selection node needed None = None
 line_by selection node needed (Some (Installed record_of needs)) = Some (unit_line record_of.name record_of.version record_of.id needed)
 line_by selection node needed (Some (Source d flats exposed)) =
     Some (source_with_id selection node (chosen_flags selection node.qual node.«package» d) d needed)
 
--- what is told of a node that needs these; nothing where no instance is chosen
+-- the line of a node with these needs; none without a chosen instance
 abbrev pub line_of : Selection → Node → Needed → Option PlanNode
 line_of selection node needed = line_by selection node needed (body_at selection node.qual node.«package»)

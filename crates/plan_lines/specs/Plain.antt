@@ -1,4 +1,4 @@
--- What is built under every flag.
+-- Nodes that are buildable under all flags.
 use Rattle.std.specs.Prelude.{◌≡◌, List, Option, false}
 use Rattle.plan_types.specs.declared.condition.Env.{Env}
 use Rattle.plan_types.specs.declared.condition.FlagSet.{FlagSet}
@@ -6,10 +6,10 @@ use Rattle.plan_types.specs.declared.description.Component.{Component}
 use Rattle.plan_components.specs.declared.node.Piece.{Piece}
 use Rattle.plan_lines.specs.Line.{is_barred_one, is_unbuildable}
 
--- a component that may be there can be built under all flags
+-- a component is buildable under all flags
 abbrev pub IsOpenOne : Option Component → Type 0
 IsOpenOne component = (env : Env) (flags : List FlagSet) → is_barred_one env flags component ≡ false
 
--- the same of a piece of a package
+-- a piece of a package is buildable under all flags
 abbrev pub AreOpen : List Component → Piece → Type 0
 AreOpen components piece = (env : Env) (flags : List FlagSet) → is_unbuildable env flags components piece ≡ false

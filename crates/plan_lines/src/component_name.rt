@@ -1,4 +1,4 @@
-// Names of components, as a plan tells them.
+// Names of components, as a plan prints them.
 ghost use Rattle.std.specs.Prelude.{◌≡◌, IfOk, slice_get};
 ghost use Rattle.std.specs.Option.{option_copied};
 ghost use Rattle.plan_lines.specs.ComponentName.{component_name, kind_word, name_of_one, piece_name};

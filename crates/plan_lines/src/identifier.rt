@@ -1,4 +1,4 @@
-// Identifiers of what has a source.
+// Identifiers of nodes of source instances.
 ghost use Rattle.std.specs.Prelude.{◌≡◌, IfOk, true};
 ghost use Rattle.store_id.specs.NodeText.{names_each_once};
 ghost use Rattle.plan_lines.specs.Line.{id_by};
@@ -8,7 +8,7 @@ use plan_types::{Description, Env, FlagSet, List, NoMemory, Text};
 use std::alloc::Global;
 use store_id::{id_of, in_place_id};
 
-/// The identifier of a line of a source, by its kind.
+/// The identifier of a source instance's line, by its kind.
 pub(crate) fn id_by(
     alloc: Global,
     line: &PlanNode,

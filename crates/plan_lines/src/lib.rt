@@ -1,5 +1,6 @@
-//! What a plan tells of a node. In go the node and the identifiers of what it needs; out comes the line of the node: its kind,
-//! its package and component, its identifier, and whether it can't be built.
+//! The line of a plan's node. In go the node, the choices and the identifiers of the node's needs. Out comes its line:
+//! kind, package, component, identifier, and whether it is unbuildable (`line_of`). Without a chosen instance there is
+//! no line.
 #![tactic(auto)]
 
 mod component_name;

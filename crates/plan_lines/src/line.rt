@@ -1,4 +1,4 @@
-// What a plan tells of a node.
+// The line of a plan's node.
 ghost use Rattle.std.specs.Prelude.{◌≡◌, ◌&&◌, [], IfOk, IsTrue, map, slice_get, true};
 ghost use Rattle.std.specs.Option.{option_copied};
 ghost use Rattle.plan_components.specs.Apart.{are_apart};
@@ -21,7 +21,7 @@ use qualified_goals::Qual;
 use std::alloc::Global;
 use store_id::in_place_id;
 
-/// What is told of a node that needs these; nothing where no instance is chosen.
+/// The line of a node with these needs; `None` without a chosen instance.
 pub fn line_of(
     alloc: Global,
     chosen: &Chosen<'_>,
@@ -79,7 +79,7 @@ fn source_with_id(
     Ok(line)
 }
 
-// No flag bears on the line of what is built in place under every flag.
+// If a node is built in place and buildable under all flags, its line doesn't depend on flags.
 fn plain_line(
     alloc: Global,
     chosen: &Chosen<'_>,
@@ -132,7 +132,7 @@ fn is_always(cond: &Cond) -> bool
     }
 }
 
-// All but the identifier.
+// The line without its identifier.
 fn source_line(
     alloc: Global,
     chosen: &Chosen<'_>,

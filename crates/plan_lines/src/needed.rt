@@ -1,7 +1,7 @@
-// What a node needs, by identifiers.
+// The identifiers of a node's needs.
 use plan_types::{List, Text};
 
-/// The identifiers of what a node needs, each list in the order of their bytes, each once.
+/// The identifiers of a node's needs by kind of dependency. Each list is in byte order, each once.
 #[derive(Debug, Drop)]
 pub struct Needed {
     pub libs: List<Text>,
