@@ -1,4 +1,4 @@
--- What is gathered has the identifiers of all that is needed.
+-- The gathered identifiers are those of all needs.
 use Rattle.std.proofs.Common.{◌≡◌, ℕ, Bool, List, [], ◌∷◌, map, Option, Some, None, refl, sym, ap, ◌∙◌, ⊎_elim, fold}
 use Rattle.std.specs.Prelude.{filter}
 use Rattle.std.specs.List.{Contains}
@@ -42,12 +42,12 @@ module _ (lines : Node → Option PlanNode) (f : Node → PlanNode) where
       ∙ all-behind (added so_far need.kind (f need.node).id) needs (λ n c. h n (contains-tail need needs n c))
       ∙ ap Some (one-more need.kind need.node so_far needs)
 
-  -- where each need has a line
+  -- if each need has a line, their identifiers are gathered
   pub gathers : (needs : List Need) → ((need : Need) → Contains needs need → lines need.node ≡ Some (f need.node)) → gathered lines needs ≡ Some (needed_by f needs)
   gathers needs h = all-behind empty needs h
 
 module _ (lines : Node → Option PlanNode) where
-  -- where something is gathered, each need has a line
+  -- if identifiers are gathered, each need has a line
   pub have_lines : (so_far needed : Needed) (needs : List Need) → gather_from lines so_far needs ≡ Some needed
       → (need : Need) → Contains needs need → (line : PlanNode) × (lines need.node ≡ Some line)
   have_lines so_far needed [] h need c = absurd (contains-none need c)

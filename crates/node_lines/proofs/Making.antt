@@ -1,4 +1,4 @@
--- Lines that are made in build order are those that nodes have.
+-- Lines that are made in build order are the lines of the nodes.
 use Rattle.std.proofs.Common.{◌≡◌, ◌<◌, ◌⊎◌, inl, inr, ⊎_elim, ℕ, true, false, List, [], ◌∷◌, ◌++◌, length, replicate, fold, get_or, nat_eq, Option, Some, None, refl, sym, ap, ◌∙◌, subst, append_assoc, append-nil}
 use Rattle.std.specs.List.{All, Contains, list_any}
 use Rattle.std.specs.Option.{option_and_then, unwrap_or}
@@ -30,7 +30,7 @@ some-is : (o : Option PlanNode) (line : PlanNode) → o ≡ Some line → o ≡ 
 some-is None line h = absurd (cc h)
 some-is (Some l) line h = refl
 
--- how many lines there are doesn't change
+-- the number of lines stays the same
 pub lines_count : (selection : Selection) (reached : Reached) (order : List ℕ) → length (lines_along selection reached order) ≡ length reached.set.keys
 lines_count selection reached order = from (replicate (length reached.set.keys) None) order ∙ length-replicate (length reached.set.keys) None
   where
@@ -45,7 +45,7 @@ module _ (selection : Selection) (reached : Reached) (are : AreReached selection
   abbrev edges : List (List ℕ)
   edges = graph selection reached are
 
-  -- the lines are right so far, and nodes whose lines were made have them
+  -- the lines so far are right, and each placed node that has a line has it there
   pub record AreRight (front : List ℕ) (lines : List (Option PlanNode)) : Type 0 where
     pub count : length lines ≡ length all
     pub sound : (i : ℕ) (line : PlanNode) → i < length all → get_or lines i None ≡ Some line → HasLine selection (node_at all i) line
@@ -74,7 +74,7 @@ module _ (selection : Selection) (reached : Reached) (are : AreReached selection
     by_row : line_from selection reached lines u ≡ option_and_then (line_of selection here) (gathered so_far row)
     by_row = ap (λ needs. option_and_then (line_of selection here) (gathered so_far needs)) (row_at selection reached are u lt)
 
-    -- a line that is made is one that the node has
+    -- a line that is made is the node's
     made_sound : (line : PlanNode) → option_and_then (line_of selection here) (gathered so_far row) ≡ Some line → HasLine selection here line
     made_sound line h =
         elim (gathered so_far row) as (λ o. gathered so_far row ≡ o → option_and_then (line_of selection here) o ≡ Some line → HasLine selection here line) [
@@ -90,7 +90,7 @@ module _ (selection : Selection) (reached : Reached) (are : AreReached selection
               told here line f have (ap (λ o. option_and_then (line_of selection here) o) (sym same) ∙ k)
         ] refl h
 
-    -- and a line that it has is made, where all that it needs was
+    -- if the lines of all needs were made, the node's own line is made
     made_whole : ((v : ℕ) → Needs edges u v → Contains front v) → (node : Node) (line : PlanNode) → node ≡ here → HasLine selection node line
         → option_and_then (line_of selection here) (gathered so_far row) ≡ Some line
     made_whole met node line same (told it l f each is) =
@@ -150,7 +150,7 @@ module _ (selection : Selection) (reached : Reached) (are : AreReached selection
           | false ↦ λ e. inr (λ c. false≢true (sym e ∙ any-from (λ k. nat_eq k i) order i c (eq-eqb i i refl)))
         ] refl
 
-    -- a node that has a line is placed
+    -- a node with a line is placed
     placed : (node : Node) (line : PlanNode) → HasLine selection node line → (i : ℕ) → i < length all → node ≡ node_at all i → Contains order i
     placed node line (told it l f each is) i lt same = ⊎_elim (λ c. c) (λ out. absurd (build.whole i (record {
       node = subst (λ n. i < n) (sym (graph_count selection reached are)) lt;

@@ -1,4 +1,4 @@
--- A node has one line.
+-- The line of a node is unique.
 use Rattle.std.proofs.Common.{◌≡◌, List, Some, refl, sym, ap, ◌∙◌}
 use Rattle.std.specs.List.{Contains}
 use Rattle.plan_nodes.specs.declared.node.PlanNode.{PlanNode}
@@ -13,7 +13,7 @@ use Rattle.node_lines.proofs.Gathering.{gathers}
 some-same : {X : Type 0} (x y : X) → Some x ≡ Some y → x ≡ y
 some-same x y e = cc e
 
--- lines that agree on what is needed give the same identifiers
+-- line functions that agree on the needs give the same identifiers
 same-needed : (f g : Node → PlanNode) (needs : List Need) → ((need : Need) → Contains needs need → f need.node ≡ g need.node) → needed_by f needs ≡ needed_by g needs
 same-needed f g needs h =
     some-same (needed_by f needs) (needed_by g needs)

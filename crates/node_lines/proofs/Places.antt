@@ -1,4 +1,4 @@
--- Nodes by their places.
+-- Nodes by place.
 use Rattle.std.proofs.Common.{◌≡◌, ◌<◌, ℕ, suc, ◌+◌, true, false, cond, not, List, [], ◌∷◌, length, get_or, refl, sym, ap, ◌∙◌, subst, arith, ⊎_elim}
 use Rattle.std.specs.List.{All, Contains}
 use Rattle.std.proofs.lemmas.Bool.{false≢true}
@@ -16,7 +16,7 @@ use Rattle.plan_components.specs.Steps.{no_node, node_at}
 use Rattle.common_laws.specs.Graphs.{IsGraph, Needs}
 use Rattle.node_lines.specs.Numbers.{graph_of, row_of}
 
--- a node that is there stands at its place
+-- the node at a place is this one
 pub record IsAt (nodes : List Node) (node : Node) (place : ℕ) : Type 0 where
   pub within : place < length nodes
   pub is : node_at nodes place ≡ node
@@ -52,7 +52,7 @@ module _ (selection : Selection) (reached : Reached) (are : AreReached selection
   pub graph_count : length graph ≡ length nodes
   graph_count = length-map reached.needs (row_of nodes) ∙ same_count
 
-  -- what the node at a place needs
+  -- the needs of the node at a place
   pub row_at : (i : ℕ) → i < length nodes → get_or reached.needs i [] ≡ needs_of selection (node_at nodes i)
   row_at i lt = ap (λ rows. get_or rows i []) are.needs ∙ get_or-map (needs_of selection) nodes i no_node [] lt
 
@@ -60,26 +60,26 @@ module _ (selection : Selection) (reached : Reached) (are : AreReached selection
   places_at i lt =
       get_or-map (row_of nodes) reached.needs i [] [] (subst (λ n. i < n) (sym same_count) lt) ∙ ap (row_of nodes) (row_at i lt)
 
-  -- a node of the plan stands at its place
+  -- a node of the plan is at its place
   pub stands : (node : Node) → IsInPlan selection node → IsAt nodes node (place_of nodes node)
   stands node p = at_place nodes node ((are.each node).1 p)
 
   in_plan : (i : ℕ) → i < length nodes → IsInPlan selection (node_at nodes i)
   in_plan i lt = (are.each (node_at nodes i)).0 (Contains-get_or nodes i no_node lt)
 
-  -- what it needs does too
+  -- a needed node is at its place
   pub need_stands : (i : ℕ) (need : Need) → i < length nodes → Contains (needs_of selection (node_at nodes i)) need
       → IsAt nodes need.node (place_of nodes need.node)
   need_stands i need lt c =
       stands need.node (needed (node_at nodes i) need.node (in_plan i lt) (map-contains (λ (n : Need). n.node) (needs_of selection (node_at nodes i)) need c))
 
-  -- and is an edge of the graph
+  -- a need gives an edge of the graph
   pub edge : (i : ℕ) (need : Need) → i < length nodes → Contains (needs_of selection (node_at nodes i)) need → Needs graph i (place_of nodes need.node)
   edge i need lt c =
       subst (λ row. Contains row (place_of nodes need.node)) (sym (places_at i lt))
       (map-contains (λ (n : Need). place_of nodes n.node) (needs_of selection (node_at nodes i)) need c)
 
-  -- each edge is one of these
+  -- each edge comes from a need
   pub from_edge : (i v : ℕ) → i < length nodes → Needs graph i v
       → (need : Need) × Contains (needs_of selection (node_at nodes i)) need × (place_of nodes need.node ≡ v)
   from_edge i v lt e =

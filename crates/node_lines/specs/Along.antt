@@ -1,4 +1,4 @@
--- Lines, one node after the other.
+-- Lines, made one by one.
 use Rattle.std.specs.Prelude.{ℕ, List, [], fold, length, replicate, slice_index_or, slice_set, option_and_then, Option, None}
 use Rattle.plan_nodes.specs.declared.node.PlanNode.{PlanNode}
 use Rattle.plan_components.specs.declared.reached.Reached.{Reached}
@@ -14,10 +14,10 @@ line_from selection reached lines place =
     let needs = slice_index_or reached.needs place [] in
     option_and_then (line_of selection (node_at nodes place)) (gathered (line_at nodes lines) needs)
 
--- the lines so far, and that of the node at a place
+-- the lines so far, with that of the node at a place
 abbrev pub with_place : Selection → Reached → List (Option PlanNode) → ℕ → List (Option PlanNode)
 with_place selection reached lines place = slice_set lines place (line_from selection reached lines place)
 
--- the lines after those at these places were made, in this order
+-- the lines after those at these places are made, in this order
 abbrev pub lines_along : Selection → Reached → List ℕ → List (Option PlanNode)
 lines_along selection reached order = fold (with_place selection reached) (replicate (length reached.set.keys) None) order

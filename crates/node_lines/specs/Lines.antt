@@ -1,4 +1,4 @@
--- The lines of the nodes of a plan: a node has one where all that it needs have lines.
+-- The lines of the nodes of a plan: a node has a line if all its needs have one.
 use Rattle.std.specs.Prelude.{◌≡◌, ◌<◌, ◌↔◌, ℕ, Bool, true, false, List, Contains, length, map, filter, slice_index_or, Option, Some, None}
 use Rattle.plan_types.specs.declared.dependency.DepKind.{DepKind}
 use Rattle.plan_types.specs.declared.dependency.DepKind.TheVariants.{Library, Tool, Setup}
@@ -15,17 +15,17 @@ use Rattle.plan_components.specs.Steps.{node_at}
 use Rattle.plan_lines.specs.declared.needed.Needed.{Needed}
 use Rattle.plan_lines.specs.Line.{line_of}
 
--- whether a dependency is on a library, and not of the setup script
+-- whether a dependency is on a library, and not one of the setup script
 abbrev pub is_of_library : DepKind → Bool
 is_of_library Library = true
 is_of_library Tool = false
 is_of_library Setup = false
 
--- the identifiers of what is needed by dependencies of such kinds, by the lines of nodes
+-- the identifiers of the needs of such kinds, in byte order, each once
 abbrev pub ids_for : (DepKind → Bool) → (Node → PlanNode) → List Need → List (List ℕ)
 ids_for is_meant line_at needs = in_order (map (λ need. (line_at need.node).id) (filter (λ need. is_meant need.kind) needs))
 
--- those of all that is needed, by the kinds of dependencies
+-- the identifiers of all needs, by kind of dependency
 abbrev pub needed_by : (Node → PlanNode) → List Need → Needed
 needed_by line_at needs = record {
   libs = ids_for is_of_library line_at needs;
@@ -33,7 +33,7 @@ needed_by line_at needs = record {
   setups = ids_for is_of_setup line_at needs;
 }
 
--- All that a node needs has lines, and so it has one too.
+-- A node has this line: each of its needs has a line, and it is made with their identifiers.
 pub data HasLine (selection : Selection) : Node → PlanNode → Type 0 where
   told : (node : Node) (line : PlanNode) (line_at : Node → PlanNode)
       → ((need : Need) → Contains (needs_of selection node) need → HasLine selection need.node (line_at need.node))
@@ -43,7 +43,7 @@ pub data HasLine (selection : Selection) : Node → PlanNode → Type 0 where
 abbrev pub HaveLines : Selection → Type 0
 HaveLines selection = (node : Node) → IsInPlan selection node → (line : PlanNode) × HasLine selection node line
 
--- beside each node its line, where it has one
+-- the line of each node at its index, none for a node without a line
 pub record AreLines (selection : Selection) (nodes : List Node) (lines : List (Option PlanNode)) : Type 0 where
   pub count : length lines ≡ length nodes
   pub each : (i : ℕ) (line : PlanNode) → i < length nodes

@@ -1,4 +1,4 @@
-// The identifiers of what a node needs, from the lines so far.
+// The identifiers of a node's needs, from the lines so far.
 ghost use Rattle.std.specs.Prelude.{◌≡◌, ◌++◌, [], IfOk, IfSome, OnOk, slice_index_or};
 ghost use Rattle.std.specs.Option.{option_copied};
 ghost use Rattle.node_lines.specs.Gather.{added, empty, gather_from, gathered, line_at, needed_of};
@@ -10,14 +10,14 @@ use plan_types::{DepKind, List, NoMemory, Text};
 use std::alloc::Global;
 use std::collections::BTreeSet;
 
-/// Identifiers in the order of their bytes, by kind of dependency.
+/// Identifiers in byte order, by kind of dependency.
 pub(crate) struct Sets {
     pub libs: BTreeSet<Text>,
     pub tools: BTreeSet<Text>,
     pub setups: BTreeSet<Text>,
 }
 
-// Written out, so that it is proved once and not at each exit of each function that owns one.
+// Explicit, so that it is proved once: a derived one is expanded at each exit.
 impl Drop for Sets {
     fn drop(self) {
         let Sets {
@@ -80,7 +80,7 @@ fn listed(alloc: Global, ids: BTreeSet<Text>) -> Result<List<Text>, NoMemory>
     Ok(list)
 }
 
-/// The identifiers of what is needed; nothing where some of it has no line.
+/// The identifiers of the needs; `None` if one of them has no line.
 pub(crate) fn gather(
     alloc: Global,
     reached: &Reached,

@@ -1,4 +1,4 @@
-// Lines in an order in which needs come first.
+// Lines, made in build order.
 ghost use Rattle.std.specs.Prelude.{◌≡◌, ◌<◌, All, IfOk, length, replicate, slice_index_or, None};
 ghost use Rattle.plan_components.specs.Chosen.{selection_of};
 ghost use Rattle.plan_components.specs.Plan.{AreReached};
@@ -14,7 +14,7 @@ use plan_nodes::PlanNode;
 use plan_types::{List, NoMemory};
 use std::alloc::Global;
 
-/// Beside each node its line, where all that it needs have lines.
+/// The line of each node, `None` for a node with a need that has no line.
 pub fn lines_of(
     alloc: Global,
     chosen: &Chosen<'_>,
@@ -56,7 +56,7 @@ fn no_lines(alloc: Global, count: usize) -> Result<List<Option<PlanNode>>, NoMem
     Ok(lines)
 }
 
-// The line of the node at a place.
+// The line of the node at a place, from the lines so far.
 fn line_from(
     alloc: Global,
     chosen: &Chosen<'_>,

@@ -1,4 +1,4 @@
-// What each node needs, by the places of nodes.
+// The needs of each node, as places of nodes.
 ghost use Rattle.std.specs.Prelude.{◌≡◌, IfOk, map};
 ghost use Rattle.node_lines.specs.Numbers.{graph_of, row_of};
 
@@ -6,7 +6,7 @@ use plan_components::{Need, Reached};
 use plan_types::{List, NoMemory};
 use std::alloc::Global;
 
-/// The graph of the nodes that are reached.
+/// The graph of the reached nodes.
 pub(crate) fn graph_of(alloc: Global, reached: &Reached) -> Result<List<List<usize>>, NoMemory>
     ensures { IfOk result (λ graph. graph ≡ graph_of reached.now.set.keys reached.now.needs) }
 {

@@ -8,7 +8,7 @@ use Rattle.plan_components.specs.Steps.{no_node}
 use Rattle.node_lines.specs.Gather.{added, gather_from, line_at, needed_of, with_line}
 use Rattle.node_lines.proofs.gather.gather.Goals as goal
 
--- what stands behind the last need
+-- the need that is read beyond the last
 no_need : Need
 no_need = record { kind = Library; node = no_node }
 

@@ -1,4 +1,4 @@
--- what was gathered, and what is needed behind
+-- what was gathered, and the later needs
 use Rattle.std.proofs.Common.{◌≡◌, drop}
 use Rattle.node_lines.specs.Gather.{gather_from, gathered, line_at, needed_of}
 use Rattle.node_lines.proofs.gather.gather.Given as goal

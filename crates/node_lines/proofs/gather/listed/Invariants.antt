@@ -1,4 +1,4 @@
--- the identifiers so far, and those behind
+-- the identifiers so far, and the later ones
 use Rattle.std.proofs.Common.{◌≡◌, ◌++◌}
 use Rattle.node_lines.proofs.gather.listed.Given as goal
 
