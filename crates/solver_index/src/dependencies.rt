@@ -1,4 +1,4 @@
-// What an instance depends on, with names as numbers and ranges as places.
+// Dependencies of an instance, with names as numbers and ranges as places.
 use crate::place_runs::PlaceRuns;
 use plan_types::{DepKind, List};
 use qualified_goals::Part;

@@ -1,4 +1,4 @@
-// What each instance depends on, with names as numbers and ranges as places.
+// The dependencies of each instance, with names as numbers and ranges as places.
 ghost use Rattle.std.specs.Prelude.{◌≡◌, IfOk, map, slice_index_or, [], true};
 ghost use Rattle.version_range.specs.Version.{has_versions};
 ghost use Rattle.solver_index.specs.Dependencies.{all_dependencies, bit, part_of, setting_of};

@@ -26,7 +26,7 @@ use std::alloc::Global;
 pub struct Tables {
     /// The instances of each package, the best first.
     pub orders: List<List<u64>>,
-    /// By package and instance.
+    /// What each instance depends on, by package and instance.
     pub dependencies: List<List<Dependencies>>,
     /// The defaults of flags, by package and instance.
     pub defaults: List<List<Defaults>>,

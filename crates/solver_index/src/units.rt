@@ -50,7 +50,7 @@ fn unit_places(alloc: Global, entries: &[Entry]) -> Result<UnitPlaces, NoMemory>
     Ok(units)
 }
 
-/// The places of the units of a package that have an id.
+/// The places of the units with this id in a package; a local package has none.
 pub(crate) fn places_of<'a>(units: &'a [UnitPlaces], p: u64, id: &Text) -> &'a [u64]
     ensures { (packages : List Package) → AreUnits packages (length packages) units.now
         → result.now ≡ allowed_unit id.now (package_at packages p) }
