@@ -1,4 +1,4 @@
--- The problem of an index and a project is lawful if the test says so.
+-- The problem of an index and a project is lawful if the test passes.
 use Rattle.std.specs.Prelude.{◌≡◌, ℕ, zero, suc, ◌<◌, Bool, true, false, cond, not, ◌&&◌, nat_eq, nat_lt, IsTrue, List, [], ◌∷◌, ◌++◌, length, map, filter, flat_map, slice_index_or, Some, None, position, Contains, refl}
 use Rattle.std.specs.List.{list_all, list_any, position_or_len}
 use Rattle.std.proofs.Common.{sym, ap, ◌∙◌, subst, inl, inr, arith}
