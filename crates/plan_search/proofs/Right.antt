@@ -44,7 +44,7 @@ use Rattle.plan_search.specs.declared.search.Finding.{Finding}
 use Rattle.plan_search.specs.declared.search.Picking.{Picking}
 use Rattle.plan_search.specs.declared.search.Picking.TheVariants.{Least, MostMet}
 
--- what the laws of problems say of a search, and of whole conditions
+-- the laws of searches and of whole conditions that are used here
 
 abbrev pub EndsRight : Type 0
 EndsRight = (p : Problem) → Lawful p → IsRightEnd p (answer_of p Unlimited).ended
