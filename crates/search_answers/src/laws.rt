@@ -18,8 +18,8 @@ pub fn some_finding()
         → (finding : Finding) × IsFindingOf picking minimize index settings finding }
 {}
 
-/// Without a limit, the search over a sound index finds the trail of the first complete, valid assignment. If there is
-/// none, it finds a conflict set that admits none.
+/// Without a limit, the search over a sound index with each extra package finds the trail of the first complete, valid
+/// assignment. If there is none, it finds a conflict set that admits none.
 pub fn first_or_none()
     ensures { (index : Index) (settings : Settings) → IsSound settings.env index
         → list_all (λ named. has_package index named.name) settings.project.extra ≡ true → EndsUnlimited index settings }
