@@ -26,7 +26,7 @@ apart n (k ∷ nodes) h m c e =
       | inr r ↦ apart n nodes h.1 m r e
     ]
 
--- nodes that the derived test tells apart are distinct
+-- nodes that the derived test distinguishes are distinct
 pub differ : (nodes : List Node) → IsDistinct eq-value.it nodes → AllPairs (λ a b. a ≢ b) nodes
 unfolding IsDistinct
 differ [] h = pairs-nil (λ a b. a ≢ b)
