@@ -13,7 +13,7 @@ use Rattle.plan_jobs.specs.Board.{IsUser, open_needs}
 abbrev pub first_state : PlanNode → JobState
 first_state node = state_by node.unbuildable (is_installed node.kind) false
 
--- the places of the nodes with the identifiers that a node needs
+-- the places of the nodes with the identifiers that a node lists; none for an installed node
 abbrev pub wanted : {S : Type 0} → IndexMap (List ℕ) (List ℕ) S → PlanNode → List ℕ
 wanted places node =
     if is_installed node.kind then [] else flat_map (items_at same_text places) node.libs ++ flat_map (items_at same_text places) node.tools ++ flat_map (items_at same_text places) node.setups

@@ -58,7 +58,7 @@ impl Needs {
     }
 }
 
-// The places of the nodes with the identifiers that a node needs.
+// The places of the nodes with the identifiers that a node lists; none for an installed node.
 fn wanted(
     alloc: Global,
     places: &Lists<Text, usize>,
