@@ -1,4 +1,4 @@
--- The parts of a section are chained, since a branch's parts are gone through directly behind it.
+-- The parts of a section are chained, since a branch's parts come directly after it.
 use Rattle.std.proofs.Common.{◌≡◌, ℕ, zero, suc, Bool, true, false, if◌then◌else◌, List, [], ◌∷◌, ◌++◌, length, map, take, drop, sym, subst, ap, ◌∙◌, refl, append_assoc}
 use Rattle.std.specs.Prelude.{Option, None, Some, All, slice_get}
 use Rattle.std.specs.List.{AllByRecursion}
@@ -36,7 +36,7 @@ use Rattle.section_syntax.specs.declared.words.InnerWord.TheVariants as inner
 
 -- ---- a part
 
--- the first of these parts stands in the front of these branches, and behind the back of them, which ended
+-- these branches, split: the first of the parts is inside those in `front` and after those in `back`
 pub record FirstStands (opened : List Branch) (part : SectionPart) (parts : List SectionPart) : Type 0 where
   pub front : List Branch
   pub back : List Branch
@@ -79,7 +79,7 @@ chained-part front back part parts stands rest fits =
       subst (FitsBehind part.said) (sym there) fits,
     )
 
--- ---- what may stand where no branch ended may stand behind any
+-- ---- what fits without a chain fits after any
 
 fits-alone : (word : BranchWord) (chain : Option Cond) → branch_fits word None ≡ true → branch_fits word chain ≡ true
 fits-alone If chain fits = refl
@@ -117,12 +117,12 @@ chained-behind opened last (part ∷ parts) chained =
 
 -- ---- a block
 
--- of these branches that ended, the outermost leaves this chain
+-- the outermost of these closed branches leaves this chain
 abbrev LeavesOf : List Branch → Option Cond → Type 0
 LeavesOf ended None = Unit {0}
 LeavesOf ended (Some chain) = left_by (slice_get ended 0) ≡ Some chain
 
--- behind branches that leave this chain, these parts may stand in the open branches, and behind them whatever may stand there
+-- put before a chained list, these parts keep it chained; the closed branches leave this chain
 abbrev KeepChained : List Branch → Option Cond → List SectionPart → Type 0
 KeepChained opened chain parts = (ended : List Branch) (more : List SectionPart) → LeavesOf ended chain → AreChained opened more → AreChained (opened ++ ended) (parts ++ more)
 
@@ -140,7 +140,7 @@ visible-says : (old : Bool) (one : Said) (text : List ℕ) → Some one ≡ (if 
 visible-says true one text says = absurd (cc says)
 visible-says false one text says = cc says
 
--- no field says that a branch begins
+-- no field begins a branch
 field-fits : (spec : Spec) (word : FieldWord) (line : ℕ) (text : List ℕ) (fits : Bool) (one : Said) → FieldSays spec word line text fits (Some one) → (before : Option Branch) → FitsBehind one before
 field-fits spec fields.Import line text fits one says before word own is = absurd (cc (says, is))
 field-fits spec fields.Depends line text fits one says before word own is = absurd (cc (says.2, is))
@@ -176,7 +176,7 @@ begins Elif (Some chain) own ended leaves = ap (λ v. branch_of Elif v own ∷ [
 begins Else None own ended leaves = refl
 begins Else (Some chain) own ended leaves = ap (λ v. branch_of Else v own ∷ []) (sym leaves)
 
--- the parts of a branch come directly behind it, and those behind the branch follow its chain
+-- the parts of a branch come directly after it, and those after the branch follow its chain
 keep-branch : (line : ℕ) (opened : List Branch) (branches : List Cond) (word : BranchWord) (chain : Option Cond) (own : Result Cond Cause) (within behind : List SectionPart) → branches ≡ map condition opened →
     KeepChained (opened ++ branch_of word chain own ∷ []) None within → KeepChained opened (chain_of (branch_of word chain own)) behind →
     KeepChained opened chain (record { line = line; branches = branches; said = said.Branch word own (branch_fits word chain) } ∷ within ++ behind)

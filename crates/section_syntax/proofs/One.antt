@@ -1,4 +1,4 @@
--- The elements of a file say one thing.
+-- The elements of a file have at most one reading.
 use Rattle.std.proofs.Common.{◌≡◌, ℕ, Bool, List, [], ◌∷◌, ◌++◌, sym, subst, ap, ◌∙◌}
 use Rattle.std.specs.Prelude.{Option, None, Some}
 use Rattle.std.specs.declared.result.Result.{Result}
@@ -83,7 +83,7 @@ one_said spec fields.Manual line text fits a b p q = p ∙ sym q
 one_said spec fields.BuildTools line text fits a b p q = p ∙ sym q
 one_said spec fields.Unread line text fits a b p q = p ∙ sym q
 
--- where what stands within and behind is one thing, a section and what is behind it are
+-- a section has at most one reading if the parts inside and after have
 one_section : (spec : Spec) (word : InnerWord) (line : ℕ) (args : List ℕ) (branches : List Cond) (chain : Option Cond) (Within : List Cond → List SectionPart → Type 0) (Behind : Option Cond → List SectionPart → Type 0) →
     ((inside : List Cond) (x y : List SectionPart) → Within inside x → Within inside y → x ≡ y) → ((left : Option Cond) (x y : List SectionPart) → Behind left x → Behind left y → x ≡ y) →
     (a b : List SectionPart) → SectionSays spec word line args branches chain Within Behind a → SectionSays spec word line args branches chain Within Behind b → a ≡ b

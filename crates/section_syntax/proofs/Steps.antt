@@ -1,4 +1,4 @@
--- What is added to the parts for one element.
+-- The parts with one more element.
 use Rattle.std.proofs.Common.{◌≡◌, ℕ, Bool, ◌&&◌, false, ◌+◌, ◌<◌, length, List, [], ◌∷◌, ◌++◌, map, get_or, drop, sym, subst, ap, ◌∙◌, refl, append_assoc}
 use Rattle.std.specs.Prelude.{Option, None, Some}
 use Rattle.std.specs.declared.result.Result.{Result}
@@ -78,7 +78,7 @@ module _ (spec : Spec) (kind : SectionKind) where
     goes.2,
   )
 
-  -- one element further
+  -- one more element
   pub loop_tells : (item : Element) {outer inner : List Branch} {fits after : Bool} (front : Tree) → inner ≡ outer → fits ≡ import_fits spec kind front (map condition inner) →
       ((front : Tree) → fits ≡ import_fits spec kind front (map condition inner) → after ≡ import_fits spec kind (in_front item front) (map condition inner)) →
       after ≡ import_fits spec kind (in_front item front) (map condition outer)

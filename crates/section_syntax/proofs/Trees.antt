@@ -1,4 +1,4 @@
--- How a tree begins, and which parts begin it.
+-- The first element of a tree, and the parts that it becomes.
 use Rattle.std.proofs.Common.{ℕ, List, ◌++◌, sym, subst, refl}
 use Rattle.std.specs.Prelude.{Option, None}
 use Rattle.plan_types.specs.Bytes.{joined_text}

@@ -1,4 +1,4 @@
--- How the parts of a section stand to each other: a part that begins a branch tells in which branches those behind it stand.
+-- Parts are chained: a part that begins a branch determines the branches of the parts after it.
 use Rattle.std.specs.Prelude.{◌≡◌, true, if◌then◌else◌, List, [], ◌∷◌, ◌++◌, length, map, take, slice_get, Option, None, Some}
 use Rattle.std.specs.declared.result.Result.{Result}
 use Rattle.plan_types.specs.declared.condition.Cond.{Cond}
@@ -11,12 +11,12 @@ use Rattle.section_syntax.specs.declared.part.Said.{Said}
 use Rattle.section_syntax.specs.declared.part.Said.TheVariants as said
 use Rattle.section_syntax.specs.declared.words.BranchWord.{BranchWord}
 
--- the chain that a branch leaves, where there is one
+-- the chain that ends with a branch
 abbrev pub left_by : Option Branch → Option Cond
 left_by None = None
 left_by (Some branch) = branch.chain
 
--- the branch that begins with a part, behind the one that ended last in the same place
+-- the branch that a part begins, in the chain of the last closed branch on its level, if it is marked as fitting
 abbrev pub begun : Said → Option Branch → List Branch
 begun (said.Import names fits) before = []
 begun (said.Depends deps) before = []
@@ -28,21 +28,21 @@ begun said.BuildTools before = []
 begun (said.Branch word own fits) before = branch_of word (if fits then left_by before else None) own ∷ []
 begun said.Misplaced before = []
 
--- the branches in which a part may stand that comes behind this one, the outermost first: those that are open, and where one ended, that one
+-- the branches in which the next part may be, the outermost first: the open ones, then the one that this part begins
 abbrev pub branches_behind : List Branch → SectionPart → List Branch
 branches_behind opened part = take (length part.branches) opened ++ begun part.said (slice_get opened (length part.branches))
 
--- a branch that is said to fit stands where one of its word may, behind the one that ended last in the same place
+-- a branch marked as fitting is allowed where it comes: after the last closed branch on the same level
 abbrev pub FitsBehind : Said → Option Branch → Type 0
 FitsBehind one before = (word : BranchWord) (own : Result Cond Cause) → one ≡ said.Branch word own true → branch_fits word (left_by before) ≡ true
 
--- each part stands in the outermost of these branches, and where it is said to fit, it does
+-- each part is in the outermost of these branches, and a branch that is marked as fitting does fit
 unfoldable pub AreChained : List Branch → List SectionPart → Type 0
 AreChained opened [] = Unit {0}
 AreChained opened (part ∷ parts) =
     (part.branches ≡ map condition (take (length part.branches) opened)) × AreChained (branches_behind opened part) parts
     × FitsBehind part.said (slice_get opened (length part.branches))
 
--- the parts of a section, of which the first one stands in no branch
+-- the parts of a section are chained, and the first is in no branch
 abbrev pub StandInBranches : List SectionPart → Type 0
 StandInBranches parts = AreChained [] parts

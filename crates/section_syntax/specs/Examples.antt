@@ -1,4 +1,4 @@
--- What the definitions give on small files.
+-- The definitions on small files.
 use Rattle.std.specs.Prelude.{◌≡◌, true, false, [], ◌∷◌, refl, codes, Some, None}
 use Rattle.std.specs.declared.result.Result.TheVariants.{Ok, Err}
 use Rattle.plan_types.specs.declared.condition.Cond.{Cond}
@@ -58,7 +58,7 @@ nothing_holds_always = refl
 grouped_from_the_left : all_of (a ∷ b ∷ a ∷ []) ≡ And (And a b) a
 grouped_from_the_left = refl
 
--- `elif flag(b)` behind `if flag(a)`, and the `else` behind both
+-- `elif flag(b)` after `if flag(a)`, and the `else` after both
 elif_negates : condition (branch_of Elif (Some (Not a)) (Ok b)) ≡ And (Not a) b
 elif_negates = refl
 
@@ -77,14 +77,14 @@ a_lone_elif = refl
 else_with_a_condition : bare (codes "x") ≡ Err BadField
 else_with_a_condition = refl
 
--- an `elif` directly behind `if flag(a)`, and one that doesn't stand there
+-- an `elif` directly after `if flag(a)`, and a misplaced one
 elif_begins : branches_behind (branch_of If None (Ok a) ∷ []) (record { line = 5; branches = []; said = said.Branch Elif (Ok b) true }) ≡ record { condition = And (Not a) b; chain = Some (And (Not a) (Not b)) } ∷ []
 elif_begins = refl
 
 elif_without_if : begun (said.Branch Elif (Ok b) false) (Some (branch_of If None (Ok a))) ≡ record { condition = b; chain = Some (Not b) } ∷ []
 elif_without_if = refl
 
--- an import fits behind another and behind nothing else; in a branch from 3.0 on
+-- an import fits only after imports; in a branch from 3.0 on
 behind_an_import : import_fits V2_4 (Component Library) (field 4 (codes "import") [] end) [] ≡ true
 behind_an_import = refl
 
@@ -97,13 +97,13 @@ in_a_branch_of_2_4 = refl
 in_a_branch_of_3_0 : import_fits V3_0 (Component Library) end (a ∷ []) ≡ true
 in_a_branch_of_3_0 = refl
 
--- `buildable: False` and then a section that may not stand there
+-- `buildable: False` and a misplaced section
 two_parts : Items V3_0 (Component Library) end (field 5 (codes "buildable") (codes "False" ∷ []) (section 6 (codes "x") [] end end)) (a ∷ []) None
     (record { line = 5; branches = a ∷ []; said = said.Buildable (Some false) } ∷ record { line = 6; branches = a ∷ []; said = said.Misplaced } ∷ [])
 unfolding Items
 two_parts = (Some (said.Buildable (Some false)), record { line = 6; branches = a ∷ []; said = said.Misplaced } ∷ [], refl, ([], refl, refl), refl)
 
--- a field in an `else` behind `if flag(a)`
+-- a field in an `else` after `if flag(a)`
 three_parts : AreChained []
     (record { line = 4; branches = []; said = said.Branch If (Ok a) true } ∷ record { line = 6; branches = []; said = said.Branch Else (Ok Always) true }
     ∷ record { line = 7; branches = Not a ∷ []; said = said.BuildTools } ∷ [])

@@ -1,4 +1,4 @@
--- What a file says beside its sections, and its sections.
+-- The fields beside the sections, and the sections of a file.
 use Rattle.std.specs.Prelude.{◌≡◌, ℕ, List, [], ◌∷◌, ◌++◌, map, Option, Some, None}
 use Rattle.std.specs.Char.{to_ascii_lowercase}
 use Rattle.plan_types.specs.Bytes.{joined_text}
@@ -21,33 +21,33 @@ use Rattle.section_syntax.specs.declared.part.SectionKind.TheVariants as kinds
 use Rattle.section_syntax.specs.declared.words.HeadWord.{HeadWord}
 use Rattle.section_syntax.specs.declared.words.HeadWord.TheVariants as words
 
--- what a field beside the sections says, where it is read
+-- the content of a field beside the sections; none if the field isn't read
 abbrev pub HeadSays : HeadWord → List ℕ → Option Head → Type 0
 HeadSays words.Name text found = found ≡ Some (head.Name (package_name text))
 HeadSays words.Version text found = (version : Option Version) × IsVersionOf text version × (found ≡ Some (head.Version version))
 HeadSays words.BuildType text found = found ≡ Some (head.BuildType (build_type text))
 HeadSays words.Unread text found = found ≡ None
 
--- a field beside the sections at its line, where it is read
+-- a field beside the sections with its line, if it is read
 abbrev pub headed : ℕ → Option Head → List HeadField
 headed line None = []
 headed line (Some found) = record { line = line; head = found } ∷ []
 
--- the name of a section: that of a flag in lower case, that of a setup script none
+-- the name of a section: a flag's in lower case, a setup's empty
 abbrev pub section_name : SectionKind → List ℕ → List ℕ
 section_name (kinds.Component kind) args = args
 section_name kinds.Common args = args
 section_name kinds.Flag args = map to_ascii_lowercase args
 section_name kinds.Setup args = []
 
--- a section that is read is one of the sections, and those behind it
+-- the section, if it is read, followed by those after it
 abbrev pub SectionIs : Spec → Option SectionKind → ℕ → List ℕ → Tree → (List Section → Type 0) → List Section → Type 0
 SectionIs spec None line args items Behind sections = Behind sections
 SectionIs spec (Some kind) line args items Behind sections =
     (parts : List SectionPart) × (more : List Section) × AreParts spec kind items parts × Behind more
     × (sections ≡ record { line = line; kind = kind; name = section_name kind args; parts = parts } ∷ more)
 
--- the elements say this
+-- the fields and sections that the elements of a file become
 unfoldable pub Says : Spec → Tree → List HeadField → List Section → Type 0
 Says spec end heads sections = (heads ≡ []) × (sections ≡ [])
 Says spec (field line name values behind) heads sections =
@@ -56,6 +56,6 @@ Says spec (field line name values behind) heads sections =
 Says spec (section line name args items behind) heads sections =
     SectionIs spec (section_kind name) line args items (λ more. Says spec behind heads more) sections
 
--- what the elements of a file of this cabal-version say
+-- the reading of a file's elements in a cabal-version
 abbrev pub IsFile : Spec → List Element → File → Type 0
 IsFile spec items file = (file.spec ≡ spec) × Says spec (tree_of items) file.heads file.sections

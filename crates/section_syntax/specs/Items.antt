@@ -1,4 +1,4 @@
--- Which parts the elements of a section are.
+-- The parts that the elements of a section become.
 use Rattle.std.specs.Prelude.{◌≡◌, ℕ, Bool, true, false, ◌&&◌, not, if◌then◌else◌, List, [], ◌∷◌, ◌++◌, Option, Some, None, is_some}
 use Rattle.std.specs.declared.result.Result.{Result}
 use Rattle.plan_types.specs.Bytes.{joined_text}
@@ -25,11 +25,11 @@ use Rattle.text_grammar.specs.Words.{boolean}
 use Rattle.text_grammar.specs.Outcome.{Read}
 use Rattle.section_syntax.specs.declared.words.InnerWord.TheVariants as inner
 
--- it is read from 3.0 on
+-- `visibility` is read from 3.0 on
 abbrev pub visible : Spec → List ℕ → Option Said
 visible spec text = if is_old spec then None else Some (said.Visibility (visibility text))
 
--- What a field says with this text, where it is read. An import tells whether it stands where one may.
+-- The part that a field becomes; none if it isn't read. An import carries whether an import may come there.
 abbrev pub FieldSays : Spec → FieldWord → ℕ → List ℕ → Bool → Option Said → Type 0
 FieldSays spec fields.Import line text fits found = found ≡ Some (said.Import (between_commas text) fits)
 FieldSays spec fields.Depends line text fits found =
@@ -58,18 +58,18 @@ is_import fields.Manual = false
 is_import fields.BuildTools = false
 is_import fields.Unread = false
 
--- what a field says as a part, where it is read
+-- the part of a field at its line and under its branches, if it is read
 abbrev pub placed : ℕ → List Cond → Option Said → List SectionPart
 placed line branches None = []
 placed line branches (Some found) = record { line = line; branches = branches; said = found } ∷ []
 
--- an `if` stands anywhere, the others directly behind a branch that isn't an `else`
+-- an `if` fits anywhere, the others directly after a branch that isn't an `else`
 abbrev pub branch_fits : BranchWord → Option Cond → Bool
 branch_fits If chain = true
 branch_fits Elif chain = is_some chain
 branch_fits Else chain = is_some chain
 
--- imports may stand in a section, and from 3.0 on in its branches
+-- imports may come in a section, and from 3.0 on in its branches
 abbrev pub may_import : {A : Type 0} → Spec → List A → Bool
 may_import spec [] = true
 may_import spec (branch ∷ branches) = not (is_old spec)
@@ -80,11 +80,11 @@ are_imports kind end = true
 are_imports kind (field line name values others) = is_import (field_word kind name) && are_imports kind others
 are_imports kind (section line name args items others) = false
 
--- an import fits where all elements in front of it in its block are imports, and imports may stand in these branches
+-- an import fits if all earlier elements of its block are imports, and imports may come in these branches
 abbrev pub import_fits : Spec → SectionKind → Tree → List Cond → Bool
 import_fits spec kind front branches = are_imports kind front && may_import spec branches
 
--- a branch, what stands in it, and what stands behind it
+-- a branch, the parts inside it, and the parts after it
 pub record BranchSays (spec : Spec) (word : BranchWord) (line : ℕ) (args : List ℕ) (branches : List Cond) (chain : Option Cond)
     (Within : List Cond → List SectionPart → Type 0) (Behind : Option Cond → List SectionPart → Type 0) (parts : List SectionPart) : Type 0 where
   pub own : Result Cond Cause
@@ -95,15 +95,15 @@ pub record BranchSays (spec : Spec) (word : BranchWord) (line : ℕ) (args : Lis
   pub others : Behind (chain_of (branch_of word chain own)) behind
   pub are : parts ≡ record { line = line; branches = branches; said = said.Branch word own (branch_fits word chain) } ∷ within ++ behind
 
--- a section, and what stands behind it
+-- a section inside a section, and the parts after it
 abbrev pub SectionSays : Spec → InnerWord → ℕ → List ℕ → List Cond → Option Cond → (List Cond → List SectionPart → Type 0) → (Option Cond → List SectionPart → Type 0) → List SectionPart → Type 0
 SectionSays spec (inner.Branch word) line args branches chain Within Behind parts = BranchSays spec word line args branches chain Within Behind parts
 SectionSays spec inner.Misplaced line args branches chain Within Behind parts =
     (behind : List SectionPart) × Behind None behind × (parts ≡ record { line = line; branches = branches; said = said.Misplaced } ∷ behind)
 SectionSays spec inner.Unread line args branches chain Within Behind parts = Behind None parts
 
--- The elements are these parts, under these branches. Those in front of them in their block come with the nearest first, and
--- the chain is that of a branch directly in front.
+-- The parts that the elements become, under these branches. `front` has the earlier elements of the block, the nearest
+-- first. `chain` is that of a branch directly before.
 unfoldable pub Items : Spec → SectionKind → Tree → Tree → List Cond → Option Cond → List SectionPart → Type 0
 Items spec kind front end branches chain parts = parts ≡ []
 Items spec kind front (field line name values behind) branches chain parts =

@@ -1,4 +1,4 @@
--- What reading one item after another comes to: what was read in front goes on with what stands behind.
+-- Reading item by item: the parts of the earlier items, followed by those of the later ones, are the parts of all.
 use Rattle.std.specs.Prelude.{◌≡◌, ℕ, List, ◌++◌, map, Option, Some, None}
 use Rattle.std.specs.declared.result.Result.{Result}
 use Rattle.plan_types.specs.declared.condition.Cond.{Cond}
@@ -16,21 +16,21 @@ use Rattle.section_syntax.specs.declared.part.Said.TheVariants.{Branch as branch
 use Rattle.section_syntax.specs.declared.words.BranchWord.{BranchWord}
 use Rattle.section_syntax.specs.declared.words.InnerWord.{InnerWord}
 
--- the items of these branches, pushed behind what was there
+-- the parts of these items under these branches, appended
 abbrev pub ReadsItems : Inside → Tree → List Branch → List SectionPart → List SectionPart → Type 0
 ReadsItems inside items branches old new =
     (found : List SectionPart) × Items inside.spec inside.kind end items (map condition branches) None found
     × (new ≡ old ++ found)
 
--- what is kept of the items in front tells whether an import fits behind them
+-- the kept flag is whether an import fits after the earlier items
 abbrev pub Tells : Inside → List Branch → Before → Tree → Type 0
 Tells inside branches before front = before.fits ≡ import_fits inside.spec inside.kind front (map condition branches)
 
--- and then it is kept with an item more
+-- the kept flag stays right after one more item
 abbrev pub TellsOn : Inside → Element → List Branch → Before → Before → Type 0
 TellsOn inside item branches before after = (front : Tree) → Tells inside branches before front → Tells inside branches after (in_front item front)
 
--- an item that is pushed goes on with any items behind it, for which it leaves this
+-- the pushed parts of an item, followed by the parts of the items after it, are the parts of both
 abbrev pub ReadsItem : Inside → Element → List Branch → Before → Before → List SectionPart → List SectionPart → Type 0
 ReadsItem inside item branches before after old new =
     (front : Tree) → Tells inside branches before front
@@ -38,7 +38,7 @@ ReadsItem inside item branches before after old new =
     → (found : List SectionPart) × Items inside.spec inside.kind front (in_front item behind) (map condition branches) before.chain found
     × (new ++ more ≡ old ++ found)
 
--- a section goes on in the same way; it leaves the chain that it belongs to
+-- the same for a section inside a section, which leaves a chain
 abbrev pub ReadsSection :
     Inside → InnerWord → ℕ → List ℕ → Tree → List Branch → Option Cond → Option Cond → List SectionPart → List SectionPart → Type 0
 ReadsSection inside word line args items branches chain left old new =
@@ -48,7 +48,7 @@ ReadsSection inside word line args items branches chain left old new =
     (λ left said. Items inside.spec inside.kind front behind (map condition branches) left said) found
     × (new ++ more ≡ old ++ found)
 
--- a branch is opened, and what it says of itself is pushed
+-- a branch is opened, and the part that begins it is appended
 abbrev pub OpensBranch : Spec → BranchWord → ℕ → List ℕ → Option Cond → List Branch → Branch → List SectionPart → List SectionPart → Type 0
 OpensBranch spec word line args chain branches branch old new =
     (own : Result Cond Cause) × OwnCondition spec word args own × (branch ≡ branch_of word chain own)

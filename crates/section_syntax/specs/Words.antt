@@ -1,4 +1,4 @@
--- Which fields and sections are read, and words that stand as values.
+-- Fields and sections by their names, and values that are words.
 use Rattle.std.specs.Prelude.{ℕ, Bool, true, false, ◌||◌, ◌==◌, if◌then◌else◌, List, map, codes, Option, Some, None}
 use Rattle.std.specs.List.{slice_split}
 use Rattle.plan_types.specs.declared.description.CompKind.TheVariants as component
@@ -30,11 +30,11 @@ component_field name =
 abbrev pub flag_field : List ℕ → FieldWord
 flag_field name = if same_text name (codes "default") then fields.Default else if same_text name (codes "manual") then fields.Manual else fields.Unread
 
--- the fields of a section for the setup script
+-- the fields of a setup section
 abbrev pub setup_field : List ℕ → FieldWord
 setup_field name = if same_text name (codes "setup-depends") then fields.SetupDepends else fields.Unread
 
--- what a field of a section is by its name
+-- the field of a section, by its name
 abbrev pub field_word : SectionKind → List ℕ → FieldWord
 field_word (kinds.Component kind) name = component_field name
 field_word kinds.Common name = component_field name
@@ -49,14 +49,14 @@ component_section name =
     else if same_text name (codes "else") then inner.Branch Else
     else inner.Misplaced
 
--- what a section inside a section is by its name
+-- the section inside a section, by its name
 abbrev pub inner_word : SectionKind → List ℕ → InnerWord
 inner_word (kinds.Component kind) name = component_section name
 inner_word kinds.Common name = component_section name
 inner_word kinds.Flag name = inner.Unread
 inner_word kinds.Setup name = inner.Misplaced
 
--- what a field beside the sections is by its name
+-- the field beside the sections, by its name
 abbrev pub head_word : List ℕ → HeadWord
 head_word name =
     if same_text name (codes "name") then heads.Name
@@ -64,7 +64,7 @@ head_word name =
     else if same_text name (codes "build-type") then heads.BuildType
     else heads.Unread
 
--- what a section is by its name, where it is read
+-- the kind of a section, by its name; none if it isn't read
 abbrev pub section_kind : List ℕ → Option SectionKind
 section_kind name =
     if same_text name (codes "library") then Some (kinds.Component component.Library)
@@ -77,17 +77,17 @@ section_kind name =
     else if same_text name (codes "custom-setup") then Some kinds.Setup
     else None
 
--- whether a library is public
+-- whether the value is `public`; none if it is neither that nor `private`
 abbrev pub visibility : List ℕ → Option Bool
 visibility text = if is_word text (codes "public") then Some true else if is_word text (codes "private") then Some false else None
 
--- whether a build type is the one with a setup script of its own
+-- whether the value is `custom`; none if it is neither that, `simple` nor `configure`
 abbrev pub build_type : List ℕ → Option Bool
 build_type text =
     if is_word text (codes "custom") then Some true
     else if is_word text (codes "simple") || is_word text (codes "configure") then Some false
     else None
 
--- what stands between the commas of a text
+-- the pieces between the commas of a text, without blanks at both ends
 abbrev pub between_commas : List ℕ → List (List ℕ)
 between_commas text = map trim (slice_split (λ b. b == 44) text)

@@ -1,4 +1,4 @@
-// Branches: the conditions under which what stands in them counts.
+// Branches and the conditions under which their parts count.
 
 ghost use Rattle.std.specs.Prelude.{◌≡◌, IfOk, map};
 ghost use Rattle.section_syntax.specs.Branch.{bare, branch_of, condition, last, or_never, tried, tried_behind, OwnCondition, IsOutcome};
@@ -8,7 +8,7 @@ use condition_text::read_cond;
 use plan_types::{Cause, Cond, Guard, List, NoMemory, Spec, Text, TextFault};
 use std::alloc::Global;
 
-/// A branch: the condition of being in it, and that of not being in any branch of its chain so far. Nothing stands behind an `else`.
+/// A branch. `condition`: it is taken. `chain`: no branch of its chain so far is taken; none after an `else`.
 #[derive(Drop)]
 pub struct Branch {
     pub condition: Guard,
@@ -16,7 +16,7 @@ pub struct Branch {
 }
 
 impl Branch {
-    /// A branch behind what was tried before it in its chain.
+    /// The branch of a word. `chain` is the condition that no earlier branch of its chain is taken.
     pub fn of(
         alloc: Global,
         word: BranchWord,
@@ -33,7 +33,7 @@ impl Branch {
     }
 }
 
-/// A branch with a condition of its own.
+/// An `if` or `elif`.
 fn tried(
     alloc: Global,
     chain: Option<Guard>,
@@ -77,7 +77,7 @@ fn tried_behind(alloc: Global, chain: &Option<Guard>, cond: Guard) -> Result<Gua
     }
 }
 
-/// The conditions of branches.
+/// The condition of each branch.
 pub fn conditions(alloc: Global, branches: &[Branch]) -> Result<List<Guard>, NoMemory>
     ensures { IfOk result (λ conds. conds ≡ map condition branches.now) }
 {
@@ -88,7 +88,7 @@ pub fn conditions(alloc: Global, branches: &[Branch]) -> Result<List<Guard>, NoM
     Ok(conds)
 }
 
-/// The condition of a branch itself.
+/// A branch's own condition, without those of earlier branches in its chain.
 pub fn own_condition(
     alloc: Global,
     spec: Spec,
@@ -113,7 +113,7 @@ fn guarded(alloc: Global, read: Result<Cond, Cause>) -> Result<Result<Guard, Cau
     }
 }
 
-// Nothing stands behind `else`.
+// `else` has no arguments.
 fn bare(args: &[u8]) -> Result<Cond, Cause>
     ensures { result ≡ bare args.now }
 {
@@ -124,7 +124,7 @@ fn bare(args: &[u8]) -> Result<Cond, Cause>
     }
 }
 
-/// What was read, or why not.
+/// The value, or the cause of its fault.
 pub fn outcome<T: Drop>(read: Result<T, TextFault>) -> Result<Result<T, Cause>, NoMemory>
     ensures { IfOk result (IsOutcome read) }
 {
@@ -135,7 +135,7 @@ pub fn outcome<T: Drop>(read: Result<T, TextFault>) -> Result<Result<T, Cause>, 
     }
 }
 
-/// What stands for the condition where it can't be read.
+/// The condition, `false` if it can't be read.
 pub fn or_never(alloc: Global, condition: &Result<Guard, Cause>) -> Result<Guard, NoMemory>
     ensures { IfOk result (λ cond. cond ≡ or_never condition.now) }
 {

@@ -1,4 +1,4 @@
-// What the fields of a section say.
+// The parts that fields of a section become.
 
 ghost use Rattle.std.specs.Prelude.{◌≡◌, IfOk, List};
 ghost use Rattle.std.specs.declared.result.Result.{Result};
@@ -17,7 +17,7 @@ use plan_types::{DepKind, List, NoMemory, Spec, Text, joined_text};
 use std::alloc::Global;
 use text_grammar::boolean;
 
-/// What a field inside a section says, where it is read.
+/// The part that a field inside a section becomes; none if the field isn't read.
 pub fn said_by(
     alloc: Global,
     spec: Spec,
@@ -72,7 +72,7 @@ fn tools(alloc: Global, spec: Spec, line: u32, text: &Text) -> Result<Said, NoMe
     Ok(Said::Depends(found))
 }
 
-// It is read from 3.0 on.
+// `visibility` is read from 3.0 on.
 fn visible(spec: Spec, text: &[u8]) -> Option<Said>
     ensures { result ≡ visible spec text.now }
 {

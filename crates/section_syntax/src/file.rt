@@ -1,4 +1,4 @@
-// What the fields beside the sections say, and the sections.
+// The fields beside the sections, and the sections themselves.
 
 ghost use Rattle.std.specs.Prelude.{◌≡◌, ◌++◌, List, Option, IfOk, OnOk};
 ghost use Rattle.plan_types.specs.Bytes.{joined_text};
@@ -17,7 +17,7 @@ use std::alloc::Global;
 use text_grammar::package_name;
 use version_range::version_of;
 
-/// What the fields and sections of a file say, for its cabal-version.
+/// The fields and sections of a file, read by the rules of its cabal-version.
 pub fn read_file(alloc: Global, spec: Spec, items: &[Element]) -> Result<File, NoMemory>
     ensures { IfOk result (IsFile spec items.now) }
 {

@@ -1,4 +1,4 @@
-// The items of a section, gone through in file order, branches with what stands in them.
+// The items of a section in file order, each branch with its items inside.
 
 ghost use Rattle.std.specs.Prelude.{◌≡◌, ◌++◌, ◌&&◌, [], ◌∷◌, List, true, false, None, Some, Option, map, IfOk, OnOk};
 ghost use Rattle.std.specs.declared.result.Result.{Result};
@@ -18,19 +18,19 @@ use crate::words::{BranchWord, FieldWord, InnerWord, field_word, inner_word};
 use plan_types::{Element, Guard, List, NoMemory, Spec, Text};
 use std::alloc::Global;
 
-/// What is known of a section while its items are gone through.
+/// What stays the same for all items of a section.
 #[derive(Clone, Copy)]
 pub struct Inside {
     pub spec: Spec,
     pub kind: SectionKind,
 }
 
-/// What stood before an item.
+/// What the items before an item leave for it.
 #[derive(Drop)]
 struct Before {
-    /// Whether an import may stand here.
+    /// Whether an import may come here.
     fits: bool,
-    /// The conditions of a chain of branches, where one of it stands directly before.
+    /// The condition that the chain directly before takes no branch; none if there is no such chain.
     chain: Option<Guard>,
 }
 
@@ -48,7 +48,7 @@ pub fn read_parts(
     Ok(parts)
 }
 
-/// The branches in which the items stand are as before afterwards.
+/// `branches` ends as it began.
 #[cycle(items)]
 fn read_items(
     alloc: Global,
@@ -116,7 +116,7 @@ fn read_item(
     }
 }
 
-/// Imports may stand in a section, and from 3.0 on in its branches.
+/// Imports may come in a section, and from 3.0 on in its branches.
 fn may_import(spec: Spec, branches: &[Branch]) -> bool
     ensures { result ≡ may_import spec branches.now }
 {
@@ -161,7 +161,7 @@ fn place(
     })
 }
 
-/// What is left is the chain for the next item.
+/// The result is the chain for the next item.
 #[cycle(items)]
 fn read_section(
     alloc: Global,
@@ -203,7 +203,7 @@ fn read_section(
     }
 }
 
-/// Places what a branch itself says.
+/// Pushes the part that begins the branch.
 fn open_branch(
     alloc: Global,
     spec: Spec,
@@ -233,7 +233,7 @@ fn open_branch(
     Ok(branch)
 }
 
-/// The chain of the branch that ends here.
+/// The chain that ends with the closed branch.
 fn close_branch(branches: &mut List<Branch>) -> Option<Guard>
     ensures { (outer : List Branch) (branch : Branch) → branches.old ≡ outer ++ branch ∷ []
         → (result ≡ chain_of branch) × (branches.new ≡ outer) }

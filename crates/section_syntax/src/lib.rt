@@ -1,7 +1,7 @@
-//! What the sections of a `.cabal` file say. In go the fields and sections of a file; out come its name, version and build
-//! type and its sections, and of each section its parts in file order: what each field or branch says, or why it can't be
-//! read, and under which conditions it stands. Nothing is refused here: what is wrong is told beside what is right, so that
-//! the crate above can say which fault comes first.
+//! Sections of a `.cabal` file. In go the elements of a file and its cabal-version. Out come its name, version, build
+//! type and sections. A section has its parts in file order, each with its line and the conditions of its branches. The
+//! elements have at most one such reading (`one_file`). Nothing is refused here: a part that can't be read has the
+//! cause of its fault, and the crate above picks the first fault.
 #![tactic(auto)]
 
 mod branch;

@@ -1,29 +1,30 @@
-// What a file says, as data.
+// The parsed file as data.
 
 use crate::words::BranchWord;
 use plan_types::{Cause, CompKind, Dep, Guard, List, Spec, Text, Version};
 
-/// What a field or a section inside a section says.
+/// The content of a field, or of a section inside a section.
 #[derive(Debug, Drop)]
 pub enum Said {
-    /// `import`: the names of common stanzas, and whether it stands where an import may.
+    /// `import`: the names of common stanzas, and whether an import may come here.
     Import {
         names: List<Text>,
         fits: bool,
     },
-    /// `build-depends`, `build-tool-depends` and `setup-depends`, or why they can't be read.
+    /// `build-depends`, `build-tool-depends` and `setup-depends`, or the cause of their fault.
     Depends(Result<List<Dep>, Cause>),
-    /// `buildable`; none where it is neither true nor false. The same holds for the next three.
+    /// `buildable`; none if it is neither true nor false. So for the next three.
     Buildable(Option<bool>),
-    /// `visibility` of a library: whether others may use it.
+    /// `visibility` of a library: whether it is public.
     Visibility(Option<bool>),
     /// `default` of a flag.
     Default(Option<bool>),
     /// `manual` of a flag.
     Manual(Option<bool>),
-    /// `build-tools`, which is accepted unread.
+    /// `build-tools`, whose value isn't read.
     BuildTools,
-    /// `if`, `elif` or `else`: which of them, its own condition, and whether it is an `if` or directly behind one or an `elif`.
+    /// `if`, `elif` or `else`: the word, its own condition, and whether it fits: an `if`, or directly after one or an
+    /// `elif`.
     Branch {
         word: BranchWord,
         condition: Result<Guard, Cause>,
@@ -33,17 +34,17 @@ pub enum Said {
     Misplaced,
 }
 
-/// A part of a section.
+/// A field of a section, or a section inside it.
 #[derive(Debug, Drop)]
 pub struct SectionPart {
     /// From 1.
     pub line: u32,
-    /// The conditions of the branches in which it stands, the outermost first. What can't be read stands as `false`.
+    /// The conditions of its branches, the outermost first; `false` if one can't be read.
     pub branches: List<Guard>,
     pub said: Said,
 }
 
-/// Sections that are read.
+/// The kinds of sections that are read.
 #[derive(Clone, Copy, Debug, PartialEq, Eq)]
 pub enum SectionKind {
     Component(CompKind),
@@ -52,19 +53,19 @@ pub enum SectionKind {
     Setup,
 }
 
-/// A section, and what stands in it.
+/// A section with its parts.
 #[derive(Debug, Drop)]
 pub struct Section {
     /// From 1.
     pub line: u32,
     pub kind: SectionKind,
-    /// As it is written; that of a flag in lower case, that of a setup empty.
+    /// As written; a flag's in lower case, a setup's empty.
     pub name: Text,
     /// In file order.
     pub parts: List<SectionPart>,
 }
 
-/// What a field beside the sections says; none where its value isn't of its form.
+/// The content of a field beside the sections; none if its value is ill-formed.
 #[derive(Debug, Drop)]
 pub enum Head {
     Name(Option<Text>),
@@ -81,7 +82,7 @@ pub struct HeadField {
     pub head: Head,
 }
 
-/// What a file says, in file order.
+/// The fields and sections of a file, in file order.
 #[derive(Debug, Drop)]
 pub struct File {
     pub spec: Spec,

@@ -1,4 +1,4 @@
-// Names of fields and sections, and words that stand as values.
+// Names of fields and sections, and values that are words.
 
 ghost use Rattle.std.specs.Prelude.{◌≡◌, ◌==◌, map, IfOk};
 ghost use Rattle.std.specs.List.{slice_split};
@@ -11,7 +11,7 @@ use cabal_lexer::trim;
 use plan_types::{CompKind, List, NoMemory, Text};
 use std::alloc::{AllocError, Global};
 
-/// Fields that are read inside a section.
+/// Fields of a section, by their names.
 #[derive(Clone, Copy, Debug, PartialEq, Eq)]
 pub enum FieldWord {
     Import,
@@ -26,11 +26,11 @@ pub enum FieldWord {
     Unread,
 }
 
-/// What a section inside a section is.
+/// A section inside a section.
 #[derive(Clone, Copy, Debug, PartialEq, Eq)]
 pub enum InnerWord {
     Branch(BranchWord),
-    /// It may not stand there.
+    /// Not allowed there.
     Misplaced,
     Unread,
 }
@@ -43,7 +43,7 @@ pub enum BranchWord {
     Else,
 }
 
-/// Fields that are read beside the sections.
+/// Fields beside the sections, by their names.
 #[derive(Clone, Copy, Debug, PartialEq, Eq)]
 pub enum HeadWord {
     Name,
@@ -143,7 +143,7 @@ pub fn section_kind(name: &str) -> Option<SectionKind>
     }
 }
 
-/// Whether a library that says so is public.
+/// Whether the value is `public`; none if it is neither that nor `private`.
 pub fn visibility(text: &[u8]) -> Option<bool>
     ensures { result ≡ visibility text.now }
 {
@@ -156,7 +156,7 @@ pub fn visibility(text: &[u8]) -> Option<bool>
     }
 }
 
-/// Whether a build type is `Custom`.
+/// Whether the value is `Custom`; none if it is neither that, `Simple` nor `Configure`.
 pub fn build_type(text: &[u8]) -> Option<bool>
     ensures { result ≡ build_type text.now }
 {
@@ -169,7 +169,7 @@ pub fn build_type(text: &[u8]) -> Option<bool>
     }
 }
 
-/// What stands between the commas of a text, without blanks at both ends.
+/// The pieces between the commas of a text, without blanks at both ends.
 pub fn between_commas(alloc: Global, text: &str) -> Result<List<Text>, NoMemory>
     ensures { IfOk result (λ names. names ≡ between_commas text.now) }
 {

@@ -6,7 +6,7 @@ use Rattle.section_syntax.specs.Items.{Items, import_fits}
 use Rattle.cabal_lexer.specs.Tree.{Tree, end, tree_of}
 use Rattle.section_syntax.proofs.items.+items.Given as goal
 
--- what is kept tells of the items in front, and what the rest of the items are goes on with what those are
+-- the kept state is that of the earlier items; their parts, followed by those of the others, are the parts of all
 abbrev pub invariant-read_items-loop-item : goal.invariant-read_items-loop-item
 invariant-read_items-loop-item l =
     (l.branches ≡ l.initial.branches)
