@@ -1,4 +1,4 @@
--- A stanza, a part or a section more.
+-- One more stanza, part or section.
 use Rattle.std.proofs.Common.{◌≡◌, ℕ, Bool, true, false, if◌then◌else◌, length, List, [], ◌∷◌, ◌++◌, map, flat_map, sym, subst, ap, ◌∙◌, refl}
 use Rattle.std.specs.List.{list_all}
 use Rattle.std.proofs.lemmas.Grind.{flat_map-append}
@@ -100,7 +100,7 @@ shown-push sections section =
     ∙ flat_map-append shown_in (sections_from [] sections) (one ∷ [])
     ∙ ap (λ v. flat_map shown_in (sections_from [] sections) ++ v) (append-nil (shown_in one))
 
--- what is built is shown as before where stanzas come behind
+-- built components expand to the same parts when stanzas are added
 module _ (stanzas more : List Body) where
   shown_kept : (built : List Built) → list_all (λ one. is_within (length stanzas) one.body) built ≡ true → map (built_component (table (stanzas ++ more))) built ≡ map (built_component (table stanzas)) built
   shown_kept [] e = refl

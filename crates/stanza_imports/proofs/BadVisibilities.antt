@@ -1,4 +1,4 @@
--- The first bad visibility of what is built.
+-- The first bad visibility of built components.
 use Rattle.std.proofs.Common.{◌≡◌, ℕ, Bool, true, false, if◌then◌else◌, List, [], ◌∷◌, ◌++◌, map, flat_map, sym, ap, ◌∙◌, refl}
 use Rattle.std.specs.Prelude.{Option, None}
 use Rattle.std.proofs.lemmas.List.{map-append}
@@ -15,7 +15,7 @@ use Rattle.common_laws.specs.Lists.{map-map}
 use Rattle.stanza_imports.specs.Bodies.{table, first_bad, Shown, built_component, shown_in, Stand}
 use Rattle.stanza_imports.specs.Parts.{is_named_library, bad_visibility, bad_visibilities}
 
--- the first of those that are there
+-- the least of the lines that are there
 abbrev pub least : List (Option ℕ) → Option ℕ
 least [] = None
 least (one ∷ more) = lesser one (least more)

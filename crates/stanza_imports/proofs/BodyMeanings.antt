@@ -1,4 +1,4 @@
--- What bodies stand for, as they grow and as stanzas are added behind those that they import.
+-- The parts of bodies as they grow, and as stanzas are added after those that they import.
 use Rattle.std.proofs.Common.{◌≡◌, ℕ, ◌+◌, ◌<◌, ◌≤◌, true, length, List, [], ◌∷◌, ◌++◌, map, flat_map, get_or, take, sym, ap, ◌∙◌, refl, arith, length-append}
 use Rattle.std.specs.Prelude.{None, Some, nat_lt, sum_by}
 use Rattle.std.specs.List.{list_all}
@@ -37,7 +37,7 @@ weight-append xs ys =
 pub summary-append : (xs ys : List SectionPart) → summary (xs ++ ys) ≡ joined (summary xs) (summary ys)
 summary-append xs ys = λ i. record { bad_visibility = first_bad-append xs ys i; weight = weight-append xs ys i }
 
--- branches weigh nothing
+-- branches add no weight
 weight-under : (branches : List Cond) (parts : List SectionPart) → sum_by weight (map (under branches) parts) ≡ sum_by weight parts
 weight-under branches [] = refl
 weight-under branches (part ∷ parts) =
@@ -61,7 +61,7 @@ summary-under [] parts = ap summary (under_none parts)
 summary-under (c ∷ branches) parts =
     λ i. record { bad_visibility = bad_inside c branches parts i; weight = capped (weight-under (c ∷ branches) parts i) }
 
--- a step more
+-- one more step
 pub means_more : (stanzas : List Body) (old new : Body) (said parts : List SectionPart) (one : Step) → new.steps.items ≡ old.steps.items ++ one ∷ [] →
     step_parts (table stanzas) one ≡ parts → is_below (length stanzas) one ≡ true → new.summary ≡ joined old.summary (summary parts) →
     Means stanzas old said → Means stanzas new (said ++ parts)
@@ -77,7 +77,7 @@ means_more stanzas old new said parts one steps is below told means = record {
       ∙ and_from _ _ means.within (and_from _ _ below refl);
 }
 
--- nothing more
+-- no more parts
 pub means_same : (stanzas : List Body) (body : Body) (said parts : List SectionPart) → parts ≡ [] → Means stanzas body said → Means stanzas body (said ++ parts)
 means_same stanzas body said parts none means = rw none (rw (append-nil said) means)
 
@@ -110,7 +110,7 @@ module _ (known : Stanzas) (stanzas : tables.Stanzas) (knows : Knows known stanz
       ∙ get_or-map summary (table bodies) n [] (summary []) (omega arith)
       ∙ ap summary (there n e)
 
--- stanzas behind those that a body imports
+-- stanzas added after those that a body imports
 module _ (stanzas more : List Body) where
   step_kept : (one : Step) → is_below (length stanzas) one ≡ true → step_parts (table (stanzas ++ more)) one ≡ step_parts (table stanzas) one
   step_kept (step.Part part) below = refl

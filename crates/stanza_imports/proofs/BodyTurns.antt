@@ -1,4 +1,4 @@
--- What is told of bodies in turn.
+-- Values of bodies, each computed from the values of those before it.
 use Rattle.std.proofs.Common.{◌≡◌, ℕ, zero, suc, ◌+◌, ◌<◌, length, List, [], ◌∷◌, ◌++◌, take, get_or, ap, ◌∙◌, refl, arith, length-append}
 use Rattle.std.proofs.lemmas.List.{get_or_append_left, get_or_at}
 use Rattle.std.specs.Prelude.{Some}
@@ -38,6 +38,6 @@ module _ {A : Type 0} (told : List A → Body → A) where
       let l = length-append before (told before first ∷ []) in
       from d n (before ++ told before first ∷ []) bodies body e at (omega arith)
 
-  -- what is told of a body, by those before it
+  -- the value of a body, from those before it
   pub told_at : (d : A) (n : ℕ) (bodies : List Body) (body : Body) → slice_get bodies n ≡ Some body → get_or (in_turn told [] bodies) n d ≡ told (in_turn told [] (take n bodies)) body
   told_at d n bodies body e = from d n [] bodies body e n (omega arith)

@@ -1,4 +1,4 @@
--- Parts stay chained where imports are replaced.
+-- Parts stay chained when imports are replaced.
 use Rattle.std.proofs.Common.{◌≡◌, ℕ, true, false, if◌then◌else◌, List, [], ◌∷◌, ◌++◌, map, flat_map, sym, subst, ap, ◌∙◌, append_assoc}
 use Rattle.std.specs.Prelude.{All, slice_get}
 use Rattle.std.specs.List.{AllByRecursion}
@@ -26,7 +26,7 @@ use Rattle.stanza_imports.proofs.InOrder.{from-known}
 
 -- ---- parts
 
--- under branches, parts stand as before, and behind them such as may stand in these branches
+-- parts stay chained with branches put outside, followed by parts that are chained in these
 under-chained : (outer opened : List Branch) (parts more : List SectionPart) → AreChained opened parts → AreChained outer more → AreChained (outer ++ opened) (map (under (map condition outer)) parts ++ more)
 under-chained outer opened [] more chained rest = chained-behind outer opened more rest
 under-chained outer opened (part ∷ parts) more chained rest =

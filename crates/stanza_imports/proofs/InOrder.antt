@@ -1,4 +1,4 @@
--- Imports that are replaced by the sections before them, and by the stanzas that are known on the way.
+-- Imports replaced by earlier sections are the same as those replaced by the known stanzas.
 use Rattle.std.proofs.Common.{◌≡◌, ℕ, true, false, cond, if◌then◌else◌, List, [], ◌∷◌, ◌++◌, flat_map, sym, ap, ◌∙◌, refl, append_assoc}
 use Rattle.std.specs.Prelude.{Some, None}
 use Rattle.std.specs.List.{find, fold}

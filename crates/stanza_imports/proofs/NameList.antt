@@ -1,4 +1,4 @@
--- Lists of names that are seen by what they show.
+-- Lists of names, compared by their views.
 use Rattle.std.proofs.Common.{◌≡◌, ℕ, suc, ◌+◌, ◌<◌, ◌&&◌, get_or, drop, drop-cons, add-one, not, length, cond, Bool, true, false, ◌||◌, if◌then◌else◌, List, [], ◌∷◌, ◌++◌, map, sym, ap, ◌∙◌, refl}
 use Rattle.std.specs.Prelude.{Some, None, nat_lt, position}
 use Rattle.std.specs.List.{list_all, list_any, position_or_len}
@@ -37,7 +37,7 @@ same-listed : (other name : List ℕ) → same_text other name ≡ true → (nam
 same-listed other name is [] = refl
 same-listed other name is (n ∷ names) = ap (λ b. b || has names other) (nat_list_eq_equiv.congr other name n is) ∙ ap (λ b. same_text name n || b) (same-listed other name is names)
 
--- a name that was put in is there besides those that were
+-- a set has the inserted name besides those it had
 pub has-with : (names : List (List ℕ)) (name other : List ℕ) → has (with_name names name) other ≡ (has names other || same_text other name)
 has-with names name other = by (has names name) refl
   where
@@ -53,7 +53,7 @@ has-with names name other = by (has names name) refl
     by true there = ap (λ b. has (if b then names else names ++ name ∷ []) other) there ∙ absorbed (has names other) (same_text other name) (kept there)
     by false gone = ap (λ b. has (if b then names else names ++ name ∷ []) other) gone ∙ list_any-append (same_text other) names (name ∷ []) ∙ ap (λ b. has names other || b) (or-false (same_text other name))
 
--- a test that goes over a list
+-- a test over a list, one element further
 module _ {A : Type 0} (test : A → Bool) (xs : List A) (n : ℕ) (x : A) (lt : n < length xs) (is : get_or xs n x ≡ x) where
   here : list_all test (drop n xs) ≡ (test x && list_all test (drop (n + 1) xs))
   here = ap (list_all test) (drop-cons xs n x lt) ∙ ap (λ v. test v && list_all test (drop (suc n) xs)) is ∙ ap (λ m. test x && list_all test (drop m xs)) (sym (add-one n))

@@ -1,4 +1,4 @@
--- A loop that pushes the parts of each item.
+-- A loop that appends the parts of each item.
 use Rattle.std.proofs.Common.{◌≡◌, ℕ, ◌+◌, ◌<◌, length, List, ◌++◌, flat_map, get_or, take, sym, ap, ◌∙◌}
 use Rattle.std.proofs.lemmas.List.{flat_map_more}
 use Rattle.common_laws.specs.Lists.{take_at}

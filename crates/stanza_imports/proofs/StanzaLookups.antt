@@ -65,7 +65,7 @@ by_none xs name e =
     beyond : (m n k : ℕ) → k ≡ n → nat_lt m n ≡ false → k ≤ m
     beyond m n k is e = grind (arith, common_steps)
 
--- a second stanza of a name is passed over
+-- a second stanza of a name is ignored
 pub has_already : (known ones : Stanzas) (name : List ℕ) (parts : List SectionPart) → ((q : List ℕ) → has (map (λ s. s.0) known) q ≡ has (map (λ s. s.0) ones) q) →
     has (map (λ s. s.0) ones) name ≡ true → (q : List ℕ) → has (map (λ s. s.0) (known ++ (name, parts) ∷ [])) q ≡ has (map (λ s. s.0) ones) q
 has_already known ones name parts agree there q =
@@ -87,7 +87,7 @@ found_already known ones name parts agree found there q =
     cases false true y is f e none = absurd (cc (e, f (sym e) refl))
     cases false false y is f e none = sym (none (sym e))
 
--- a stanza of a new name
+-- a stanza with a new name
 pub found_too : (known ones : Stanzas) (name : List ℕ) (parts : List SectionPart) → ((q : List ℕ) → has (map (λ s. s.0) known) q ≡ has (map (λ s. s.0) ones) q) →
     ((q : List ℕ) → parts_of known q ≡ parts_of ones q) → (q : List ℕ) → parts_of (known ++ (name, parts) ∷ []) q ≡ parts_of (ones ++ (name, parts) ∷ []) q
 found_too known ones name parts agree found q =

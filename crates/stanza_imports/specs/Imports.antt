@@ -8,7 +8,7 @@ use Rattle.section_syntax.specs.declared.part.Section.{Section}
 use Rattle.plan_types.specs.Bytes.{same_text}
 use Rattle.section_syntax.specs.declared.part.SectionKind.TheVariants as kinds
 
--- a common stanza of this name
+-- whether a section is a common stanza of this name
 abbrev pub is_stanza : List ℕ → Section → Bool
 is_stanza name section = elim section.kind [
   | kinds.Component kind ↦ false
@@ -21,11 +21,11 @@ is_stanza name section = elim section.kind [
 abbrev pub stanza_parts : List Section → List ℕ → List SectionPart
 stanza_parts sections name = elim (find (is_stanza name) sections) [ None ↦ [] | Some stanza ↦ stanza.parts ]
 
--- a part, under these branches besides its own
+-- a part with these branches outside its own
 abbrev pub under : List Cond → SectionPart → SectionPart
 under branches part = record part { branches = branches ++ part.branches }
 
--- An import stands for the parts of the stanzas of its names, under the branches in which it stands. Every other part stands for itself.
+-- The parts of the named stanzas for an import, under its branches. Every other part stays itself.
 abbrev pub parts_for : (List ℕ → List SectionPart) → SectionPart → List SectionPart
 parts_for of_stanza part = elim part.said [
   | said.Import names fits ↦ flat_map (λ name. map (under part.branches) (of_stanza name)) names
@@ -39,10 +39,10 @@ parts_for of_stanza part = elim part.said [
   | said.Misplaced ↦ part ∷ []
 ]
 
--- a section with its imports replaced, where these are the sections before it with theirs replaced
+-- a section with its imports replaced by parts of earlier sections
 abbrev pub replaced_behind : List Section → Section → Section
 replaced_behind before section = record section { parts = flat_map (parts_for (stanza_parts before)) section.parts }
 
--- the sections of a file with their imports replaced, each by those before it
+-- the sections of a file with imports replaced, each by earlier sections
 abbrev pub with_imports_replaced : List Section → List Section
 with_imports_replaced = fold (λ before section. before ++ replaced_behind before section ∷ []) []

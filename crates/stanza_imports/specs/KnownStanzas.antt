@@ -1,4 +1,4 @@
--- Common stanzas by name, as they are known on the way through a file.
+-- Common stanzas by name, as they become known in file order.
 use Rattle.std.specs.Prelude.{ℕ, if◌then◌else◌, List, [], ◌∷◌, ◌++◌, map, flat_map}
 use Rattle.plan_types.specs.declared.condition.Cond.{Cond}
 use Rattle.section_syntax.specs.declared.part.SectionPart.{SectionPart}
@@ -7,7 +7,7 @@ use Rattle.plan_types.specs.Bytes.{same_text}
 use Rattle.section_syntax.specs.declared.part.SectionKind.TheVariants as kinds
 use Rattle.stanza_imports.specs.Imports.{parts_for, under}
 
--- common stanzas, by name, with their imports replaced
+-- common stanzas with their names, imports replaced
 abbrev pub Stanzas : Type 0
 Stanzas = List (List ℕ × List SectionPart)
 
@@ -28,7 +28,7 @@ replaced stanzas part = parts_for (parts_of stanzas) part
 abbrev pub all_replaced : Stanzas → List SectionPart → List SectionPart
 all_replaced stanzas parts = flat_map (replaced stanzas) parts
 
--- the stanzas that a section behind this one may import
+-- the stanzas that sections after this one may import
 abbrev pub stanzas_behind : Stanzas → Section → Stanzas
 stanzas_behind stanzas section = elim section.kind [
   | kinds.Component kind ↦ stanzas
@@ -37,7 +37,7 @@ stanzas_behind stanzas section = elim section.kind [
   | kinds.Setup ↦ stanzas
 ]
 
--- sections in file order, each with its imports replaced; a section imports stanzas that stand before it
+-- sections in file order with their imports replaced; a section imports only earlier stanzas
 abbrev pub sections_from : Stanzas → List Section → List Section
 sections_from stanzas [] = []
 sections_from stanzas (section ∷ sections) = record section { parts = all_replaced stanzas section.parts } ∷ sections_from (stanzas_behind stanzas section) sections

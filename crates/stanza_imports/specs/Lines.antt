@@ -1,7 +1,7 @@
--- Which of some lines is the first.
+-- The least of some lines.
 use Rattle.std.specs.Prelude.{ℕ, nat_lt, if◌then◌else◌, List, [], ◌∷◌, Option, Some, None}
 
--- the lesser of two lines, where there are two
+-- the lesser line, or the only one
 abbrev pub lesser : Option ℕ → Option ℕ → Option ℕ
 lesser None b = b
 lesser (Some a) None = Some a

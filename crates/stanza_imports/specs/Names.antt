@@ -1,9 +1,9 @@
--- Names in the order in which they came.
+-- Sets of names in the order of insertion.
 use Rattle.std.specs.Prelude.{ℕ, Bool, if◌then◌else◌, List, [], ◌∷◌, ◌++◌, Option, position}
 use Rattle.std.specs.List.{list_any}
 use Rattle.plan_types.specs.Bytes.{same_text}
 
--- a name is among these
+-- whether a name is among these
 abbrev pub has : List (List ℕ) → List ℕ → Bool
 has names name = list_any (same_text name) names
 
@@ -11,6 +11,6 @@ has names name = list_any (same_text name) names
 abbrev pub number_of : List (List ℕ) → List ℕ → Option ℕ
 number_of names name = position (same_text name) names
 
--- these names and this one, each once
+-- the names with one inserted, if it is new
 abbrev pub with_name : List (List ℕ) → List ℕ → List (List ℕ)
 with_name names name = if has names name then names else names ++ name ∷ []

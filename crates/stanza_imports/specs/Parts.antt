@@ -1,4 +1,4 @@
--- What single parts say of dependencies and of who may use a library.
+-- The dependencies and the visibility in single parts.
 use Rattle.std.specs.Prelude.{ℕ, Bool, true, false, if◌then◌else◌, List, [], ◌∷◌, flat_map, Some, None}
 use Rattle.std.specs.declared.result.Result.TheVariants.{Ok, Err}
 use Rattle.plan_types.specs.declared.dependency.Dep.{Dep}
@@ -10,7 +10,7 @@ use Rattle.section_syntax.specs.declared.part.Said.TheVariants as said
 use Rattle.section_syntax.specs.declared.part.Section.{Section}
 use Rattle.section_syntax.specs.declared.part.SectionKind.TheVariants as kinds
 
--- the dependencies that a part states
+-- the dependencies of a part
 abbrev pub deps_said : Said → List Dep
 deps_said (said.Import names fits) = []
 deps_said (said.Depends (Ok deps)) = deps
@@ -23,7 +23,7 @@ deps_said said.BuildTools = []
 deps_said (said.Branch word condition fits) = []
 deps_said said.Misplaced = []
 
--- a library with a name of its own
+-- whether a component is a library with a name of its own
 abbrev pub is_named_library : CompKind → List ℕ → Bool
 is_named_library Library [] = false
 is_named_library Library (b ∷ name) = true
@@ -32,7 +32,7 @@ is_named_library Test name = false
 is_named_library Bench name = false
 is_named_library Foreign name = false
 
--- a `visibility` that is neither public nor private
+-- whether a part is a `visibility` that is neither public nor private
 abbrev pub bad_visibility_said : Said → Bool
 bad_visibility_said (said.Import names fits) = false
 bad_visibility_said (said.Depends deps) = false
@@ -45,11 +45,11 @@ bad_visibility_said said.BuildTools = false
 bad_visibility_said (said.Branch word condition fits) = false
 bad_visibility_said said.Misplaced = false
 
--- the line of a part outside of branches that says nothing of its form of who may use a library
+-- the line of a part that is a bad `visibility` outside of branches
 abbrev pub bad_visibility : SectionPart → List ℕ
 bad_visibility part = elim part.branches [ [] ↦ if bad_visibility_said part.said then part.line ∷ [] else [] | branch ∷ branches ↦ [] ]
 
--- the section of such a library
+-- whether a section is a library with a name of its own
 abbrev pub is_named_library_section : Section → Bool
 is_named_library_section section = elim section.kind [
   | kinds.Component kind ↦ is_named_library kind section.name
@@ -58,6 +58,6 @@ is_named_library_section section = elim section.kind [
   | kinds.Setup ↦ false
 ]
 
--- `visibility` counts outside of the branches of a library with a name of its own, wherever it was written
+-- the lines of bad `visibility` fields of a library with a name of its own, those of branches left out
 abbrev pub bad_visibilities : Section → List ℕ
 bad_visibilities section = if is_named_library_section section then flat_map bad_visibility section.parts else []

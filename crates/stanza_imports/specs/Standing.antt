@@ -1,4 +1,4 @@
--- What is known of bodies while a file is gone through.
+-- Invariants of bodies and stanzas while the sections are read in file order.
 use Rattle.std.specs.Prelude.{◌≡◌, ℕ, Bool, true, nat_lt, length, List, [], ◌∷◌, ◌++◌, map, flat_map, ◌+◌, if◌then◌else◌, Option, None}
 use Rattle.std.specs.List.{list_all}
 use Rattle.plan_types.specs.declared.condition.Cond.{Cond}
@@ -18,35 +18,35 @@ use Rattle.common_laws.specs.Small.{capped}
 use Rattle.stanza_imports.specs.Bodies.{body_parts, table, summary, built_component, shown_in}
 use Rattle.stanza_imports.specs.declared.stanzas.Step.TheVariants as step
 
--- what is known of these parts and those behind them
+-- the totals of these parts followed by more
 abbrev pub joined : Summary → Summary → Summary
 joined front back = record { bad_visibility = lesser front.bad_visibility back.bad_visibility; weight = capped (front.weight + back.weight) }
 
--- a `visibility` doesn't count in branches
+-- the totals under branches, in which no `visibility` counts
 abbrev pub summary_under : List Cond → Summary → Summary
 summary_under [] told = told
 summary_under (branch ∷ branches) told = record told { bad_visibility = None }
 
--- all of its imports are of the first so many stanzas
+-- whether a step imports one of the first so many stanzas, if it imports any
 abbrev pub is_below : ℕ → Step → Bool
 is_below stanzas (step.Part part) = true
 is_below stanzas (step.Import stanza branches) = nat_lt stanza stanzas
 
--- all of the imports of a body are
+-- whether all steps of a body do
 abbrev pub is_within : ℕ → Body → Bool
 is_within stanzas body = list_all (is_below stanzas) body.steps.items
 
--- these bodies, and some behind them
+-- the first is a prefix of the second
 abbrev pub IsMore : List Body → List Body → Type 0
 IsMore bodies all = (more : List Body) × (all ≡ bodies ++ more)
 
--- a body that stands for these parts
+-- a body expands to these parts
 pub record Means (stanzas : List Body) (body : Body) (said : List SectionPart) : Type 0 where
   pub parts : body_parts (table stanzas) body ≡ said
   pub told : body.summary ≡ summary said
   pub within : is_within (length stanzas) body ≡ true
 
--- the stanzas that can be imported, of which the first ones of each name are in the table
+-- The stanzas represent the known ones: same parts for each name. `ones` has the first stanza of each name.
 pub record Knows (known : Stanzas) (stanzas : tables.Stanzas) : Type 0 where
   pub ones : Stanzas
   pub names : stanzas.names ≡ map (λ s. s.0) ones
@@ -55,31 +55,31 @@ pub record Knows (known : Stanzas) (stanzas : tables.Stanzas) : Type 0 where
   pub found : (name : List ℕ) → parts_of known name ≡ parts_of ones name
   pub has : (name : List ℕ) → has (map (λ s. s.0) known) name ≡ has (map (λ s. s.0) ones) name
 
--- a stanza of this name and body comes behind those that are known
+-- adding a stanza of this name and body extends the known ones by it
 abbrev pub Adds : List ℕ → Body → tables.Stanzas → tables.Stanzas → Type 0
 Adds name body old new =
     (known : Stanzas) (parts : List SectionPart) → Knows known old → Means old.bodies.items body parts → Knows (known ++ (name, parts) ∷ []) new
 
--- the body of a section with these parts
+-- the body expands to these parts with imports replaced
 abbrev pub IsBodyOf : tables.Stanzas → List SectionPart → Body → Type 0
 IsBodyOf stanzas parts body = (known : Stanzas) → Knows known stanzas → Means stanzas.bodies.items body (all_replaced known parts)
 
--- a body stands for more than before, by what is known of the stanzas
+-- the new body expands to the parts of the old one, followed by more
 abbrev pub Grows : tables.Stanzas → Body → Body → (Stanzas → List SectionPart) → Type 0
 Grows stanzas old new more =
     (known : Stanzas) (said : List SectionPart) → Knows known stanzas → Means stanzas.bodies.items old said
     → Means stanzas.bodies.items new (said ++ more known)
 
--- the line of the first bad `visibility` in what is built, where it counts
+-- the line of the first bad `visibility` of a built component, if it is a library with a name of its own
 abbrev pub bad_in : Built → Option ℕ
 bad_in one = if is_named_library one.kind one.section.now.name then one.body.summary.bad_visibility else None
 
--- the stanzas that may be imported behind these sections
+-- the known stanzas after these sections
 abbrev pub all_behind : Stanzas → List Section → Stanzas
 all_behind stanzas [] = stanzas
 all_behind stanzas (section ∷ sections) = all_behind (stanzas_behind stanzas section) sections
 
--- the first sections of a file, and what is built of them
+-- the stanzas and components built of the first sections of a file
 pub record Standing (sections : List Section) (bodies : Bodies) : Type 0 where
   pub knows : Knows (all_behind [] sections) bodies.stanzas
   pub within : list_all (λ built. is_within (length bodies.stanzas.bodies.items) built.body) bodies.built.items ≡ true

@@ -1,5 +1,6 @@
-//! The common stanzas of a `.cabal` file: which parts a section has once its imports are replaced by what they name. Bodies
-//! refer to one another by number, so that a stanza that many sections import is kept once.
+//! Common stanzas of a `.cabal` file. In go its sections. Out come the bodies of its components and stanzas, with
+//! imports as numbers: a stanza that many sections import is kept once. A body expands to exactly the parts that its
+//! section has once its imports are replaced (`with_imports_replaced`).
 #![tactic(auto)]
 
 mod name_set;

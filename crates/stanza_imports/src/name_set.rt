@@ -1,4 +1,4 @@
-// Names, each once.
+// A set of names, kept in the order of insertion.
 
 ghost use Rattle.std.specs.Prelude.{◌≡◌, [], not, IfOk, OnErr, OnOk};
 ghost use Rattle.stanza_imports.specs.Names.{has, number_of, with_name};
@@ -8,12 +8,12 @@ use plan_types::NoMemory;
 use std::alloc::Global;
 use std::marker::Model;
 
-/// Names, each once, in the order in which they came. The place of a name is its number.
+/// A set of names in the order of insertion. The place of a name is its number.
 pub struct NameSet<'a> {
     set: IndexSet<&'a str>,
 }
 
-// Written out, so that it is proved once and not at each exit of each function that owns one.
+// Explicit, so that it is proved once: a derived one is expanded at each exit.
 impl<'a> Drop for NameSet<'a> {
     fn drop(self) {
         let NameSet { set: _set } = self;

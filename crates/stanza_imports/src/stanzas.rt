@@ -1,4 +1,4 @@
-// Bodies of sections and common stanzas, in which imports are numbers, and what they stand for.
+// Bodies of sections and common stanzas, whose imports are numbers, and the parts that they expand to.
 
 ghost use Rattle.std.specs.Prelude.{◌≡◌, ℕ, ◌+◌, ◌<◌, ◌≤◌, if◌then◌else◌, None, List, [], ◌∷◌, ◌++◌, length, get_or, map, flat_map, IfOk, OnOk};
 ghost use Rattle.section_syntax.specs.declared.part.SectionPart.{SectionPart};
@@ -31,16 +31,16 @@ enum Step<'a> {
 #[derive(Drop)]
 pub struct Body<'a> {
     steps: Vec<Step<'a>>,
-    /// Of the parts that there are once its imports are replaced.
+    /// Of its parts with imports replaced.
     summary: Summary,
 }
 
-/// What is known of parts as a whole.
+/// Totals of a list of parts.
 #[derive(Clone, Copy, Debug)]
 pub struct Summary {
     /// The line of the first `visibility` outside of branches that is neither public nor private.
     pub bad_visibility: Option<u32>,
-    /// How many parts and dependencies they are, at most 2^64 - 1.
+    /// The number of parts and dependencies, at most 2^64 - 1.
     pub weight: u64,
 }
 
@@ -63,7 +63,7 @@ impl Summary {
         }
     }
 
-    /// Of these parts and those behind them.
+    /// Of these parts followed by more.
     fn joined(self, more: Summary) -> Summary
         ensures { result ≡ joined self more }
     {
@@ -73,7 +73,7 @@ impl Summary {
         }
     }
 
-    /// Of the same parts in these branches.
+    /// Of the same parts under these branches.
     fn under(self, branches: &[Guard]) -> Summary
         ensures { result ≡ summary_under branches.now self }
     {
@@ -87,21 +87,21 @@ impl Summary {
     }
 }
 
-/// The common stanzas so far, by name. None imports itself or a later one.
+/// The common stanzas so far, by name. A stanza imports only earlier ones.
 #[derive(Drop)]
 pub struct Stanzas<'a> {
     names: NameSet<'a>,
     bodies: Vec<Body<'a>>,
 }
 
-/// A part, and the conditions of the branches in which it stands once imports are replaced.
+/// A part, and the conditions of its branches once imports are replaced.
 #[derive(Drop)]
 pub struct Placed<'a> {
     pub branches: List<Guard>,
     pub part: &'a SectionPart,
 }
 
-/// What is left of a section or stanza, under these conditions, and the stanzas before it.
+/// The steps of a body that are left, the conditions they are under, and the stanzas that the body may import.
 #[derive(Drop)]
 struct Frame<'b, 'a> {
     branches: List<Guard>,
@@ -131,7 +131,7 @@ impl<'a> Stanzas<'a> {
         Ok(())
     }
 
-    /// The body of a section that stands behind these stanzas.
+    /// The body of a section after these stanzas.
     fn body(&self, alloc: Global, parts: &'a [SectionPart]) -> Result<Body<'a>, NoMemory>
         ensures { IfOk result (IsBodyOf self.now parts.now) }
     {
@@ -174,7 +174,7 @@ impl<'a> Stanzas<'a> {
         Ok(())
     }
 
-    // A stanza in which nothing stands is passed over, so that each step leads to a part.
+    // A stanza without parts is skipped, so that each step leads to a part.
     fn import_one(
         &self,
         body: &mut Body<'a>,
@@ -223,8 +223,8 @@ impl<'a> Stanzas<'a> {
     }
 }
 
-// The walk is a stack and no recursion, since stanzas may import one another to any depth. What is left of a body waits below the
-// stanza that it imports.
+// The walk has a stack instead of recursion, since stanzas may import one another to any depth. The rest of a body
+// waits below the stanza that it imports.
 fn go_on<'b, 'a>(
     alloc: Global,
     branches: List<Guard>,
@@ -270,7 +270,7 @@ fn go_on<'b, 'a>(
     }
 }
 
-// A stanza imports those before it alone, so the walk ends.
+// A stanza imports only earlier ones, so the walk ends.
 fn enter<'b, 'a>(
     frames: &mut Vec<Frame<'b, 'a>>,
     stanzas: &'b [Body<'a>],
@@ -319,7 +319,7 @@ impl<'a> Body<'a> {
     }
 }
 
-/// The part itself and its dependencies.
+/// One, and one more for each of its dependencies.
 fn weight(part: &SectionPart) -> u64
     ensures { result ≡ capped (weight part.now) }
 {
@@ -339,7 +339,7 @@ fn bad_visibility(part: &SectionPart) -> Option<u32>
     }
 }
 
-/// The lesser of two lines, where there are two.
+/// The lesser line, or the only one.
 fn lesser(one: Option<u32>, other: Option<u32>) -> Option<u32>
     ensures { result ≡ lesser one other }
 {
@@ -350,7 +350,7 @@ fn lesser(one: Option<u32>, other: Option<u32>) -> Option<u32>
     }
 }
 
-/// The conditions of outer branches, and then those of inner ones.
+/// The conditions of outer branches, followed by those of inner ones.
 fn joined(alloc: Global, outer: &List<Guard>, inner: &List<Guard>) -> Result<List<Guard>, NoMemory>
     ensures { IfOk result (λ conds. conds ≡ outer.now ++ inner.now) }
 {
@@ -377,7 +377,7 @@ pub struct Built<'a> {
     pub body: Body<'a>,
 }
 
-/// The components of a file, and the stanzas that they import.
+/// The components of a file, and the stanzas that they may import.
 #[derive(Drop)]
 pub struct Bodies<'a> {
     pub stanzas: Stanzas<'a>,
@@ -453,7 +453,7 @@ impl<'a> Built<'a> {
     }
 }
 
-/// How many parts and dependencies the components have in all, at most 2^64 - 1.
+/// The number of parts and dependencies of all components, at most 2^64 - 1.
 pub fn total_weight(bodies: &Bodies) -> u64
     ensures { (sections : List Section) → Stand sections bodies.now → result ≡ total_weight (with_imports_replaced sections) }
 {
