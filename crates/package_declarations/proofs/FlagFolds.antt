@@ -1,4 +1,4 @@
--- Which flags the parts of a condition name.
+-- The flags of a condition are all declared iff those of its parts are.
 use Rattle.std.proofs.Common.{◌≡◌, Bool, true, false, ◌&&◌, List, ℕ, sym, ap, ◌∙◌, refl}
 use Rattle.std.proofs.lemmas.Bool.{and_right}
 use Rattle.plan_types.specs.declared.condition.Cond.{Cond}
@@ -44,7 +44,7 @@ module _ (sections : List Section) where
   and-true true = refl
   and-true false = refl
 
-  -- where the right side passes, the left side decides; where it doesn't, the whole doesn't
+  -- if the right side passes, the left side decides; if it doesn't, the conjunction fails
   pub passes-And : (s l r : Cond) → s ≡ And l r → has_flags sections r ≡ true → has_flags sections l ≡ has_flags sections s
   passes-And s l r e right = and-true (has_flags sections l) ∙ ap (λ b. has_flags sections l && b) (sym right) ∙ sym (flagged-And l r) ∙ ap (has_flags sections) (sym e)
 

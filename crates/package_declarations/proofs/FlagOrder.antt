@@ -1,4 +1,4 @@
--- A stable sort of flags by their names gives what putting in one after another gives, and so one list.
+-- A stable sort of flags by name is insertion sort, and so has one result.
 use Rattle.std.proofs.Common.{◌≡◌, ℕ, true, false, List, [], ◌∷◌, if◌then◌else◌, refl, sym, ap, ◌∙◌}
 use Rattle.std.specs.Prelude.{codes}
 use Rattle.std.specs.Cmp.{IsStrictWeakOrder}
@@ -11,12 +11,12 @@ use Rattle.section_syntax.specs.declared.part.Section.{Section}
 use Rattle.package_declarations.specs.Flags.{AreFlags, declared_flags, name_before}
 use Rattle.package_declarations.proofs.StableSort.{put, put_all, stable-is}
 
--- in front of the first whose name isn't less
+-- inserts a flag before the first whose name isn't less
 abbrev pub insert : FlagDecl → List FlagDecl → List FlagDecl
 insert flag [] = flag ∷ []
 insert flag (other ∷ flags) = if is_lt (slice_cmp nat_cmp other.name flag.name) then other ∷ insert flag flags else flag ∷ other ∷ flags
 
--- in the order of their names
+-- the flags sorted by name
 abbrev pub by_name : List FlagDecl → List FlagDecl
 by_name [] = []
 by_name (flag ∷ flags) = insert flag (by_name flags)
@@ -46,7 +46,7 @@ one-flags sections a b p q = flags-are sections a p ∙ sym (flags-are sections 
 abbrev flag : List ℕ → FlagDecl
 flag name = record { line = 4; name = name; default = true; manual = false }
 
--- a flag `b` in front of a flag `a` stands behind it
+-- a flag `b` before a flag `a` is sorted after it
 two_flags : (sections : List Section) (flags : List FlagDecl) → declared_flags sections ≡ flag (codes "b") ∷ flag (codes "a") ∷ [] →
     AreFlags sections flags → flags ≡ flag (codes "a") ∷ flag (codes "b") ∷ []
 two_flags sections flags declared are = flags-are sections flags are ∙ ap by_name declared

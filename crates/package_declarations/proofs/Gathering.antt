@@ -1,4 +1,4 @@
--- What is gathered, in a table that grows.
+-- The gathered state keeps its meaning as the table grows.
 use Rattle.std.proofs.Common.{◌≡◌, List, [], ◌∷◌, ◌++◌, slice_get, Option, None, Some, ap, ◌∙◌, append-nil}
 use Rattle.std.specs.Prelude.{IfSome}
 use Rattle.std.proofs.lemmas.Grind.{flat_map-append}

@@ -1,4 +1,4 @@
--- The name that is said last.
+-- The last package name.
 use Rattle.std.proofs.Common.{◌≡◌, ℕ, List, [], ◌∷◌, ◌++◌, ap, ◌∙◌, refl}
 use Rattle.std.specs.Prelude.{Option}
 use Rattle.std.specs.Option.{option_or}
@@ -9,7 +9,7 @@ use Rattle.section_syntax.specs.declared.part.Head.TheVariants as head
 use Rattle.section_syntax.specs.declared.part.HeadField.{HeadField}
 use Rattle.package_declarations.specs.Declarations.{joined, name_behind, name_said, own_name}
 
--- a field with a name takes the place of those before it
+-- a `name` field replaces the earlier ones
 name-more : (before : Option (Option (List ℕ))) (h : Head) → joined (option_or (name_said h) before) ≡ name_behind (joined before) h
 name-more before (head.Name name) = refl
 name-more before (head.Version version) = refl

@@ -74,7 +74,7 @@ module _ (conds : List Cond) where
       behind-numbered (around ++ branch.condition ∷ []) level.taken levels opened are.0.taken are.1
       ∙ ap (λ l. Some (all_of l)) (append_assoc around (branch.condition ∷ []) (map condition opened))
 
-  -- the innermost of them, where there is one
+  -- the innermost of them, if there is one
   pub innermost-numbered : (levels : List Level) (opened : List Branch) → AreLevels conds [] levels opened → IsNumbered conds (innermost levels) (joined_some (map condition opened))
   innermost-numbered [] [] are = tt
   innermost-numbered [] (branch ∷ opened) are = absurd are
@@ -98,7 +98,7 @@ module _ (conds : List Cond) where
         (subst (λ l. IsLevel conds l level branch) (sym (append_assoc around (first.condition ∷ []) (map condition opened))) is),
   )
 
--- ---- conditions joined one after the other
+-- ---- conjunctions with one more condition
 
 joined-last : (first : Cond) (conds : List Cond) (cond : Cond) → joined first (conds ++ cond ∷ []) ≡ And (joined first conds) cond
 joined-last first [] cond = refl

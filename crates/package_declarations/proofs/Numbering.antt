@@ -1,4 +1,4 @@
--- The table of the numbers of components, and what components need by it.
+-- The table of component numbers, and the needs read from it.
 use Rattle.std.proofs.Common.{◌≡◌, ℕ, ◌+◌, ◌<◌, Bool, true, false, cond, if◌then◌else◌, List, [], ◌∷◌, ◌++◌, length, get_or, take, map, flat_map, refl, sym, ap, ◌∙◌, subst, arith, length-append}
 use Rattle.std.specs.Prelude.{Option, Some, None, All, position, slice_get}
 use Rattle.std.specs.Cmp.Lexicographic.{bytes_decides}
@@ -51,7 +51,7 @@ beside-push names numbers name new number level =
           get-push numbers number p inside ∙ here ∙ ap (λ o. or_else o (cond (same_text name new) (Some number) None)) (sym here)
     ] refl
 
--- one component more
+-- one more component
 tells-more : (names : List (List ℕ)) (numbers : List ℕ) (before : List Component) (c : Component) → Numbered names numbers before
     → Numbered (with_name names c.name) (if has names c.name then numbers else numbers ++ length before ∷ []) (before ++ c ∷ [])
 tells-more names numbers before c table =

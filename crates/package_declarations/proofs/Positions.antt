@@ -1,4 +1,4 @@
--- The first place where a test holds, also with one element more.
+-- The first position that passes a test, also with one more element.
 use Rattle.std.proofs.Common.{◌≡◌, ℕ, zero, suc, ◌+◌, ◌<◌, Bool, true, false, cond, ◌||◌, List, [], ◌∷◌, ◌++◌, length, refl, sym, ap, ◌∙◌, arith}
 use Rattle.std.specs.Prelude.{Option, Some, None, position, slice_get, nat_lt}
 use Rattle.std.specs.List.{list_any, position_from, position_or_len}

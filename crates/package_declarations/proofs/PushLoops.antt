@@ -1,4 +1,4 @@
--- A loop that pushes what each item stands for.
+-- A loop that pushes the image of each item.
 use Rattle.std.proofs.Common.{◌≡◌, ℕ, ◌+◌, ◌<◌, ◌≤◌, length, List, [], ◌∷◌, ◌++◌, map, flat_map, get_or, drop, sym, ap, ◌∙◌, append_assoc}
 use Rattle.std.proofs.lemmas.List.{append-nil, drop_all}
 use Rattle.common_laws.specs.Lists.{drop_at}

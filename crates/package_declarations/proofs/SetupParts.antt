@@ -1,4 +1,4 @@
--- The parts of the setup sections, a section after another.
+-- The parts of the setup sections, section by section.
 use Rattle.std.proofs.Common.{◌≡◌, Bool, true, false, if◌then◌else◌, ◌&&◌, ◌||◌, List, [], ◌∷◌, refl, sym, ap, ◌∙◌}
 use Rattle.std.specs.List.{list_any}
 use Rattle.std.proofs.lemmas.List.Folds.{list_any-append}
@@ -10,7 +10,7 @@ in-section : (test : SectionPart → Bool) (b : Bool) (parts : List SectionPart)
 in-section test true parts = refl
 in-section test false parts = refl
 
--- a part passes a test where a setup section has one that does
+-- some part passes a test iff a setup section has one that does
 pub any-part : (test : SectionPart → Bool) (sections : List Section) → list_any (λ section. is_setup section.kind && list_any test section.parts) sections ≡ list_any test (setup_parts sections)
 any-part test [] = refl
 any-part test (section ∷ sections) =

@@ -1,4 +1,4 @@
--- What is said of the components of a file, by what is built of them.
+-- The components of a file, read from the built components.
 use Rattle.std.proofs.Common.{◌≡◌, List, [], ◌∷◌, ◌++◌, map, flat_map, sym, ap, ◌∙◌, refl}
 use Rattle.std.proofs.lemmas.List.{map-append}
 use Rattle.common_laws.specs.Lists.{map-map}

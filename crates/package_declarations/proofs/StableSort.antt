@@ -1,4 +1,4 @@
--- A stable sort puts a list into the order that putting in one element after another gives.
+-- A stable sort equals insertion sort.
 use Rattle.std.proofs.Common.{◌≡◌, ◌<◌, ℕ, suc, ◌≤◌, Bool, true, false, not, ◌&&◌, cond, if◌then◌else◌, List, [], ◌∷◌, length, get_or, refl, sym, ap, ◌∙◌, arith}
 use Rattle.std.specs.List.{filter}
 use Rattle.std.specs.List.Sorted.{IsSortedBy, IsStableBy, ties}
@@ -17,7 +17,7 @@ not-both true h = h refl
 not-both false h = refl
 
 module _ {X : Type 0} (lt : X → X → Bool) (order : IsStrictWeakOrder lt) where
-  -- in front of the first that isn't less
+  -- inserts before the first that isn't less
   abbrev pub put : X → List X → List X
   put x [] = x ∷ []
   put x (y ∷ ys) = if lt y x then y ∷ put x ys else x ∷ y ∷ ys
@@ -26,7 +26,7 @@ module _ {X : Type 0} (lt : X → X → Bool) (order : IsStrictWeakOrder lt) whe
   put_all [] = []
   put_all (x ∷ xs) = put x (put_all xs)
 
-  -- none of these is less
+  -- no element of the list is less
   abbrev Above : X → List X → Type 0
   Above x [] = Unit {0}
   Above x (y ∷ ys) = (lt y x ≡ false) × Above x ys
@@ -58,7 +58,7 @@ module _ {X : Type 0} (lt : X → X → Bool) (order : IsStrictWeakOrder lt) whe
   tied-right : (x y : X) → ties lt x y ≡ true → lt y x ≡ false
   tied-right x y h = not-true (lt y x) ((and_parts (not (lt x y)) (not (lt y x)) h).1)
 
-  -- what ties with one ties with none that is less
+  -- no element ties with both a lesser and a greater one
   no-ties : (t x y : X) → lt x y ≡ true → ties lt t x ≡ true → ties lt t y ≡ true → ⊥
   no-ties t x y less h k = false≢true (sym (order.chain x t y (tied-right t x h) (tied-left t y k)) ∙ less)
 
@@ -86,7 +86,7 @@ module _ {X : Type 0} (lt : X → X → Bool) (order : IsStrictWeakOrder lt) whe
   up-all [] = tt
   up-all (x ∷ xs) = up-put x (put_all xs) (up-all xs)
 
-  -- among those that tie, what is put in is the first
+  -- among ties, the inserted element is the first
   kept-put : (t x : X) (ys : List X) → filter (ties lt t) (put x ys) ≡ filter (ties lt t) (x ∷ ys)
   kept-put t x [] = refl
   kept-put t x (y ∷ ys) =
@@ -101,7 +101,7 @@ module _ {X : Type 0} (lt : X → X → Bool) (order : IsStrictWeakOrder lt) whe
   kept-all t [] = refl
   kept-all t (x ∷ xs) = kept-put t x (put_all xs) ∙ ap (λ l. cond (ties lt t x) (x ∷ l) l) (kept-all t xs)
 
-  -- nothing ties with what is less than all
+  -- an element that is less than all of a list ties with none
   none-tie : (x y : X) (ys : List X) → lt x y ≡ true → Above y ys → filter (ties lt x) ys ≡ []
   none-tie x y [] less a = refl
   none-tie x y (z ∷ zs) less a =

@@ -1,4 +1,4 @@
--- The components of sections whose imports are replaced.
+-- The components of a file whose imports are replaced.
 use Rattle.std.specs.Prelude.{Bool, false, ◌&&◌, not, if◌then◌else◌, List, [], ◌∷◌, map, flat_map, Option, Some, None, unwrap_or}
 use Rattle.plan_types.specs.declared.condition.Cond.{Cond}
 use Rattle.plan_types.specs.declared.condition.Cond.TheVariants.{Not}
@@ -17,11 +17,11 @@ use Rattle.text_grammar.specs.Last.{last_said}
 use Rattle.stanza_imports.specs.Imports.{with_imports_replaced}
 use Rattle.stanza_imports.specs.Parts.{deps_said, is_named_library}
 
--- a dependency counts where the branches in which it stands are taken
+-- the dependencies of a part with the condition that its branches are taken
 abbrev pub guarded : File → SectionPart → List GuardedDep
 guarded file part = map (λ dep. record { when = all_of part.branches; dep = meant file dep }) (deps_said part.said)
 
--- whether a part says that the component isn't buildable
+-- whether a part is `buildable: False`
 abbrev pub unbuildable_said : Said → Bool
 unbuildable_said (said.Import names fits) = false
 unbuildable_said (said.Depends deps) = false
@@ -34,15 +34,15 @@ unbuildable_said said.BuildTools = false
 unbuildable_said (said.Branch word condition fits) = false
 unbuildable_said said.Misplaced = false
 
--- then the branches in which it stands aren't taken
+-- the condition that such a part's branches aren't taken
 abbrev pub barrier : SectionPart → List Cond
 barrier part = if unbuildable_said part.said then Not (all_of part.branches) ∷ [] else []
 
--- when a component is buildable
+-- the condition under which a component is buildable: all `buildable: False` are in branches not taken
 abbrev pub buildable : List SectionPart → Cond
 buildable parts = all_of (flat_map barrier parts)
 
--- what a part says of who may use a library
+-- the visibility that a part gives
 abbrev pub visibility_said : Said → Option Bool
 visibility_said (said.Import names fits) = None
 visibility_said (said.Depends deps) = None
@@ -54,15 +54,15 @@ visibility_said said.BuildTools = None
 visibility_said (said.Branch word condition fits) = None
 visibility_said said.Misplaced = None
 
--- it counts outside of branches
+-- the same, but only outside of branches
 abbrev pub visibility_of : SectionPart → Option Bool
 visibility_of part = elim part.branches [ [] ↦ visibility_said part.said | branch ∷ branches ↦ None ]
 
--- a library with a name of its own is private unless the last word says otherwise
+-- a library with a name of its own is private unless its last `visibility` is public
 abbrev pub is_public : List SectionPart → Bool
 is_public parts = unwrap_or (last_said visibility_of parts) false
 
--- a section as a component
+-- the component of a section
 abbrev pub component : File → Section → CompKind → Component
 component file section kind = record {
   line = section.line;
@@ -73,7 +73,7 @@ component file section kind = record {
   deps = flat_map (guarded file) section.parts;
 }
 
--- the component that a section is, where it is one
+-- the component of a section, if it is one
 abbrev pub component_in : File → Section → List Component
 component_in file section = elim section.kind [
   | kinds.Component kind ↦ component file section kind ∷ []

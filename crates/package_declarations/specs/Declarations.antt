@@ -1,4 +1,4 @@
--- What a package declares, and what its dependencies and conditions mean in it.
+-- The names that a package declares, and the meaning of its dependencies and conditions.
 use Rattle.std.specs.Prelude.{ℕ, Bool, true, false, ◌&&◌, if◌then◌else◌, List, [], ◌∷◌, Option, Some, None}
 use Rattle.std.specs.List.{list_all, list_any}
 use Rattle.plan_types.specs.Format.{has_bare_libraries}
@@ -25,7 +25,7 @@ use Rattle.plan_types.specs.Bytes.{same_text}
 use Rattle.text_grammar.specs.Last.{last_said}
 use Rattle.plan_types.specs.Packages.{library_name, is_main}
 
--- a section for a library
+-- whether a section is a library
 abbrev pub is_library : SectionKind → Bool
 is_library (kinds.Component component.Library) = true
 is_library (kinds.Component component.Executable) = false
@@ -36,7 +36,7 @@ is_library kinds.Common = false
 is_library kinds.Flag = false
 is_library kinds.Setup = false
 
--- a section for an executable
+-- whether a section is an executable
 abbrev pub is_executable : SectionKind → Bool
 is_executable (kinds.Component component.Library) = false
 is_executable (kinds.Component component.Executable) = true
@@ -47,38 +47,38 @@ is_executable kinds.Common = false
 is_executable kinds.Flag = false
 is_executable kinds.Setup = false
 
--- a section for a flag
+-- whether a section is a flag
 abbrev pub is_flag : SectionKind → Bool
 is_flag (kinds.Component kind) = false
 is_flag kinds.Common = false
 is_flag kinds.Flag = true
 is_flag kinds.Setup = false
 
--- a section of such a kind has this name
+-- whether a section of such a kind has this name
 abbrev pub declares : (SectionKind → Bool) → List Section → List ℕ → Bool
 declares of_kind sections name = list_any (λ s. of_kind s.kind && same_text name s.name) sections
 
--- the name of the package that a field states, or that it has none of its form
+-- the package name that a field gives, none in it if that is ill-formed; nothing for another field
 abbrev pub name_said : Head → Option (Option (List ℕ))
 name_said (head.Name name) = Some name
 name_said (head.Version version) = None
 name_said (head.BuildType custom) = None
 
--- what is there, as a list
+-- the list with the value, if there is one
 abbrev pub as_list : {A : Type 0} → Option A → List A
 as_list None = []
 as_list (Some x) = x ∷ []
 
--- where there is nothing, there is nothing in it
+-- an optional value flattened
 abbrev pub joined : {A : Type 0} → Option (Option A) → Option A
 joined None = None
 joined (Some x) = x
 
--- that of the last field; where that one has no name of its form, the package has none
+-- the name in the last `name` field, none if it is ill-formed
 abbrev pub own_name : List HeadField → Option (List ℕ)
 own_name heads = joined (last_said (λ field. name_said field.head) heads)
 
--- the name of the package behind a field, with that of the fields before it
+-- the name after one more field
 abbrev pub name_behind : Option (List ℕ) → Head → Option (List ℕ)
 name_behind before (head.Name name) = name
 name_behind before (head.Version version) = before
@@ -89,33 +89,33 @@ abbrev pub is_own : Option (List ℕ) → List ℕ → Bool
 is_own None name = false
 is_own (Some own) name = same_text own name
 
--- no library with a name of its own is named, so that the name of the package may stand for a library of this one
+-- whether the package name may be that of an own library: before 3.4, and if no named library is listed
 abbrev pub is_bare : Spec → List LibName → Bool
 is_bare spec libs = has_bare_libraries spec && list_all is_main libs
 
--- what a dependency means that is on the own package, or names a library of it in place of a package
+-- the meaning of a dependency, by whether it is on the own package and whether it names an own library as a package
 abbrev pub meaning_by : DepKind → Bool → Bool → Meaning
 meaning_by Library own library = if own then Own else if library then OwnLibrary else Other
 meaning_by Tool own library = if own then Own else Other
 meaning_by Setup own library = Other
 
--- what a dependency means in a package
+-- the meaning of a dependency in its package
 abbrev pub meaning : File → Dep → Meaning
 meaning file dep =
     meaning_by dep.kind (is_own (own_name file.heads) dep.«package») (is_bare file.spec dep.libs && declares is_library file.sections dep.«package»)
 
--- a dependency with this meaning
+-- a dependency with this meaning resolved
 abbrev pub meant_as : Meaning → Option (List ℕ) → Dep → Dep
 meant_as Other own dep = dep
 meant_as Own own dep = record dep { internal = true }
 meant_as OwnLibrary None dep = dep
 meant_as OwnLibrary (Some own) dep = record dep { «package» = own; libs = lib.Named dep.«package» ∷ []; internal = true }
 
--- a dependency, as it is meant
+-- a dependency with its meaning resolved
 abbrev pub meant : File → Dep → Dep
 meant file dep = meant_as (meaning file dep) (own_name file.heads) dep
 
--- whether what is meant of the own package is declared, its libraries or its executable
+-- whether the own components that are meant are declared: the libraries or the executable
 abbrev pub known_by : Meaning → DepKind → Bool → Bool → Bool
 known_by Other kind libraries executable = true
 known_by OwnLibrary kind libraries executable = true
@@ -123,13 +123,13 @@ known_by Own Library libraries executable = libraries
 known_by Own Tool libraries executable = executable
 known_by Own Setup libraries executable = true
 
--- a dependency is on nothing of the package itself that isn't declared
+-- whether all own components that a dependency names are declared
 abbrev pub is_known : File → Dep → Bool
 is_known file dep =
     known_by (meaning file dep) dep.kind (list_all (λ l. declares is_library file.sections (library_name l)) dep.libs)
     (declares is_executable file.sections dep.exe)
 
--- each flag that a condition names passes this
+-- whether each flag of a condition passes the test, one layer
 abbrev pub flags_step : (List ℕ → Bool) → Cond-F Bool → Bool
 flags_step known Always = true
 flags_step known Never = true
@@ -141,6 +141,6 @@ flags_step known (Not inner) = inner
 flags_step known (And left right) = left && right
 flags_step known (Or left right) = left && right
 
--- each flag that a condition names is declared
+-- whether each flag of a condition is declared
 abbrev pub has_flags : List Section → Cond → Bool
 has_flags sections = fold-Cond Bool (flags_step (declares is_flag sections))

@@ -1,4 +1,4 @@
--- What is known of a package by what it declares.
+-- The kept names of a package are those of its file.
 use Rattle.std.specs.Prelude.{◌≡◌, ℕ, List, Option, None, Some}
 use Rattle.std.specs.Borrow.{Bor}
 use Rattle.section_syntax.specs.declared.part.File.{File}
@@ -6,12 +6,12 @@ use Rattle.package_declarations.specs.Declarations.{declares, is_executable, is_
 use Rattle.stanza_imports.specs.Names.{has}
 use Rattle.package_declarations.specs.declared.declarations.Declared.{Declared}
 
--- the name that is referred to
+-- the value of an optional reference
 abbrev pub shown : Option (Bor (List ℕ)) → Option (List ℕ)
 shown None = None
 shown (Some name) = Some name.now
 
--- the name of the package, and the names that its file declares, are known
+-- the kept cabal-version and names are those of the file
 pub record Tells (declared : Declared) (file : File) : Type 0 where
   pub spec : declared.spec ≡ file.spec
   pub name : shown declared.name ≡ own_name file.heads

@@ -10,7 +10,7 @@ use Rattle.section_syntax.specs.declared.part.Section.{Section}
 use Rattle.package_declarations.specs.Declarations.{is_flag}
 use Rattle.text_grammar.specs.Last.{last_said}
 
--- what a part says of the default of a flag
+-- the default that a part gives to a flag
 abbrev pub default_said : Said → Option Bool
 default_said (said.Import names fits) = None
 default_said (said.Depends deps) = None
@@ -22,7 +22,7 @@ default_said said.BuildTools = None
 default_said (said.Branch word condition fits) = None
 default_said said.Misplaced = None
 
--- what a part says of whether a flag is manual
+-- whether a part makes a flag manual
 abbrev pub manual_said : Said → Option Bool
 manual_said (said.Import names fits) = None
 manual_said (said.Depends deps) = None
@@ -34,7 +34,7 @@ manual_said said.BuildTools = None
 manual_said (said.Branch word condition fits) = None
 manual_said said.Misplaced = None
 
--- the flag that a section declares; what is said last counts
+-- the flag of a section; the last value of a field counts
 abbrev pub flag_of : Section → FlagDecl
 flag_of section = record {
   line = section.line;
@@ -43,15 +43,15 @@ flag_of section = record {
   manual = unwrap_or (last_said (λ part. manual_said part.said) section.parts) false;
 }
 
--- in file order
+-- the flags in file order
 abbrev pub declared_flags : List Section → List FlagDecl
 declared_flags sections = flat_map (λ section. if is_flag section.kind then flag_of section ∷ [] else []) sections
 
--- the order of flags is that of their names
+-- flags are ordered by name
 abbrev pub name_before : FlagDecl → FlagDecl → Bool
 name_before one other = is_lt (slice_cmp nat_cmp one.name other.name)
 
--- the declared flags in the order of their names; those of one name, which is a fault, stay in file order
+-- the declared flags sorted by name; flags of one name, which are a fault, stay in file order
 pub record AreFlags (sections : List Section) (flags : List FlagDecl) : Type 0 where
   pub all : IsPermutation (declared_flags sections) flags
   pub sorted : IsSortedBy name_before flags

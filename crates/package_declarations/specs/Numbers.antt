@@ -17,12 +17,12 @@ number_beside names numbers name = elim (number_of names name) [ None ↦ None |
 abbrev pub number_at : Numbers → List ℕ → List ℕ
 number_at table name = as_list (number_beside table.names table.numbers.items name)
 
--- a number stands beside each name, that of the first of these components that has it
+-- each name has the number of the first of these components with that name
 pub record Numbered (names : List (List ℕ)) (numbers : List ℕ) (components : List Component) : Type 0 where
   pub level : length numbers ≡ length names
   pub first : (name : List ℕ) → number_beside names numbers name ≡ position (λ c. same_text name c.name) components
 
--- what a dependency is on, and what a component needs, by a table
+-- the same, by a table of numbers
 abbrev pub targets_by : (List ℕ → List ℕ) → Dep → List ℕ
 targets_by numbers dep = if dep.internal then elim dep.kind [
   | Library ↦ flat_map (λ l. numbers (library_name l)) dep.libs
@@ -30,6 +30,6 @@ targets_by numbers dep = if dep.internal then elim dep.kind [
   | Setup ↦ []
 ] else []
 
--- what a component needs, by a table
+-- the components that a component needs, by a table of numbers
 abbrev pub needs_by : (List ℕ → List ℕ) → Component → List ℕ
 needs_by numbers component = flat_map (λ guarded. targets_by numbers guarded.dep) component.deps

@@ -1,4 +1,4 @@
--- Whether a package has a setup script of its own, and what that needs.
+-- The setup script of a package, and its dependencies.
 use Rattle.std.specs.Prelude.{ℕ, Bool, true, false, if◌then◌else◌, List, [], ◌∷◌, flat_map, Option, None, unwrap_or, codes}
 use Rattle.std.specs.List.{list_any}
 use Rattle.plan_types.specs.declared.dependency.Dep.{Dep}
@@ -17,24 +17,24 @@ use Rattle.section_syntax.specs.declared.part.SectionKind.TheVariants as kinds
 use Rattle.text_grammar.specs.Last.{last_said}
 use Rattle.stanza_imports.specs.Parts.{deps_said}
 
--- a section for the setup script
+-- whether a section is for the setup script
 abbrev pub is_setup : SectionKind → Bool
 is_setup (kinds.Component kind) = false
 is_setup kinds.Common = false
 is_setup kinds.Flag = false
 is_setup kinds.Setup = true
 
--- what a field says of whether the package has a setup script
+-- whether a field makes the build type `Custom`
 abbrev pub custom_said : Head → Option Bool
 custom_said (head.Name name) = None
 custom_said (head.Version version) = None
 custom_said (head.BuildType custom) = custom
 
--- the last build type says it, and where there is none, whether the file has a section for the setup script
+-- whether the package has its own setup script: by the last build type, else by whether there is a `custom-setup`
 abbrev pub is_custom : File → Bool
 is_custom file = unwrap_or (last_said (λ field. custom_said field.head) file.heads) (list_any (λ section. is_setup section.kind) file.sections)
 
--- whether a part states dependencies
+-- whether a part is a field of dependencies
 abbrev pub is_dependency : Said → Bool
 is_dependency (said.Import names fits) = false
 is_dependency (said.Depends deps) = true
@@ -50,16 +50,16 @@ is_dependency said.Misplaced = false
 abbrev pub setup_parts : List Section → List SectionPart
 setup_parts sections = flat_map (λ section. if is_setup section.kind then section.parts else []) sections
 
--- a setup dependency that nobody wrote: any version of a package
+-- a default setup dependency: any version of a package
 abbrev pub any_version : List ℕ → Dep
 any_version name = record { line = 0; kind = dep_kind.Setup; «package» = name; libs = Main ∷ []; exe = []; range = Any; internal = false }
 
--- what is written, also where it is nothing, and else two libraries
+-- the written dependencies, even if none are listed, else the two default ones
 abbrev pub setup_deps : List Section → List Dep
 setup_deps sections =
     if list_any (λ part. is_dependency part.said) (setup_parts sections) then flat_map (λ part. deps_said part.said) (setup_parts sections)
     else any_version (codes "base") ∷ any_version (codes "Cabal") ∷ []
 
--- a package without a setup script of its own has no setup dependencies
+-- the dependencies of the setup script; none without a script of the package's own
 abbrev pub setup : File → List Dep
 setup file = if is_custom file then setup_deps file.sections else []

@@ -1,4 +1,4 @@
-// The branches of a component, whose conditions are put together in a table.
+// The branches of a component, with their conditions in a table.
 
 ghost use Rattle.std.specs.Prelude.{◌≡◌, List, [], ◌∷◌, ◌++◌, Option, Some, slice_get, take, IfOk, OnOk};
 ghost use Rattle.plan_types.specs.Conditions.{cond_of};
@@ -13,16 +13,16 @@ use plan_types::{Cause, Cond, Conditions, Guard, List, NoMemory, Row};
 use section_syntax::{BranchWord, Said, or_never};
 use std::alloc::Global;
 
-/// A branch that is open, or that ended last in its place, by the numbers of conditions in a table.
+/// An open branch, or the last closed one on its level, by the numbers of conditions in the table.
 #[derive(Clone, Copy, Debug)]
 pub struct Level {
-    /// It is taken, and so are all those around it.
+    /// The branch and all those around it are taken.
     pub taken: usize,
-    /// None of the branches of its chain so far is taken. Nothing stands behind an `else`.
+    /// No branch of its chain so far is taken. None after an `else`.
     pub chain: Option<usize>,
 }
 
-/// Leaves the branches in which a part doesn't stand. What is told is the chain of the one that ended last in its place.
+/// Drops the levels from this depth on. The result is the chain of the first one dropped.
 pub(crate) fn leave(levels: &mut List<Level>, depth: usize) -> Option<usize>
     ensures levels { levels.new ≡ take depth levels.old }
     ensures chain { result ≡ chain_at levels.old depth }
@@ -35,7 +35,7 @@ pub(crate) fn leave(levels: &mut List<Level>, depth: usize) -> Option<usize>
     chain
 }
 
-/// The number of the condition that all of these branches are taken. That of `true` comes first in the table.
+/// The number of the condition that all of these branches are taken; 0, which is `true`, if there are none.
 pub(crate) fn number_at(levels: &[Level]) -> usize
     ensures { result ≡ number_at levels.now }
 {
@@ -51,7 +51,7 @@ fn innermost(levels: &[Level]) -> Option<usize>
     }
 }
 
-/// Enters the branch that begins with a part, where one does.
+/// Pushes the branch that a part begins, if it begins one.
 pub(crate) fn enter(
     alloc: Global,
     conds: &mut Conditions,
@@ -84,7 +84,7 @@ pub(crate) fn enter(
     }
 }
 
-// A branch inside those that are open.
+// The branch becomes the innermost one.
 fn push_branch(
     alloc: Global,
     conds: &mut Conditions,
@@ -103,7 +103,7 @@ fn push_branch(
     })
 }
 
-// A branch behind what was tried before it in its chain, without those around it.
+// The branch of a word in this chain, without the branches around it.
 fn branch_of(
     alloc: Global,
     conds: &mut Conditions,
@@ -152,7 +152,7 @@ fn last(alloc: Global, conds: &mut Conditions, chain: Option<usize>) -> Result<L
     Ok(Level { taken, chain: None })
 }
 
-/// A condition behind another one, where there is one.
+/// The number of `front && last`, or of `last` alone.
 pub(crate) fn behind(
     alloc: Global,
     conds: &mut Conditions,

@@ -70,7 +70,7 @@ fn is_public(placed: &[Placed]) -> bool
     public
 }
 
-/// What a part says of who may use a library, or else this.
+/// The visibility that a part gives, if it does, else the former one.
 fn visibility(placed: &Placed, public: bool) -> bool
     ensures { result ≡ unwrap_or (visibility_of (placed_part placed.now)) public }
 {
@@ -80,7 +80,7 @@ fn visibility(placed: &Placed, public: bool) -> bool
     }
 }
 
-// What its parts say, one after the other.
+// Goes through the parts in file order.
 fn gathered(alloc: Global, declared: &Declared, placed: &[Placed]) -> Result<Gathered, NoMemory>
     ensures stands { IfOk result (λ gathered. (opened : List Branch) × (barred : List Cond) × Stands gathered opened barred) }
     ensures barred { IfOk result (λ gathered. StandInBranches (map placed_part placed.now)

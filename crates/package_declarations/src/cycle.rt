@@ -1,4 +1,4 @@
-// Components that need each other.
+// Cycles among the components of a package.
 
 ghost use Rattle.std.specs.Prelude.{◌≡◌, ◌++◌, ◌∷◌, [], if◌then◌else◌, map, flat_map, IfOk, OnOk};
 ghost use Rattle.component_cycle.specs.Cycle.{IsFirstOnCycle};
@@ -12,7 +12,7 @@ use plan_types::{Component, Dep, DepGroup, DepKind, LibName, List, NoMemory};
 use stanza_imports::NameSet;
 use std::alloc::Global;
 
-/// The number of the first component that lies on a cycle of components that need each other.
+/// The number of the first component that is on a cycle of needs.
 pub fn first_circular(alloc: Global, components: &[Component]) -> Result<Option<usize>, NoMemory>
     ensures { IfOk result (IsFirstOnCycle (needs components.now)) }
 {

@@ -1,4 +1,4 @@
-// What a package declares, and what a dependency means in it.
+// The names that a package declares, and the meaning of its dependencies.
 
 ghost use Rattle.std.specs.Prelude.{◌≡◌, ◌&&◌, ◌||◌, ℕ, true, List, [], ◌∷◌, Option, IfOk, OnOk};
 ghost use Rattle.std.specs.List.{list_all};
@@ -17,7 +17,7 @@ use section_syntax::{File, Head, HeadField, Section, SectionKind};
 use stanza_imports::NameSet;
 use std::alloc::Global;
 
-/// What a package declares, by name. The main library has the empty name.
+/// The declared names of a package. The main library has the empty name.
 pub struct Declared<'a> {
     spec: Spec,
     /// The package's own name.
@@ -27,7 +27,7 @@ pub struct Declared<'a> {
     executables: NameSet<'a>,
 }
 
-// Written out, so that it is proved once and not at each exit of each function that owns one.
+// Explicit, so that it is proved once: a derived one is expanded at each exit.
 impl<'a> Drop for Declared<'a> {
     fn drop(self) {
         let Declared {
@@ -40,14 +40,14 @@ impl<'a> Drop for Declared<'a> {
     }
 }
 
-/// What a dependency means in a package.
+/// The meaning of a dependency in its package.
 #[derive(Clone, Copy, Debug, PartialEq, Eq)]
 pub enum Meaning {
     /// Another package.
     Other,
     /// Components of the package itself.
     Own,
-    /// A library of the package that has a name of its own, which stands in place of a package.
+    /// A library of the package that has a name of its own, named as if it were a package.
     OwnLibrary,
 }
 
@@ -92,7 +92,7 @@ impl<'a> Declared<'a> {
         }
     }
 
-    /// Whether a dependency is on nothing of the package itself that isn't declared.
+    /// Whether all components of the own package that the dependency names are declared.
     pub fn is_known(&self, dep: &Dep) -> bool
         ensures { (file : File) → Tells self.now file → result ≡ is_known file dep.now }
     {
@@ -143,7 +143,7 @@ impl<'a> Declared<'a> {
         }
     }
 
-    /// The dependency, as it is meant.
+    /// A copy of the dependency with its meaning resolved.
     pub fn meant(&self, alloc: Global, dep: &Dep) -> Result<Dep, NoMemory>
         ensures { IfOk result (λ found. (file : File) → Tells self.now file → found ≡ meant file dep.now) }
     {
@@ -225,7 +225,7 @@ fn own_library(alloc: Global, own: &Text, dep: &Dep) -> Result<Dep, NoMemory>
     })
 }
 
-/// That of the last field, also where it is none.
+/// The last `name` counts, even if it is ill-formed.
 fn own_name(heads: &[HeadField]) -> Option<&Text>
     ensures { shown result ≡ own_name heads.now }
 {
@@ -236,7 +236,7 @@ fn own_name(heads: &[HeadField]) -> Option<&Text>
     name
 }
 
-/// The name of the package behind a field, with that of the fields before it.
+/// The name after one more field.
 fn name_behind<'a>(before: Option<&'a Text>, head: &'a Head) -> Option<&'a Text>
     ensures { shown result ≡ name_behind (shown before.entry) head.now }
 {
@@ -247,7 +247,7 @@ fn name_behind<'a>(before: Option<&'a Text>, head: &'a Head) -> Option<&'a Text>
     }
 }
 
-/// Whether the name of the package that is asked for may stand for a library of this one.
+/// Whether the dependency's package name may be the name of a library of this package.
 fn is_bare(spec: Spec, libs: &[LibName]) -> bool
     ensures { result ≡ is_bare spec libs.now }
 {
@@ -269,7 +269,7 @@ fn is_main(lib: &LibName) -> bool
     }
 }
 
-/// Sections whose names are asked for.
+/// Kinds of sections by which names are looked up.
 #[derive(Clone, Copy)]
 enum Declares {
     Flag,

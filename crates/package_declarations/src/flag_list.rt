@@ -9,7 +9,7 @@ use plan_types::{FlagDecl, List, NoMemory};
 use section_syntax::{Said, Section, SectionKind, SectionPart};
 use std::alloc::Global;
 
-/// The flags, in the order of their names.
+/// The flags, sorted by name.
 pub fn flags(alloc: Global, sections: &[Section]) -> Result<List<FlagDecl>, NoMemory>
     ensures { IfOk result (AreFlags sections.now) }
 {

@@ -1,4 +1,4 @@
-// What the parts of a component say of its dependencies and of when it is buildable, gathered part by part.
+// A component's dependencies and its condition of being buildable, gathered part by part.
 
 ghost use Rattle.std.specs.Prelude.{◌≡◌, List, [], ◌∷◌, ◌++◌, map, take, length, slice_get, Some, IfOk, OnOk};
 ghost use Rattle.plan_types.specs.Guarded.{AreTabled, in_groups, under};
@@ -24,18 +24,18 @@ use section_syntax::Said;
 use stanza_imports::Placed;
 use std::alloc::Global;
 
-/// What the parts so far say.
+/// The state after the parts so far.
 pub struct Gathered {
     /// The first one is `true`.
     conds: Conditions,
-    /// The branches that are open, and those that ended last, each inside of the one before it.
+    /// The open branches and the last closed ones, the outermost first.
     levels: List<Level>,
     groups: Groups,
-    /// The number of the condition that no part so far bars the component, where one says `buildable: False`.
+    /// The number of the condition that no `buildable: False` so far counts; none if there was none.
     barred: Option<usize>,
 }
 
-// Written out, so that it is proved once and not at each exit of each function that owns one.
+// Explicit, so that it is proved once: a derived one is expanded at each exit.
 impl Drop for Gathered {
     fn drop(self) {
         let Gathered {
@@ -47,16 +47,16 @@ impl Drop for Gathered {
     }
 }
 
-/// Dependencies by the places in which they stand.
+/// Dependencies grouped by condition: neighbours under the same condition are one group.
 #[derive(Drop)]
 pub struct Groups {
     closed: List<DepGroup>,
-    /// Where the last dependency stands.
+    /// The group of the last dependency.
     current: Option<DepGroup>,
 }
 
 impl Gathered {
-    /// Before the first part.
+    /// The state before the first part.
     pub fn new(alloc: Global) -> Result<Gathered, NoMemory>
         ensures stands { IfOk result (λ gathered. Stands gathered [] []) }
         ensures deps { IfOk result (λ gathered. deps_in gathered.groups ≡ []) }
@@ -75,7 +75,7 @@ impl Gathered {
         })
     }
 
-    /// With the next part.
+    /// The state after one more part.
     pub fn with(
         self,
         alloc: Global,
@@ -110,7 +110,7 @@ impl Gathered {
         })
     }
 
-    /// When the component is buildable, and all dependencies.
+    /// The condition of being buildable, and all dependencies.
     pub fn into_parts(self, alloc: Global) -> Result<(TabledCond, GuardedDeps), NoMemory>
         requires { (opened : List Branch) × (barred : List Cond) × Stands self opened barred }
         ensures buildable { IfOk result (λ parts. (opened : List Branch) (barred : List Cond) → Stands self opened barred
@@ -136,7 +136,7 @@ impl Gathered {
 }
 
 impl Groups {
-    // With dependencies that stand under the condition with this number.
+    // Appends dependencies under the condition of this number.
     fn with(
         self,
         alloc: Global,
@@ -171,7 +171,7 @@ impl Groups {
         Ok(Groups { closed, current })
     }
 
-    // All of them.
+    // All groups in order.
     fn into_list(self) -> Result<List<DepGroup>, NoMemory>
         ensures tabled { IfOk result (λ groups. (conds : List Cond) → GroupsTabled conds self → AreTabled conds groups) }
         ensures deps { IfOk result (λ groups. in_groups groups ≡ deps_in self) }
@@ -184,7 +184,7 @@ impl Groups {
     }
 }
 
-// The condition that no part bars the component, with what this one bars, which stands under the condition with this number.
+// The number of `barred && !here` if the part is `buildable: False`, else `barred`.
 fn with_bar(
     alloc: Global,
     conds: &mut Conditions,
@@ -213,7 +213,7 @@ fn is_unbuildable(said: &Said) -> bool
     }
 }
 
-// The dependencies that a part states.
+// The dependencies of a part.
 fn asked(said: &Said) -> &[Dep]
     ensures { result.now ≡ deps_said said.now }
 {
@@ -223,7 +223,7 @@ fn asked(said: &Said) -> &[Dep]
     }
 }
 
-// Dependencies as they are meant.
+// The dependencies with their meanings resolved.
 fn meant(alloc: Global, declared: &Declared, found: &[Dep]) -> Result<List<Shared<Dep>>, NoMemory>
     ensures { IfOk result (λ deps. (file : File) → Tells declared.now file → deps ≡ map (meant file) found.now) }
 {

@@ -1,5 +1,6 @@
-//! What a package declares: its flags, its components, what its setup script needs, and what a dependency on the package
-//! itself means. Faults are the crate's above.
+//! The declarations of a package. In goes its parsed file. Out come its flags sorted by name, its components in file
+//! order, and the dependencies of its setup script. Each dependency has its meaning in the package: another package, or
+//! components of its own (`meaning`). Faults are found by the crate above.
 #![tactic(auto)]
 
 mod branches;

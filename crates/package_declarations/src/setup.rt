@@ -1,4 +1,4 @@
-// The setup script of a package, and what it needs.
+// The setup script of a package, and its dependencies.
 
 ghost use Rattle.std.specs.Prelude.{◌≡◌, ◌++◌, [], ◌∷◌, ◌&&◌, flat_map, unwrap_or, codes, IfOk, OnOk};
 ghost use Rattle.std.specs.List.{list_any};
@@ -10,7 +10,7 @@ use plan_types::{Dep, DepKind, LibName, List, NoMemory, Range, Text};
 use section_syntax::{File, Head, HeadField, Said, Section, SectionKind, SectionPart};
 use std::alloc::Global;
 
-/// Whether the package builds by a setup script of its own. The last build type counts; without one a `custom-setup` says it.
+/// Whether the package has its own setup script: by the last build type, else by whether there is a `custom-setup`.
 pub fn is_custom(file: &File) -> bool
     ensures { result ≡ is_custom file.now }
 {
@@ -130,7 +130,7 @@ fn push_deps(alloc: Global, found: &[Dep], deps: &mut List<Dep>) -> Result<(), N
     Ok(())
 }
 
-/// What a setup script needs where nobody wrote it: `base` and `Cabal`, any version.
+/// The default dependencies of a setup script: any version of `base` and `Cabal`.
 fn unwritten(alloc: Global) -> Result<List<Dep>, NoMemory>
     ensures { IfOk result (λ deps. deps ≡ any_version (codes "base") ∷ any_version (codes "Cabal") ∷ []) }
 {

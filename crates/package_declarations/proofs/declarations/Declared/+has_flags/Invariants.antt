@@ -5,7 +5,7 @@ use Rattle.package_declarations.specs.Declarations.{has_flags}
 use Rattle.package_declarations.specs.DeclaredNames.{Tells}
 use Rattle.package_declarations.proofs.declarations.Declared.+has_flags.Given as goal
 
--- the flags of what was passed are declared, and what is left is no deeper than the whole
+-- the rest of the condition decides the whole, and is no larger
 abbrev pub invariant-loop-left : goal.invariant-loop-left
 invariant-loop-left l =
     ((file : File) → Tells l.self file → has_flags file.sections l.left ≡ has_flags file.sections l.cond)
