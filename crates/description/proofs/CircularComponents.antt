@@ -1,4 +1,4 @@
--- What a file without a fault by itself comes to.
+-- The outcome of a file without faults of its own.
 use Rattle.std.proofs.Common.{◌≡◌, ℕ, List, sym, subst, ap}
 use Rattle.std.specs.Prelude.{Option, Some}
 use Rattle.std.specs.declared.result.Result.TheVariants.{Err}

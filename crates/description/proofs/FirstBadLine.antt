@@ -1,4 +1,4 @@
--- The first line as the first fault.
+-- The least line as the first fault.
 use Rattle.std.proofs.Common.{◌≡◌, ℕ, Bool, true, false, ◌&&◌, ◌||◌, ◌==◌, if◌then◌else◌, List, [], ◌∷◌, map, sym, ap, ◌∙◌, refl}
 use Rattle.std.specs.Prelude.{Option, Some, None, nat_lt}
 use Rattle.stanza_imports.specs.Lines.{first_line, lesser}

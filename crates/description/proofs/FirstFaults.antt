@@ -1,4 +1,4 @@
--- The first of faults that stand in several lists.
+-- The first fault of several lists.
 use Rattle.std.proofs.Common.{◌≡◌, ℕ, ◌<◌, ◌≤◌, Bool, true, false, ◌&&◌, ◌||◌, ◌==◌, List, [], ◌∷◌, ◌++◌, sym, ap, ◌∙◌, refl, arith, if◌then◌else◌, ◌+◌, take, get_or, length, flat_map, ◌⊎◌, inl, inr}
 use Rattle.std.proofs.lemmas.Bool.{false_from_ne_true, false≢true, ltb-true, ltb-false, lt-ltb, eqb-true, eq-eqb, and_parts, or_cases, or_parts}
 use Rattle.std.specs.Prelude.{Option, Some, None, nat_lt}
@@ -43,7 +43,7 @@ no-before a b c p q (inr both) =
     let two : c.line ≡ b.line = omega (arith, ba.0, cb.0, both.0) in
     omega (arith, ba.1 one, cb.1 two, both.1)
 
--- what isn't before something isn't before what that isn't before
+-- "not before" is transitive
 not-before : (a b c : At) → is_before b a ≡ false → is_before c b ≡ false → is_before c a ≡ false
 not-before a b c p q = false_from_ne_true (is_before c a) (λ h. no-before a b c p q (before-from c a h))
 
@@ -86,7 +86,7 @@ first-append (x ∷ xs) ys = ap (earlier (Some x)) (first-append xs ys) ∙ earl
 pub at-append : (line : ℕ) (xs ys : List Cause) → first (at line (xs ++ ys)) ≡ earlier (first (at line xs)) (first (at line ys))
 at-append line xs ys = ap first (map-append (λ cause. record { line = line; cause = cause }) xs ys) ∙ first-append (at line xs) (at line ys)
 
--- one element further
+-- one more element
 pub first-more : {A : Type 0} (f : A → List At) (xs : List A) (n : ℕ) (x : A) → n < length xs → x ≡ get_or xs n x →
     earlier (first (flat_map f (take n xs))) (first (f x)) ≡ first (flat_map f (take (n + 1) xs))
 first-more f xs n x lt is =

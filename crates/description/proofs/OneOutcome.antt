@@ -1,4 +1,4 @@
--- Elements have one outcome.
+-- The elements of a file have at most one outcome.
 use Rattle.std.proofs.Common.{◌≡◌, ℕ, List, sym, subst, ap, ◌∙◌}
 use Rattle.std.specs.Prelude.{Option, None, Some}
 use Rattle.std.specs.declared.result.Result.{Result}

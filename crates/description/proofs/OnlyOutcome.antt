@@ -1,4 +1,4 @@
--- An answer that comes is the only one where there is one outcome at most.
+-- A result is the only outcome if there is at most one.
 use Rattle.std.proofs.Common.{◌≡◌, IfOk}
 use Rattle.std.specs.Prelude.{IfErr}
 use Rattle.std.specs.declared.result.Result.{Result}

@@ -1,4 +1,4 @@
--- The names that are kept while a file is gone through are those of the sections that stand before.
+-- The kept names are those of the earlier sections.
 use Rattle.std.proofs.Common.{◌≡◌, ℕ, Bool, true, false, not, ◌&&◌, ◌||◌, if◌then◌else◌, List, [], ◌∷◌, ◌++◌, flat_map, sym, ap, ◌∙◌, refl}
 use Rattle.std.specs.List.{list_all}
 use Rattle.std.proofs.Math.Bool.{or-false}
@@ -18,7 +18,7 @@ use Rattle.description.specs.declared.fault_order.At.{At}
 use Rattle.description.specs.declared.faults.Class.{Class}
 use Rattle.description.specs.declared.faults.Class.TheVariants.{Common}
 
--- ---- the faults, by the names that are kept
+-- ---- the faults, by the kept names
 
 abbrev pub repeated_from : Class → List (List ℕ) → List Section → List At
 repeated_from class names [] = []
@@ -31,9 +31,9 @@ abbrev pub unknown_from : List (List ℕ) → List Section → List At
 unknown_from known [] = []
 unknown_from known (section ∷ sections) = unknown_with known section ++ unknown_from (names_behind Common known section) sections
 
--- ---- they are those of the sections that stand before
+-- ---- the kept names are those of the earlier sections
 
--- these are the names of the sections of a class
+-- these are the names of a class of sections
 abbrev pub AreNames : Class → List Section → List (List ℕ) → Type 0
 AreNames class before names = (name : List ℕ) → has names name ≡ declares (is_class class) before name
 

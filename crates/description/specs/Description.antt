@@ -32,11 +32,11 @@ use Rattle.package_declarations.specs.Flags.{AreFlags}
 use Rattle.package_declarations.specs.Setup.{is_custom, setup}
 use Rattle.description.specs.declared.fault_order.At.{At}
 
--- a field that has to be there has no line
+-- a required field that is missing, at line 0
 abbrev pub missing : At
 missing = record { line = 0; cause = MissingField }
 
--- the format that a text names
+-- the format of a `cabal-version` text
 abbrev pub spec_of : ℕ → List ℕ → Result Spec At
 spec_of line text =
     if same_text text (codes "2.4") then Ok V2_4
@@ -44,23 +44,23 @@ spec_of line text =
     else if same_text text (codes "3.4") then Ok V3_4
     else Err (record { line = line; cause = WrongCabalVersion })
 
--- the first element states the cabal-version
+-- the cabal-version of a file, which its first element has
 abbrev pub cabal_version : Tree → Result Spec At
 cabal_version end = Err missing
 cabal_version (field line name values behind) = if same_text name (codes "cabal-version") then spec_of line (joined_text values) else Err missing
 cabal_version (section line name args items behind) = Err missing
 
--- the version that a field states
+-- the version that a field gives, if it is well-formed
 abbrev pub version_said : Head → Option Version
 version_said (head.Name name) = None
 version_said (head.Version version) = version
 version_said (head.BuildType custom) = None
 
--- the last version that is of its form
+-- the last well-formed version
 abbrev pub version_of : List HeadField → Option Version
 version_of heads = last_said (λ field. version_said field.head) heads
 
--- the line, where this is a `build-tools`
+-- the line, if this is a `build-tools` field
 abbrev pub is_build_tools : Said → List ℕ → List ℕ
 is_build_tools (said.Import names fits) line = []
 is_build_tools (said.Depends deps) line = []
@@ -72,15 +72,15 @@ is_build_tools said.BuildTools line = line
 is_build_tools (said.Branch word condition fits) line = []
 is_build_tools said.Misplaced line = []
 
--- the line of a field that is accepted unread
+-- the line of a field that is accepted but not read
 abbrev pub warning : SectionPart → List ℕ
 warning part = is_build_tools part.said (part.line ∷ [])
 
--- the lines of all such fields
+-- the lines of all fields that are accepted but not read
 abbrev pub warnings : List Section → List ℕ
 warnings sections = flat_map (λ section. flat_map warning section.parts) sections
 
--- what a file describes, with these flags
+-- the description of a file, with these flags
 abbrev pub description : File → List FlagDecl → List ℕ → List ℕ → Version → Description
 description file flags digest name version = record {
   spec = file.spec;
@@ -94,7 +94,7 @@ description file flags digest name version = record {
   warnings = warnings file.sections;
 }
 
--- a description of a file has the flags that are declared in it, in their order, and else what stands in the file
+-- a description of the file: its flags are the sorted ones, the rest is fixed by the file
 pub record IsDescriptionOf (file : File) (digest name : List ℕ) (version : Version) (d : Description) : Type 0 where
   pub flags : AreFlags file.sections d.flags
   pub is : d ≡ description file d.flags digest name version
@@ -103,12 +103,12 @@ pub record IsDescriptionOf (file : File) (digest name : List ℕ) (version : Ver
 abbrev pub line_of : List Component → ℕ → ℕ
 line_of components n = elim (slice_get components n) [ None ↦ 0 | Some c ↦ c.line ]
 
--- components that need each other are a fault at the first of them
+-- a cycle of components is a fault at its first component
 abbrev pub unless_circular : Option ℕ → Description → Result Description At
 unless_circular None d = Ok d
 unless_circular (Some n) d = Err (record { line = line_of d.components n; cause = ComponentCycle })
 
--- what a file without a fault by itself comes to
+-- the outcome of a file without faults of its own
 abbrev pub Comes : File → List ℕ → Option (List ℕ) → Option Version → Result Description At → Type 0
 Comes file digest None version outcome = outcome ≡ Err missing
 Comes file digest (Some name) None outcome = outcome ≡ Err missing
@@ -116,16 +116,16 @@ Comes file digest (Some name) (Some version) outcome =
     (d : Description) × IsDescriptionOf file digest name version d
     × (circular : Option ℕ) × IsFirstOnCycle (needs d.components) circular × (outcome ≡ unless_circular circular d)
 
--- The faults of the file come first, then a name or version that is missing, then a cycle of components.
+-- The outcome of a file: its first fault, then a missing name or version, then a cycle of components.
 abbrev pub ComesTo : File → List ℕ → Option At → Result Description At → Type 0
 ComesTo file digest (Some at) outcome = outcome ≡ Err at
 ComesTo file digest None outcome = Comes file digest (own_name file.heads) (version_of file.heads) outcome
 
--- what elements of this format come to
+-- the outcome of elements in a format
 abbrev pub OfVersion : Result Spec At → List Element → List ℕ → Result Description At → Type 0
 OfVersion (Err at) items digest outcome = outcome ≡ Err at
 OfVersion (Ok spec) items digest outcome = (file : File) × IsFile spec items file × ComesTo file digest (first (faults file)) outcome
 
--- the elements have this description, or this first fault
+-- the elements have this outcome: a description or their first fault
 abbrev pub Describes : List Element → List ℕ → Result Description At → Type 0
 Describes items digest outcome = OfVersion (cabal_version (tree_of items)) items digest outcome

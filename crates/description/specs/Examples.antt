@@ -1,4 +1,4 @@
--- What the definitions give on small files.
+-- The definitions on small files.
 use Rattle.std.specs.Prelude.{◌≡◌, ℕ, true, false, List, [], ◌∷◌, map, refl, codes, Option, None, Some}
 use Rattle.std.specs.declared.result.Result.TheVariants.{Err}
 use Rattle.plan_types.specs.declared.condition.Cond.{Cond}
@@ -47,11 +47,11 @@ a = Flag (codes "a")
 abbrev b : Cond
 b = Flag (codes "b")
 
--- the least line, and on one line the cause that is listed before the others
+-- the least line, and on one line the cause of the least rank
 the_least_line : first (fault 7 BadName ∷ fault 5 UnknownFlag ∷ fault 5 BadField ∷ []) ≡ Some (fault 5 BadField)
 the_least_line = refl
 
--- a stanza under `a` that is imported under `b`
+-- a part under `a` in a stanza that is imported under `b`
 imported : with_imports_replaced
     (section 4 kinds.Common (codes "s") (part 5 (a ∷ []) (said.Buildable (Some false)) ∷ [])
     ∷ section 6 (kinds.Component Library) [] (part 7 (b ∷ []) (said.Import (codes "s" ∷ []) true) ∷ part 8 [] said.BuildTools ∷ []) ∷ [])
@@ -98,7 +98,7 @@ named_twice = refl
 beside_another : meaning (file V3_0) (record (on (codes "sub")) { libs = Main ∷ Named (codes "other") ∷ [] }) ≡ Other
 beside_another = refl
 
--- in 3.4 a name alone is that of a package
+-- in 3.4 a bare name is that of a package
 a_package_in_3_4 : meant (file V3_4) (on (codes "sub")) ≡ on (codes "sub")
 a_package_in_3_4 = refl
 

@@ -1,4 +1,4 @@
--- Which of some faults is the first.
+-- The first of some faults.
 use Rattle.std.specs.Prelude.{◌≡◌, ℕ, Bool, ◌&&◌, ◌||◌, ◌==◌, nat_lt, if◌then◌else◌, List, [], ◌∷◌, Option, Some, None}
 use Rattle.std.specs.declared.result.Result.{Result}
 use Rattle.std.specs.declared.result.Result.TheVariants.{Ok, Err}
@@ -12,13 +12,13 @@ use Rattle.description.specs.declared.fault_order.At.{At}
 abbrev pub is_at : ℕ → Cause → At
 is_at line cause = record { line = line; cause = cause }
 
--- Of all outcomes this answer is the only one that comes, unless memory was wanting.
+-- The result is the only outcome there is; nothing is known of an outcome when out of memory.
 unfoldable pub IsOnly : {A : Type 0} → (Result A At → Type 0) → Result A Fault → Type 0
 IsOnly {A = A} Comes (Ok found) = (outcome : Result A At) → Comes outcome → outcome ≡ Ok found
 IsOnly Comes (Err fault.NoMemory) = Unit {0}
 IsOnly {A = A} Comes (Err (fault.At line cause)) = (outcome : Result A At) → Comes outcome → outcome ≡ Err (is_at line cause)
 
--- the place of a cause among those that may stand on one line
+-- the rank of a cause among the faults of one line
 abbrev pub rank : Cause → ℕ
 rank causes.NotUtf8 = 0
 rank causes.StrayBrace = 1
@@ -54,17 +54,17 @@ rank causes.DuplicateUnit = 30
 rank causes.TooMany = 31
 rank causes.BadEvent = 32
 
--- the lesser line comes first, and on one line the cause of the lesser rank
+-- by line, and on one line by the rank of the cause
 abbrev pub is_before : At → At → Bool
 is_before a b = nat_lt a.line b.line || (a.line == b.line && nat_lt (rank a.cause) (rank b.cause))
 
--- the earlier of two, where there are two
+-- the earlier of two faults, or the only one
 abbrev pub earlier : Option At → Option At → Option At
 earlier None b = b
 earlier (Some a) None = Some a
 earlier (Some a) (Some b) = if is_before b a then Some b else Some a
 
--- the one that no other is before
+-- the least fault in this order
 abbrev pub first : List At → Option At
 first [] = None
 first (a ∷ faults) = earlier (Some a) (first faults)

@@ -1,4 +1,4 @@
--- The faults that stand in a file. Each list says of one cause where it stands.
+-- The faults of a file. Each definition has the places of one cause.
 use Rattle.std.specs.Prelude.{ℕ, Bool, true, false, ◌&&◌, ◌||◌, not, if◌then◌else◌, List, [], ◌∷◌, ◌++◌, map, flat_map, Option, Some, None}
 use Rattle.std.specs.declared.result.Result.{Result}
 use Rattle.std.specs.declared.result.Result.TheVariants.{Ok, Err}
@@ -25,21 +25,21 @@ use Rattle.description.specs.declared.faults.Class.{Class}
 use Rattle.description.specs.declared.faults.Class.TheVariants.{Component, Common, Flag, Setup}
 use Rattle.stanza_imports.specs.Parts.{bad_visibilities}
 
--- these causes, at a line
+-- these causes at a line
 abbrev pub at : ℕ → List Cause → List At
 at line found = map (λ cause. record { line = line; cause = cause }) found
 
--- a cause, where a test fails
+-- the cause if a test fails
 abbrev pub unless : Bool → Cause → List Cause
 unless true cause = []
 unless false cause = cause ∷ []
 
--- a cause, where there is no value
+-- the cause if there is no value
 abbrev pub unless_some : {A : Type 0} → Option A → Cause → List Cause
 unless_some None cause = cause ∷ []
 unless_some (Some x) cause = []
 
--- a field beside the sections has a value of its form
+-- the fault of a field beside the sections: its value is ill-formed
 abbrev pub of_head : Head → List Cause
 of_head (head.Name name) = unless_some name causes.BadName
 of_head (head.Version version) = unless_some version causes.BadVersion
@@ -49,12 +49,12 @@ of_head (head.BuildType custom) = unless_some custom causes.BadField
 abbrev pub in_head : HeadField → List At
 in_head field = at field.line (of_head field.head)
 
--- nothing stands there
+-- whether a text is empty
 abbrev pub is_empty : List ℕ → Bool
 is_empty [] = true
 is_empty (b ∷ bs) = false
 
--- a section has a name of its form; the main library has none
+-- whether a section's name is well-formed; the main library has none
 abbrev pub has_good_name : SectionKind → List ℕ → Bool
 has_good_name (kinds.Component component.Library) name = is_empty name || is_component_name name
 has_good_name (kinds.Component component.Executable) name = is_component_name name
@@ -65,17 +65,17 @@ has_good_name kinds.Common name = not (is_empty name)
 has_good_name kinds.Flag name = is_flag_name name
 has_good_name kinds.Setup name = true
 
--- no library has the name of its package
+-- faults of a section's name: it is ill-formed, or a library has the name of its package
 abbrev pub of_name : Option (List ℕ) → Section → List Cause
 of_name own section =
     unless (has_good_name section.kind section.name) causes.BadName ++ unless (not (is_library section.kind && is_own own section.name)) causes.DuplicateName
 
--- the condition of a branch can be read, and its flags are declared
+-- the fault of a branch's condition: it can't be read, or a flag is undeclared
 abbrev pub of_condition : List Section → Result Cond Cause → List Cause
 of_condition sections (Ok cond) = unless (has_flags sections cond) causes.UnknownFlag
 of_condition sections (Err cause) = cause ∷ []
 
--- what a part says can be read and may stand there, its dependencies on the package itself and the flags of its condition are declared
+-- the faults of a part: its value, its place, an undeclared component of the own package, or its condition
 abbrev pub of_said : File → Said → List Cause
 of_said file (said.Import names fits) = unless fits causes.ImportNotFirst
 of_said file (said.Depends (Ok deps)) = unless (list_all (is_known file) deps) causes.UnknownComponent
@@ -92,11 +92,11 @@ of_said file said.Misplaced = causes.BadField ∷ []
 abbrev pub in_part : File → SectionPart → List At
 in_part file part = at part.line (of_said file part.said)
 
--- the faults of a section by itself
+-- the faults of a section: its name and its parts
 abbrev pub in_section : File → Section → List At
 in_section file section = at section.line (of_name (own_name file.heads) section) ++ flat_map (in_part file) section.parts
 
--- what may stand once of each name
+-- the class in which a section's name must be unique
 abbrev pub class_of : SectionKind → Class
 class_of (kinds.Component kind) = Component
 class_of kinds.Common = Common
@@ -110,21 +110,21 @@ is_class Common kind = elim (class_of kind) [ Component ↦ false | Common ↦ t
 is_class Flag kind = elim (class_of kind) [ Component ↦ false | Common ↦ false | Flag ↦ true | Setup ↦ false ]
 is_class Setup kind = elim (class_of kind) [ Component ↦ false | Common ↦ false | Flag ↦ false | Setup ↦ true ]
 
--- what is said of each section by those that stand before it
+-- values of sections, each computed from the sections before it
 abbrev pub by_those_before : (List Section → Section → List At) → List Section → List Section → List At
 by_those_before told before [] = []
 by_those_before told before (section ∷ behind) = told before section ++ by_those_before told (before ++ section ∷ []) behind
 
--- a section of a class has the name of another of that class that stands before it
+-- the fault of a section of a class that repeats an earlier name
 abbrev pub repeats : Class → List Section → Section → List At
 repeats class before section =
     if is_class class section.kind then at section.line (unless (not (declares (is_class class) before section.name)) causes.DuplicateName) else []
 
--- all of these
+-- all repeated names of a class
 abbrev pub repeated : Class → List Section → List At
 repeated class = by_those_before (repeats class) []
 
--- an import that may stand where it does names a common stanza that doesn't stand before its section
+-- the fault of a well-placed import: one of its stanzas isn't declared earlier
 abbrev pub unknown_said : List Section → Said → List Cause
 unknown_said before (said.Import names fits) =
     if fits then unless (list_all (declares (is_class Common) before) names) causes.UnknownStanza else []
@@ -137,15 +137,15 @@ unknown_said before said.BuildTools = []
 unknown_said before (said.Branch word condition fits) = []
 unknown_said before said.Misplaced = []
 
--- such imports of a section
+-- unknown stanzas in the imports of a section
 abbrev pub unknown_in : List Section → Section → List At
 unknown_in before section = flat_map (λ part. at part.line (unknown_said before part.said)) section.parts
 
--- all of these
+-- all imports of unknown stanzas
 abbrev pub unknown_stanzas : List Section → List At
 unknown_stanzas = by_those_before unknown_in []
 
--- the faults that stand in a file by themselves
+-- the faults of a file, except bad visibilities
 abbrev pub file_faults : File → List At
 file_faults file =
     flat_map in_head file.heads
@@ -157,6 +157,6 @@ file_faults file =
 abbrev pub bad_visibility_at : ℕ → At
 bad_visibility_at line = record { line = line; cause = causes.BadField }
 
--- and those that come with imports
+-- all faults of a file; bad visibilities are found once imports are replaced
 abbrev pub faults : File → List At
 faults file = file_faults file ++ map bad_visibility_at (flat_map bad_visibilities (with_imports_replaced file.sections))

@@ -1,4 +1,4 @@
--- The names of a class of sections, as they are kept while a file is gone through.
+-- The names of earlier sections of a class, as they are kept in file order.
 use Rattle.std.specs.Prelude.{ℕ, not, if◌then◌else◌, List, []}
 use Rattle.std.specs.List.{list_all}
 use Rattle.plan_types.specs.declared.refusal.Cause.{Cause}
@@ -11,15 +11,15 @@ use Rattle.description.specs.Faults.{at, is_class, unless}
 use Rattle.description.specs.declared.fault_order.At.{At}
 use Rattle.description.specs.declared.faults.Class.{Class}
 
--- the names of a class, behind a section
+-- the names of a class after one more section
 abbrev pub names_behind : Class → List (List ℕ) → Section → List (List ℕ)
 names_behind class names section = if is_class class section.kind then with_name names section.name else names
 
--- a section of a class has one of these names
+-- the fault of a section of a class whose name is among these
 abbrev pub again : Class → List (List ℕ) → Section → List At
 again class names section = if is_class class section.kind then at section.line (unless (not (has names section.name)) causes.DuplicateName) else []
 
--- an import names a common stanza that is none of these
+-- the fault of a well-placed import: one of its stanzas isn't among these
 abbrev pub unknown_of : List (List ℕ) → Said → List Cause
 unknown_of known (said.Import names fits) = if fits then unless (list_all (has known) names) causes.UnknownStanza else []
 unknown_of known (said.Depends deps) = []

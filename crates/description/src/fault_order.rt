@@ -1,4 +1,4 @@
-// Which of two faults comes first.
+// The order of faults.
 
 ghost use Rattle.std.specs.Prelude.{◌≡◌};
 ghost use Rattle.plan_types.specs.declared.refusal.Fault.TheVariants.{At as fault_at};
@@ -14,7 +14,7 @@ pub struct At {
 }
 
 impl At {
-    /// The lesser line comes first, and of two causes on one line the one with the lesser rank.
+    /// By line, and on one line by the rank of the cause.
     fn is_before(self, other: At) -> bool
         ensures { result ≡ is_before self other }
     {
@@ -31,7 +31,7 @@ impl At {
     }
 }
 
-/// The place of a cause among those that may stand on one line.
+/// The rank of a cause among the faults of one line.
 fn rank(cause: Cause) -> u8
     ensures { result ≡ rank cause }
 {
@@ -72,7 +72,7 @@ fn rank(cause: Cause) -> u8
     }
 }
 
-/// The earlier of two, where there are two.
+/// The earlier of two faults, or the only one.
 pub fn earlier(one: Option<At>, other: Option<At>) -> Option<At>
     ensures { result ≡ earlier one other }
 {

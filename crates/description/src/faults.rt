@@ -1,4 +1,4 @@
-// The faults that stand in a file by themselves.
+// The faults of a file, except bad visibilities.
 
 ghost use Rattle.std.specs.Prelude.{◌≡◌, ◌&&◌, ℕ, true, not, List, [], flat_map, Option, IfOk, OnOk};
 ghost use Rattle.std.specs.List.{list_all};
@@ -21,7 +21,7 @@ use section_syntax::{File, Head, HeadField, Said, Section, SectionKind, SectionP
 use stanza_imports::NameSet;
 use std::alloc::Global;
 
-/// The first of the faults that stand in a file by themselves, without those that come with imports.
+/// The first fault of a file, except bad visibilities.
 pub fn first_fault(alloc: Global, file: &File, declared: &Declared) -> Result<Option<At>, NoMemory>
     ensures { IfOk result (λ found. Tells declared.now file.now → found ≡ first (file_faults file.now)) }
 {
@@ -36,7 +36,7 @@ pub fn first_fault(alloc: Global, file: &File, declared: &Declared) -> Result<Op
     Ok(found)
 }
 
-/// A cause at a line, where a test fails.
+/// The cause at this line, if the test fails.
 fn unless(line: u32, holds: bool, cause: Cause) -> Option<At>
     ensures { result ≡ first (at line (unless holds cause)) }
 {
@@ -205,7 +205,7 @@ fn of_condition(line: u32, condition: &Result<Guard, Cause>, declared: &Declared
     }
 }
 
-/// What may stand once of each name.
+/// Sections whose names must differ from each other.
 #[derive(Clone, Copy, Debug, PartialEq, Eq)]
 pub enum Class {
     Component,
@@ -242,7 +242,7 @@ fn first_repeated(alloc: Global, class: Class, sections: &[Section]) -> Result<O
     Ok(found)
 }
 
-/// The fault at a section of a class, where one before it has its name.
+/// The fault of a section of the class that repeats an earlier name.
 fn again<'a>(
     class: Class,
     before: &mut NameSet<'a>,

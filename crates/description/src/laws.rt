@@ -1,4 +1,4 @@
-// A law of the definitions that crates above rest on.
+// A law that crates above use.
 
 ghost use Rattle.std.specs.Prelude.{◌≡◌, ℕ, List};
 ghost use Rattle.std.specs.declared.result.Result.{Result};
@@ -9,7 +9,7 @@ ghost use Rattle.description.specs.Description.{Describes};
 
 use component_cycle::one_first;
 
-/// Elements have one description or one first fault, and never both.
+/// The elements of a file have at most one outcome: one description or one first fault.
 pub fn one_outcome()
     ensures { (items : List Element) (digest : List ℕ) (a b : Result Description At)
         → Describes items digest a → Describes items digest b → a ≡ b }

@@ -1,4 +1,6 @@
-//! From the fields and sections of a `.cabal` file to the description of a package, or to the first fault that stands in it.
+//! The description of a package. In go the elements of a `.cabal` file; out comes its description or its first fault. A
+//! missing or wrong cabal-version comes first, then the other faults by line and rank. A missing name or version, and a
+//! cycle of components, come last. The elements have at most one outcome (`one_outcome`).
 #![tactic(auto)]
 
 mod fault_order;

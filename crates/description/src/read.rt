@@ -1,4 +1,4 @@
-// The description of a package, from the elements of its file.
+// The description of a package, read from the elements of its file.
 
 ghost use Rattle.std.specs.Prelude.{◌≡◌, ◌++◌, ◌*◌, ℕ, List, Option, flat_map, map, IfOk, IfErr, OnOk};
 ghost use Rattle.std.specs.Option.{option_or};
@@ -32,10 +32,10 @@ use section_syntax::{File, Head, HeadField, Said, Section, SectionPart, read_fil
 use stanza_imports::{Bodies, bodies_of, first_bad_visibility, total_weight};
 use std::alloc::Global;
 
-/// The description that the elements of a file give, or their first fault. The digest is kept as it is.
+/// The description of a file's elements, or their first fault. The digest is passed through.
 ///
-/// The cabal-version decides how the rest is read. Then comes the fault of the least line, then a name or version that
-/// is missing, with the line 0, and then a cycle of components.
+/// The cabal-version decides how the rest is read. Next comes the fault of the least line, then a missing name or
+/// version at line 0, then a cycle of components.
 pub fn read_description(
     alloc: Global,
     items: &List<Element>,
@@ -68,7 +68,7 @@ fn missing() -> Fault
     }
 }
 
-/// What the first element states.
+/// The cabal-version in the first element.
 fn cabal_version(alloc: Global, items: &[Element]) -> Result<Spec, Fault>
     ensures spec { IfOk result (λ spec. cabal_version (tree_of items.now) ≡ Ok spec) }
     ensures fault { IfErr result (RefusesAt (λ line cause. cabal_version (tree_of items.now) ≡ Err (is_at line cause))) }
@@ -128,7 +128,7 @@ fn described(alloc: Global, file: &File, digest: Text) -> Result<Description, Fa
     judged(alloc, file, digest, &declared, &bodies)
 }
 
-/// What a file comes to, by the tables of what it declares and imports.
+/// The outcome of a file, by the tables of its declarations and imports.
 fn judged(
     alloc: Global,
     file: &File,
@@ -149,7 +149,7 @@ fn judged(
     }
 }
 
-/// The first of the faults of a file, those that come with imports among them.
+/// The first fault of a file, including bad visibilities.
 fn first_of_file(
     alloc: Global,
     file: &File,
@@ -163,7 +163,7 @@ fn first_of_file(
     Ok(earlier(written, bad_visibility(bodies)))
 }
 
-/// The first bad visibility, where there is one.
+/// The fault of the first bad visibility.
 fn bad_visibility(bodies: &Bodies) -> Option<At>
     ensures { (sections : List Section) → Stand sections bodies.now
         → result ≡ first (map bad_visibility_at (flat_map bad_visibilities (with_imports_replaced sections))) }
@@ -177,7 +177,7 @@ fn bad_visibility(bodies: &Bodies) -> Option<At>
     }
 }
 
-/// What a file without a fault by itself comes to.
+/// The outcome of a file without faults of its own.
 fn faultless(
     alloc: Global,
     file: &File,
@@ -218,14 +218,14 @@ fn components_in(
     Ok(found)
 }
 
-/// Asks at once for about the memory that so many parts and dependencies take, and gives it back. Imports may describe more
-/// than any machine holds, which is to be said before its memory is filled.
+/// Reserves about the memory that so many parts and dependencies take, and frees it. Imports can describe more than
+/// memory has room for. Then out of memory is reported before that memory is filled.
 fn room(alloc: Global, weight: u64) -> Result<(), NoMemory> {
     let _room: Vec<u64> = Vec::with_capacity(alloc, words_for(weight))?;
     Ok(())
 }
 
-/// About so many words of memory are taken by each part and dependency.
+/// About 64 words of memory for each part and dependency.
 fn words_for(weight: u64) -> usize
     ensures { result ≡ capped (weight * 64) }
 {
@@ -261,7 +261,7 @@ fn whole(
     })
 }
 
-/// The fault at a component that lies on a cycle.
+/// The fault of a component on a cycle.
 fn circular(components: &[Component], number: usize) -> Fault
     ensures { result ≡ Fault.At (line_of components.now number) Cause.ComponentCycle }
 {
@@ -275,7 +275,7 @@ fn circular(components: &[Component], number: usize) -> Fault
     }
 }
 
-/// The last version that is of its form.
+/// The last well-formed version.
 fn version_of(heads: &[HeadField]) -> Option<&Version>
     ensures { shown_version result ≡ version_of heads.now }
 {
