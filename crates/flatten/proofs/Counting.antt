@@ -1,4 +1,4 @@
--- An entry counts where the stanza is on and its path holds.
+-- A demand counts iff its stanza is on and its path holds.
 use Rattle.std.proofs.Common.{◌≡◌, ℕ, zero, suc, true, false, ◌&&◌, ◌||◌, Some, List, [], ◌∷◌, map, refl, sym, ap, ◌∙◌}
 use Rattle.std.specs.List.{list_any, slice_get}
 use Rattle.std.proofs.lemmas.Bool.{and_right}
@@ -29,7 +29,7 @@ any_is_met parts kind dep (path ∷ paths) =
     (λ i. is_met parts kind dep path i || any_is_met parts kind dep paths i)
     ∙ sym (and-or_distrib_left stanza (holds (flags_of parts) path) (list_any (holds (flags_of parts)) paths))
 
--- an entry at a place is the path at that place
+-- the demand at a place has the path at that place
 pub record IsFrom (kind : CompKind) (dep : Dep) (paths : List Path) (i : ℕ) (flat : FlatDep) : Type 0 where
   pub path : Path
   pub there : slice_get paths i ≡ Some path

@@ -8,7 +8,7 @@ use Rattle.flatten.specs.Demands.{Outward, is_beyond, first_among}
 abbrev line_of : Outward → ℕ
 line_of at = at.guarded.dep.line
 
--- where none of the first has too many, the others decide
+-- if none of the front has too many, the rest decides
 pub none_among : (env : Env) (front rest : List Outward) → first_among env front ≡ None → first_among env (front ++ rest) ≡ first_among env rest
 none_among env [] rest none = refl
 none_among env (at ∷ front) rest none = by (is_beyond env at) none (λ e. none_among env front rest e)

@@ -1,4 +1,4 @@
--- Dependencies in groups, group by group.
+-- Dependencies, group by group.
 use Rattle.std.proofs.Common.{◌≡◌, Bool, true, false, not, ◌||◌, cond, Some, None, List, [], ◌∷◌, ◌++◌, map, refl, sym, ap, ◌∙◌}
 use Rattle.std.specs.List.{list_any}
 use Rattle.std.specs.Option.{option_map}
@@ -17,12 +17,12 @@ use Rattle.flatten.specs.Demands.{Outward, external, first_among, is_beyond, out
 abbrev pub is-other : GuardedDep → Bool
 is-other guarded = not guarded.dep.internal
 
--- a dependency of a group is on another package, where one is that a contract sees
+-- a group has a dependency on another package iff its view has
 any-of-group : (when : Cond) (deps : List Dep) → list_any (λ dep. not dep.internal) deps ≡ list_any is-other (map (λ dep. record { when = when; dep = dep }) deps)
 any-of-group when [] = refl
 any-of-group when (dep ∷ deps) = ap (λ b. not dep.internal || b) (any-of-group when deps)
 
--- ---- those of one group, one after the other
+-- ---- those of one group, one by one
 
 pub outward-append : (component : Component) (front rest : List GuardedDep) → outward_among component (front ++ rest) ≡ outward_among component front ++ outward_among component rest
 outward-append component front rest =
@@ -39,15 +39,15 @@ module _ (component : Component) (when : Cond) (dep : Dep) (rest : List Dep) whe
   pub passed : dep.internal ≡ true → outward_among component (map in-place (dep ∷ rest)) ≡ outward_among component (map in-place rest)
   passed is = ap (λ b. map (outward_of component) (cond (not b) (in-place dep ∷ external (map in-place rest)) (external (map in-place rest)))) is
 
--- where it hasn't too many paths, the others decide
+-- if the first hasn't too many paths, the rest decides
 pub not-first : (env : Env) (at : Outward) (rest : List Outward) → is_beyond env at ≡ false → first_among env (at ∷ rest) ≡ first_among env rest
 not-first env at rest is = none_among env (at ∷ []) rest (ap (λ b. option_map (λ at. at.guarded.dep.line) (cond b (Some at) None)) is)
 
--- and where it has, it is the first
+-- if the first has too many, its line is the answer
 pub is-first : (env : Env) (at : Outward) (rest : List Outward) → is_beyond env at ≡ true → first_among env (at ∷ rest) ≡ Some at.guarded.dep.line
 is-first env at rest is = ap (λ b. option_map (λ at. at.guarded.dep.line) (cond b (Some at) (find (is_beyond env) rest))) is
 
--- where none is on another package, nothing is asked
+-- a group without dependencies on other packages has no demands
 pub none-other : (component : Component) (when : Cond) (deps : List Dep) → list_any (λ dep. not dep.internal) deps ≡ false → outward_among component (map (λ dep. record { when = when; dep = dep }) deps) ≡ []
 none-other component when deps none =
     ap (map (outward_of component)) (filter_none is-other (map (λ dep. record { when = when; dep = dep }) deps) (sym (any-of-group when deps) ∙ none))

@@ -1,4 +1,4 @@
--- The paths of a dependency, by those on which its component is built and those of its own condition.
+-- The paths of a dependency: those of its component joined with those of its own condition.
 use Rattle.std.proofs.Common.{◌≡◌, ◌≢◌, ℕ, zero, suc, ◌*◌, ◌<◌, ◌≤◌, Bool, true, false, not, ◌||◌, nat_eq, cond, None, List, [], ◌∷◌, ◌++◌, length, map, flat_map, refl, sym, ap, ◌∙◌, append-nil, suc-mul, mul_comm, lt-ltb, le-ltb, arith}
 use Rattle.std.specs.Prelude.{filter}
 use Rattle.std.specs.List.{list_any}
@@ -27,7 +27,7 @@ few number size e less = omega arith
 nothing : (number size : ℕ) → number ≡ capped size → number ≡ 0 → size ≡ 0
 nothing number size e none = omega arith
 
--- a factor of a number that isn't 0 is no greater
+-- a factor of a positive product is no greater
 pub factor : (a b m : ℕ) → 1 ≤ a * b → a * b ≤ m → b ≤ m
 factor zero b m some le = absurd (omega arith)
 factor (suc a) b m some le = let more = suc-mul a b in omega (arith, more)
@@ -40,7 +40,7 @@ both_few a b size number product is less some =
 few_are : (paths : List Path) → length paths ≤ 256 → few_paths paths ≡ clean_paths paths
 few_are paths less = ap (λ b. cond b [] (clean_paths paths)) (le-ltb 256 (length paths) less)
 
--- ---- the ways to meet a condition, whose number is known
+-- ---- the paths of a condition whose number is known
 
 module _ (paths : List Path) (number : ℕ) (is : number ≡ capped (length paths)) where
   pub none-met : number ≡ 0 → [] ≡ few_paths paths
@@ -58,7 +58,7 @@ module _ (paths : List Path) (number : ℕ) (is : number ≡ capped (length path
   pub never-met : number ≤ 256 → clean_paths paths ≡ [] → [] ≡ few_paths paths
   never-met less none = sym none ∙ all-kept less
 
--- ---- a component that asks for no other package
+-- ---- a component without dependencies on other packages
 
 pub filter_none : {A : Type 0} (test : A → Bool) (xs : List A) → list_any test xs ≡ false → filter test xs ≡ []
 filter_none test [] e = refl

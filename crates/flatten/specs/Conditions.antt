@@ -1,4 +1,4 @@
--- What conditions ask: flags that are declared, and versions that can be written.
+-- Well-formed conditions: their flags are declared, and their versions can be written.
 use Rattle.std.specs.Prelude.{ℕ, Bool, true, ◌&&◌, List}
 use Rattle.plan_types.specs.declared.condition.Cond.{Cond}
 use Rattle.plan_types.specs.declared.condition.Cond.TheOpen.{Cond-F, Always, Never, Flag, Os, Arch, Impl, Not, And, Or}
@@ -17,6 +17,6 @@ asks_step is_declared (Not inner) = inner
 asks_step is_declared (And left right) = left && right
 asks_step is_declared (Or left right) = left && right
 
--- each flag that the condition names is declared, and each version in it can be written
+-- each flag of the condition is declared, and each version in it can be written
 abbrev pub asks_well : (List ℕ → Bool) → Cond → Bool
 asks_well is_declared = fold-Cond Bool (asks_step is_declared)

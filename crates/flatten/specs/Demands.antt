@@ -1,4 +1,4 @@
--- What the components of a description ask of other packages.
+-- The dependencies of a description on other packages, by paths.
 use Rattle.std.specs.Prelude.{ℕ, Bool, true, not, nat_lt, Option, List, [], ◌∷◌, ◌++◌, length, map, filter, find, flat_map}
 use Rattle.std.specs.Option.{option_map}
 use Rattle.plan_types.specs.declared.condition.Env.{Env}
@@ -15,20 +15,20 @@ use Rattle.plan_types.specs.declared.index.PartName.TheVariants.{Flag, Tests, Be
 use Rattle.conditionals.specs.Paths.{Path, paths_of, clean_paths}
 use Rattle.flatten.specs.WholeCondition.{whole_condition}
 
--- a dependency on another package, and the component in which it stands
+-- a dependency on another package, with its component
 pub record Outward : Type 0 where
   pub component : Component
   pub guarded : GuardedDep
 
--- a dependency, when it counts and in which stanza it stands
+-- such a dependency of a component
 abbrev pub outward_of : Component → GuardedDep → Outward
 outward_of component guarded = record { component = component; guarded = guarded }
 
--- those of these dependencies that aren't on the package itself
+-- the dependencies that aren't internal
 abbrev pub external : List GuardedDep → List GuardedDep
 external = filter (λ guarded. not guarded.dep.internal)
 
--- those of these dependencies of a component that are on other packages
+-- those of these dependencies that are on other packages, with their component
 abbrev pub outward_among : Component → List GuardedDep → List Outward
 outward_among component deps = map (outward_of component) (external deps)
 
@@ -40,11 +40,11 @@ outward_in component = outward_among component component.deps
 abbrev pub outward : Description → List Outward
 outward d = flat_map outward_in d.components
 
--- all paths on which a dependency counts, also those that set a flag both ways
+-- all paths under which a dependency counts, contradictory ones too
 abbrev pub paths_at : Env → Outward → List Path
 paths_at env at = paths_of env (whole_condition at.component at.guarded) true
 
--- what has to be on for a component of a kind to be built at all
+-- the stanza that has to be on for a component of this kind to be built
 abbrev pub stanza_of : CompKind → List Literal
 stanza_of Library = []
 stanza_of Executable = []
@@ -60,7 +60,7 @@ literal_of setting = record { part = Flag setting.name; on = setting.on }
 abbrev pub flat_of : CompKind → Dep → Path → FlatDep
 flat_of kind dep path = record { when = stanza_of kind ++ map literal_of path; dep = dep }
 
--- the demands that a dependency makes
+-- the demands of a dependency, one for each path that isn't contradictory
 abbrev pub demands_at : Env → Outward → List FlatDep
 demands_at env at = map (flat_of at.component.kind at.guarded.dep) (clean_paths (paths_at env at))
 
@@ -68,14 +68,14 @@ demands_at env at = map (flat_of at.component.kind at.guarded.dep) (clean_paths 
 abbrev pub demands_of : Env → Description → List FlatDep
 demands_of env d = flat_map (demands_at env) (outward d)
 
--- more paths than are taken
+-- whether a dependency has more than 256 paths
 abbrev pub is_beyond : Env → Outward → Bool
 is_beyond env at = nat_lt 256 (length (paths_at env at))
 
--- the line of the first of these that has too many paths
+-- the line of the first dependency with too many paths
 abbrev pub first_among : Env → List Outward → Option ℕ
 first_among env all = option_map (λ at. at.guarded.dep.line) (find (is_beyond env) all)
 
--- the line of the first condition with too many paths
+-- the line of the first dependency of a description with too many paths
 abbrev pub first_beyond : Env → Description → Option ℕ
 first_beyond env d = first_among env (outward d)

@@ -30,7 +30,7 @@ ruleset by_kind = (paths-Flag, paths-And, paths-Or)
 abbrev pub linux : Env
 linux = record { os = codes "linux"; arch = codes "x86_64"; compiler = codes "ghc"; compiler_version = record { parts = 9 ∷ 4 ∷ 7 ∷ [] } }
 
--- a test of the flag `a`
+-- the condition on the flag `a`
 abbrev pub a : Cond
 a = Flag (codes "a")
 
@@ -58,7 +58,7 @@ flag_is name value = record { part = part.Flag name; on = value }
 abbrev tests_on : Literal
 tests_on = record { part = part.Tests; on = true }
 
--- a test suite that is built while `b` is on, with a dependency under `flag(a) || flag(b)`
+-- a test suite that is buildable while `b` is on, with a dependency under `flag(a) || flag(b)`
 abbrev spec : Component
 spec = component Test (codes "spec") b (under (Or a b) (on (codes "x")) ∷ [])
 
@@ -67,11 +67,11 @@ twice : demands_at linux (outward_of spec (under (Or a b) (on (codes "x")))) ≡
     ∷ record { when = tests_on ∷ flag_is (codes "b") true ∷ flag_is (codes "a") false ∷ []; dep = on (codes "x") } ∷ []
 twice = simp by_kind refl
 
--- an internal dependency asks for no other package
+-- an internal dependency is on no other package
 nothing_else : outward_in (component Library [] Always (under Always (on_own_exe (codes "e")) ∷ [])) ≡ []
 nothing_else = refl
 
--- `false` is known without the flags, and behind a flag it isn't
+-- `false` is known without any flag; after a flag it isn't
 known : is_unbuildable linux (component Library [] Never []) ≡ true
 known = rw value-Never refl
 
@@ -106,7 +106,7 @@ one = component Executable (codes "one") Always (under a (on_own_exe (codes "two
 abbrev two : Component
 two = component Executable (codes "two") Always (under b (on_own_exe (codes "one")) ∷ [])
 
--- conditions aren't asked
+-- conditions don't matter for needs
 there : needs one two ≡ true
 there = refl
 
@@ -116,7 +116,7 @@ not_to_itself = refl
 a_cycle : Leads (one ∷ two ∷ []) one one
 a_cycle = by_way_of one two one (1, omega arith, refl) refl (at_once two one (0, omega arith, refl) refl)
 
--- ---- what an index knows
+-- ---- lookups in an index
 
 abbrev of_foo : Index
 of_foo = record { packages = empty (codes "foo") true ∷ empty (codes "bar") false ∷ []; skipped = []; warnings = [] }
@@ -131,7 +131,7 @@ is_missing = refl
 hidden : has_units of_foo (codes "foo-1-x" ∷ []) (codes "foo" ∷ []) ≡ true
 hidden = refl
 
--- one that isn't local lacks it
+-- a package that isn't local lacks the unit
 lacking : has_units of_foo (codes "bar-1-x" ∷ []) (codes "bar" ∷ []) ≡ false
 lacking = refl
 

@@ -1,4 +1,4 @@
--- What a description offers to other packages.
+-- The components of a description that other packages may use.
 use Rattle.std.specs.Prelude.{ℕ, Bool, true, false, not, None, List, [], ◌∷◌, filter, flat_map}
 use Rattle.plan_types.specs.declared.condition.Env.{Env}
 use Rattle.plan_types.specs.declared.dependency.LibName.{LibName}
@@ -12,23 +12,23 @@ use Rattle.conditionals.specs.declared.value.Tri.{Tri}
 use Rattle.conditionals.specs.declared.value.Tri.TheVariants.{Yes, No, Unknown}
 use Rattle.conditionals.specs.Value.{value}
 
--- known to be false
+-- the value is No
 abbrev pub is_no : Tri → Bool
 is_no Yes = false
 is_no No = true
 is_no Unknown = false
 
--- with no flag known, it is already known that it isn't built
+-- the component is unbuildable whatever the flags: its condition is No with no flag known
 abbrev pub is_unbuildable : Env → Component → Bool
 is_unbuildable env component = is_no (value env (λ _. None) component.buildable)
 
--- a library by its name, where it is the main one or public
+-- the library of this name, if it is the main one or public
 abbrev pub lib_named : List ℕ → Bool → List LibName
 lib_named [] public = Main ∷ []
 lib_named (b ∷ bs) true = Named (b ∷ bs) ∷ []
 lib_named (b ∷ bs) false = []
 
--- the library that a component is to others
+-- the library of a component that others may use
 abbrev pub libs_of : CompKind → List ℕ → Bool → List LibName
 libs_of Library name public = lib_named name public
 libs_of Executable name public = []
@@ -36,7 +36,7 @@ libs_of Test name public = []
 libs_of Bench name public = []
 libs_of Foreign name public = []
 
--- the executable that a component is
+-- the executable of a component
 abbrev pub exes_of : CompKind → List ℕ → List (List ℕ)
 exes_of Library name = []
 exes_of Executable name = name ∷ []
@@ -44,11 +44,11 @@ exes_of Test name = []
 exes_of Bench name = []
 exes_of Foreign name = []
 
--- the components that may be built
+-- the components that aren't known to be unbuildable
 abbrev pub buildable : Env → Description → List Component
 buildable env d = filter (λ component. not (is_unbuildable env component)) d.components
 
--- what others may use of a package
+-- the libraries and executables that others may use
 abbrev pub exposed : Env → Description → Exposed
 exposed env d = record {
   libs = flat_map (λ component. libs_of component.kind component.name component.public) (buildable env d);

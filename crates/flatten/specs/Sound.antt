@@ -1,4 +1,4 @@
--- What makes an index sound in an environment, so that a plan can be made from it.
+-- Sound indexes: those from which a plan can be made in an environment.
 use Rattle.std.specs.Prelude.{◌≡◌, ℕ, Bool, true, false, not, ◌&&◌, ◌||◌, None, List, [], ◌∷◌, ◌++◌, length, map, filter, flat_map, if◌then◌else◌}
 use Rattle.std.specs.List.{list_any, list_all, AllByRecursion, IsDistinct}
 use Rattle.std.specs.List.Sorted.{IsStrictlySortedBy}
@@ -34,23 +34,23 @@ use Rattle.plan_types.specs.Packages.{is_library, is_installed}
 
 -- ---- a description
 
--- what the components depend on, internal dependencies included
+-- all dependencies of the components, internal ones too
 abbrev pub component_deps : Description → List Dep
 component_deps d = flat_map (λ component. map (λ guarded. guarded.dep) component.deps) d.components
 
--- a dependency of a component
+-- whether the dependency is of a component
 abbrev pub is_of_components : DepKind → Bool
 is_of_components Library = true
 is_of_components Tool = true
 is_of_components Setup = false
 
--- a dependency of the setup script
+-- whether the dependency is of the setup script
 abbrev pub is_of_setup : DepKind → Bool
 is_of_setup Library = false
 is_of_setup Tool = false
 is_of_setup Setup = true
 
--- the conditions that stand in a description
+-- all conditions of a description
 abbrev pub conditions : Description → List Cond
 conditions d = flat_map (λ component. component.buildable ∷ map (λ guarded. guarded.when) component.deps) d.components
 
@@ -58,17 +58,17 @@ conditions d = flat_map (λ component. component.buildable ∷ map (λ guarded. 
 abbrev pub declares_flag : Description → List ℕ → Bool
 declares_flag d name = list_any (λ flag. same_text flag.name name) d.flags
 
--- an internal dependency is on the package itself, and on components that it has
+-- an internal dependency is on the package itself and on components that it has
 abbrev pub is_own : Description → Dep → Bool
 is_own d dep = if dep.internal then same_text dep.«package» d.name && finds_all dep.kind dep d.components else true
 
 -- a description is sound
 pub record IsDescription (d : Description) : Type 0 where
-  -- flags in the order of their names, each once
+  -- flags sorted by name, each once
   pub flags_rise : IsStrictlySortedBy (slice_cmp nat_cmp) (map (λ flag. flag.name) d.flags)
   pub flag_names : list_all (λ flag. is_flag_name flag.name) d.flags ≡ true
   pub flags_lower : list_all (λ flag. is_lower flag.name) d.flags ≡ true
-  -- no two components have one name, whatever their kinds, and no library that of the package
+  -- component names are distinct whatever their kinds, and no library has the package's name
   pub components_once : IsDistinct same_text (map (λ component. component.name) d.components)
   pub libraries_apart : list_all (λ component. not (is_library component.kind && same_text component.name d.name)) d.components ≡ true
   pub component_kinds : list_all (λ dep. is_of_components dep.kind) (component_deps d) ≡ true
@@ -78,25 +78,25 @@ pub record IsDescription (d : Description) : Type 0 where
   pub own_components : list_all (is_own d) (component_deps d) ≡ true
   pub no_cycle : HasNoCycle d.components
 
--- ---- what an index knows
+-- ---- lookups in an index
 
 -- a package of this name is in the index
 abbrev pub has_package : Index → List ℕ → Bool
 has_package index name = list_any (λ p. same_text p.name name) index.packages
 
--- the packages that a description asks for: those of its components, and those of its setup script
+-- the packages on which a description depends: those of its components, and those of its setup script
 abbrev pub asked_packages : Description → List (List ℕ)
 asked_packages d = map (λ at. at.guarded.dep.«package») (outward d) ++ map (λ dep. dep.«package») d.setup
 
--- an entry is the unit of this id
+-- whether an entry is the unit of this id
 abbrev pub is_unit : List ℕ → Entry → Bool
 is_unit id entry = is_installed entry.body && same_text entry.instance.unit id
 
--- the index has a package of this name that is local, or has the unit
+-- whether the index has the unit, or a local package of this name
 abbrev pub has_unit : Index → List ℕ → List ℕ → Bool
 has_unit index id name = list_any (λ p. same_text p.name name && (p.local || list_any (is_unit id) p.entries)) index.packages
 
--- each unit of the first list is known, by the name of its package in the second
+-- whether the index has each unit of the first list, given their package names in the second
 abbrev pub has_units : Index → List (List ℕ) → List (List ℕ) → Bool
 has_units index [] [] = true
 has_units index [] (name ∷ names) = false
@@ -105,7 +105,7 @@ has_units index (id ∷ ids) (name ∷ names) = has_unit index id name && has_un
 
 -- ---- an entry
 
--- what is kept beside a description is what it asks for and offers in this environment
+-- a sound source: a sound description, all its packages in the index, its demands and exposed components kept right
 pub record IsSource (env : Env) (index : Index) (d : Description) (flat : List FlatDep) (offer : Exposed) : Type 0 where
   pub description : IsDescription d
   pub packages : list_all (has_package index) (asked_packages d) ≡ true
@@ -113,22 +113,22 @@ pub record IsSource (env : Env) (index : Index) (d : Description) (flat : List F
   pub demands : flat ≡ demands_of env d
   pub offers : offer ≡ exposed env d
 
--- what an entry holds is sound
+-- a sound body of an entry
 abbrev pub IsBody : Env → Index → Body → Type 0
 IsBody env index (Source d flat offer) = IsSource env index d flat offer
 IsBody env index (Installed unit needs) = has_units index unit.depends needs ≡ true
 
--- where a source comes from, by whether it is local
+-- the origin of a source, by whether it is local
 abbrev pub source_origin : Bool → Origin
 source_origin true = origin.Local
 source_origin false = origin.Source
 
--- the instance that a body makes, in a package that is local or isn't
+-- the instance of a body, by whether its package is local
 abbrev pub instance_of : Bool → Body → Instance
 instance_of local (Source d flat offer) = record { name = d.name; version = d.version; origin = source_origin local; unit = [] }
 instance_of local (Installed unit needs) = record { name = unit.name; version = unit.version; origin = origin.Installed; unit = unit.id }
 
--- an entry of a package is sound
+-- a sound entry of a package
 pub record IsEntry (env : Env) (index : Index) (p : Package) (entry : Entry) : Type 0 where
   pub instance_is : entry.instance ≡ instance_of p.local entry.body
   pub named : entry.instance.name ≡ p.name
@@ -137,7 +137,7 @@ pub record IsEntry (env : Env) (index : Index) (p : Package) (entry : Entry) : T
 
 -- ---- a package
 
--- the entries with a source
+-- the entries of sources
 abbrev pub releases : Package → List Entry
 releases p = filter (λ entry. not (is_installed entry.body)) p.entries
 
@@ -145,24 +145,23 @@ releases p = filter (λ entry. not (is_installed entry.body)) p.entries
 abbrev pub units : Package → List Entry
 units p = filter (λ entry. is_installed entry.body) p.entries
 
--- by version, and then by the bytes of their ids
+-- ordered by version, then by the bytes of the id
 abbrev pub unit_order : Entry → Entry → Ordering
 unit_order a b = ordering_then (order a.instance.version.parts b.instance.version.parts) (slice_cmp nat_cmp a.instance.unit b.instance.unit)
 
--- The releases come first, in rising order of versions, of which none is there twice. Then come the units,
--- of which no two have one id.
+-- Releases come first, strictly rising by version. Then come the units, strictly rising by `unit_order`, ids distinct.
 pub record IsInOrder (p : Package) : Type 0 where
   pub releases_first : p.entries ≡ releases p ++ units p
   pub versions_rise : IsStrictlySortedBy order (map (λ entry. entry.instance.version.parts) (releases p))
   pub units_rise : IsStrictlySortedBy unit_order (units p)
   pub units_once : IsDistinct same_text (map (λ entry. entry.instance.unit) (units p))
 
--- one release and nothing else
+-- the package has one release and no unit
 pub record IsOneRelease (p : Package) : Type 0 where
   pub one : length p.entries ≡ 1
   pub no_units : units p ≡ []
 
--- a package is sound
+-- a sound package
 pub record IsPackage (env : Env) (index : Index) (p : Package) : Type 0 where
   pub name : is_package_name p.name ≡ true
   pub in_order : IsInOrder p
@@ -171,7 +170,7 @@ pub record IsPackage (env : Env) (index : Index) (p : Package) : Type 0 where
 
 -- ---- the index
 
--- an index is sound
+-- a sound index
 pub record IsSound (env : Env) (index : Index) : Type 0 where
   pub in_goal_order : AreInGoalOrder index.packages
   pub packages : AllByRecursion (IsPackage env index) index.packages

@@ -1,4 +1,4 @@
--- A small index that is sound, and what it can't lack.
+-- A small sound index, and one that lacks a package.
 use Rattle.std.specs.Prelude.{◌≡◌, ℕ, zero, suc, Bool, true, false, List, [], ◌∷◌, None, refl, codes}
 use Rattle.std.proofs.Common.{arith, sym, ap, ◌∙◌}
 use Rattle.std.proofs.lemmas.Bool.{false≢true}
@@ -31,7 +31,7 @@ use Rattle.flatten.specs.Sound.{IsDescription, instance_of, IsSource, IsPackage,
 
 ruleset by_kind = (paths-Flag, paths-And)
 
--- ---- a local package `main`, whose library is built while `a` is on, and then needs `base`
+-- ---- a local package `main`, whose library is buildable while `a` is on, and then depends on `base`
 
 abbrev library : Component
 library = component Library [] a (under a (on (codes "base")) ∷ [])

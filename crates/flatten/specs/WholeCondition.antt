@@ -1,4 +1,4 @@
--- When a dependency counts.
+-- The condition under which a dependency counts.
 use Rattle.plan_types.specs.declared.condition.Cond.{Cond}
 use Rattle.plan_types.specs.declared.condition.Cond.TheVariants.{And}
 use Rattle.plan_types.specs.declared.description.Component.{Component}

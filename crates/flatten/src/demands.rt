@@ -1,4 +1,4 @@
-// The demands of a description on other packages.
+// The dependencies of a description on other packages, by paths.
 
 ghost use Rattle.std.specs.Prelude.{◌≡◌, ◌++◌, [], ◌∷◌, true, false, not, ◌≤◌, ◌<◌, IfOk, IfErr, OnOk, Some, None, map, flat_map, slice_get};
 ghost use Rattle.std.specs.List.{list_any};
@@ -18,8 +18,8 @@ use plan_types::{
 };
 use std::alloc::Global;
 
-/// The dependencies of all components on other packages, in order, each once for each way to set flags so
-/// that it counts. The first one with more than 256 ways is refused, at its line.
+/// One demand for each path of each dependency on another package, in file order. The first dependency with more than
+/// 256 paths is refused, at its line.
 pub fn demands_of(alloc: Global, d: &Description, env: &Env) -> Result<List<FlatDep>, Fault>
     ensures demands { IfOk result (λ flat. (first_beyond env.now d.now ≡ None)
         × (flat ≡ demands_of env.now d.now)) }
@@ -78,8 +78,7 @@ fn ways_to_build(alloc: Global, component: &Component, env: &Env) -> Result<Ways
     ways_of(alloc, component.buildable.get(), &outlooks, place, env)
 }
 
-// What the dependencies of a component on other packages ask for, under the ways to build it. What is known of the conditions of all
-// places is found out at once.
+// The demands of a component. The outlooks of all conditions are computed once.
 fn push_outward(
     alloc: Global,
     flat: &mut List<FlatDep>,
@@ -102,7 +101,7 @@ fn push_outward(
     Ok(())
 }
 
-// The same of those that stand in one place. Their condition is looked at once.
+// The demands of one group. The paths of its condition are computed once.
 fn push_group(
     alloc: Global,
     flat: &mut List<FlatDep>,
@@ -132,7 +131,7 @@ fn push_group(
     Ok(())
 }
 
-// What one dependency asks for, under the ways to build its component and to meet its own condition.
+// The demands of one dependency: the component's paths joined with those of its own condition.
 fn push_demands(
     alloc: Global,
     flat: &mut List<FlatDep>,
@@ -162,7 +161,7 @@ fn push_demands(
     Ok(())
 }
 
-// A dependency under one way to set flags.
+// A dependency under one path.
 fn flat_of(
     alloc: Global,
     kind: CompKind,
@@ -177,7 +176,7 @@ fn flat_of(
     Ok(FlatDep { when, dep })
 }
 
-// What has to be on for a component to be built at all.
+// The stanza that has to be on for a component to be built.
 fn stanza_of(alloc: Global, kind: CompKind) -> Result<List<Literal>, NoMemory>
     ensures { IfOk result (λ stanza. stanza ≡ stanza_of kind) }
 {

@@ -1,4 +1,4 @@
-// What other packages may use of a package.
+// The components that other packages may use.
 
 ghost use Rattle.std.specs.Prelude.{◌≡◌, ◌++◌, [], not, IfOk, OnOk};
 ghost use Rattle.flatten.specs.Exposure.{exposed, is_unbuildable, lib_named, libs_of, exes_of};

@@ -1,4 +1,4 @@
-// Laws of the definitions that crates above rest on.
+// Laws that crates above use.
 
 ghost use Rattle.std.specs.Prelude.{◌≡◌, ℕ, true, ◌&&◌, Some, slice_get};
 ghost use Rattle.std.specs.List.{list_any};
@@ -12,8 +12,8 @@ ghost use Rattle.flatten.specs.Demands.{Outward, demands_at, stanza_of};
 
 use conditionals::{no_two_paths_hold, some_path_holds};
 
-/// Whatever is on or off, one of a dependency's entries counts exactly where its component's stanza is on
-/// and its whole condition is Yes.
+/// Under any flags and stanzas, some demand of a dependency counts iff its component's stanza is on and its whole
+/// condition is Yes.
 pub fn counts_as_its_condition()
     ensures { (env : Env) (at : Outward) (parts : Parts)
         → list_any (λ flat. are_met parts flat.when) (demands_at env at)
@@ -23,7 +23,7 @@ pub fn counts_as_its_condition()
     some_path_holds();
 }
 
-/// No two entries of a dependency, at different places, count together.
+/// No two demands of a dependency count together.
 pub fn no_two_count()
     ensures { (env : Env) (at : Outward) (parts : Parts) (i j : ℕ) (flat other : FlatDep)
         → slice_get (demands_at env at) i ≡ Some flat

@@ -1,7 +1,7 @@
-//! What a package asks of others, and what it offers them. In go a description and what its conditions ask
-//! besides flags; out come its dependencies, once for each way in which flags can be set so that they
-//! count, and the libraries and executables that others may use. Here stands also what makes an index
-//! sound, so that a plan can be made from it.
+//! The dependencies of a description by paths, and its exposed components. In go a description and an environment. Out
+//! come a demand for each path of each dependency on another package, and the components that other packages may use.
+//! Some demand of a dependency counts iff its whole condition is Yes, and no two count together. `Sound` defines sound
+//! indexes.
 #![tactic(auto)]
 
 mod demands;

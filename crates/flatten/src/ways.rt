@@ -1,4 +1,4 @@
-// The ways in which a condition holds.
+// The paths of a condition, with their number.
 
 ghost use Rattle.std.specs.Prelude.{◌≡◌, IfOk};
 ghost use Rattle.condition_outlook.specs.Outlook.{IsOutlookAt};
@@ -9,16 +9,16 @@ use conditionals::{MOST_PATHS, paths};
 use plan_types::{Cond, Env, FlagSet, List, NoMemory};
 use std::alloc::Global;
 
-/// The ways to set flags so that a condition is Yes.
+/// The paths under which a condition is Yes.
 #[derive(Drop)]
 pub struct Ways {
-    /// How many there are, or the greatest number if there are more.
+    /// The number of all paths, contradictory ones too, at most 2^64 - 1.
     pub number: u64,
-    /// None of them where there are more than a dependency may have.
+    /// The paths that aren't contradictory; empty if there are more than 256 in all.
     pub paths: List<List<FlagSet>>,
 }
 
-/// The ways to meet a condition that stands in a table, by what is known of the table's conditions and its place among them.
+/// The paths of a condition in a table, by the outlooks of the table and its place there.
 pub fn ways_of(
     alloc: Global,
     cond: &Cond,
