@@ -1,4 +1,4 @@
--- What a `.cabal` file comes to in an environment.
+-- The source of a `.cabal` file in an environment.
 use Rattle.std.specs.Prelude.{◌≡◌, ◌⊎◌, ℕ, List, Option, Some, None}
 use Rattle.std.specs.declared.result.Result.{Result}
 use Rattle.std.specs.declared.result.Result.TheVariants.{Ok, Err}
@@ -17,41 +17,41 @@ use Rattle.flatten.specs.Demands.{demands_of, first_beyond}
 use Rattle.flatten.specs.Exposure.{exposed}
 use Rattle.cabal_file.specs.declared.source.Source.{Source}
 
--- the SHA-256 of a file, as digits in lower case
+-- the SHA-256 of a file, in lower-case digits
 abbrev pub digest_of : List ℕ → List ℕ
 digest_of bytes = encode_lower (sha256 bytes)
 
--- a description, and what it asks for and offers
+-- a description with its demands and exposed components
 abbrev pub source_of : Env → Description → Source
 source_of env d = record { description = d; flat = demands_of env d; exposed = exposed env d }
 
--- a dependency that counts in too many ways is a fault at its line
+-- a dependency with too many paths is a fault at its line
 abbrev pub unless_beyond : Option ℕ → Source → Result Source At
 unless_beyond None source = Ok source
 unless_beyond (Some line) source = Err (is_at line TooManyPaths)
 
--- what a description comes to as a source
+-- the outcome of a description as a source
 abbrev pub OfDescription : Env → Result Description At → Result Source At → Type 0
 OfDescription env (Err at) outcome = outcome ≡ Err at
 OfDescription env (Ok d) outcome = outcome ≡ unless_beyond (first_beyond env d) (source_of env d)
 
--- what the elements of a file come to
+-- the outcome of a file's elements
 abbrev pub OfTree : Env → List Element → List ℕ → Result Source At → Type 0
 OfTree env items digest outcome = (described : Result Description At) × Describes items digest described × OfDescription env described outcome
 
--- the first fault of the layout
+-- the outcome is a fault of the layout
 pub record IsMisfit (bytes : List ℕ) (outcome : Result Source At) : Type 0 where
   pub line : ℕ
   pub cause : Cause
   pub fault : IsFault bytes line cause
   pub outcome_is : outcome ≡ Err (is_at line cause)
 
--- the elements of the file, and what they come to
+-- the outcome is that of the file's elements
 pub record IsLaidOut (env : Env) (bytes : List ℕ) (outcome : Result Source At) : Type 0 where
   pub items : List Element
   pub tree : IsTree bytes items
   pub comes : OfTree env items (digest_of bytes) outcome
 
--- what the bytes of a file come to
+-- the outcome of a file's bytes: its source or its first fault
 abbrev pub IsSource : Env → List ℕ → Result Source At → Type 0
 IsSource env bytes outcome = IsMisfit bytes outcome ⊎ IsLaidOut env bytes outcome

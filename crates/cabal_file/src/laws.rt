@@ -1,4 +1,4 @@
-// A law of the definitions that crates above rest on.
+// A law that crates above use.
 
 ghost use Rattle.std.specs.Prelude.{◌≡◌, List, ℕ};
 ghost use Rattle.std.specs.declared.result.Result.{Result};
@@ -10,7 +10,7 @@ ghost use Rattle.cabal_file.specs.Source.{IsSource};
 use cabal_lexer::{one_fault, one_tree, tree_or_fault};
 use description::one_outcome;
 
-/// A file comes to one thing in an environment: what its package asks for and offers, or a first fault.
+/// A file has at most one outcome in an environment: its source or its first fault.
 pub fn one_source()
     ensures { (env : Env) (bytes : List ℕ) (a b : Result Source At) → IsSource env bytes a → IsSource env bytes b → a ≡ b }
 {

@@ -1,5 +1,6 @@
-//! A `.cabal` file as others see its package. In go its bytes; out come its description, what that asks of other packages
-//! and what it offers them in an environment, or the first fault of the file.
+//! The source of a package. In go the bytes of a `.cabal` file and an environment. Out come its description, its
+//! demands on other packages and its exposed components; or its first fault: of the layout, of the description, or of
+//! too many paths. A file has at most one outcome (`one_source`).
 #![tactic(auto)]
 
 mod laws;

@@ -1,4 +1,4 @@
-// From the bytes of a `.cabal` file to a source.
+// The source of a `.cabal` file, from its bytes.
 
 ghost use Rattle.std.specs.Prelude.{◌≡◌, ◌≤◌, length, IfOk, IfErr};
 ghost use Rattle.std.specs.declared.result.Result.TheVariants.{Ok, Err};
@@ -16,7 +16,7 @@ use plan_types::{Body, Description, Element, Env, Exposed, Fault, FlatDep, List,
 use sha2::{Digest, Sha256};
 use std::alloc::Global;
 
-/// What a `.cabal` file says of its package, what that asks of other packages and what it offers them.
+/// The description of a package, its demands on other packages, and its exposed components.
 #[derive(Debug)]
 pub struct Source {
     pub description: Description,
@@ -24,7 +24,7 @@ pub struct Source {
     pub exposed: Exposed,
 }
 
-// Written out, so that it is proved once and not at each exit of each function that owns one.
+// Explicit, so that it is proved once: a derived one is expanded at each exit.
 impl Drop for Source {
     fn drop(self) {
         let Source {
@@ -36,7 +36,7 @@ impl Drop for Source {
 }
 
 impl Source {
-    /// What an index keeps of it.
+    /// The body of an index entry.
     pub fn into_body(self) -> Body
         ensures { result ≡ body.Source self.description self.flat self.exposed }
     {
@@ -53,8 +53,8 @@ impl Source {
     }
 }
 
-/// Reads a `.cabal` file. The first fault is that of its layout, else that of its description, else that of a dependency which
-/// counts in more than 256 ways.
+/// Reads a `.cabal` file. A fault of the layout comes first, then one of the description, then a dependency with more
+/// than 256 paths.
 pub fn read_source(alloc: Global, bytes: &[u8], env: &Env) -> Result<Source, Fault>
     requires { length bytes.now ≤ 1048576 }
     ensures source { IfOk result (λ source. IsSource env.now bytes.now (Ok source)) }
