@@ -1,4 +1,4 @@
--- What a condition asks, by its kind, and what one that a text stands for asks.
+-- Well-formed conditions by their kind, and those read from a text.
 use Rattle.std.proofs.Common.{◌≡◌, ℕ, zero, suc, Bool, true, ◌&&◌, List, [], ◌∷◌, codes, sym, ap, ◌∙◌}
 use Rattle.std.specs.List.{list_all}
 use Rattle.std.proofs.lemmas.Bool.{and_parts, and_from}
@@ -47,11 +47,11 @@ module _ (known : List ℕ → Bool) where
   asks-Or : (left right : Cond) → asks_well known (Or left right) ≡ (asks_well known left && asks_well known right)
   asks-Or left right = ap (asks_well known) (sym (rolls-Or left right)) ∙ fold-roll-Cond Bool (asks_step known) (layer.Or left right)
 
--- ---- what a text stands for
+-- ---- conditions read from a text
 
--- The flags that sections declare are known.
+-- The flags of the sections are known.
 module _ (sections : List Section) (known : List ℕ → Bool) (found : (name : List ℕ) → declares is_flag sections name ≡ true → known name ≡ true) where
-  -- what names no other flag asks well
+  -- well-formed, if all its flags are declared
   abbrev Fits : Cond → Type 0
   Fits c = has_flags sections c ≡ true → asks_well known c ≡ true
 
@@ -124,7 +124,7 @@ module _ (sections : List Section) (known : List ℕ → Bool) (found : (name : 
   pub stands-fits : (spec : Spec) (n : ℕ) → Fitting (Stands spec n)
   stands-fits spec n = reads-fit (Versions spec n) (versions-fit spec n) n
 
--- ---- conditions that are joined
+-- ---- conjunctions
 
 all-joined : (known : List ℕ → Bool) (first : Cond) (conds : List Cond) → asks_well known first ≡ true → list_all (asks_well known) conds ≡ true → asks_well known (joined first conds) ≡ true
 all-joined known first [] here all = here

@@ -1,4 +1,4 @@
--- The conditions of branches in which a part stands ask well, where no part of the section has a fault.
+-- The branches of a part have well-formed conditions, if no part of the section has a fault.
 use Rattle.std.proofs.Common.{◌≡◌, ℕ, Bool, true, List, [], ◌∷◌, ◌++◌, Option, Some, None, refl, ap, ◌∙◌, subst}
 use Rattle.std.specs.List.{list_all, AllByRecursion}
 use Rattle.std.specs.declared.result.Result.{Result}
@@ -46,7 +46,7 @@ module _ (file : File) (known : List ℕ → Bool) (found : (name : List ℕ) �
   condition-good spec Else [] cond is flags = let same : cond ≡ Always = cc is in rw same (asks-Always known)
   condition-good spec Else (b ∷ args) cond is flags = absurd (cc is)
 
-  -- the own condition of a branch that has no fault
+  -- the own condition of a branch without fault is well-formed
   abbrev GoodOwn : Result Cond Cause → Type 0
   GoodOwn (Ok cond) = asks_well known cond ≡ true
   GoodOwn (Err cause) = ⊥
@@ -55,7 +55,7 @@ module _ (file : File) (known : List ℕ → Bool) (found : (name : List ℕ) �
   own-good spec word args (Ok cond) is none = condition-good spec word args cond is (unless-none (has_flags file.sections cond) causes.UnknownFlag none)
   own-good spec word args (Err cause) is none = absurd (cc none)
 
-  -- that no branch of a chain was taken so far
+  -- the condition that a chain takes no branch so far is well-formed
   abbrev GoodChain : Option Cond → Type 0
   GoodChain None = Unit {0}
   GoodChain (Some chain) = asks_well known chain ≡ true

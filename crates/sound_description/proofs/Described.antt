@@ -1,4 +1,4 @@
--- What is known of elements that have a description.
+-- The file behind a description.
 use Rattle.std.proofs.Common.{◌≡◌, ℕ, List, Option, Some, None, refl, subst, ◌∙◌}
 use Rattle.std.specs.declared.result.Result.{Result}
 use Rattle.std.specs.declared.result.Result.TheVariants.{Ok, Err}
@@ -21,7 +21,7 @@ use Rattle.description.specs.FaultOrder.{first}
 use Rattle.description.specs.declared.fault_order.At.{At}
 use Rattle.sound_description.proofs.Faultless.{Faultless, faultless, first-none}
 
--- a description, and the file that it is of
+-- a description, and the faultless file that it is of
 pub record IsOf (items : List Element) (digest : List ℕ) (d : Description) : Type 0 where
   pub spec : Spec
   pub file : File

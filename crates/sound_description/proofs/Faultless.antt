@@ -1,4 +1,4 @@
--- What a file without a fault has.
+-- A file without faults.
 use Rattle.std.proofs.Common.{◌≡◌, Bool, true, false, not, ◌&&◌, if◌then◌else◌, List, [], ◌∷◌, ◌++◌, flat_map, map, Option, Some, None, refl, sym, ◌∙◌}
 use Rattle.std.specs.List.{AllByRecursion}
 use Rattle.std.proofs.lemmas.Bool.{not-true}
@@ -33,7 +33,7 @@ pub unless-none : (b : Bool) (cause : Cause) → unless b cause ≡ [] → b ≡
 unless-none true cause e = refl
 unless-none false cause e = absurd (cc e)
 
--- a section without a fault, in a package of this name that has all these
+-- a section without faults
 pub record IsFaultless (file : File) (section : Section) : Type 0 where
   pub name : has_good_name section.kind section.name ≡ true
   pub apart : (is_library section.kind && is_own (own_name file.heads) section.name) ≡ false

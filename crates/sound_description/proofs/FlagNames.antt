@@ -1,4 +1,4 @@
--- Flags that are declared have names of their form, and are found among those of a package.
+-- Declared flags have well-formed names, and are among those of the package.
 use Rattle.std.proofs.Common.{◌≡◌, ℕ, Bool, true, false, ◌&&◌, ◌||◌, if◌then◌else◌, List, [], ◌∷◌, refl, ap, ◌∙◌, subst, is_lt, nat_cmp, inl, inr}
 use Rattle.std.specs.List.{list_all, list_any, AllByRecursion}
 use Rattle.std.specs.Cmp.Lexicographic.{slice_cmp}
@@ -63,7 +63,7 @@ module _ (p : FlagDecl → Bool) where
     | inr e ↦ or_right (p flag) (list_any p (by_name others)) (any-sorted others e)
   ])
 
-  -- the flag of a section passes
+  -- the flag of the section passes
   abbrev Passes : Section → Type 0
   Passes section = section.kind ≡ kinds.Flag → p (flag_of section) ≡ true
 
@@ -93,7 +93,7 @@ flags_lower spec sections flags are each =
     flags-pass is_in_lower_case sections flags are
     (each-less (IsReadSection spec) (Passes is_in_lower_case) (λ section read is. subst (λ kind. is_kept_name kind section.name ≡ true) is read.name) sections each)
 
--- ---- a flag that sections declare
+-- ---- a flag of the sections
 
 abbrev has_name : List ℕ → FlagDecl → Bool
 has_name name flag = same_text flag.name name

@@ -1,4 +1,4 @@
--- Flags that are put into the order of their names rise.
+-- Flags that are sorted by distinct names rise strictly.
 use Rattle.std.proofs.Common.{◌≡◌, ℕ, true, false, if◌then◌else◌, List, [], ◌∷◌, map, refl, sym, ap, ◌∙◌, subst, Ordering, Less, Equal, Greater, is_lt, nat_cmp}
 use Rattle.std.specs.List.{AllByRecursion, IsDistinct}
 use Rattle.std.specs.List.Sorted.{IsStrictlySortedBy}
@@ -26,7 +26,7 @@ Rises flags = IsStrictlySortedBy order (map (λ flag. flag.name) flags)
 abbrev Each : (List ℕ → Type 0) → List FlagDecl → Type 0
 Each P flags = AllByRecursion P (map (λ flag. flag.name) flags)
 
--- names that differ and of which one isn't below
+-- the first of two different names is less, if the second isn't
 other-less : (a b : List ℕ) → is_lt (order b a) ≡ false → same_text a b ≡ false → order a b ≡ Less
 other-less a b over apart = by (order b a) refl
   where

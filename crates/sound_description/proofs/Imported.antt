@@ -1,4 +1,4 @@
--- What holds of each part of components and stanzas holds once imports are replaced.
+-- A property of all parts of components and stanzas still holds once imports are replaced.
 use Rattle.std.proofs.Common.{◌≡◌, ℕ, Bool, true, false, ◌&&◌, if◌then◌else◌, List, [], ◌∷◌, ◌++◌, map, refl, sym, ap, ◌∙◌, subst}
 use Rattle.std.specs.List.{list_all, AllByRecursion}
 use Rattle.std.proofs.lemmas.Bool.{and_parts, and_from}
@@ -17,14 +17,14 @@ use Rattle.common_laws.specs.Passing.{all-append, all-map, all-flat, all-any}
 use Rattle.plan_types.specs.Bytes.{same_text}
 use Rattle.stanza_imports.specs.Parts.{deps_said}
 
--- a section of which the parts count in a component
+-- sections whose parts come into components
 abbrev pub is_component_part : SectionKind → Bool
 is_component_part (kinds.Component kind) = true
 is_component_part kinds.Common = true
 is_component_part kinds.Flag = false
 is_component_part kinds.Setup = false
 
--- conditions of branches and dependencies that pass
+-- branches and dependencies that pass
 module _ (asks : Cond → Bool) (fits : Dep → Bool) where
   abbrev pub is_well : SectionPart → Bool
   is_well part = list_all asks part.branches && list_all fits (deps_said part.said)

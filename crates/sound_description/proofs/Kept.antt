@@ -1,4 +1,4 @@
--- What holds of the components of a file without a fault.
+-- Properties of the components of a file without faults.
 use Rattle.std.proofs.Common.{◌≡◌, ℕ, Bool, true, false, ◌&&◌, if◌then◌else◌, List, [], ◌∷◌, flat_map, None, refl, sym, ap, ◌∙◌}
 use Rattle.std.specs.List.{list_all, AllByRecursion}
 use Rattle.std.specs.declared.result.Result.TheVariants.{Ok, Err}
@@ -54,7 +54,7 @@ parts-known file [] each = refl
 parts-known file (part ∷ parts) each =
     and_from (list_all (is_known file) (deps_said part.said)) (list_all (λ (one : SectionPart). list_all (is_known file) (deps_said one.said)) parts) (said-known file part.said each.0) (parts-known file parts each.1)
 
--- a dependency that was read, and is known where it is on the package itself
+-- a dependency that was read, and whose own components are declared
 abbrev pub is_stated : File → Dep → Bool
 is_stated file dep = is_read is_of_components dep && is_known file dep
 
@@ -89,7 +89,7 @@ module _ (known : List ℕ → Bool) (name : List ℕ) (others : List Component)
   abbrev pub is_guarded_well : GuardedDep → Bool
   is_guarded_well guarded = asks_well known guarded.when && is_kept name others guarded.dep
 
-  -- its conditions ask well, and its dependencies are kept
+  -- a component with well-formed conditions and kept dependencies
   abbrev pub is_component_well : Component → Bool
   is_component_well component = asks_well known component.buildable && list_all is_guarded_well component.deps
 

@@ -1,4 +1,4 @@
--- Names of sections, each once.
+-- Distinct names of sections.
 use Rattle.std.proofs.Common.{◌≡◌, ℕ, Bool, true, false, not, if◌then◌else◌, List, [], ◌∷◌, ◌++◌, map, flat_map, refl, sym, ap, ◌∙◌}
 use Rattle.std.specs.List.{AllByRecursion, IsDistinct}
 use Rattle.std.specs.Cmp.Lexicographic.{bytes_decides}
@@ -33,7 +33,7 @@ use Rattle.common_laws.specs.Small.{same-is}
 pub itself : (xs : List ℕ) → same_text xs xs ≡ true
 itself xs = (bytes_decides xs xs).1 refl
 
--- two names are compared either way round
+-- `same_text` is symmetric
 pub same-back : (xs ys : List ℕ) → same_text xs ys ≡ true → same_text ys xs ≡ true
 same-back xs ys e = let is = same-is xs ys e in (λ i. same_text (sym is i) (is i)) ∙ e
 
@@ -51,7 +51,7 @@ one_named class section = if is_class class section.kind then section.name ∷ [
 abbrev pub named : Class → List Section → List (List ℕ)
 named class sections = flat_map (one_named class) sections
 
--- what is apart from some names and one more
+-- a name apart from some names and one more
 module _ (before : List (List ℕ)) (name : List ℕ) where
   too : (other : List ℕ) → has (before ++ name ∷ []) other ≡ false → (has before other ≡ false) × (same_text name other ≡ false)
   too other e =
@@ -83,7 +83,7 @@ once-from class (section ∷ sections) before e =
     once-step (is_class class section.kind) class before section.name section.line sections (none-front (again class before section) rest e) (none-back (again class before section) rest e)
     (λ known h. once-from class sections known h)
 
--- no two sections of a class have one name
+-- the names of a class of sections are distinct
 pub once : (class : Class) (sections : List Section) → repeated_from class [] sections ≡ [] → IsDistinct same_text (named class sections)
 once class sections e = (once-from class sections [] e).0
 

@@ -1,4 +1,4 @@
--- Components of which none stands on a cycle by its number don't lead back to themselves.
+-- If no number is on a cycle, no component has a path to itself.
 use Rattle.std.proofs.Common.{◌≡◌, ℕ, zero, suc, ◌+◌, ◌<◌, Bool, true, false, ◌&&◌, if◌then◌else◌, cond, List, [], ◌∷◌, length, get_or, map, flat_map, Some, None, inl, inr, refl, sym, ap, ◌∙◌, subst, arith, Contains}
 use Rattle.std.specs.List.{list_any, AllByRecursion, IsDistinct, position_from}
 use Rattle.std.proofs.lemmas.Bool.{false≢true, and_parts, or_cases}
@@ -22,7 +22,7 @@ use Rattle.plan_types.specs.Bytes.{same_text}
 use Rattle.common_laws.specs.Small.{same-is}
 use Rattle.plan_types.specs.Packages.{library_name, is_library}
 
--- a component at a place
+-- a component is at a place
 abbrev IsAt : List Component → Component → ℕ → Type 0
 IsAt components c k = (k < length components) × (get_or components k c ≡ c)
 
@@ -31,7 +31,7 @@ each-at P [] c k each low is = absurd (omega (arith, low))
 each-at P (d ∷ components) c zero each low is = subst (λ (x : Component). P x.name) is each.0
 each-at P (d ∷ components) c (suc k) each low is = each-at P components c k each.1 (omega (arith, low)) is
 
--- the first component of a name is the only one
+-- the place of a component is that of the first one with its name
 place-from : (components : List Component) (c : Component) (k i : ℕ) → IsDistinct same_text (map (λ d. d.name) components) → k < length components → get_or components k c ≡ c
     → position_from (λ d. same_text c.name d.name) i components ≡ Some (i + k)
 unfolding IsDistinct
@@ -67,7 +67,7 @@ module _ (components : List Component) (once : IsDistinct same_text (map (λ d. 
   alone : (xs : List ℕ) (v : ℕ) → xs ≡ v ∷ [] → Contains xs v
   alone xs v is = subst (λ ys. Contains ys v) (sym is) (0, omega arith, refl)
 
-  -- what a component needs is among the numbers of what it is on
+  -- the numbers that a component needs include those of the components that it depends on
   module _ (other : Component) (k : ℕ) (at : IsAt components other k) where
     by-name : (name : List ℕ) → same_text other.name name ≡ true → Contains (number_in components name) k
     by-name name e = alone (number_in components name) k (ap (number_in components) (sym (same-is other.name name e)) ∙ place-is other k at)

@@ -1,4 +1,4 @@
--- Dependencies on the package itself find their components.
+-- Internal dependencies find their components.
 use Rattle.std.proofs.Common.{◌≡◌, ℕ, Bool, true, false, ◌&&◌, if◌then◌else◌, List, [], ◌∷◌, flat_map, Some, inl, inr, refl, sym, ap, ◌∙◌, subst}
 use Rattle.std.specs.List.{list_all, list_any}
 use Rattle.std.proofs.lemmas.Bool.{false≢true, and_parts, and_from, or_left, or_cases}
@@ -29,7 +29,7 @@ use Rattle.sound_description.proofs.Names.{itself, same-back}
 use Rattle.plan_types.specs.Bytes.{same_text}
 use Rattle.plan_types.specs.Packages.{library_name}
 
--- ---- components that sections declare
+-- ---- declared components
 
 module _ (file : File) (of_kind : SectionKind → Bool) (test : Component → Bool) (name : List ℕ)
     (one : (section : Section) (kind : SectionKind) → section.kind ≡ kind → (of_kind kind && same_text name section.name) ≡ true → list_any test (component_in file section) ≡ true) where
@@ -77,9 +77,9 @@ module _ (file : File) where
   pub exe-found : (sections : List Section) (exe : List ℕ) → declares is_executable sections exe ≡ true → list_any (λ c. is_exe c exe) (flat_map (component_in file) (with_imports_replaced sections)) ≡ true
   exe-found sections exe e = declared-found file is_executable (λ c. is_exe c exe) exe (one-exe exe) sections e
 
--- ---- what a dependency is meant as
+-- ---- the meaning of a dependency
 
--- A dependency of a component, as it is kept: one on the package itself finds what it asks for.
+-- A kept dependency of a component is well-formed, and finds its components if it is internal.
 abbrev pub is_kept : List ℕ → List Component → Dep → Bool
 is_kept name components dep =
     is_of_components dep.kind && is_package_name dep.«package» && has_versions dep.range
@@ -88,7 +88,7 @@ is_kept name components dep =
 module _ (file : File) (name : List ℕ) (named : own_name file.heads ≡ Some name) (formed : is_package_name name ≡ true) (components : List Component)
     (libs : (l : LibName) → declares is_library file.sections (library_name l) ≡ true → list_any (λ c. is_lib c l) components ≡ true)
     (exes : (exe : List ℕ) → declares is_executable file.sections exe ≡ true → list_any (λ c. is_exe c exe) components ≡ true) where
-  -- what has to be known of a dependency that is meant so
+  -- the premise on a dependency with this meaning
   abbrev Finds : Meaning → Dep → Type 0
   Finds Other dep = Unit {0}
   Finds Own dep = (same_text name dep.«package» ≡ true) × (finds_all dep.kind dep components ≡ true)
@@ -107,7 +107,7 @@ module _ (file : File) (name : List ℕ) (named : own_name file.heads ≡ Some n
   finds Tool dep false library libraries executable is mine named here there known = tt
   finds Setup dep own library libraries executable is mine named here there known = tt
 
-  -- of the kinds, the form and the versions
+  -- its kind, its package name and its versions
   abbrev Plain : Dep → Type 0
   Plain dep = (is_of_components dep.kind ≡ true) × (is_package_name dep.«package» ≡ true) × (has_versions dep.range ≡ true)
 

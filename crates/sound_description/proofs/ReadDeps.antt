@@ -1,4 +1,4 @@
--- What dependencies have that were read.
+-- Properties of dependencies that were read.
 use Rattle.std.proofs.Common.{◌≡◌, ℕ, Bool, true, false, not, ◌&&◌, if◌then◌else◌, List, codes, Option, Some, None, refl, ap, ◌∙◌}
 use Rattle.std.specs.List.{list_all}
 use Rattle.std.specs.declared.result.Result.{Result}
@@ -34,21 +34,21 @@ use Rattle.common_laws.specs.Passing.{all-append}
 use Rattle.text_grammar.specs.Outcome.{Read}
 use Rattle.stanza_imports.specs.Parts.{deps_said}
 
--- a dependency that was read, of a kind that passes
+-- a dependency as it was read, not yet marked internal: well-formed, and of a kind that passes
 abbrev pub is_read : (DepKind → Bool) → Dep → Bool
 is_read kinds dep = kinds dep.kind && not dep.internal && is_package_name dep.«package» && has_versions dep.range
 
 abbrev pub is_read_part : (DepKind → Bool) → SectionPart → Bool
 is_read_part kinds part = list_all (is_read kinds) (deps_said part.said)
 
--- the kinds of the dependencies in a section
+-- the kinds of dependencies in a section
 abbrev pub kinds_in : SectionKind → DepKind → Bool
 kinds_in (kinds.Component kind) = is_of_components
 kinds_in kinds.Common = is_of_components
 kinds_in kinds.Flag = is_of_components
 kinds_in kinds.Setup = is_of_setup
 
--- the dependencies that a field states are of such a kind
+-- the dependencies of a field are of such a kind
 abbrev states : (DepKind → Bool) → FieldWord → Bool
 states kinds fields.Import = true
 states kinds fields.Depends = kinds Library
@@ -114,7 +114,7 @@ module _ (kinds : DepKind → Bool) where
   each-read Entry one pieces deps (more {part = part} {x = dep} {parts = parts} {xs = others} here rest) =
       and_from (is_read kinds dep) (list_all (is_read kinds) others) (one part dep here) (each-read Entry one parts others rest)
 
-  -- what a field says
+  -- the dependencies of one field
   depends-read : (Stands : List Dep → Type 0) (Fails : Cause → Type 0) → ((deps : List Dep) → Stands deps → list_all (is_read kinds) deps ≡ true)
       → (found : Result (List Dep) Cause) → Read Stands Fails found → list_all (is_read kinds) (deps_said (said.Depends found)) ≡ true
   depends-read Stands Fails one (Ok deps) is = one deps is

@@ -1,4 +1,4 @@
--- What a file says in its heads and sections was read.
+-- The heads and sections of a file come from its elements.
 use Rattle.std.proofs.Common.{◌≡◌, ℕ, Bool, true, false, if◌then◌else◌, List, [], ◌∷◌, map, Option, Some, None, refl, sym, ap, ◌∙◌, subst}
 use Rattle.std.specs.Char.{to_ascii_lowercase}
 use Rattle.std.specs.Option.{option_or}
@@ -29,7 +29,7 @@ use Rattle.text_grammar.specs.Last.{last_said}
 use Rattle.description.specs.Description.{version_said, version_of}
 use Rattle.common_laws.specs.Passing.{all-append}
 
--- a name as it is kept of a section of this kind: that of a flag in lower case
+-- a section's name as it is kept: a flag's in lower case
 abbrev pub is_kept_name : SectionKind → List ℕ → Bool
 is_kept_name (kinds.Component kind) name = true
 is_kept_name kinds.Common name = true
@@ -46,7 +46,7 @@ kept-name kinds.Common args = refl
 kept-name kinds.Flag args = ap (λ x. same_text x (map to_ascii_lowercase args)) (lower-twice args) ∙ (bytes_eq-Decides (map to_ascii_lowercase args) (map to_ascii_lowercase args)).1 refl
 kept-name kinds.Setup args = refl
 
--- a section whose parts are the items of a tree, and whose name is kept
+-- a section read from the items of a tree
 pub record IsReadSection (spec : Spec) (section : Section) : Type 0 where
   pub tree : Tree
   pub items : AreParts spec section.kind tree section.parts
@@ -65,9 +65,9 @@ sections-read spec (field line name values behind) heads sections says = section
 sections-read spec (section line name args items behind) heads sections says =
     one_section spec (section_kind name) line args items (λ more. Says spec behind heads more) (λ more is. sections-read spec behind heads more is) sections says
 
--- ---- heads
+-- ---- fields beside the sections
 
--- names and versions of their form
+-- well-formed names and versions
 abbrev is_good : Head → Bool
 is_good (head.Name None) = true
 is_good (head.Name (Some name)) = is_package_name name
@@ -112,14 +112,14 @@ heads-good spec (field line name values behind) heads sections says =
 heads-good spec (section line name args items behind) heads sections says =
     in_section spec (section_kind name) line args items (λ more. Says spec behind heads more) (λ more is. heads-good spec behind heads more is) sections says
 
--- ---- what is said last
+-- ---- the last value
 
--- nothing, or something of this kind
+-- the value passes, if there is one
 abbrev if-some : {A : Type 0} → (A → Bool) → Option A → Bool
 if-some p None = true
 if-some p (Some x) = p x
 
--- where every item is good, and what a good one says is of this kind, so is what is said last
+-- the last value passes if all values do
 last-good : {A B : Type 0} (q : A → Bool) (p : B → Bool) (of : A → Option B) → ((x : A) → q x ≡ true → if-some p (of x) ≡ true) → (xs : List A) (v : B)
     → list_all q xs ≡ true → last_said of xs ≡ Some v → p v ≡ true
 last-good q p of said [] v all e = absurd (cc e)
@@ -130,7 +130,7 @@ last-good q p of said (x ∷ xs) v all e =
       | Some w ↦ λ is. last-good q p of said xs v here.1 (is ∙ sym (ap (λ o. option_or o (of x)) is) ∙ e)
     ] refl
 
--- none, or one of its form
+-- the name is well-formed, if there is one
 abbrev is_good_name : Option (List ℕ) → Bool
 is_good_name None = true
 is_good_name (Some name) = is_package_name name

@@ -1,4 +1,4 @@
--- What the setup script of a package needs.
+-- The dependencies of the setup script.
 use Rattle.std.proofs.Common.{◌≡◌, ℕ, Bool, true, false, ◌&&◌, if◌then◌else◌, List, [], ◌∷◌, flat_map, codes, refl, sym, ap, ◌∙◌}
 use Rattle.std.specs.List.{list_all, list_any, AllByRecursion}
 use Rattle.std.specs.Prelude.{None}

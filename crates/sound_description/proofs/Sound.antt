@@ -44,7 +44,7 @@ use Rattle.sound_description.proofs.Said.{IsReadSection, name-formed, sections-r
 use Rattle.sound_description.proofs.SetupDeps.{setup-read}
 use Rattle.plan_types.specs.Bytes.{same_text}
 
--- ---- the parts of a test of dependencies
+-- ---- the parts of the test of a dependency
 
 module _ (kinds : Bool) (inside : Bool) (name : Bool) (range : Bool) where
   read-parts : (kinds && inside && name && range) ≡ true → (kinds ≡ true) × (inside ≡ true) × (name ≡ true) × (range ≡ true)
@@ -144,7 +144,7 @@ module _ (spec : Spec) (file : File) (digest name : List ℕ) (version : Version
       all_components all-well))
       (all-map (is_read is_of_setup) is_package_name (λ dep. dep.«package») (λ dep e. (setup-parts dep e).2) (setup file) setup-is)
 
--- ---- what is described
+-- ---- the description
 
 module _ (items : List Element) (digest : List ℕ) (d : Description) (describes : Describes items digest (Ok d)) where
   abbrev of : IsOf items digest d

@@ -1,4 +1,4 @@
-// What holds of every description that is read.
+// Laws of every description that is read.
 
 ghost use Rattle.std.specs.Prelude.{◌≡◌, ℕ, true, List};
 ghost use Rattle.std.specs.List.{list_all};
@@ -10,12 +10,12 @@ ghost use Rattle.version_range.specs.Version.{is_version};
 ghost use Rattle.description.specs.Description.{Describes};
 ghost use Rattle.flatten.specs.Sound.{IsDescription, asked_packages};
 
-/// A description of elements is sound.
+/// A description read from elements is sound.
 pub fn what_is_described_is_sound()
     ensures { (items : List Element) (digest : List ℕ) (d : Description) → Describes items digest (Ok d) → IsDescription d }
 {}
 
-/// Its name, its version and the names of the packages that it asks for have their forms, and it keeps the digest.
+/// Its name, its version and the names of the packages that it depends on are well-formed, and it keeps the digest.
 pub fn what_is_described_has_forms()
     ensures name { (items : List Element) (digest : List ℕ) (d : Description) → Describes items digest (Ok d)
         → is_package_name d.name ≡ true }

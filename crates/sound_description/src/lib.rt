@@ -1,6 +1,6 @@
-//! Whatever elements have a description, it is sound, as an index of packages wants it: its flags rise, its components are
-//! told apart by their names, its conditions and ranges can be written, what it asks of itself is there, and nothing in it
-//! needs itself.
+//! Laws that every description that is read is sound. There is no code here. Its flags are sorted, its component names
+//! are distinct, and its conditions and ranges can be written. Its internal dependencies find their components, and no
+//! component is on a cycle of needs. Its name, version and packages are well-formed.
 #![tactic(auto)]
 
 mod laws;
