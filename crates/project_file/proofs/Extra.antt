@@ -1,4 +1,4 @@
--- The names of the packages that a project asks for besides have their form.
+-- Extra packages have well-formed names.
 use Rattle.std.proofs.Common.{◌≡◌, ℕ, Bool, true, false, ◌||◌, if◌then◌else◌, inl, inr, List, [], ◌∷◌, codes, refl, sym, ap, subst, ◌∙◌}
 use Rattle.std.specs.Prelude.{Option, Some, None, Result, Ok, Err, IfOk}
 use Rattle.std.specs.List.{list_all}
@@ -43,11 +43,11 @@ use Rattle.text_grammar.specs.Outcome.{Read}
 use Rattle.version_range.specs.Number.{limit_of}
 use Rattle.project_file.specs.declared.words.SectionWord.TheVariants as sections
 
--- the names have their form
+-- all names are well-formed
 abbrev pub are_named : List Named → Bool
 are_named extra = list_all (λ named. is_package_name named.name) extra
 
--- wherever this is said, it asks for packages with such names alone
+-- all extra packages of this content have well-formed names, wherever it is
 abbrev is_well : Said → Bool
 is_well found = are_named (given_at [] 0 found).extra
 
@@ -181,7 +181,7 @@ are_placed_well parts = list_all (λ part. are_named (given part).extra) parts
 abbrev IsPlacedWell : Result (List Placed) Refusal → Type 0
 IsPlacedWell read = IfOk read (λ parts. are_placed_well parts ≡ true)
 
--- wherever it is said
+-- path and line don't matter
 given-extra : (path : List ℕ) (line : ℕ) (found : Said) → (given_at path line found).extra ≡ (given_at [] 0 found).extra
 given-extra path line (said.Entries texts optional) = refl
 given-extra path line (said.Extra extra) = refl

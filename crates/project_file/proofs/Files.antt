@@ -1,4 +1,4 @@
--- What project files come to, one file further.
+-- The outcome of project files with one more file.
 use Rattle.std.proofs.Common.{◌≡◌, ℕ, ◌+◌, ◌<◌, ◌≤◌, length, List, [], ◌∷◌, ◌++◌, get_or, take, drop, refl, sym, subst, ap, ◌∙◌, append_assoc}
 use Rattle.std.proofs.lemmas.List.{append-nil, take-append-drop, take_all}
 use Rattle.std.specs.Prelude.{Result, Ok, Err}
@@ -30,7 +30,7 @@ abbrev project_in : Project → Result Project Refusal → Project
 project_in other (Ok project) = project
 project_in other (Err refusal) = other
 
--- ---- files behind others
+-- ---- later files
 
 on-ok : (parts front : List Placed) (Rest Also : Result (List Placed) Refusal → Type 0) (more : Result (List Placed) Refusal) → ((f : List Placed) → Rest (Ok f) → Also (in_front f more)) →
     (m : Result (List Placed) Refusal) → Rest m → Ok front ≡ in_front parts m → (n : Result (List Placed) Refusal) × Also n × (in_front front more ≡ in_front parts n)
@@ -73,7 +73,7 @@ module _ (env : Env) where
   unfolding AllRead
   one-refused text r reads = (Err r, reads, refl)
 
-  -- ---- what files say
+  -- ---- outcomes of files
 
   pub none-say : IsProject env [] (Ok (project_from []))
   unfolding AllRead
@@ -83,7 +83,7 @@ module _ (env : Env) where
   refused-with texts rest r (Ok parts) h e = absurd (cc e)
   refused-with texts rest r (Err s) h e = (Err s, all-refused texts rest s h, e)
 
-  -- what stands behind a refused file doesn't count
+  -- files after a refused one don't count
   pub refused-behind : (texts rest : List ProjectText) (r : Refusal) → IsProject env texts (Err r) → IsProject env (texts ++ rest) (Err r)
   refused-behind texts rest r h = refused-with texts rest r h.0 h.1 h.2
 
@@ -112,7 +112,7 @@ module _ (env : Env) where
     one-halted halt.Failed says reads = reads
     one-halted (halt.Refused r) says reads = stopped-with r says.0 says.1 says.2 reads
 
--- ---- one place further
+-- ---- one more place
 
 pub split-at : (texts : List ProjectText) (n : ℕ) (text : ProjectText) → n < length texts → text ≡ get_or texts n text → (take n texts ++ text ∷ []) ++ drop (n + 1) texts ≡ texts
 split-at texts n text lt is = ap (λ front. front ++ drop (n + 1) texts) (sym (take_at texts n text lt is)) ∙ take-append-drop (n + 1) texts

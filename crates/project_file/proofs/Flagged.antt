@@ -1,4 +1,4 @@
--- Whether a flag stands in the parts of a condition.
+-- A condition has a flag iff one of its parts has.
 use Rattle.std.proofs.Common.{◌≡◌, Bool, true, false, ◌||◌, List, ℕ, sym, ap, ◌∙◌}
 use Rattle.std.proofs.Math.Bool.{or-false, or-true}
 use Rattle.plan_types.specs.declared.condition.Cond.{Cond}
@@ -38,7 +38,7 @@ flagged-Or left right = ap has_flag (sym (rolls-Or left right)) ∙ fold-roll-Co
 pub passes-Not : (s inner : Cond) → s ≡ Not inner → has_flag inner ≡ has_flag s
 passes-Not s inner e = sym (flagged-Not inner) ∙ ap has_flag (sym e)
 
--- where no flag stands on the right side, the left side decides; where one does, it stands in the whole
+-- if the right side has no flag, the left side decides; if it has one, the whole has
 module _ (s l r : Cond) where
   pub passes-And : s ≡ And l r → has_flag r ≡ false → has_flag l ≡ has_flag s
   passes-And e right = sym (or-false (has_flag l)) ∙ ap (λ b. has_flag l || b) (sym right) ∙ sym (flagged-And l r) ∙ ap has_flag (sym e)

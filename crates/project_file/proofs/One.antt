@@ -1,4 +1,4 @@
--- Project files come to one thing.
+-- Project files have at most one outcome.
 use Rattle.std.proofs.Common.{◌≡◌, inl, inr, ℕ, Bool, List, [], ◌∷◌, ◌++◌, sym, subst, ap, ◌∙◌}
 use Rattle.std.specs.Prelude.{Option, None, Some, Result, Ok, Err, true, false}
 use Rattle.plan_types.specs.Bytes.{joined_text}

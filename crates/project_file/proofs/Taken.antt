@@ -1,4 +1,4 @@
--- What a part adds to a project.
+-- A project with the values of one more part.
 use Rattle.std.proofs.Common.{◌≡◌, ℕ, Bool, false, List, [], ◌∷◌, ◌++◌, refl, sym, ap, ◌∙◌}
 use Rattle.std.specs.Prelude.{Option, None, Some, unwrap_or}
 use Rattle.std.specs.Option.{option_or}
@@ -14,7 +14,7 @@ use Rattle.project_file.specs.declared.part.Said.TheVariants as said
 use Rattle.project_file.specs.declared.part.Switch.{Switch}
 use Rattle.project_file.specs.declared.part.Switch.TheVariants.{Tests, Benchmarks, PreferOldest, BootInstalls}
 
--- a list with another behind it, which is itself where there is nothing behind
+-- `xs ++ ys`, but `xs` itself if `ys` is empty
 abbrev plus : {A : Type 0} → List A → List A → List A
 plus xs [] = xs
 plus xs (y ∷ ys) = xs ++ y ∷ ys
@@ -23,7 +23,7 @@ plus_is : {A : Type 0} (xs ys : List A) → plus xs ys ≡ xs ++ ys
 plus_is xs [] = sym (append-nil xs)
 plus_is xs (y ∷ ys) = refl
 
--- a project with what one more part gives
+-- a project with the values of one more part
 abbrev pub joined : Project → Given → Project
 joined old g = record {
   entries = plus old.entries g.entries;
@@ -68,14 +68,14 @@ project_push parts part i = record {
   warnings = all_push (λ g. g.warnings) parts part i;
 }
 
--- the project is as it was but for what the part gives
+-- the project changes by the values of the part alone
 pub goes : (path : List ℕ) (line : ℕ) {said told : Said} (old : Project) {new : Project} → told ≡ said → new ≡ joined old (given_at path line said) →
     (before : List Placed) → old ≡ project_from before → new ≡ project_from (before ++ record { path = path; line = line; said = told } ∷ [])
 goes path line {said = said} old is new-is before e =
     new-is ∙ ap (λ p. joined p (given_at path line said)) e ∙ ap (λ s. joined (project_from before) (given_at path line s)) (sym is)
     ∙ sym (project_push before (record { path = path; line = line; said = _ }))
 
--- a list of the project with these behind it
+-- a list of the project with these after it
 pub list_is : {A : Type 0} (as' : List A → Project) (old more : List A) {new : List A} → new ≡ old ++ more → as' new ≡ as' (plus old more)
 list_is as' old more e = ap as' (e ∙ sym (plus_is old more))
 

@@ -1,4 +1,4 @@
--- What is added to the parts for one element.
+-- The parts with one more element.
 use Rattle.std.proofs.Common.{◌≡◌, ℕ, Bool, ◌+◌, ◌<◌, length, List, ◌++◌, get_or, drop, ◌≤◌, sym, subst, ap, ◌∙◌, refl}
 use Rattle.std.proofs.lemmas.List.{append-nil, drop_all}
 use Rattle.std.specs.Prelude.{Option, None, Some}
@@ -42,7 +42,7 @@ module _ (env : Env) where
     goes.2,
   )
 
-  -- one element further
+  -- one more element
   pub loop_goes : (items : List Element) (n : ℕ) (item : Element) (chain left : Option Bool) (Are : List ProjectPart → Type 0) (first old new : List ProjectPart) →
       n < length items → get_or items n item ≡ item →
       ((more : List ProjectPart) → Says env (tree_of (drop n items)) chain more → Goes Are first old more) →
@@ -53,7 +53,7 @@ module _ (env : Env) where
       let there = before here.0 (subst (λ t. Says env t chain here.0) (sym (tree_from items n item lt is)) here.1) in
       (there.0, there.1, here.2 ∙ there.2)
 
--- a section further
+-- one more section
 module _ (env : Env) (line : ℕ) (name args : List ℕ) (items : Tree) (chain : Option Bool) (Within : List ProjectPart → Type 0) (Behind : Option Bool → List ProjectPart → Type 0) where
   abbrev Are : SectionWord → List ProjectPart → Type 0
   Are word parts = SectionSays env word line name args items chain Within Behind parts
@@ -81,7 +81,7 @@ module _ (env : Env) (line : ℕ) (name args : List ℕ) (items : Tree) (chain :
   branch_goes branch-word left found old more is branch new-is rest =
       (found ++ more, subst (λ w. Are w (found ++ more)) (sym is) (left, found, more, branch, rest, refl), added old found more new-is)
 
--- the flags in a section about a package, one element further
+-- the flags of a `package` section with one more element
 pub flag_field : (args : List ℕ) {item : Element} (line : ℕ) (name : List ℕ) (values : List (List ℕ)) (behind : Tree) → item ≡ Field line name values →
     flag_parts args (in_front item behind) ≡ flag_part args line name (joined_text values) ++ flag_parts args behind
 unfolding flag_parts

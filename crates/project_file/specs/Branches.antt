@@ -1,4 +1,4 @@
--- Branches, which the environment decides.
+-- Branches, whose conditions the environment decides.
 use Rattle.std.specs.Prelude.{◌≡◌, ℕ, Bool, true, false, ◌&&◌, ◌||◌, not, if◌then◌else◌, List, [], ◌∷◌, Option, Some, None, is_some, unwrap_or}
 use Rattle.std.specs.declared.result.Result.{Result}
 use Rattle.std.specs.declared.result.Result.TheVariants.{Ok, Err}
@@ -19,7 +19,7 @@ use Rattle.project_file.specs.declared.words.BranchWord.{BranchWord}
 use Rattle.project_file.specs.declared.words.BranchWord.TheVariants.{If, Elif, Else}
 use Rattle.text_grammar.specs.Outcome.{Read}
 
--- one layer of a condition, with what is so of its parts in their place
+-- one layer of a condition whose parts were tested
 abbrev pub flag_step : Cond-F Bool → Bool
 flag_step Always = false
 flag_step Never = false
@@ -31,7 +31,7 @@ flag_step (Not inner) = inner
 flag_step (And left right) = left || right
 flag_step (Or left right) = left || right
 
--- whether a flag stands anywhere in a condition
+-- whether a condition has a flag
 abbrev pub has_flag : Cond → Bool
 has_flag = fold-Cond Bool flag_step
 
@@ -41,58 +41,59 @@ is_yes Yes = true
 is_yes No = false
 is_yes Unknown = false
 
--- whether a condition holds; one with a flag may not stand there
+-- the value of a condition; one with a flag isn't allowed
 abbrev pub decided : Env → Cond → Result Bool Cause
 decided env cond = if has_flag cond then Err BadField else Ok (is_yes (value env (flag_in []) cond))
 
--- whether what was read holds
+-- the value of a condition that was read
 abbrev pub decided_of : Env → Result Cond Cause → Result Bool Cause
 decided_of env (Ok cond) = decided env cond
 decided_of env (Err cause) = Err cause
 
--- the text of a condition comes to this
+-- the value of a condition's text, or the cause of its fault
 abbrev pub Settles : Env → List ℕ → Result Bool Cause → Type 0
 Settles env text own = (read : Result Cond Cause) × Read (Stands V3_0 64 text) (FirstFault V3_0 64 text) read × (own ≡ decided_of env read)
 
--- nothing stands behind `else`
+-- `else` has no arguments
 abbrev pub bare : List ℕ → Result Bool Cause
 bare [] = Ok true
 bare (b ∷ bs) = Err BadField
 
--- whether the condition of a branch itself holds, or why that can't be decided
+-- the value of a branch's own condition, or the cause why it has none
 abbrev pub Decides : Env → BranchWord → List ℕ → Result Bool Cause → Type 0
 Decides env If args own = Settles env args own
 Decides env Elif args own = Settles env args own
 Decides env Else args own = own ≡ bare args
 
--- whether a condition is known to hold
+-- whether a condition has the value true
 abbrev pub holds : Result Bool Cause → Bool
 holds (Ok value) = value
 holds (Err cause) = false
 
--- Whether a branch before it in its chain was taken. The chain is that of a branch directly in front; an `if` begins one.
+-- Whether an earlier branch of the chain was taken. The chain is that of a branch directly before; an `if` begins
+-- one.
 abbrev pub was_taken : BranchWord → Option Bool → Bool
 was_taken If chain = false
 was_taken Elif chain = unwrap_or chain false
 was_taken Else chain = unwrap_or chain false
 
--- of a chain the first branch that holds is taken
+-- the first branch of a chain whose condition holds is taken
 abbrev pub is_taken : BranchWord → Option Bool → Result Bool Cause → Bool
 is_taken word chain own = holds own && not (was_taken word chain)
 
--- the chain for a branch directly behind; none behind an `else`
+-- the chain for a branch directly after; none after an `else`
 abbrev pub chain_behind : BranchWord → Option Bool → Result Bool Cause → Option Bool
 chain_behind If chain own = Some (holds own || was_taken If chain)
 chain_behind Elif chain own = Some (holds own || was_taken Elif chain)
 chain_behind Else chain own = None
 
--- an `if` stands anywhere, the others directly behind a branch that isn't an `else`
+-- an `if` fits anywhere, the others directly after a branch that isn't an `else`
 abbrev pub fits : BranchWord → Option Bool → Bool
 fits If chain = true
 fits Elif chain = is_some chain
 fits Else chain = is_some chain
 
--- what is wrong with a branch: its condition first, then its place
+-- the fault of a branch: of its condition first, then of its place
 abbrev pub branch_fault : BranchWord → Option Bool → Result Bool Cause → Option Said
 branch_fault word chain (Err cause) = Some (Bad cause)
 branch_fault word chain (Ok value) = if fits word chain then None else Some (Bad ElseWithoutIf)

@@ -1,4 +1,4 @@
--- What the definitions give on small texts.
+-- The definitions on small texts.
 use Rattle.std.specs.Prelude.{◌≡◌, refl, true, false, [], ◌∷◌, codes, Some, None}
 use Rattle.std.specs.declared.result.Result.TheVariants.{Ok, Err}
 use Rattle.plan_types.specs.declared.limit.Limit.TheVariants.{At, Unlimited}
@@ -31,7 +31,7 @@ three_flags = refl
 no_flag : flags_in (codes "+a,-b") ≡ None
 no_flag = refl
 
--- `elif true` behind a branch that was taken, and one behind a branch that wasn't
+-- `elif true` after a chain that took a branch, and after one that took none
 behind_a_taken_branch : is_taken Elif (Some true) (Ok true) ≡ false
 behind_a_taken_branch = refl
 
@@ -44,14 +44,14 @@ still_taken = refl
 else_with_a_condition : bare (codes "x") ≡ Err BadField
 else_with_a_condition = refl
 
--- the condition comes before the place
+-- a fault of the condition comes before one of the place
 a_bad_lone_elif : branch_fault Elif None (Err BadField) ≡ Some (said.Bad BadField)
 a_bad_lone_elif = refl
 
 a_lone_else : branch_fault Else None (Ok true) ≡ Some (said.Bad ElseWithoutIf)
 a_lone_else = refl
 
--- the last value holds, of whatever file
+-- the last value counts, from whatever file
 the_last_holds : (project_from (record { path = codes "a"; line = 7; said = said.Switch Tests true } ∷ record { path = codes "b"; line = 1; said = said.Switch Tests false } ∷ [])).tests ≡ false
 the_last_holds = refl
 

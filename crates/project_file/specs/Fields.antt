@@ -1,4 +1,4 @@
--- What a field beside the sections says.
+-- The parts of fields beside the sections.
 use Rattle.std.specs.Prelude.{◌≡◌, ℕ, Bool, true, false, List, Option, Some, None}
 use Rattle.std.specs.declared.result.Result.{Result}
 use Rattle.std.specs.declared.result.Result.TheVariants.{Ok, Err}
@@ -19,25 +19,25 @@ use Rattle.text_grammar.specs.Outcome.{Read}
 use Rattle.version_range.specs.Number.{limit_of}
 use Rattle.project_file.specs.declared.words.FieldWord.TheVariants as fields
 
--- what was read, or why it wasn't
+-- the part with this value, or with the cause of its fault
 abbrev pub said_of : {A : Type 0} → (A → Said) → Result A Cause → Said
 said_of as' (Ok found) = as' found
 said_of as' (Err cause) = said.Bad cause
 
--- what a text stands for is said, or its fault
+-- the part with the value of a text, or with its first fault
 abbrev pub IsRead : {A : Type 0} → (A → Said) → (A → Type 0) → (Cause → Type 0) → Said → Type 0
 IsRead {A = A} as' Stands Fails found = (read : Result A Cause) × Read Stands Fails read × (found ≡ said_of as' read)
 
--- a value that isn't of its form may not stand there
+-- the part with this value, or a fault if the value is ill-formed
 abbrev pub or_bad : {A : Type 0} → (A → Said) → Option A → Said
 or_bad as' None = said.Bad BadField
 or_bad as' (Some value) = as' value
 
--- what a switch says
+-- the part of a switch
 abbrev pub switch_said : Switch → Option Bool → Said
 switch_said which value = or_bad (said.Switch which) value
 
--- what a field of this kind says with this text
+-- the part of a field of this kind with this text
 abbrev pub KindSays : FieldKind → List ℕ → Said → Type 0
 KindSays kinds.Packages text found = found ≡ said.Entries (words SpacesAndCommas text) false
 KindSays kinds.OptionalPackages text found = found ≡ said.Entries (words SpacesAndCommas text) true
@@ -49,7 +49,7 @@ KindSays kinds.Older text found = IsRead said.Older (Relaxes text) (RelaxFault t
 KindSays (kinds.Switch which) text found = found ≡ switch_said which (boolean text)
 KindSays kinds.Limit text found = found ≡ or_bad said.Limit (limit_of text)
 
--- What a field says, where it is read. Some aren't, and are told by their names.
+-- The part of a field; none for an unknown one. A field that is only warned of has its name.
 abbrev pub FieldSays : FieldWord → List ℕ → List ℕ → Option Said → Type 0
 FieldSays (fields.Read kind) name text found = (said : Said) × KindSays kind text said × (found ≡ Some said)
 FieldSays fields.Warned name text found = found ≡ Some (said.Warning name)

@@ -1,4 +1,4 @@
--- Which parts the elements of a file are.
+-- The parts that the elements of a file become.
 use Rattle.std.specs.Prelude.{◌≡◌, ℕ, Bool, true, false, ◌||◌, if◌then◌else◌, List, [], ◌∷◌, ◌++◌, codes, Option, Some, None}
 use Rattle.std.specs.declared.result.Result.{Result}
 use Rattle.plan_types.specs.Bytes.{joined_text, same_text}
@@ -22,36 +22,36 @@ use Rattle.project_file.specs.declared.words.BranchWord.{BranchWord}
 use Rattle.project_file.specs.declared.words.SectionWord.{SectionWord}
 use Rattle.project_file.specs.declared.words.SectionWord.TheVariants as sections
 
--- what is said at a line, where anything is
+-- the content at its line, if there is any
 abbrev pub placed : ℕ → Option Said → List ProjectPart
 placed line None = []
 placed line (Some found) = record { line = line; said = found } ∷ []
 
--- ---- a section about a package
+-- ---- a `package` section
 
--- about every package, of which none can have flags set
+-- the section of all packages, which can't set flags
 abbrev pub is_every : List ℕ → Bool
 is_every args = same_text args (codes "*")
 
--- the flags of a package are a constraint at top level
+-- the flags of a package as a constraint at top level
 abbrev pub said_flags : List ℕ → List FlagSet → Said
 said_flags args flags = said.Constraints (record { scope = Top; «package» = args; what = Flags flags } ∷ [])
 
--- what a text of flags says of a package
+-- the content of a `flags` field
 abbrev pub flags_said : List ℕ → List ℕ → Said
 flags_said args text = if is_every args then said.Bad Unsupported else or_bad (said_flags args) (flags_in text)
 
--- what a field of a package's section is
+-- the part of a field in a `package` section
 abbrev pub flag_part : List ℕ → ℕ → List ℕ → List ℕ → List ProjectPart
 flag_part args line name text = if same_text name (codes "flags") then record { line = line; said = flags_said args text } ∷ [] else []
 
--- of its fields `flags` alone is read, and no section in it
+-- only the `flags` fields of a `package` section are read, and no sections inside it
 unfoldable pub flag_parts : List ℕ → Tree → List ProjectPart
 flag_parts args end = []
 flag_parts args (field line name values behind) = flag_part args line name (joined_text values) ++ flag_parts args behind
 flag_parts args (section line name inner items behind) = flag_parts args behind
 
--- the parts of a section about a package
+-- the parts of a `package` section
 abbrev pub package_parts : ℕ → List ℕ → Tree → List ProjectPart
 package_parts line args items =
     if is_every args || is_package_name args then flag_parts args items
@@ -59,12 +59,12 @@ package_parts line args items =
 
 -- ---- a branch
 
--- what isn't taken is unread
+-- the items of a branch are read only if it is taken
 abbrev pub IfTaken : Bool → (List ProjectPart → Type 0) → List ProjectPart → Type 0
 IfTaken true Within found = Within found
 IfTaken false Within found = found ≡ []
 
--- a branch with what stands in it, and the chain for what is behind
+-- a branch with its parts, and the chain for what is after it
 pub record IsBranch (env : Env) (word : BranchWord) (line : ℕ) (args : List ℕ) (chain : Option Bool) (Within : List ProjectPart → Type 0) (left : Option Bool) (found : List ProjectPart) : Type 0 where
   pub own : Result Bool Cause
   pub within : List ProjectPart
@@ -75,7 +75,7 @@ pub record IsBranch (env : Env) (word : BranchWord) (line : ℕ) (args : List �
 
 -- ---- all elements
 
--- a section, and what stands behind it
+-- a section with its parts, and the parts after it
 abbrev pub SectionSays : Env → SectionWord → ℕ → List ℕ → List ℕ → Tree → Option Bool → (List ProjectPart → Type 0) → (Option Bool → List ProjectPart → Type 0) → List ProjectPart → Type 0
 SectionSays env (sections.Branch word) line name args items chain Within Behind parts =
     (left : Option Bool) × (found : List ProjectPart) × (more : List ProjectPart) × IsBranch env word line args chain Within left found × Behind left more × (parts ≡ found ++ more)
@@ -87,7 +87,7 @@ SectionSays env sections.Unsupported line name args items chain Within Behind pa
     (more : List ProjectPart) × Behind None more × (parts ≡ placed line (Some (said.Bad Unsupported)) ++ more)
 SectionSays env sections.Unread line name args items chain Within Behind parts = Behind None parts
 
--- The elements say this. The chain is that of a branch directly in front.
+-- The parts that the elements become. The chain is that of a branch directly before.
 unfoldable pub Says : Env → Tree → Option Bool → List ProjectPart → Type 0
 Says env end chain parts = parts ≡ []
 Says env (field line name values behind) chain parts =
@@ -96,25 +96,25 @@ Says env (field line name values behind) chain parts =
 Says env (section line name args items behind) chain parts =
     SectionSays env (section_word name) line name args items chain (λ within. Says env items None within) (λ left more. Says env behind left more) parts
 
--- parts that are so were added
+-- parts with this property were appended
 abbrev pub Adds : (List ProjectPart → Type 0) → List ProjectPart → List ProjectPart → Type 0
 Adds Are old new = (found : List ProjectPart) × Are found × (new ≡ old ++ found)
 
--- what these elements say
+-- the parts that these elements become
 abbrev pub SaysAll : Env → List Element → List ProjectPart → Type 0
 SaysAll env items parts = Says env (tree_of items) None parts
 
--- what an element says was added: with what is behind it, which goes on with this chain, the new parts are said
+-- the parts of an element were appended: followed by those of the elements after it, they are the parts of both
 abbrev pub ItemAdds : Env → Element → Option Bool → Option Bool → List ProjectPart → List ProjectPart → Type 0
 ItemAdds env item chain left old new =
     (behind : Tree) (more : List ProjectPart) → Says env behind left more → Goes (λ said. Says env (in_front item behind) chain said) old new more
 
--- what a section says was added, in the same way
+-- the same for the parts of a section
 abbrev pub SectionAdds : Env → SectionWord → ℕ → List ℕ → List ℕ → List Element → Option Bool → Option Bool → List ProjectPart → List ProjectPart → Type 0
 SectionAdds env word line name args items chain left old new =
     (behind : Tree) (more : List ProjectPart) → Says env behind left more →
     Goes (λ said. SectionSays env word line name args (tree_of items) chain (λ within. SaysAll env items within) (λ left said. Says env behind left said) said) old new more
 
--- the flags of an element of a package's section were added: with those behind it, the new parts are the flags
+-- the flags of an element in a `package` section were appended: followed by those after it, they are all flags
 abbrev pub FlagsAdded : List ℕ → Element → List ProjectPart → List ProjectPart → Type 0
 FlagsAdded args item old new = (behind : Tree) → new ++ flag_parts args behind ≡ old ++ flag_parts args (in_front item behind)

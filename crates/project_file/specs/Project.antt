@@ -1,4 +1,4 @@
--- The project that the parts of all files come to.
+-- The project of the parts of all files.
 use Rattle.std.specs.Prelude.{◌≡◌, ℕ, Bool, false, List, [], ◌∷◌, ◌++◌, map, flat_map, Option, Some, None, unwrap_or}
 use Rattle.plan_types.specs.declared.constraint.Constraint.{Constraint}
 use Rattle.plan_types.specs.declared.dependency.Named.{Named}
@@ -15,13 +15,13 @@ use Rattle.project_file.specs.declared.part.Said.TheVariants as said
 use Rattle.project_file.specs.declared.part.Switch.{Switch}
 use Rattle.project_file.specs.declared.part.Switch.TheVariants.{Tests, Benchmarks, PreferOldest, BootInstalls}
 
--- a part, with the path of its file
+-- a part with the path of its file
 pub record Placed : Type 0 where
   pub path : List ℕ
   pub line : ℕ
   pub said : Said
 
--- a part of the file with this path
+-- a part of the file at this path
 abbrev pub placed_at : List ℕ → ProjectPart → Placed
 placed_at path part = record { path = path; line = part.line; said = part.said }
 
@@ -29,7 +29,7 @@ placed_at path part = record { path = path; line = part.line; said = part.said }
 abbrev pub placed_all : List ℕ → List ProjectPart → List Placed
 placed_all path parts = map (placed_at path) parts
 
--- what a part gives to a project
+-- the values that a part adds to a project
 pub record Given : Type 0 where
   pub entries : List ProjectEntry
   pub extra : List Named
@@ -44,7 +44,7 @@ pub record Given : Type 0 where
   pub boot_installs : Option Bool
   pub warnings : List Warning
 
--- what a part gives that says nothing
+-- no values
 abbrev pub nothing : Given
 nothing = record {
   entries = [];
@@ -65,14 +65,14 @@ nothing = record {
 abbrev pub entries_at : List ℕ → ℕ → List (List ℕ) → Bool → List ProjectEntry
 entries_at path line texts optional = map (λ text. record { path = path; line = line; text = text; optional = optional }) texts
 
--- what a switch gives
+-- the value of a switch
 abbrev pub switched : Switch → Bool → Given
 switched Tests on = record nothing { tests = Some on }
 switched Benchmarks on = record nothing { benchmarks = Some on }
 switched PreferOldest on = record nothing { prefer_oldest = Some on }
 switched BootInstalls on = record nothing { boot_installs = Some on }
 
--- what is said at a line of a file gives this
+-- the values of some content at a line of a file
 abbrev pub given_at : List ℕ → ℕ → Said → Given
 given_at path line (said.Entries texts optional) = record nothing { entries = entries_at path line texts optional }
 given_at path line (said.Extra extra) = record nothing { extra = extra }
@@ -85,19 +85,19 @@ given_at path line (said.Limit limit) = record nothing { limit = Some limit }
 given_at path line (said.Warning word) = record nothing { warnings = record { path = path; line = line; word = word } ∷ [] }
 given_at path line (said.Bad cause) = nothing
 
--- what a part gives
+-- the values of a part
 abbrev pub given : Placed → Given
 given part = given_at part.path part.line part.said
 
--- what the last part that gives a value gives, or this where none does
+-- the last value that a part gives, or the default if none does
 abbrev pub last_or : {A : Type 0} → A → (Given → Option A) → List Placed → A
 last_or value of parts = unwrap_or (last_said (λ part. of (given part)) parts) value
 
--- what all parts give, in order
+-- the lists of all parts, joined in order
 abbrev pub all : {A : Type 0} → (Given → List A) → List Placed → List A
 all of parts = flat_map (λ part. of (given part)) parts
 
--- Lists add up over all files, and of single values the last holds.
+-- The project of these parts: lists add up over all files, and of single values the last counts.
 abbrev pub project_from : List Placed → Project
 project_from parts = record {
   entries = all (λ g. g.entries) parts;
@@ -114,13 +114,13 @@ project_from parts = record {
   warnings = all (λ g. g.warnings) parts;
 }
 
--- the project with another value of a switch
+-- the project with a switch set
 abbrev pub turned : Switch → Bool → Project → Project
 turned Tests on old = record old { tests = on }
 turned Benchmarks on old = record old { benchmarks = on }
 turned PreferOldest on old = record old { prefer_oldest = on }
 turned BootInstalls on old = record old { boot_installs = on }
 
--- the project with further parts
+-- the new project is the old one with these parts added
 abbrev pub Takes : List Placed → Project → Project → Type 0
 Takes parts old new = (before : List Placed) → old ≡ project_from before → new ≡ project_from (before ++ parts)

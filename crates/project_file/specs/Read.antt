@@ -9,7 +9,7 @@ use Rattle.project_file.specs.declared.part.ProjectPart.{ProjectPart}
 use Rattle.project_file.specs.declared.read.ProjectText.{ProjectText}
 use Rattle.project_file.specs.declared.text.At.{At}
 
--- how many bytes the largest project file that is read has
+-- a project file has at most 1,048,576 bytes
 abbrev pub IsWithin : ProjectText → Type 0
 IsWithin text = length text.bytes ≤ 1048576
 
@@ -26,12 +26,12 @@ or_refusal path (Err at) = Err (refusal_at path at)
 abbrev pub FileReads : Env → ProjectText → Result (List ProjectPart) Refusal → Type 0
 FileReads env text outcome = (read : Result (List ProjectPart) At) × Reads env text.bytes read × (outcome ≡ or_refusal text.path read)
 
--- parts in front of those of further files
+-- parts before those of later files
 abbrev pub in_front : List Placed → Result (List Placed) Refusal → Result (List Placed) Refusal
 in_front parts (Ok more) = Ok (parts ++ more)
 in_front parts (Err refusal) = Err refusal
 
--- after a refusal no further file is read
+-- after a refusal no later file is read
 abbrev pub GoesOn : List ℕ → Result (List ProjectPart) Refusal → (Result (List Placed) Refusal → Type 0) → Result (List Placed) Refusal → Type 0
 GoesOn path (Err refusal) Rest outcome = outcome ≡ Err refusal
 GoesOn path (Ok parts) Rest outcome = (more : Result (List Placed) Refusal) × Rest more × (outcome ≡ in_front (placed_all path parts) more)
@@ -47,6 +47,6 @@ abbrev pub project_of : Result (List Placed) Refusal → Result Project Refusal
 project_of (Ok parts) = Ok (project_from parts)
 project_of (Err refusal) = Err refusal
 
--- the project that the files give together, or the first refusal
+-- the project of the files, or the first refusal
 abbrev pub IsProject : Env → List ProjectText → Result Project Refusal → Type 0
 IsProject env texts outcome = (read : Result (List Placed) Refusal) × AllRead env texts read × (outcome ≡ project_of read)

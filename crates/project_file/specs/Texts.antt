@@ -1,4 +1,4 @@
--- What a project file says, or its first fault.
+-- The parts of a project file, or its first fault.
 use Rattle.std.specs.Prelude.{◌≡◌, ◌⊎◌, ℕ, List, [], ◌∷◌, Option, Some, None, Result, Ok, Err}
 use Rattle.plan_types.specs.declared.condition.Env.{Env}
 use Rattle.plan_types.specs.declared.element.Element.{Element}
@@ -28,22 +28,22 @@ bad_cause (said.Limit limit) = None
 bad_cause (said.Warning word) = None
 bad_cause (said.Bad cause) = Some cause
 
--- a fault, or that of a later part
+-- this fault, or else that of a later part
 abbrev pub fault_or : Option Cause → ℕ → Option At → Option At
 fault_or None line later = later
 fault_or (Some cause) line later = Some (fault_at line cause)
 
--- The first fault in file order, in which lines rise from part to part: so it is that of the least line.
+-- The first fault in file order. Lines rise from part to part, so it has the least line.
 abbrev pub first_fault : List ProjectPart → Option At
 first_fault [] = None
 first_fault (part ∷ parts) = fault_or (bad_cause part.said) part.line (first_fault parts)
 
--- parts of which none is a fault
+-- the parts, unless one is a fault
 abbrev pub unless_bad : Option At → List ProjectPart → Result (List ProjectPart) At
 unless_bad None parts = Ok parts
 unless_bad (Some at) parts = Err at
 
--- what a file with a tree comes to
+-- the outcome of a file with a tree: its parts or their first fault
 pub record SaysOf (env : Env) (bytes : List ℕ) (outcome : Result (List ProjectPart) At) : Type 0 where
   pub items : List Element
   pub parts : List ProjectPart
@@ -51,7 +51,7 @@ pub record SaysOf (env : Env) (bytes : List ℕ) (outcome : Result (List Project
   pub says : Says env (tree_of items) None parts
   pub comes : outcome ≡ unless_bad (first_fault parts) parts
 
--- the file has no tree, but a fault of its layout
+-- the outcome of a file without a tree: a fault of its layout
 pub record Misfits (bytes : List ℕ) (outcome : Result (List ProjectPart) At) : Type 0 where
   pub at : At
   pub fault : IsFault bytes at.line at.cause

@@ -1,4 +1,4 @@
--- Which fields and sections are read.
+-- The fields and sections of a project file, by their names.
 use Rattle.std.specs.Prelude.{ℕ, if◌then◌else◌, List, codes}
 use Rattle.project_file.specs.declared.part.Switch.TheVariants as switch
 use Rattle.project_file.specs.declared.words.BranchWord.TheVariants.{If, Elif, Else}
@@ -9,7 +9,7 @@ use Rattle.project_file.specs.declared.words.SectionWord.{SectionWord}
 use Rattle.plan_types.specs.Bytes.{same_text}
 use Rattle.project_file.specs.declared.words.SectionWord.TheVariants as sections
 
--- which field a name is
+-- the field of a name
 abbrev pub field_word : List ℕ → FieldWord
 field_word name =
     if same_text name (codes "packages") then fields.Read kinds.Packages
@@ -29,7 +29,7 @@ field_word name =
     else if same_text name (codes "import") then fields.Unsupported
     else fields.Unread
 
--- which section a name is
+-- the section of a name
 abbrev pub section_word : List ℕ → SectionWord
 section_word name =
     if same_text name (codes "if") then sections.Branch If

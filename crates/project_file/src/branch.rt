@@ -1,4 +1,4 @@
-// A branch: whether it is taken, and what is wrong with it.
+// A branch: whether it is taken, and its fault.
 ghost use Rattle.std.specs.Prelude.{◌≡◌, ◌||◌, ◌&&◌, not, IfOk};
 ghost use Rattle.project_file.specs.Branches.{Decides, Settles, bare, branch_fault, chain_behind, decided, fits, has_flag, holds, is_taken, is_yes, was_taken};
 
@@ -9,7 +9,7 @@ use conditionals::{Tri, eval};
 use plan_types::{Cause, Cond, Env, List, NoMemory, Spec, Text, TextFault};
 use std::alloc::Global;
 
-/// Whether the condition of a branch itself holds, or why it can't be decided.
+/// The value of a branch's own condition, or the cause why it has none.
 pub(crate) fn own_condition(
     alloc: Global,
     env: &Env,
@@ -24,7 +24,7 @@ pub(crate) fn own_condition(
     }
 }
 
-// Nothing stands behind `else`.
+// `else` has no arguments.
 fn bare(args: &[u8]) -> Result<bool, Cause>
     ensures { result ≡ bare args.now }
 {
@@ -65,7 +65,7 @@ fn is_yes(value: Tri) -> bool
     }
 }
 
-// The left side may be as deep as a file is long.
+// A loop on the left side, which may be as deep as a file is long.
 fn has_flag(cond: &Cond) -> bool
     ensures { result ≡ has_flag cond.now }
 {
@@ -95,7 +95,7 @@ fn has_flag(cond: &Cond) -> bool
     }
 }
 
-/// Whether a branch of its chain before it was taken, where the chain is that of the branch directly in front.
+/// Whether an earlier branch of the chain was taken. The chain is that of the branch directly before.
 fn was_taken(word: BranchWord, chain: Option<bool>) -> bool
     ensures { result ≡ was_taken word chain }
 {
@@ -114,14 +114,14 @@ fn holds(own: Result<bool, Cause>) -> bool
     }
 }
 
-/// Whether what stands in it is read.
+/// Whether the items inside the branch are read.
 pub(crate) fn is_taken(word: BranchWord, chain: Option<bool>, own: Result<bool, Cause>) -> bool
     ensures { result ≡ is_taken word chain own }
 {
     holds(own) && !was_taken(word, chain)
 }
 
-/// Whether a branch of the chain was taken, for a branch directly behind it.
+/// Whether a branch of the chain was taken, for the branch directly after. None ends the chain.
 pub(crate) fn chain_behind(
     word: BranchWord,
     chain: Option<bool>,
@@ -144,7 +144,7 @@ fn fits(word: BranchWord, chain: Option<bool>) -> bool
     }
 }
 
-/// What is wrong with it: a condition that can't be decided before its place.
+/// The fault of a branch: its condition has no value, or else it isn't allowed here.
 pub(crate) fn branch_fault(
     word: BranchWord,
     chain: Option<bool>,

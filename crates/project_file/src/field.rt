@@ -1,4 +1,4 @@
-// A field beside the sections, and what it says.
+// The part of a field.
 ghost use Rattle.std.specs.Prelude.{◌≡◌, IfOk};
 ghost use Rattle.plan_types.specs.Bytes.{joined_text};
 ghost use Rattle.constraint_text.specs.Constraints.{Constraints, ConstraintsFault};
@@ -17,7 +17,7 @@ use std::alloc::Global;
 use text_grammar::{Between, boolean, words};
 use version_range::limit_of;
 
-/// What a field of this name and these values says, where it is read. The values of a field that is unread aren't joined.
+/// The part of a field by its name; none for an unknown field. Values are joined only for a field that is read.
 pub(crate) fn said_by(
     alloc: Global,
     name: &Text,

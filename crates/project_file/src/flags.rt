@@ -1,4 +1,4 @@
-// The flags of a package, as its section sets them.
+// The flags of a `package` section.
 ghost use Rattle.std.specs.Prelude.{◌≡◌, ◌≢◌, ◌<◌, ◌∷◌, ℕ, List, IfOk, MatchOption};
 ghost use Rattle.project_file.specs.Flags.{flag_of, flag_sets, flags_in, named_flag};
 
@@ -6,7 +6,7 @@ use plan_types::{FlagSet, List, NoMemory, Text, is_flag_name};
 use std::alloc::Global;
 use text_grammar::{Between, words};
 
-/// The flags that stand between spaces; none where one of them isn't of its form.
+/// The flags of a text, separated by spaces; none if one is ill-formed.
 pub(crate) fn flags_in(alloc: Global, text: &Text) -> Result<Option<List<FlagSet>>, NoMemory>
     ensures { IfOk result (λ found. found ≡ flags_in text.now) }
 {
@@ -39,7 +39,7 @@ fn flag_of(alloc: Global, word: &str) -> Result<Option<FlagSet>, NoMemory>
     }
 }
 
-// What follows a sign.
+// The rest after this sign.
 fn behind(word: &str, sign: char) -> Option<&str>
     requires { sign < 128 }
     ensures { MatchOption result ((rest : List ℕ) → word.now ≢ sign ∷ rest)

@@ -1,6 +1,6 @@
-//! Project files. In go the texts of the project files, in reading order, and what a condition asks; out comes what they say
-//! together, or the first refusal among them; also one file after the other, so that each can be judged before the next one is
-//! read. Where local packages are then looked for is told by entries.
+//! Project files. In go their texts in reading order, and an environment that decides conditions. Out comes their
+//! project, or the refusal of the first file with a fault. Lists add up over all files; of single values the last
+//! counts. A file can also be added to a project by itself, so that each is judged before the next is read.
 #![tactic(auto)]
 
 mod branch;

@@ -1,4 +1,4 @@
-// A section about a package, in which the flags of the package are read.
+// A `package` section, of which only the flags are read.
 ghost use Rattle.std.specs.Prelude.{◌≡◌, ◌++◌, ◌||◌, IfOk, OnOk};
 ghost use Rattle.plan_types.specs.Bytes.{joined_text};
 ghost use Rattle.plan_types.specs.Name.{is_package_name};
@@ -13,7 +13,7 @@ use plan_types::{
 };
 use std::alloc::Global;
 
-/// Reads a section that is about the package, or about every package.
+/// Reads the section of one package, or of all (`*`).
 pub(crate) fn read_package(
     alloc: Global,
     line: u32,
@@ -110,7 +110,7 @@ fn flags_said(alloc: Global, args: &Text, text: &Text) -> Result<Said, NoMemory>
     }
 }
 
-// A constraint at top level.
+// The flags as a constraint at top level.
 fn flag_constraint(alloc: Global, args: &Text, flags: List<FlagSet>) -> Result<Said, NoMemory>
     ensures { IfOk result (λ said. said ≡ said_flags args.now flags) }
 {

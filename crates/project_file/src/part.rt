@@ -1,7 +1,7 @@
-// The parts of a project file, and what they say.
+// The parts of a project file.
 use plan_types::{Cause, Constraint, Limit, List, Named, Relax, Text};
 
-/// What is true or false of a project.
+/// The settings that are true or false.
 #[derive(Clone, Copy, Debug, PartialEq, Eq)]
 pub(crate) enum Switch {
     Tests,
@@ -10,10 +10,10 @@ pub(crate) enum Switch {
     BootInstalls,
 }
 
-/// What a field or a section says.
+/// The content of a field or section.
 #[derive(Debug, Drop)]
 pub(crate) enum Said {
-    /// Where local packages are looked for, and whether there may be none.
+    /// Entries of `packages`, or of `optional-packages`, which may match nothing.
     Entries { texts: List<Text>, optional: bool },
     Extra(List<Named>),
     Constraints(List<Constraint>),
@@ -22,13 +22,13 @@ pub(crate) enum Said {
     Older(List<Relax>),
     Switch { which: Switch, on: bool },
     Limit(Limit),
-    /// The name of what is accepted unread, and of which a user should know.
+    /// The name of a field or section that is accepted but not read, for a warning.
     Warning(Text),
-    /// It can't be read, or may not stand where it does.
+    /// Its fault: it can't be read, or isn't allowed here.
     Bad(Cause),
 }
 
-/// A part of a file.
+/// A part of a file with its line.
 #[derive(Debug, Drop)]
 pub(crate) struct ProjectPart {
     /// From 1.

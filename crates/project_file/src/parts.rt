@@ -1,4 +1,4 @@
-// The parts of a file, in file order.
+// The parts of a project file, in file order.
 ghost use Rattle.std.specs.Prelude.{◌≡◌, ◌++◌, None, IfOk, OnOk};
 ghost use Rattle.cabal_lexer.specs.Tree.{tree_of};
 ghost use Rattle.project_file.specs.Parts.{Adds, IfTaken, IsBranch, ItemAdds, Says, SaysAll, SectionAdds, placed};
@@ -11,7 +11,7 @@ use crate::words::{BranchWord, SectionWord, section_word};
 use plan_types::{Cause, Element, Env, List, NoMemory, Text};
 use std::alloc::Global;
 
-/// The parts that the elements of a file are.
+/// The parts that the elements of a file become.
 pub(crate) fn read_parts(
     alloc: Global,
     env: &Env,
@@ -40,7 +40,7 @@ fn read_items(
     Ok(())
 }
 
-/// What is left is the chain for the next item.
+/// The result is the chain for the next item.
 #[cycle(items)]
 fn read_item(
     alloc: Global,
@@ -146,7 +146,7 @@ fn read_branch(
     Ok(chain_behind(word, chain, own))
 }
 
-// A branch that isn't taken is unread.
+// The items of a branch that isn't taken aren't read.
 #[cycle(items)]
 fn read_taken(
     alloc: Global,

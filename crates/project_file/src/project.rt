@@ -1,4 +1,4 @@
-// What the parts of the project files come to together.
+// The project of the parts of all files.
 ghost use Rattle.std.specs.Prelude.{◌≡◌, ◌++◌, ◌∷◌, [], List, OnOk};
 ghost use Rattle.project_file.specs.Project.{Takes, entries_at, placed_all, placed_at, project_from, turned};
 
@@ -6,7 +6,7 @@ use crate::part::{ProjectPart, Said, Switch};
 use plan_types::{Limit, List, NoMemory, Project, ProjectEntry, Text, Warning};
 use std::alloc::Global;
 
-/// A project of which nothing is said.
+/// The project of no parts, with all default values.
 pub(crate) fn nothing(alloc: Global) -> Project
     ensures { result ≡ project_from [] }
 {
@@ -26,7 +26,7 @@ pub(crate) fn nothing(alloc: Global) -> Project
     }
 }
 
-/// Adds what a file says.
+/// Adds the parts of a file.
 pub(crate) fn take_file(
     project: &mut Project,
     path: &Text,

@@ -20,10 +20,10 @@ pub struct ProjectText {
     pub bytes: List<u8>,
 }
 
-/// What project files say together, in reading order; or the first refusal: that of the first file with a fault. Of its
-/// faults one of the layout comes first, and then the one with the least line.
+/// The project of these files, or the refusal of the first file with a fault. A fault of the layout comes before the
+/// others, which go by line.
 ///
-/// The packages that a project asks for besides have names of their form.
+/// The extra packages of the project have well-formed names.
 pub fn read_project(alloc: Global, texts: &List<ProjectText>, env: &Env) -> Result<Project, Halt>
     requires { AllByRecursion IsWithin texts.now }
     ensures project { Settles (IsProject env.now texts.now) result }
@@ -37,14 +37,14 @@ pub fn read_project(alloc: Global, texts: &List<ProjectText>, env: &Env) -> Resu
     Ok(project)
 }
 
-/// What no project file says.
+/// The project of no files.
 pub fn empty_project(alloc: Global) -> Project
     ensures { (env : Env) → IsProject env [] (Ok result) }
 {
     nothing(alloc)
 }
 
-/// What files that say this project say together with one more behind them; or the refusal of the one more.
+/// The project of some files with one more file after them, or the refusal of that file.
 pub fn with_project_file(
     alloc: Global,
     mut project: Project,

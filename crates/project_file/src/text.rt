@@ -34,7 +34,7 @@ pub(crate) fn read_text(alloc: Global, env: &Env, bytes: &[u8]) -> Result<List<P
     }
 }
 
-// Parts stand in the order of their lines.
+// The first bad part, since lines rise from part to part.
 fn first_fault(parts: &[ProjectPart]) -> Option<At>
     ensures { result ≡ first_fault parts.now }
 {

@@ -4,7 +4,7 @@ ghost use Rattle.project_file.specs.Words.{field_word, section_word};
 
 use crate::part::Switch;
 
-/// What a field is.
+/// A field, by its name.
 #[derive(Clone, Copy, Debug, PartialEq, Eq)]
 pub(crate) enum FieldWord {
     Read(FieldKind),
@@ -13,7 +13,7 @@ pub(crate) enum FieldWord {
     Unread,
 }
 
-/// Fields that are read.
+/// The fields that are read.
 #[derive(Clone, Copy, Debug, PartialEq, Eq)]
 pub(crate) enum FieldKind {
     Packages,
@@ -27,7 +27,7 @@ pub(crate) enum FieldKind {
     Limit,
 }
 
-/// What a section is.
+/// A section, by its name.
 #[derive(Clone, Copy, Debug, PartialEq, Eq)]
 pub(crate) enum SectionWord {
     Branch(BranchWord),

@@ -5,7 +5,7 @@ use Rattle.project_file.specs.Parts.{Says}
 use Rattle.project_file.specs.declared.part.ProjectPart.{ProjectPart}
 use Rattle.project_file.proofs.parts.+items.Given as goal
 
--- what the rest of the items say goes on with what the first ones say
+-- the parts of the first items, followed by those of the rest, are the parts of all
 abbrev pub invariant-read_items-loop-item : goal.invariant-read_items-loop-item
 invariant-read_items-loop-item l =
     (more : List ProjectPart) → Says l.env (tree_of (drop l.item-index l.items)) l.chain more →
