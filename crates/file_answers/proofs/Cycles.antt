@@ -1,4 +1,4 @@
--- A graph has a first node on a cycle, or none: whether a path leads on through lower nodes alone is found node by node.
+-- A graph has a first node on a cycle, or none. Paths are found by the highest node that they may pass through.
 use Rattle.std.proofs.Common.{◌≡◌, ◌⊎◌, inl, inr, ◌<◌, ◌≤◌, ℕ, zero, suc, Bool, true, false, ◌&&◌, ◌||◌, List, [], length, Option, Some, None, refl, sym, ap, ◌∙◌, subst, arith}
 use Rattle.std.specs.Prelude.{◌==◌, nat_lt, slice_index_or}
 use Rattle.std.specs.List.{list_any}
@@ -16,7 +16,7 @@ joined Edge u v w (more {w = x} e p) q = more e (joined Edge x v w p q)
 abbrev HasLeast : (ℕ → Bool) → ℕ → Type 0
 HasLeast test n = ((u : ℕ) × (test u ≡ true) × ((v : ℕ) → v < u → test v ≡ false)) ⊎ ((v : ℕ) → v < n → test v ≡ false)
 
--- what fails below a number, and at it, fails below the next one
+-- a test that fails below a number, and at it, fails below the next one
 pub below_more : (test : ℕ → Bool) (n : ℕ) → ((v : ℕ) → v < n → test v ≡ false) → test n ≡ false → (v : ℕ) → v < suc n → test v ≡ false
 below_more test n none q v l = by (v == n) refl
   where
@@ -34,7 +34,7 @@ least test zero = inr (λ v l. absurd (omega (arith, l)))
 least test (suc n) = least_by test n (least test n) (test n) refl
 
 module _ (needs : List (List ℕ)) where
-  -- a path leads from u to v, and between them through nodes below n alone
+  -- there is a path from u to v whose inner nodes are all below n
   abbrev through : ℕ → ℕ → ℕ → Bool
   through zero u v = list_any (λ w. w == v) (slice_index_or needs u [])
   through (suc n) u v = through n u v || (through n u n && through n n v)
@@ -70,7 +70,7 @@ module _ (needs : List (List ℕ)) where
   abbrev Joins : ℕ → Type 0
   Joins n = (u w v : ℕ) → w < n → through n u w ≡ true → through n w v ≡ true → through n u v ≡ true
 
-  -- what leads to a lower node, and on from it
+  -- a path to a lower node, continued from it
   over_lower : (n : ℕ) → Joins n → (u w v : ℕ) → w < n → through (suc n) u w ≡ true → through (suc n) w v ≡ true → through (suc n) u v ≡ true
   over_lower n join u w v l h k =
       by (or_cases (through n u w) (through n u n && through n n w) h) (or_cases (through n w v) (through n w n && through n n v) k)

@@ -1,4 +1,4 @@
--- Elements have a description, or a first fault.
+-- The elements of a file have a description or a first fault.
 use Rattle.std.proofs.Common.{ℕ, List, Option, Some, None, Result, Ok, Err, refl}
 use Rattle.plan_types.specs.declared.description.Description.{Description}
 use Rattle.plan_types.specs.declared.description.FlagDecl.{FlagDecl}

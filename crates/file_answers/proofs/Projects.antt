@@ -1,4 +1,4 @@
--- Project files have one project, or a first refusal. The words of fields and sections are told by their names alone.
+-- Project files have a project or a first refusal. The fields and sections are told apart by their names.
 use Rattle.std.proofs.Common.{◌≡◌, inl, inr, ℕ, Bool, true, false, List, [], ◌∷◌, ◌++◌, Option, Some, None, Result, Ok, Err, refl}
 use Rattle.std.specs.Prelude.{codes}
 use Rattle.plan_types.specs.Bytes.{joined_text, same_text}
@@ -36,7 +36,7 @@ it_is x = (x, refl)
 
 -- ---- a field
 
--- what is made of a value
+-- the image of a value that exists
 of_read : {A B : Type 0} (f : A → B) (P : A → Type 0) → Exists P → Exists (λ (found : B). (read : A) × P read × (found ≡ f read))
 of_read f P read = (f read.0, (read.0, read.1, refl))
 

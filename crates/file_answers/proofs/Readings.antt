@@ -1,4 +1,4 @@
--- What has an answer was read.
+-- Texts that have an outcome have a reading.
 use Rattle.std.proofs.Common.{inl, inr, ℕ, List, Result, Ok, Err}
 use Rattle.plan_types.specs.declared.condition.Cond.{Cond}
 use Rattle.plan_types.specs.declared.dependency.Dep.{Dep}
@@ -13,7 +13,7 @@ use Rattle.text_answers.proofs.Depends.{some_library, some_tool}
 use Rattle.text_answers.proofs.Entries.{some_reading}
 use Rattle.text_answers.proofs.Readings.{some_condition}
 
--- there is a value of which this holds
+-- some value has the property
 abbrev pub Exists : {A : Type 0} → (A → Type 0) → Type 0
 Exists {A} P = (x : A) × P x
 

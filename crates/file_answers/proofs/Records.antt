@@ -1,4 +1,4 @@
--- The fields of a record say something, and together they come to an outcome.
+-- The fields of a record have readings, and the record has an outcome.
 use Rattle.std.proofs.Common.{inl, inr, ℕ, List, [], ◌∷◌, Err, refl}
 use Rattle.std.specs.Prelude.{Option, Result}
 use Rattle.plan_types.specs.declared.index.UnitRecord.{UnitRecord}

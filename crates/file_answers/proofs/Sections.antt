@@ -1,4 +1,4 @@
--- The elements of a file say something, section by section.
+-- The elements of a file have a reading, section by section.
 use Rattle.std.proofs.Common.{ℕ, Bool, List, [], ◌∷◌, ◌++◌, Option, Some, None, Result, refl}
 use Rattle.plan_types.specs.Bytes.{joined_text}
 use Rattle.plan_types.specs.declared.condition.Cond.{Cond}

@@ -1,4 +1,4 @@
--- Putting in one after another is a stable sort.
+-- Insertion sort is stable.
 use Rattle.std.proofs.Common.{◌≡◌, ◌+◌, ◌<◌, ℕ, zero, suc, Bool, true, false, not, cond, if◌then◌else◌, List, [], ◌∷◌, length, get_or, refl, sym, ap, ◌∙◌, arith}
 use Rattle.std.specs.List.{filter}
 use Rattle.std.specs.List.Sorted.{IsPermutation, IsSortedBy, IsStableBy, ties}
@@ -35,7 +35,7 @@ module _ {X : Type 0} (lt : X → X → Bool) (order : IsStrictWeakOrder lt) whe
       IsPermutation-trans (x ∷ xs) (x ∷ put_all lt order xs) (into x (put_all lt order xs))
       (IsPermutation-cons x xs (put_all lt order xs) (all_move xs)) (into_moves x (put_all lt order xs))
 
-  -- ---- in order
+  -- ---- sorted
 
   abbrev Rises : List X → Type 0
   Rises [] = Unit {0}
@@ -77,7 +77,7 @@ module _ {X : Type 0} (lt : X → X → Bool) (order : IsStrictWeakOrder lt) whe
   pub all_sorted : (xs : List X) → IsSortedBy lt (put_all lt order xs)
   all_sorted xs k d low high = neighbours (put_all lt order xs) (all_rise xs) k d high
 
-  -- ---- those that tie, as they stood
+  -- ---- ties keep their order
 
   tied_left : (x y : X) → ties lt x y ≡ true → lt x y ≡ false
   tied_left x y h = not-true (lt x y) ((and_parts (not (lt x y)) (not (lt y x)) h).0)

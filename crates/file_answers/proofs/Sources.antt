@@ -1,4 +1,4 @@
--- The bytes of a `.cabal` file come to a source, or to a first fault.
+-- The bytes of a `.cabal` file have a source or a first fault.
 use Rattle.std.proofs.Common.{inl, inr, ℕ, List, Result, Ok, Err, refl}
 use Rattle.plan_types.specs.declared.condition.Env.{Env}
 use Rattle.plan_types.specs.declared.description.Description.{Description}

@@ -1,4 +1,4 @@
-// Every file has an answer.
+// Every file has an outcome.
 ghost use Rattle.std.specs.Prelude.{◌⊎◌, ℕ, List, Option, Result};
 ghost use Rattle.plan_types.specs.declared.condition.Env.{Env};
 ghost use Rattle.plan_types.specs.declared.description.Description.{Description};
@@ -19,34 +19,34 @@ ghost use Rattle.cabal_file.specs.Source.{IsSource};
 ghost use Rattle.project_file.specs.declared.read.ProjectText.{ProjectText};
 ghost use Rattle.project_file.specs.Read.{IsProject};
 
-/// Bytes have a tree, or a first fault.
+/// Bytes have a tree or a first fault.
 pub fn some_tree()
     ensures { (bytes : List ℕ) → ((items : List Element) × IsTree bytes items)
         ⊎ ((line : ℕ) × (cause : Cause) × IsFault bytes line cause) }
 {}
 
-/// Bytes are a record, or none, or can't be read at a line.
+/// The bytes of a record have an outcome: a unit, none, or the line of a fault.
 pub fn some_record()
     ensures { (bytes : List ℕ) → (found : Result (Option UnitRecord) ℕ) × IsRecord bytes found }
 {}
 
-/// Elements say something of a file.
+/// The elements of a file have a reading in each cabal-version.
 pub fn some_file()
     ensures { (spec : Spec) (items : List Element) → (file : File) × IsFile spec items file }
 {}
 
-/// Elements have a description, or a first fault.
+/// The elements of a file have a description or a first fault.
 pub fn some_description()
     ensures { (items : List Element) (digest : List ℕ)
         → (outcome : Result Description At) × Describes items digest outcome }
 {}
 
-/// The bytes of a `.cabal` file come to a package as others see it, or to a first fault.
+/// The bytes of a `.cabal` file have a source or a first fault.
 pub fn some_source()
     ensures { (env : Env) (bytes : List ℕ) → (outcome : Result Source At) × IsSource env bytes outcome }
 {}
 
-/// Project files have one project, or a first refusal.
+/// Project files have a project or a first refusal.
 pub fn some_project()
     ensures { (env : Env) (texts : List ProjectText)
         → (outcome : Result Project Refusal) × IsProject env texts outcome }

@@ -1,6 +1,6 @@
-//! Every file has an answer: its bytes have a tree or a fault of the layout, and what its elements say comes to a value or to
-//! a first fault. The laws beside the readers say that it has one answer at most; these say that it has one. There is no
-//! code here.
+//! Laws that every file has an outcome. There is no code here. Bytes have a tree or a fault of the layout. Elements
+//! have a reading, and a description, source or project, or else a first fault. That the outcome is unique is a law of
+//! the crates that read.
 #![tactic(auto)]
 
 mod laws;
