@@ -1,4 +1,4 @@
--- What the project files and the entries come to together.
+-- The project files and the entries give one outcome.
 use Rattle.std.proofs.Common.{◌≡◌, Bool, List, [], ◌∷◌, ◌++◌, refl, sym, subst, ap, ◌∙◌}
 use Rattle.std.proofs.lemmas.List.{append-nil}
 use Rattle.std.specs.Prelude.{Option, Result, Ok, Err}
@@ -40,7 +40,7 @@ module _ (env : Env) (files : Files) (read : List ProjectText) (missed : Bool) (
     ap (λ l. unless_large l (Ok project)) (sym (goes.large ∙ ap (λ c. large_or path c (first_too_large files rest)) (sym is))),
   )
 
-  -- a file with a fault, whatever is behind it
+  -- a file with a fault, whatever files come later
   pub refused_said : (path bytes : Bytes) (rest : List Bytes) (h : Halt) → Holds bytes ≡ content_at files path → GoesOn files project_files read missed freeze (path ∷ rest) →
       Settles {A = Project} (IsProject env (read ++ record { path = path; bytes = bytes } ∷ [])) (Err h) → Answers {A = FilesProject} (AreSaid env files) (Err h)
   refused_said path bytes rest halt.NoMemory is goes says = tt
@@ -53,7 +53,7 @@ module _ (env : Env) (files : Files) (read : List ProjectText) (missed : Bool) (
         refl,
       )
 
--- ---- and the entries
+-- ---- the entries
 
 module _ (env : Env) (files : Files) where
   abbrev Is : Result FolderProject Halt → Type 0
@@ -74,6 +74,6 @@ module _ (env : Env) (files : Files) where
     unlocated = passed-on (λ outcome. outcome ≡ local_files files (sought found.implicit found.project.entries)) (IsFolderProject env files)
         (λ refusal are. (Ok found.project, says.0, from-files (Err refusal) are))
 
-    -- they lead to local files
+    -- the entries match local files
     pub located_in : (locals : List Bytes) → Ok locals ≡ local_files files (sought found.implicit found.project.entries) → IsFolderProject env files (Ok (record { project = found.project; freeze = found.freeze; locals = locals }))
     located_in locals are = (Ok found.project, says.0, from-files (Ok locals) are)

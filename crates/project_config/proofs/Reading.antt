@@ -1,4 +1,4 @@
--- What was read of the project files so far.
+-- The state after some of the project files.
 use Rattle.std.proofs.Common.{◌≡◌, Bool, true, false, ◌||◌, List, [], ◌∷◌, ◌++◌, length, codes, Option, Some, None, refl, sym, ap, ◌∙◌, append_assoc, if◌then◌else◌}
 use Rattle.std.specs.Prelude.{nat_lt}
 use Rattle.std.proofs.Math.Bool.{or-false, or_assoc}
@@ -16,23 +16,23 @@ missed_or path Missing behind = is_main path || behind
 missed_or path TooLarge behind = false
 missed_or path (Holds bytes) behind = behind
 
--- no file `cabal.project` was found at these paths, as far as they are read
+-- no `cabal.project` was found at these paths, up to the first file that is too large
 abbrev pub is_missed : Files → List Bytes → Bool
 is_missed files [] = false
 is_missed files (path ∷ paths) = missed_or path (content_at files path) (is_missed files paths)
 
--- what is kept of the freeze file, behind one more path
+-- the kept freeze file after one more path
 abbrev pub kept_with : Option Bytes → Bytes → Content → Option Bytes
 kept_with before path Missing = before
 kept_with before path TooLarge = before
 kept_with before path (Holds bytes) = kept before (record { path = path; bytes = bytes })
 
--- what is kept of it behind all these paths
+-- the kept freeze file after all these paths
 abbrev pub kept_among : Files → Option Bytes → List Bytes → Option Bytes
 kept_among files before [] = before
 kept_among files before (path ∷ paths) = kept_among files (kept_with before path (content_at files path)) paths
 
--- what was read, with what the rest of the paths gives, is what all give
+-- the state so far, continued over the rest of the paths, is that over all paths
 pub record GoesOn (files : Files) (paths : List Bytes) (read : List ProjectText) (missed : Bool) (freeze : Option Bytes) (rest : List Bytes) : Type 0 where
   pub texts : texts_among files paths ≡ read ++ texts_among files rest
   pub large : first_too_large files paths ≡ first_too_large files rest
@@ -40,7 +40,7 @@ pub record GoesOn (files : Files) (paths : List Bytes) (read : List ProjectText)
   pub kept_is : kept_among files None paths ≡ kept_among files freeze rest
 
 module _ (files : Files) (paths : List Bytes) (read : List ProjectText) (missed : Bool) (freeze : Option Bytes) (path : Bytes) (rest : List Bytes) (goes : GoesOn files paths read missed freeze (path ∷ rest)) where
-  -- a file further
+  -- one more file
   pub more_read : (bytes : Bytes) → Holds bytes ≡ content_at files path →
       GoesOn files paths (read ++ record { path = path; bytes = bytes } ∷ []) missed (kept freeze (record { path = path; bytes = bytes })) rest
   more_read bytes is = record {
@@ -52,7 +52,7 @@ module _ (files : Files) (paths : List Bytes) (read : List ProjectText) (missed 
     kept_is = goes.kept_is ∙ ap (λ c. kept_among files (kept_with freeze path c) rest) (sym is);
   }
 
-  -- a file that isn't there
+  -- a missing file
   pub none_read : Missing ≡ content_at files path → GoesOn files paths read (missed || is_main path) freeze rest
   none_read is = record {
     texts = goes.texts ∙ ap (λ c. read ++ with_text path c (texts_among files rest)) (sym is);
@@ -63,9 +63,9 @@ module _ (files : Files) (paths : List Bytes) (read : List ProjectText) (missed 
     kept_is = goes.kept_is ∙ ap (λ c. kept_among files (kept_with freeze path c) rest) (sym is);
   }
 
--- ---- behind all files
+-- ---- after all files
 
--- nothing is missed but the main file
+-- only the main file counts as missed
 main_alone : (main freeze local : Content) → missed_or (codes "cabal.project") main (missed_or (codes "cabal.project.freeze") freeze (missed_or (codes "cabal.project.local") local false)) ≡ is_missing main
 main_alone Missing freeze local = refl
 main_alone TooLarge freeze local = refl
@@ -77,7 +77,7 @@ main_alone (Holds bytes) (Holds other) Missing = refl
 main_alone (Holds bytes) (Holds other) TooLarge = refl
 main_alone (Holds bytes) (Holds other) (Holds more) = refl
 
--- nothing is kept but the freeze file
+-- only the freeze file is kept
 
 held : Content → Option Bytes
 held Missing = None
@@ -109,7 +109,7 @@ held-is (Some bytes) never = by (nat_lt file_limit (length bytes)) refl
     by true e = absurd (never (ap (λ b. if b then TooLarge else Holds bytes) e))
     by false e = refl
 
--- where no file is too large, the freeze file isn't
+-- if no file is too large, the freeze file isn't
 not_large : (main freeze local : Content)
     → large_or (codes "cabal.project") main (large_or (codes "cabal.project.freeze") freeze (large_or (codes "cabal.project.local") local None)) ≡ None → freeze ≡ TooLarge → ⊥
 not_large main freeze local none large =
@@ -130,11 +130,11 @@ module _ (files : Files) (read : List ProjectText) (missed : Bool) (freeze : Opt
   abbrev local : Content
   local = content_at files (codes "cabal.project.local")
 
-  -- whether there is a main file
+  -- whether there is no main file
   pub implicit_at_end : missed ≡ is_implicit files
   implicit_at_end = sym (or-false missed) ∙ sym goes.missed_is ∙ main_alone main frozen local
 
-  -- what the freeze file holds
+  -- the bytes of the freeze file
   pub kept_at_end : freeze ≡ freeze_bytes files
   kept_at_end =
       sym goes.kept_is ∙ local_kept (kept_with (kept_with None (codes "cabal.project") main) (codes "cabal.project.freeze") frozen) local

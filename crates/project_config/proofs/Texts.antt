@@ -1,4 +1,4 @@
--- Project files that were read are texts.
+-- Project files that were read are valid UTF-8.
 use Rattle.std.proofs.Common.{◌≡◌, ℕ, List, [], ◌∷◌, ◌++◌, inl, inr}
 use Rattle.std.specs.Prelude.{Result, Ok, Err}
 use Rattle.std.specs.Str.{IsUtf8}
@@ -25,7 +25,7 @@ module _ (env : Env) where
       by (Ok found) reads e = parts-text text.bytes found reads
       by (Err at) reads e = absurd (cc e)
 
-  -- where what is read goes on, the last of the files behind it is a text
+  -- the last of the later files is valid UTF-8, whatever file comes first
   behind-text : (path : List ℕ) (found : _) (rest : List ProjectText) (text : ProjectText) (parts : List Placed)
       → ((later : List Placed) → AllRead env rest (Ok later) → IsUtf8 text.bytes)
       → GoesOn path (Ok found) (λ more. AllRead env rest more) (Ok parts) → IsUtf8 text.bytes
@@ -56,7 +56,7 @@ module _ (env : Env) where
   last-text [] text parts h = first-text text [] parts h
   last-text (first ∷ before) text parts h = later-text first (before ++ text ∷ []) text parts (λ later reads. last-text before text later reads) h
 
-  -- the last file of a project is one
+  -- the last file of a project is valid UTF-8
   pub last_is_text : (before : List ProjectText) (text : ProjectText) (project : Project) → IsProject env (before ++ text ∷ []) (Ok project) → IsUtf8 text.bytes
   last_is_text before text project h = by h.0 h.1 h.2
     where

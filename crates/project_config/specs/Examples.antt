@@ -1,4 +1,4 @@
--- What the definitions give on small folders.
+-- The definitions on small folders.
 use Rattle.std.specs.Prelude.{◌≡◌, refl, true, false, nat_lt, if◌then◌else◌, [], ◌∷◌, length, codes, Some, None}
 use Rattle.std.proofs.Common.{ap}
 use Rattle.outside_folder.specs.Files.{Bytes, Files}
@@ -14,7 +14,7 @@ main = record { path = codes "cabal.project"; bytes = codes "tests: True" }
 abbrev local : ProjectText
 local = record { path = codes "cabal.project.local"; bytes = codes "tests: False" }
 
--- its files in byte order, one of which is no project file
+-- its files in byte order; the last is no project file
 abbrev two_files : Files
 two_files = (codes "cabal.project", main.bytes) ∷ (codes "cabal.project.local", local.bytes) ∷ (codes "p.cabal", []) ∷ []
 
@@ -27,7 +27,7 @@ none_too_large = refl
 not_implicit : is_implicit two_files ≡ false
 not_implicit = refl
 
--- a file that says nothing is one
+-- an empty file is there
 an_empty_one : is_implicit ((codes "cabal.project", []) ∷ []) ≡ false
 an_empty_one = refl
 
@@ -45,7 +45,7 @@ an_empty_freeze_file = refl
 not_the_local_file : kept (Some main.bytes) local ≡ Some main.bytes
 not_the_local_file = refl
 
--- ---- a file too large between two others
+-- ---- a file that is too large between two others
 
 module _ (bytes : Bytes) (large : nat_lt file_limit (length bytes) ≡ true) where
   abbrev three_files : Files

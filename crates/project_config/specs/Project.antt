@@ -19,20 +19,20 @@ use Rattle.plan_types.specs.Bytes.{same_text}
 abbrev pub project_files : List Bytes
 project_files = codes "cabal.project" ∷ codes "cabal.project.freeze" ∷ codes "cabal.project.local" ∷ []
 
--- ---- what is read
+-- ---- reading
 
--- no file says nothing, and behind one that is too large nothing is read
+-- no text of a missing file; no texts from a file on that is too large
 abbrev pub with_text : Bytes → Content → List ProjectText → List ProjectText
 with_text path Missing behind = behind
 with_text path TooLarge behind = []
 with_text path (Holds bytes) behind = record { path = path; bytes = bytes } ∷ behind
 
--- the files at these paths, in order, up to the first that is too large
+-- the texts at these paths, in order, up to the first file that is too large
 abbrev pub texts_among : Files → List Bytes → List ProjectText
 texts_among files [] = []
 texts_among files (path ∷ paths) = with_text path (content_at files path) (texts_among files paths)
 
--- the path of a file that is too large, or of one behind it
+-- this path if its file is too large, else that of a later one
 abbrev pub large_or : Bytes → Content → Option Bytes → Option Bytes
 large_or path Missing behind = behind
 large_or path TooLarge behind = Some path
@@ -43,7 +43,7 @@ abbrev pub first_too_large : Files → List Bytes → Option Bytes
 first_too_large files [] = None
 first_too_large files (path ∷ paths) = large_or path (content_at files path) (first_too_large files paths)
 
--- whether there is no file
+-- whether a file is missing
 abbrev pub is_missing : Content → Bool
 is_missing Missing = true
 is_missing TooLarge = false
@@ -53,31 +53,31 @@ is_missing (Holds bytes) = false
 abbrev pub is_main : Bytes → Bool
 is_main path = same_text path (codes "cabal.project")
 
--- there is no file `cabal.project`
+-- whether there is no `cabal.project`
 abbrev pub is_implicit : Files → Bool
 is_implicit files = is_missing (content_at files (codes "cabal.project"))
 
--- the bytes of the freeze file, where there is one
+-- the bytes of the freeze file, if there is one
 abbrev pub freeze_bytes : Files → Option Bytes
 freeze_bytes files = file_at files (codes "cabal.project.freeze")
 
--- ---- what it comes to
+-- ---- the outcome
 
 -- the refusal of a file that is too large
 abbrev pub too_large : Bytes → Refusal
 too_large path = record { path = path; line = 0; cause = is_too_large; detail = [] }
 
--- a refusal of what was read comes first
+-- a refusal of the texts comes before that of a file that is too large
 abbrev pub unless_large : Option Bytes → Result Project Refusal → Result Project Refusal
 unless_large large (Err refusal) = Err refusal
 unless_large None (Ok project) = Ok project
 unless_large (Some path) (Ok project) = Err (too_large path)
 
--- what these texts say, and a file behind them that is too large
+-- the project of these texts, unless one is refused or a file after them is too large
 abbrev pub Say : Env → List ProjectText → Option Bytes → Result Project Refusal → Type 0
 Say env texts large said = (read : Result Project Refusal) × IsProject env texts read × (said ≡ unless_large large read)
 
--- what the project files of a folder say together, or the first refusal among them
+-- the project of a folder's project files, or the first refusal among them
 abbrev pub FilesSay : Env → Files → Result Project Refusal → Type 0
 FilesSay env files said = Say env (texts_among files project_files) (first_too_large files project_files) said
 
@@ -87,12 +87,12 @@ AreSaid env files (Ok found) =
     FilesSay env files (Ok found.project) × (found.implicit ≡ is_implicit files) × (found.freeze ≡ freeze_bytes files)
 AreSaid env files (Err refusal) = FilesSay env files (Err refusal)
 
--- the project and its freeze file with its local packages
+-- the project and its freeze file with its local files, or the refusal of an entry
 abbrev pub with_locals : Project → Option Bytes → Result (List Bytes) Refusal → Result FolderProject Refusal
 with_locals project freeze (Ok locals) = Ok (record { project = project; freeze = freeze; locals = locals })
 with_locals project freeze (Err refusal) = Err refusal
 
--- where the project files are refused, its entries don't count
+-- the project with its local files; the entries don't count if the project files are refused
 abbrev pub located : Files → Result Project Refusal → Result FolderProject Refusal
 located files (Err refusal) = Err refusal
 located files (Ok project) = with_locals project (freeze_bytes files) (local_files files (sought (is_implicit files) project.entries))

@@ -1,4 +1,4 @@
-// The project files, one after the other: each is judged before the next is read. The text of the freeze file is kept.
+// The project files in reading order, each judged before the next is read. The text of the freeze file is kept.
 ghost use Rattle.std.specs.Prelude.{◌≡◌, true, IfOk, IfSome, IsErrOf};
 ghost use Rattle.std.specs.List.{list_all};
 ghost use Rattle.std.specs.Str.{IsUtf8};
@@ -13,13 +13,13 @@ use plan_types::{Cause, Env, Halt, List, NoMemory, Project, Refusal, Text};
 use project_file::{ProjectText, empty_project, with_project_file};
 use std::alloc::Global;
 
-/// What the project files say.
+/// The project of the project files.
 #[derive(Debug, Drop)]
 pub(crate) struct FilesProject {
     pub project: Project,
-    /// There is no `cabal.project`.
+    /// Whether there is no `cabal.project`.
     pub implicit: bool,
-    /// The text of the freeze file, where there is one.
+    /// The text of the freeze file, if there is one.
     pub freeze: Option<Text>,
 }
 
@@ -57,7 +57,7 @@ pub(crate) fn read_files<F: Folder>(
     })
 }
 
-// The text of the freeze file, once it was read.
+// The text of the freeze file, once it is read.
 fn kept(before: Option<Text>, text: ProjectText) -> Option<Text>
     requires { IsUtf8 text.bytes }
     ensures { result ≡ kept before text }
@@ -69,7 +69,7 @@ fn kept(before: Option<Text>, text: ProjectText) -> Option<Text>
     }
 }
 
-// A file that was read is a text.
+// A project file without fault is valid UTF-8.
 fn text_of(bytes: List<u8>) -> Text
     requires { IsUtf8 bytes }
     ensures { result ≡ bytes }

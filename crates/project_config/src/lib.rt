@@ -1,6 +1,6 @@
-//! The project of a folder. In go a folder and what a condition asks; out comes what its project files say together, in
-//! reading order, with the paths of its local packages, or the first refusal. Where the folder tells its files, project,
-//! paths and refusal are those of the definition, and a folder has one of them.
+//! The project of a folder. In go a folder and an environment. Out come the project of its project files and the paths
+//! of its local packages, or the first refusal. Over an observable folder the outcome is that of the definition
+//! (`IsFolderProject`), and it is unique (`one_folder_project`).
 #![tactic(auto)]
 
 mod files;

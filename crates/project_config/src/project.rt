@@ -1,4 +1,4 @@
-// The project files first, and then the entries of the project that they make.
+// Reads the project files, and then finds the local packages by the project's entries.
 ghost use Rattle.std.specs.Prelude.{◌≡◌, true, IfOk, IfSome, IsErrOf};
 ghost use Rattle.std.specs.List.{list_all};
 ghost use Rattle.plan_types.specs.Name.{is_package_name};
@@ -12,19 +12,19 @@ use plan_types::{Env, Halt, List, Project, Text};
 use project_paths::find_packages;
 use std::alloc::Global;
 
-/// What the project files of a folder say, and where its local packages are.
+/// The project of a folder, with the paths of its local packages.
 #[derive(Debug, Drop)]
 pub struct FolderProject {
     pub project: Project,
-    /// The text of `cabal.project.freeze`, where there is one.
+    /// The text of `cabal.project.freeze`, if there is one.
     pub freeze: Option<Text>,
     /// The paths of the local files, in byte order, each once.
     pub locals: List<Text>,
 }
 
-/// The project of a folder: what `cabal.project`, `cabal.project.freeze` and `cabal.project.local` say together, in this
-/// order, the text of the freeze file, and the paths of its local packages; or the first refusal: of a project file (one that is
-/// too large, or its first fault, file by file in reading order), and then of its entries. Behind what is refused nothing is read.
+/// The project of `cabal.project`, `cabal.project.freeze` and `cabal.project.local`, in this order, with its local
+/// files. Or the first refusal: of a project file (too large, or its first fault, in reading order), then of an entry.
+/// Nothing is read after a refusal.
 pub fn read_folder_project<F: Folder>(
     alloc: Global,
     env: &Env,

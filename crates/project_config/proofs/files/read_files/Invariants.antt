@@ -7,7 +7,7 @@ use Rattle.project_config.specs.Project.{project_files}
 use Rattle.project_config.proofs.Reading.{GoesOn}
 use Rattle.project_config.proofs.files.read_files.Given as goal
 
--- the files so far say the project so far
+-- the project so far is that of the files so far
 abbrev pub invariant-loop-path : goal.invariant-loop-path
 invariant-loop-path g l = record {
   taken : (read : List ProjectText) × IsProject l.env read (Ok l.project)
