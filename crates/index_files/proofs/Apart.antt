@@ -1,4 +1,4 @@
--- No two directories of a package are of one version.
+-- Version directories of a package have distinct versions.
 use Rattle.std.proofs.Common.{◌≡◌, ℕ, true, false, List, [], ◌∷◌, map, Option, Some, None, refl, sym, ◌∙◌, ap, subst, Ordering, Less, Equal}
 use Rattle.std.specs.List.{AllByRecursion, IsDistinct}
 use Rattle.std.specs.List.Sorted.{IsStrictlySortedBy}
@@ -29,7 +29,7 @@ IsAbove text names = AllByRecursion (λ other. order text other ≡ Less) (map (
 not-below-itself : (text : Bytes) → order text text ≡ Less → ⊥
 not-below-itself text less = let equal = tied_itself nat_list_cmp_total text in let both : Less ≡ Equal = sym less ∙ equal in cc both
 
--- texts of one version are one text
+-- texts of the same version are equal
 other-version : (text other : Bytes) (v w : List ℕ) → text ≡ version_text v → other ≡ version_text w → order text other ≡ Less → same_text v w ≡ false
 other-version text other v w of_text of_other less =
     elim (same_text v w) as (λ b. same_text v w ≡ b → b ≡ false) [
@@ -62,7 +62,7 @@ pub none-judged : (env : Env) (name : Bytes) (releases : List Release) → relea
 unfolding IsDistinct
 none-judged env name releases none = record { dirs = []; files = []; once = tt; are = none }
 
--- where there is no directory there are no names
+-- a missing directory has no names
 pub or-none : (names : Option (List Name)) (other found : List Name) → found ≡ unwrap_or names other → other ≡ [] → IfSome names IsInOrder → IsInOrder found
 unfolding IsStrictlySortedBy
 or-none None other found e none h = subst IsInOrder (sym (e ∙ none)) tt

@@ -28,7 +28,7 @@ each-listed : (P : Bytes → Type 0) (all xs : List Bytes) → ((x : Bytes) → 
 each-listed P all [] f h = tt
 each-listed P all (x ∷ xs) f h = (f x ((and_parts (is_listed all x) _ h).0), each-listed P all xs f ((and_parts (is_listed all x) _ h).1))
 
--- what stands behind others is listed with them
+-- names at the back of a list are listed in it
 all-behind : (front back : List Bytes) → list_all (is_listed (front ++ back)) back ≡ true
 all-behind front [] = refl
 all-behind front (x ∷ back) =
@@ -46,7 +46,7 @@ module _ (ground : Ground) where
   abbrev closes : List Bytes → FoundName → Bool
   closes names f = list_all (is_listed names) (mentioned ground f)
 
-  -- ---- where names come from
+  -- ---- origins of names
 
   abbrev IsGiven : List FoundName → Bytes → Type 0
   IsGiven found name = is_given ground found name ≡ true
@@ -74,7 +74,7 @@ module _ (ground : Ground) where
   all-still-given found f [] h = tt
   all-still-given found f (name ∷ names) h = (still-given found f name h.0, all-still-given found f names h.1)
 
-  -- ---- what holds in any folder
+  -- ---- over any folder
 
   pub kept-first : (names : List Bytes) → names ≡ put_all [] (roots ground) → AreKept ground names (pair_up names [])
   unfolding IsDistinct
@@ -116,7 +116,7 @@ module _ (ground : Ground) where
           let m = ap length (put ∙ g.1) ∙ length-append names g.0 in
           omega (arith, l, m, within)
 
-      -- ---- where the folder tells its files
+      -- ---- over an observable folder
 
       module _ (files : Files) (before mid after : Totals) where
         pub partly-next : ArePartly ground files before mid names (pair_up names read) → IsVisited ground files (get_or names (length read) []) mid after r

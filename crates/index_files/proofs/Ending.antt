@@ -1,4 +1,4 @@
--- What is read of a folder, from its parts.
+-- The readings of a folder, from those of its parts.
 use Rattle.std.proofs.Common.{List, Result, Ok, Err, refl, subst}
 use Rattle.outside_folder.specs.Files.{Bytes, Files}
 use Rattle.plan_types.specs.declared.condition.Env.{Env}

@@ -1,4 +1,4 @@
--- One more name of the closure, as it was found.
+-- One more name of the closure.
 use Rattle.std.proofs.Common.{◌≡◌, ◌<◌, ◌≤◌, List, [], ◌∷◌, ◌++◌, length, map, get_or, sym, ◌∙◌, ap, subst, arith, length-append}
 use Rattle.std.proofs.lemmas.List.{length-map, map-append}
 use Rattle.outside_folder.specs.Files.{Bytes, Files}

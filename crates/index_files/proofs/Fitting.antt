@@ -1,4 +1,4 @@
--- Files that are counted one after the other.
+-- Files counted one by one.
 use Rattle.std.proofs.Common.{◌≡◌, ◌⊎◌, inl, inr, ℕ, ◌+◌, ◌<◌, ◌≤◌, length, Bool, true, false, cond, List, [], ◌∷◌, ◌++◌, refl, sym, ◌∙◌, ap, arith}
 use Rattle.std.proofs.lemmas.Bool.Decides.{nat_tests}
 use Rattle.std.proofs.lemmas.List.{append_assoc, append-nil}
@@ -8,7 +8,7 @@ use Rattle.index_files.specs.Totals.{is_too_many}
 use Rattle.index_files.specs.declared.file.File.{File}
 use Rattle.index_files.specs.declared.totals.Totals.{Totals}
 
--- these files fit, after so many files and bytes, and then there are so many
+-- these files fit after `f` files with `b` bytes; then there are `files` with `bytes`
 abbrev pub Fit : ℕ → ℕ → List File → ℕ → ℕ → Type 0
 Fit f b read files bytes = (rest : List File) → fitting f b (read ++ rest) ≡ read ++ fitting files bytes rest
 
@@ -46,7 +46,7 @@ counts_more a b c read x h e g = record {
 pub more_is_too_many : (m n j k : ℕ) → m ≤ j → n ≤ k → is_too_many m n ≡ true → is_too_many j k ≡ true
 more_is_too_many m n j k h g t = grind (arith, nat_tests)
 
--- all fit, or all together are too many
+-- all files fit, or all of them are too many
 module _ (f b : ℕ) (x : File) (rest : List File) where
   counts-all : f + count_all (x ∷ rest) ≡ (f + count_of x) + count_all rest
   counts-all = let s = sum_by-append count_of (x ∷ []) rest in omega (arith, s)

@@ -1,4 +1,4 @@
--- What is so of packages and units that were taken one after the other.
+-- Properties of packages and units that are appended one by one.
 use Rattle.std.proofs.Common.{◌≡◌, ℕ, true, List, [], ◌∷◌, ◌++◌, map, Option, Some, None, Result, Ok, Err, refl, sym, ◌∙◌, ap, subst}
 use Rattle.std.specs.Prelude.{position}
 use Rattle.std.specs.List.{AllByRecursion, IsDistinct, list_all}
@@ -40,7 +40,7 @@ not-err a r s p q = let h = sym p ∙ q in cc h
 distinct-keys : {X : Type 0} (key : X → Bytes) (xs : List X) (x : X) → IsDistinct same_text (map key xs) → position (same_text (key x)) (map key xs) ≡ None → IsDistinct same_text (map key (xs ++ x ∷ []))
 distinct-keys key xs x h none = subst (IsDistinct same_text) (sym (map-append key xs (x ∷ []))) (IsDistinct-push nat_list_eq_equiv (map key xs) (key x) h (position-none (same_text (key x)) (map key xs) none))
 
--- what was taken in the end has the thing last that had no place
+-- an item that was accepted has a new key, and was appended
 put-last : {X G : Type 0} (path_of : X → Bytes) (cause : Cause) (place : Option ℕ) (taken : List X) (x : X) (Rest : List X → Type 0) (all : List X)
     → (place ≡ None → Rest (taken ++ x ∷ []) → G) → GoesOn {T = List X} (unless_there path_of cause place taken x) Rest (Ok all) → G
 put-last path_of cause None taken x Rest all go h = go refl h

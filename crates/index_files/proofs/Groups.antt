@@ -1,4 +1,4 @@
--- The packages of dependencies in groups.
+-- The package names of dependencies in groups.
 use Rattle.std.proofs.Common.{◌≡◌, Bool, true, false, not, cond, List, [], ◌∷◌, ◌++◌, map, flat_map, refl, sym, ap, ◌∙◌}
 use Rattle.std.proofs.lemmas.List.{map-append}
 use Rattle.plan_types.specs.Guarded.{GuardedDep, in_groups, of_group}

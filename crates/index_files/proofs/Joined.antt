@@ -1,4 +1,4 @@
--- What is put behind others, and of what a list is made one by one.
+-- Items appended to a list, one by one.
 use Rattle.std.proofs.Common.{◌≡◌, List, [], ◌∷◌, ◌++◌, length, map, None, refl, sym, ◌∙◌, ap, append_assoc, append-nil, if◌then◌else◌, arith}
 use Rattle.std.specs.Prelude.{position}
 use Rattle.indexmap.specs.IndexSet.{insert_key}
@@ -13,7 +13,7 @@ use Rattle.index_files.specs.declared.versions.VersionDir.{VersionDir}
 use Rattle.std.proofs.lemmas.List.{map-append}
 use Rattle.plan_types.specs.Bytes.{same_text}
 
--- a key that has no place is put last
+-- a new key is appended
 pub put-new : {X : Type 0} (key : X → Bytes) (xs : List X) (x : X) (keys new : List Bytes) (n : Bytes) (ys : List X)
     → keys ≡ map key xs → position (same_text (key x)) (map key xs) ≡ None → n ≡ key x → new ≡ insert_key same_text keys n → ys ≡ xs ++ x ∷ [] → new ≡ map key ys
 put-new key xs x keys new n ys are none is put all =

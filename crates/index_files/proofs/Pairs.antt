@@ -1,11 +1,11 @@
--- What was read under names, one after the other.
+-- Names paired with their releases, one by one.
 use Rattle.std.proofs.Common.{◌≡◌, ◌<◌, ◌≤◌, List, [], ◌∷◌, ◌++◌, length, map, get_or, refl, ap, arith}
 use Rattle.outside_folder.specs.Files.{Bytes}
 use Rattle.index_files.specs.Steps.{pair_up}
 use Rattle.index_files.specs.declared.closure.FoundName.{FoundName}
 use Rattle.index_files.specs.declared.release.Release.{Release}
 
--- names that are put behind change nothing of what was read
+-- more names at the end change no pair
 pub pair_grows : (names more : List Bytes) (read : List (List Release)) → length read ≤ length names → pair_up (names ++ more) read ≡ pair_up names read
 pair_grows [] [] [] h = refl
 pair_grows [] (m ∷ more) [] h = refl
@@ -13,7 +13,7 @@ pair_grows [] more (r ∷ read) h = absurd (grind (arith, h))
 pair_grows (n ∷ names) more [] h = refl
 pair_grows (n ∷ names) more (r ∷ read) h = ap (λ fs. record { name = n; releases = r } ∷ fs) (pair_grows names more read (omega (arith, h)))
 
--- one more
+-- one more pair
 pub pair_more : (names : List Bytes) (read : List (List Release)) (r : List Release) → length read < length names
     → pair_up names (read ++ r ∷ []) ≡ pair_up names read ++ record { name = get_or names (length read) []; releases = r } ∷ []
 pair_more [] read r h = absurd (grind (arith, h))
@@ -26,7 +26,7 @@ pair_names [] read h = refl
 pair_names (n ∷ names) [] h = absurd (grind (arith, h))
 pair_names (n ∷ names) (r ∷ read) h = ap (λ ns. n ∷ ns) (pair_names names read (omega (arith, h)))
 
--- they are those in front
+-- the paired names are a prefix
 pub pair_front : (names : List Bytes) (read : List (List Release)) → length read ≤ length names → (rest : List Bytes) × (names ≡ map (λ (f : FoundName). f.name) (pair_up names read) ++ rest)
 pair_front [] [] h = ([], refl)
 pair_front [] (r ∷ read) h = absurd (grind (arith, h))

@@ -1,4 +1,4 @@
--- Names that are put behind others, each once.
+-- Names inserted into a set.
 use Rattle.std.proofs.Common.{◌≡◌, ℕ, ◌<◌, ◌+◌, Bool, true, false, List, [], ◌∷◌, ◌++◌, length, map, take, get_or, refl, sym, ◌∙◌, ap, append_assoc, append-nil, if◌then◌else◌}
 use Rattle.std.specs.Prelude.{flat_map}
 use Rattle.std.specs.List.{AllByRecursion, IsDistinct, list_all}
@@ -13,7 +13,7 @@ use Rattle.std.proofs.lemmas.Bool.{or_left, or_right, and_from, and_parts}
 use Rattle.std.proofs.lemmas.Map.Keys.{IsDistinct-push}
 use Rattle.common_laws.specs.Each.{each-append}
 
--- ---- one more turn of a loop
+-- ---- one more round of a loop
 
 module _ {X : Type 0} (f : X → List Bytes) (start : List Bytes) (xs : List X) (i : ℕ) (x : X) (within : i < length xs) (at : x ≡ get_or xs i x) where
   flat_turn : put_all start (flat_map f (take (i + 1) xs)) ≡ put_all (put_all start (flat_map f (take i xs))) (f x)
@@ -23,7 +23,7 @@ module _ {X : Type 0} (f : X → List Bytes) (start : List Bytes) (xs : List X) 
       ∙ fold-append put start (flat_map f (take i xs)) (flat_map f (get_or xs i x ∷ []))
       ∙ ap (λ ns. put_all (put_all start (flat_map f (take i xs))) ns) (append-nil (f (get_or xs i x)) ∙ ap f (sym at))
 
-  -- what is put for one more
+  -- the set after one more element
   pub put_more : (before after : List Bytes) → before ≡ put_all start (flat_map f (take i xs)) → after ≡ put_all before (f x)
       → after ≡ put_all start (flat_map f (take (i + 1) xs))
   put_more before after so_far put = put ∙ ap (λ ns. put_all ns (f x)) so_far ∙ sym flat_turn
@@ -34,7 +34,7 @@ module _ {X : Type 0} (f : X → Bytes) (start : List Bytes) (xs : List X) (i : 
       is ∙ ap (λ ns. put ns (f x)) so_far ∙ ap (λ y. put (put_all start (map f (take i xs))) (f y)) at
       ∙ sym (ap (λ ys. put_all start (map f ys)) (take_more xs i x within) ∙ ap (put_all start) (map-append f (take i xs) (get_or xs i x ∷ [])) ∙ fold-append put start (map f (take i xs)) (f (get_or xs i x) ∷ []))
 
--- ---- what is listed
+-- ---- members
 
 pub listed-left : (names more : List Bytes) (q : Bytes) → is_listed names q ≡ true → is_listed (names ++ more) q ≡ true
 listed-left names more q h = list_any-append (same_text q) names more ∙ or_left (is_listed names q) (is_listed more q) h
@@ -42,7 +42,7 @@ listed-left names more q h = list_any-append (same_text q) names more ∙ or_lef
 pub listed-last : (names : List Bytes) (q : Bytes) → is_listed (names ++ q ∷ []) q ≡ true
 listed-last names q = list_any-append (same_text q) names (q ∷ []) ∙ or_right (is_listed names q) (is_listed (q ∷ []) q) (or_left (same_text q q) false (nat_list_eq_equiv.refl q))
 
--- what one name leads to
+-- one inserted name
 module _ (names : List Bytes) (n : Bytes) where
   pub put-listed : is_listed (put names n) n ≡ true
   put-listed = elim (is_listed names n) as (λ b. is_listed names n ≡ b → is_listed (if b then names else names ++ n ∷ []) n ≡ true) [
@@ -68,7 +68,7 @@ put-distinct names n h = elim (is_listed names n) as (λ b. is_listed names n �
   | false ↦ λ e. IsDistinct-push nat_list_eq_equiv names n h e
 ] refl
 
--- what several names lead to
+-- several inserted names
 
 pub put-all-grows : (names more : List Bytes) → (rest : List Bytes) × (put_all names more ≡ names ++ rest)
 put-all-grows names [] = ([], sym (append-nil names))

@@ -1,4 +1,4 @@
--- Units whose records are counted, read and judged one after the other.
+-- Units whose records are counted, read and judged one by one.
 use Rattle.std.proofs.Common.{◌≡◌, ℕ, ◌+◌, ◌==◌, Bool, true, false, List, [], ◌∷◌, ◌++◌, length, length-append, Ok, Err, refl, sym, ◌∙◌, ap, subst, arith}
 use Rattle.std.proofs.lemmas.Bool.{eq-eqb, ne_eqb}
 use Rattle.std.proofs.lemmas.List.Sums.{sum_by-append}
@@ -47,7 +47,7 @@ shorter read x rest e =
     omega (arith, e, a, b)
 
 module _ (places : Places) (all read : List File) (units : List Unit) (t : Totals) (fit : Fit 0 0 read t.files t.bytes) (through : Through RecordComes with_record [] read units) where
-  -- all of them
+  -- all records fit
   pub units-all : read ≡ all → AreUnitsOf places all (Ok units)
   units-all e =
       let fits : fitting 0 0 all ≡ all = ap (fitting 0 0) (sym e) ∙ fit_all 0 0 read t.files t.bytes fit ∙ e in (
@@ -57,7 +57,7 @@ module _ (places : Places) (all read : List File) (units : List Unit) (t : Total
       )
 
   module _ (x : File) (rest : List File) (e : all ≡ (read ++ x ∷ []) ++ rest) where
-    -- one more is too many
+    -- one more record is too many
     pub units-beyond : is_too_many (t.files + count_of x) (t.bytes + size_of x) ≡ true → AreUnitsOf places all (Err (record { path = places.installed; line = 0; cause = TooMany; detail = [] }))
     units-beyond many =
         let fits : fitting 0 0 all ≡ read = ap (fitting 0 0) e ∙ fit_ends 0 0 read t.files t.bytes x rest fit many in (
@@ -66,7 +66,7 @@ module _ (places : Places) (all read : List File) (units : List Unit) (t : Total
           ap (λ b. unless_beyond places b (Ok units)) (sym (ne_eqb (length (fitting 0 0 all)) (length all) (λ same. shorter read x rest (sym (ap length fits) ∙ same ∙ ap length e)))),
         )
 
-    -- the next one is refused
+    -- one more record is refused
     pub units-halted : is_too_many (t.files + count_of x) (t.bytes + size_of x) ≡ false → (h : Halt) → Settles (OnPart (λ (u : Units). u.list) (Steps RecordComes with_record units x)) (Err h)
         → Answers (OnPart (λ (n : Counted). n.units.list) (AreUnitsOf places all)) (Err h)
     units-halted few halt.NoMemory s = tt

@@ -1,4 +1,4 @@
--- What is read of a record, as its file comes to it.
+-- The outcome of a record's file, from the reading of its bytes.
 use Rattle.std.proofs.Common.{◌≡◌, ℕ, true, List, Option, Some, None, Result, Ok, Err, refl, ap}
 use Rattle.std.specs.Prelude.{IfErr, IfOk, IfSome}
 use Rattle.plan_types.specs.Name.{is_package_name}

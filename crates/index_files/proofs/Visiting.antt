@@ -1,4 +1,4 @@
--- What is read of a name, from what was listed, counted and judged.
+-- The visit of a name, from what was listed, counted and judged.
 use Rattle.std.proofs.Common.{◌≡◌, inl, inr, ℕ, ◌+◌, ◌<◌, ◌==◌, true, false, not, List, [], length, map, refl, sym, ◌∙◌, ap, subst, arith}
 use Rattle.std.proofs.lemmas.Bool.Decides.{nat_tests}
 use Rattle.std.proofs.lemmas.List.{length-map}
@@ -73,7 +73,7 @@ visited-apart ground files name before after releases apart r = record {
   counts = r.counts;
 }
 
--- a local one
+-- a local name
 
 pub visited-local : (ground : Ground) (files : Files) (name : Bytes) (totals : Totals) → is_local ground name ≡ true → IsVisited ground files name totals totals []
 visited-local ground files name totals local = record {

@@ -1,4 +1,4 @@
--- The reading closure: the names that are reached from the local packages, and what is read under each.
+-- The reading closure: the names that are reached from the local and extra packages, with their releases.
 use Rattle.std.specs.Prelude.{◌≡◌, ℕ, ◌+◌, Bool, true, false, List, [], ◌++◌, map, flat_map, position, slice_get, option_and_then, Option, Some, None}
 use Rattle.std.specs.List.{AllByRecursion, IsDistinct, list_all}
 use Rattle.plan_types.specs.declared.condition.Env.{Env}
@@ -20,7 +20,7 @@ use Rattle.index_files.specs.declared.unit.Unit.{Unit}
 use Rattle.index_files.specs.declared.versions.VersionDir.{VersionDir}
 use Rattle.plan_types.specs.Bytes.{same_text}
 
--- what stands before the index is read
+-- all that is known before the index is read
 pub record Ground : Type 0 where
   pub env : Env
   pub places : Places
@@ -32,70 +32,70 @@ pub record Ground : Type 0 where
 abbrev pub is_local : Ground → Bytes → Bool
 is_local ground name = is_listed (local_names ground.locals) name
 
--- the names with which it begins: those of local packages, and those for which the project asks besides
+-- the roots of the closure: the names of the local packages, and those of the extra packages
 abbrev pub root_names : List Local → List Named → List Bytes
 root_names locals extra = local_names locals ++ map (λ named. named.name) extra
 
--- those of what stands before the index is read
+-- the roots over this ground
 abbrev pub roots : Ground → List Bytes
 roots ground = root_names ground.locals ground.extra
 
--- the names that a local package asks for, where there is one
+-- the names on which a local package depends, if there is one
 abbrev pub asked_by_local : Option Local → List Bytes
 asked_by_local None = []
 asked_by_local (Some local) = asked_packages local.source.description
 
--- the names that a local package of this name mentions
+-- the names on which the local package of this name depends
 abbrev pub asked_locally : List Local → Bytes → List Bytes
 asked_locally locals name = asked_by_local (option_and_then (slice_get locals) (position (same_text name) (local_names locals)))
 
--- A name mentions what its local package asks for, what its records need, and what its releases ask for.
+-- The names that a name mentions: those on which its local package, its records and its releases depend.
 abbrev pub mentioned : Ground → FoundName → List Bytes
 mentioned ground found = asked_locally ground.locals found.name ++ needed_by ground.units found.name ++ asked_in found.releases
 
--- what a name mentions, with these releases
+-- the names that a name mentions, with these releases
 abbrev pub mentioned_by : Ground → Bytes → List Release → List Bytes
 mentioned_by ground name releases = mentioned ground (record { name = name; releases = releases })
 
--- ---- what is read under a name
+-- ---- one name
 
--- a name, its versions in the index, and their releases
+-- a name with its versions and releases in the index
 pub record Visit : Type 0 where
   pub name : Bytes
   pub dirs : List VersionDir
   pub releases : List Release
 
--- a name and its releases, without the versions
+-- a name with its releases, without its versions
 abbrev pub found_of : Visit → FoundName
 found_of visit = record { name = visit.name; releases = visit.releases }
 
--- a name has no versions and no releases
+-- a visit without versions and releases
 pub record ReadsNothing (visit : Visit) : Type 0 where
   pub no_versions : visit.dirs ≡ []
   pub no_releases : visit.releases ≡ []
 
 module _ (ground : Ground) (files : Files) where
-  -- what is found at the paths of the versions of a name
+  -- the files at the release paths of a name
   abbrev pub visited_files : Visit → List File
   visited_files visit = files_below ground.places files visit.name visit.dirs
 
-  -- the versions and the releases of a name are those in the index
+  -- the versions and releases of a name are those of the index
   pub record ReadsAll (visit : Visit) : Type 0 where
     pub versions : AreVersions (names_below ground.places files visit.name) visit.dirs
     pub releases : AreReleases ground.env visit.name visit.dirs (visited_files visit) visit.releases
 
-  -- under the name of a local package nothing is read
+  -- a visit of a local name is empty
   abbrev pub ReadsAs : Visit → Bool → Type 0
   ReadsAs visit true = ReadsNothing visit
   ReadsAs visit false = ReadsAll visit
 
-  -- a visit has all that is to be read under its name
+  -- the visit of a name, complete
   abbrev pub IsVisit : Visit → Type 0
   IsVisit visit = ReadsAs visit (is_local ground visit.name)
 
 -- ---- the closure
 
--- a name of the closure
+-- a name is reached: a root, or mentioned by a reached name
 pub data IsReached (ground : Ground) (files : Files) : Bytes → Type 0 where
   root : (name : Bytes) → is_listed (roots ground) name ≡ true → IsReached ground files name
   by_name : (visit : Visit) (name : Bytes) → IsReached ground files visit.name → IsVisit ground files visit
@@ -105,18 +105,19 @@ pub data IsReached (ground : Ground) (files : Files) : Bytes → Type 0 where
 abbrev pub names_of : List Visit → List Bytes
 names_of visits = map (λ visit. visit.name) visits
 
--- each of these names has what it mentions among them
+-- all names that these visits mention are among the names
 abbrev pub AreClosed : Ground → List Bytes → List Visit → Type 0
 AreClosed ground names visits = list_all (λ visit. list_all (is_listed names) (mentioned ground (found_of visit))) visits ≡ true
 
 module _ (ground : Ground) (files : Files) where
-  -- what the files of these names and versions count as, after so many files and bytes
+  -- whether the files of these visits are too many, after so many files and bytes
   abbrev pub are_too_many : ℕ → ℕ → List Visit → Bool
   are_too_many count size visits =
       let all = flat_map (visited_files ground files) visits in
       is_too_many (count + count_all all) (size + size_all all)
 
-  -- The least names that hold those with which it begins and, with each, those that it mentions.
+  -- The closure: the least set of names that has the roots and is closed under mentioning. Each name has its complete
+  -- visit.
   pub record IsClosure (visits : List Visit) : Type 0 where
     pub once : IsDistinct same_text (names_of visits)
     pub begun : list_all (is_listed (names_of visits)) (roots ground) ≡ true
@@ -124,31 +125,31 @@ module _ (ground : Ground) (files : Files) where
     pub reached : AllByRecursion (λ visit. IsReached ground files visit.name) visits
     pub read : AllByRecursion (IsVisit ground files) visits
 
-  -- the versions of a name; that of a local package has none
+  -- the versions of a name; a local name has none
   abbrev pub HasVersions : Visit → Bool → Type 0
   HasVersions visit true = visit.dirs ≡ []
   HasVersions visit false = AreVersions (names_below ground.places files visit.name) visit.dirs
 
-  -- a name of the closure and its versions
+  -- a reached name with its versions
   pub record IsPart (visit : Visit) : Type 0 where
     pub reached : IsReached ground files visit.name
     pub versions : HasVersions visit (is_local ground visit.name)
 
--- Some names of the closure have more files than are read, after so many files and bytes.
+-- Some reached names have too many files, after so many files and bytes.
 pub record IsBeyond (ground : Ground) (count size : ℕ) (files : Files) : Type 0 where
   pub parts : List Visit
   pub once : IsDistinct same_text (names_of parts)
   pub inside : AllByRecursion (IsPart ground files) parts
   pub many : are_too_many ground files count size parts ≡ true
 
--- all of the closure is read
+-- the whole closure was read, within the limits
 pub record IsWhole (ground : Ground) (count size : ℕ) (files : Files) (found : List FoundName) : Type 0 where
   pub visits : List Visit
   pub closure : IsClosure ground files visits
   pub few : are_too_many ground files count size visits ≡ false
   pub found_is : found ≡ map found_of visits
 
--- what was found in all of the closure, or that it has more files than are read
+-- the whole closure, or none if it has too many files
 abbrev pub Reaches : Ground → ℕ → ℕ → Files → Option (List FoundName) → Type 0
 Reaches ground count size files None = IsBeyond ground count size files
 Reaches ground count size files (Some found) = IsWhole ground count size files found

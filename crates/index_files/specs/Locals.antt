@@ -25,24 +25,24 @@ local_name local = local.source.description.name
 abbrev pub local_names : List Local → List Bytes
 local_names locals = map local_name locals
 
--- the path of its file
+-- the path of a local package's file
 abbrev pub local_path : Local → Bytes
 local_path local = local.path
 
--- a local package behind others, or a refusal where one of them has its name
+-- a local package appended, or refused if its name is there already
 abbrev pub with_local : List Local → Local → Result (List Local) Refusal
 with_local locals local = unless_there local_path DuplicateLocal (position (same_text (local_name local)) (local_names locals)) locals local
 
--- what comes of the local package in a file
+-- the outcome of appending the local package of a file
 abbrev pub TakesLocal : List Local → Bytes → Source → Result (List Local) Refusal → Type 0
 TakesLocal locals path source outcome = with_local locals (record { path = path; source = source }) ≡ outcome
 
--- a file that can't be read is refused
+-- the local package of a file appended, or the refusal of its fault
 abbrev pub with_file : List Local → File → Result Source At → Result (List Local) Refusal
 with_file locals file (Ok source) = with_local locals (record { path = file.path; source = source })
 with_file locals file (Err at) = Err (refusal_at file.path at.line at.cause)
 
--- what the file of a local package comes to
+-- the outcome of a local package's file
 abbrev pub FileComes : Env → File → Result Source At → Type 0
 FileComes env file outcome = Comes env file.content outcome
 
@@ -50,6 +50,6 @@ FileComes env file outcome = Comes env file.content outcome
 abbrev pub AreLocals : Env → List File → Result (List Local) Refusal → Type 0
 AreLocals env files outcome = InTurn (FileComes env) with_file [] files outcome
 
--- those at these paths of a folder
+-- the local packages at these paths of a folder, or the first refusal
 abbrev pub ReadsLocals : Env → List Bytes → Files → Result (List Local) Refusal → Type 0
 ReadsLocals env paths files outcome = AreLocals env (map (file_found true files) paths) outcome

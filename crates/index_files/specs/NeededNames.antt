@@ -5,10 +5,10 @@ use Rattle.outside_folder.specs.Files.{Bytes}
 use Rattle.index_files.specs.declared.needed_names.Needed.{Needed}
 use Rattle.plan_types.specs.Bytes.{same_text}
 
--- what it holds for a name
+-- the names in the table for a name
 abbrev pub needed_in : Needed → Bytes → List Bytes
 needed_in needed name = unwrap_or (get same_text needed.by_name name) []
 
--- these names came behind those of one name, and no others did
+-- these names were appended for one name, and no others
 abbrev pub Adds : Needed → Needed → Bytes → List Bytes → Type 0
 Adds old new name more = (other : Bytes) → needed_in new other ≡ needed_in old other ++ (if same_text name other then more else [])

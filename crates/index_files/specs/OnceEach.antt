@@ -1,14 +1,14 @@
--- Things that are kept, each with a key that no other has.
+-- Lists whose items have distinct keys.
 use Rattle.std.specs.Prelude.{ℕ, List, [], ◌∷◌, ◌++◌, slice_get, Option, Some, None, Result, Ok, Err}
 use Rattle.plan_types.specs.declared.refusal.Cause.{Cause}
 use Rattle.plan_types.specs.declared.refusal.Refusal.{Refusal}
 use Rattle.outside_folder.specs.Files.{Bytes}
 
--- the path of the thing at a place
+-- the path of the item at a place
 abbrev pub path_at : {X : Type 0} → (X → Bytes) → List X → ℕ → Bytes
 path_at path_of kept place = elim (slice_get kept place) [ None ↦ [] | Some x ↦ path_of x ]
 
--- a thing whose key has no place yet is put last; a second one of a key is refused, with the path of the first
+-- an item appended if its key is new; else a refusal, with the path of the earlier item
 abbrev pub unless_there : {X : Type 0} → (X → Bytes) → Cause → Option ℕ → List X → X → Result (List X) Refusal
 unless_there path_of cause None kept x = Ok (kept ++ x ∷ [])
 unless_there path_of cause (Some place) kept x =

@@ -1,13 +1,13 @@
--- Where the files of an index lie.
+-- The paths of an index's files.
 use Rattle.std.specs.Prelude.{◌++◌, codes}
 use Rattle.outside_folder.specs.Files.{Bytes}
 use Rattle.plan_types.specs.declared.index.Places.{Places}
 
--- a name in a directory
+-- the path of a name in a directory
 abbrev pub under : Bytes → Bytes → Bytes
 under dir name = dir ++ codes "/" ++ name
 
--- the file of a record under a name of the directory of records
+-- the path of a unit record
 abbrev pub record_path : Places → Bytes → Bytes
 record_path places name = under places.installed name
 
@@ -15,6 +15,6 @@ record_path places name = under places.installed name
 abbrev pub name_dir : Places → Bytes → Bytes
 name_dir places name = under places.index name
 
--- the file of a package under a name of that directory
+-- the path of a release's file
 abbrev pub release_path : Places → Bytes → Bytes → Bytes
 release_path places name dir = name_dir places name ++ codes "/" ++ dir ++ codes "/" ++ name ++ codes ".cabal"

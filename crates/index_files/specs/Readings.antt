@@ -1,4 +1,4 @@
--- What is read of a folder.
+-- All that is read of a folder.
 use Rattle.std.specs.Prelude.{◌≡◌, ℕ, List, [], map, Result, Ok, Err}
 use Rattle.std.specs.List.{AllByRecursion, IsDistinct}
 use Rattle.plan_types.specs.declared.condition.Env.{Env}
@@ -19,23 +19,23 @@ use Rattle.index_files.specs.declared.readings.Readings.{Readings}
 use Rattle.index_files.specs.declared.unit.Unit.{Unit}
 use Rattle.plan_types.specs.Bytes.{same_text}
 
--- the packages that stand before the index is read, and the files of the closure
+-- local packages and units are those of the ground, and the whole closure is found
 pub record AreRead (ground : Ground) (count size : ℕ) (files : Files) (readings : Readings) : Type 0 where
   pub locals : readings.locals ≡ ground.locals
   pub units : readings.units ≡ ground.units
   pub found : IsWhole ground count size files readings.found
 
--- the closure has more files than are read, and this is refused
+-- the closure has too many files, and the index directory is refused
 pub record AreTooMany (ground : Ground) (count size : ℕ) (files : Files) (refusal : Refusal) : Type 0 where
   pub beyond : IsBeyond ground count size files
   pub refusal_is : refusal ≡ record { path = ground.places.index; line = 0; cause = TooMany; detail = [] }
 
--- the readings, or the refusal where there are too many files
+-- the readings, or the refusal for too many files
 abbrev pub AreIndexed : Ground → ℕ → ℕ → Files → Result Readings Refusal → Type 0
 AreIndexed ground count size files (Ok readings) = AreRead ground count size files readings
 AreIndexed ground count size files (Err refusal) = AreTooMany ground count size files refusal
 
--- First come the local files, then the records, then the files of the closure.
+-- The readings of a folder: first the local files, then the unit records, then the closure.
 abbrev pub AreReadings : Env → Places → List Named → List Bytes → Files → Result Readings Refusal → Type 0
 AreReadings env places extra paths files outcome =
     (locals : Result (List Local) Refusal) × ReadsLocals env paths files locals
@@ -45,23 +45,23 @@ AreReadings env places extra paths files outcome =
     AreIndexed (record { env = env; places = places; locals = locals; units = units; extra = extra }) (count_all records) (size_all records) files outcome)
     outcome) outcome
 
--- a local package is what some file says
+-- a local package has the source of some file
 abbrev pub IsFromFile : Env → Local → Type 0
 IsFromFile env local = (file : File) × FileComes env file (Ok local.source)
 
--- each local package is what some file says, and no two have one name
+-- each local package has the source of some file, and their names are distinct
 pub record AreFromFiles (env : Env) (locals : List Local) : Type 0 where
   pub once : IsDistinct same_text (local_names locals)
   pub read : AllByRecursion (IsFromFile env) locals
 
--- the readings are over what stood before
+-- the readings are over this ground
 pub record AreOf (ground : Ground) (readings : Readings) : Type 0 where
   pub locals : readings.locals ≡ ground.locals
   pub units : readings.units ≡ ground.units
   pub units_formed : AllByRecursion IsFormed readings.units
   pub kept : AreKept ground (map (λ f. f.name) readings.found) readings.found
 
--- what is so of the readings of any folder
+-- properties of the readings of any folder, observable or not
 pub record HaveForm (env : Env) (places : Places) (extra : List Named) (readings : Readings) : Type 0 where
   pub locals : AreFromFiles env readings.locals
   pub units_once : IsDistinct same_text (unit_ids readings.units)

@@ -1,4 +1,4 @@
--- The files of a package in the index.
+-- The releases of a package in the index.
 use Rattle.std.specs.Prelude.{◌≡◌, Bool, ◌&&◌, if◌then◌else◌, List, [], ◌∷◌, ◌++◌, false, map, flat_map, unwrap_or, Option, Some, None}
 use Rattle.std.specs.declared.result.Result.{Result}
 use Rattle.std.specs.declared.result.Result.TheVariants.{Ok, Err}
@@ -28,19 +28,19 @@ use Rattle.version_range.specs.Version.{IsVersionOf}
 
 -- ---- versions
 
--- a version with the name of its directory, where that reads as one
+-- a version with the name of its directory, if that is a version
 abbrev pub version_dir : Bytes → Option Version → List VersionDir
 version_dir text None = []
 version_dir text (Some version) = record { text = text; version = version } ∷ []
 
--- the names that read as versions
+-- the versions among the names of directories
 abbrev pub AreVersions : List Name → List VersionDir → Type 0
 AreVersions [] dirs = dirs ≡ []
 AreVersions (name ∷ names) dirs =
     (version : Option Version) × (more : List VersionDir) × IsVersionOf name.text version × AreVersions names more
     × (dirs ≡ version_dir name.text version ++ more)
 
--- the paths of the files of these versions
+-- the paths of the release files of these versions
 abbrev pub release_paths : Places → Bytes → List VersionDir → List Bytes
 release_paths places name dirs = map (λ dir. release_path places name dir.text) dirs
 
@@ -48,41 +48,41 @@ release_paths places name dirs = map (λ dir. release_path places name dir.text)
 abbrev pub names_below : Places → Files → Bytes → List Name
 names_below places files name = unwrap_or (listing files (name_dir places name)) []
 
--- what is found at the paths of these versions
+-- the files at these paths
 abbrev pub files_below : Places → Files → Bytes → List VersionDir → List File
 files_below places files name dirs = map (file_found false files) (release_paths places name dirs)
 
 -- ---- releases
 
--- whether a description states this name and this version
+-- whether a description has this name and version
 abbrev pub is_in_place : Bytes → Version → Description → Bool
 is_in_place name version d = same_text d.name name && same_text d.version.parts version.parts
 
--- a file has to state the name and the version of its path
+-- a release must have the name and version of its path, else it is faulty
 abbrev pub judged_as : Bytes → Version → Result Source At → Judged
 judged_as name version (Ok source) = if is_in_place name version source.description then Readable source else Faulty 0 WrongPlace
 judged_as name version (Err at) = Faulty at.line at.cause
 
--- what a file of the index is judged as
+-- the judgement of a release file
 abbrev pub IsJudged : Env → Bytes → Version → Content → Judged → Type 0
 IsJudged env name version content judged = (outcome : Result Source At) × Comes env content outcome × (judged ≡ judged_as name version outcome)
 
--- the one release in a file, as it is judged
+-- the one release of a file, with its judgement
 abbrev pub IsOneRelease : Env → Bytes → Version → Bytes → Content → List Release → Type 0
 IsOneRelease env name version path content releases =
     (judged : Judged) × IsJudged env name version content judged × (releases ≡ record { path = path; judged = judged } ∷ [])
 
--- the same, but no release where the file is missing
+-- the same; no release if the file is missing
 abbrev pub IsReleaseIn : Env → Bytes → Version → Bytes → Content → List Release → Type 0
 IsReleaseIn env name version path Missing releases = releases ≡ []
 IsReleaseIn env name version path TooLarge releases = IsOneRelease env name version path TooLarge releases
 IsReleaseIn env name version path (Holds bytes) releases = IsOneRelease env name version path (Holds bytes) releases
 
--- the release in a file, where there is one
+-- the release of a file, if it isn't missing
 abbrev pub IsRelease : Env → Bytes → VersionDir → File → List Release → Type 0
 IsRelease env name dir file releases = IsReleaseIn env name dir.version file.path file.content releases
 
--- the releases in the files of these versions
+-- the releases of these versions and files
 abbrev pub AreReleases : Env → Bytes → List VersionDir → List File → List Release → Type 0
 AreReleases env name [] files releases = releases ≡ []
 AreReleases env name (dir ∷ dirs) [] releases = releases ≡ []
@@ -90,12 +90,12 @@ AreReleases env name (dir ∷ dirs) (file ∷ files) releases =
     (here : List Release) × (more : List Release) × IsRelease env name dir file here × AreReleases env name dirs files more
     × (releases ≡ here ++ more)
 
--- the names that a release mentions, where it can be read
+-- the names on which a release depends; none for a faulty one
 abbrev pub asked_by : Judged → List Bytes
 asked_by (Readable source) = asked_packages source.description
 asked_by (Faulty line cause) = []
 
--- the names that the releases mention; one that can't be read mentions none
+-- the names on which these releases depend
 abbrev pub asked_in : List Release → List Bytes
 asked_in releases = flat_map (λ release. asked_by release.judged) releases
 
@@ -105,14 +105,14 @@ outward_name at = at.guarded.dep.«package»
 
 -- ---- steps
 
--- a version came behind the others, where the name of its directory reads as one
+-- a version was appended, if the directory's name is one
 abbrev pub AddsVersion : Bytes → List VersionDir → List VersionDir → Type 0
 AddsVersion text old new = (version : Option Version) × IsVersionOf text version × (new ≡ old ++ version_dir text version)
 
--- the release in a file came behind the others, where there is one
+-- the release of a file was appended, if it isn't missing
 abbrev pub AddsRelease : Env → Bytes → VersionDir → File → List Release → List Release → Type 0
 AddsRelease env name dir file old new = (here : List Release) × IsRelease env name dir file here × (new ≡ old ++ here)
 
--- the one release in a file came behind the others
+-- the one release of a file was appended
 abbrev pub AddsJudged : Env → Bytes → VersionDir → File → List Release → List Release → Type 0
 AddsJudged env name dir file old new = (here : List Release) × IsOneRelease env name dir.version file.path file.content here × (new ≡ old ++ here)

@@ -1,4 +1,4 @@
--- What the bytes in a file are read as.
+-- The source of a file.
 use Rattle.std.specs.Prelude.{◌≡◌, [], Option, Some, None}
 use Rattle.std.specs.declared.result.Result.{Result}
 use Rattle.std.specs.declared.result.Result.TheVariants.{Err}
@@ -12,17 +12,17 @@ use Rattle.description.specs.declared.fault_order.At.{At}
 use Rattle.cabal_file.specs.Source.{IsSource}
 use Rattle.cabal_file.specs.declared.source.Source.{Source}
 
--- a file that is gone counts as empty
+-- the bytes of a file: empty if it is missing, nothing if it is too large
 abbrev pub bytes_in : Content → Option Bytes
 bytes_in Missing = Some []
 bytes_in TooLarge = None
 bytes_in (Holds bytes) = Some bytes
 
--- what the bytes of a file are read as, or the fault of one that is too large
+-- the outcome of these bytes, or the fault of a file that is too large
 abbrev pub OfBytes : Env → Option Bytes → Result Source At → Type 0
 OfBytes env None outcome = outcome ≡ Err (is_at 0 ItIsTooLarge)
 OfBytes env (Some bytes) outcome = IsSource env bytes outcome
 
--- what a file of a package comes to
+-- the outcome of a package's file: its source or its fault
 abbrev pub Comes : Env → Content → Result Source At → Type 0
 Comes env content outcome = OfBytes env (bytes_in content) outcome

@@ -1,4 +1,4 @@
--- The installed units of a folder, by their records.
+-- The installed units of a folder, from their records.
 use Rattle.std.specs.Prelude.{◌≡◌, ℕ, ◌&&◌, Bool, true, false, not, if◌then◌else◌, List, [], ◌∷◌, codes, length, map, filter, flat_map, position, slice_get, unwrap_or, nat_eq, ◌==◌, Option, Some, None}
 use Rattle.std.specs.List.{ends_with}
 use Rattle.std.specs.declared.result.Result.{Result}
@@ -26,17 +26,17 @@ use Rattle.plan_types.specs.Bytes.{same_text}
 
 -- ---- a record
 
--- what is read of a record, or the fault at the line at which it can't be read
+-- the unit of a record; the fault has the line
 abbrev pub record_outcome : Result (Option UnitRecord) ℕ → Result (Option UnitRecord) At
 record_outcome (Ok found) = Ok found
 record_outcome (Err line) = Err (is_at line BadRecord)
 
--- what the bytes of a record are read as, or the fault of one that is too large
+-- the outcome of a record's bytes, or the fault of a file that is too large
 abbrev pub OfRecord : Option Bytes → Result (Option UnitRecord) At → Type 0
 OfRecord None outcome = outcome ≡ Err (is_at 0 TooLarge)
 OfRecord (Some bytes) outcome = (found : Result (Option UnitRecord) ℕ) × IsRecord bytes found × (outcome ≡ record_outcome found)
 
--- what a file of a record comes to
+-- the outcome of a record's file
 abbrev pub RecordComes : File → Result (Option UnitRecord) At → Type 0
 RecordComes file outcome = OfRecord (bytes_in file.content) outcome
 
@@ -46,7 +46,7 @@ RecordComes file outcome = OfRecord (bytes_in file.content) outcome
 abbrev pub unit_id : Unit → Bytes
 unit_id u = u.record_of.id
 
--- the name of the package of a unit
+-- the package name of a unit
 abbrev pub unit_name : Unit → Bytes
 unit_name u = u.record_of.name
 
@@ -58,28 +58,28 @@ unit_ids units = map unit_id units
 abbrev pub place_of : List Unit → Bytes → Option ℕ
 place_of units id = position (same_text id) (unit_ids units)
 
--- the path of the record of a unit
+-- the path of a unit's record
 abbrev pub unit_path : Unit → Bytes
 unit_path u = u.path
 
--- a unit behind others, or a refusal where one of them has its id
+-- a unit appended, or refused if its id is there already
 abbrev pub with_unit : List Unit → Unit → Result (List Unit) Refusal
 with_unit units u = unless_there unit_path DuplicateUnit (place_of units (unit_id u)) units u
 
--- the record of a sublibrary is left out
+-- the unit of a record appended; the record of a sublibrary has none
 abbrev pub with_found : List Unit → Bytes → Option UnitRecord → Result (List Unit) Refusal
 with_found units path None = Ok units
 with_found units path (Some found) = with_unit units (record { path = path; record_of = found })
 
--- what comes of the unit of a record
+-- the outcome of appending the unit of a record
 abbrev pub TakesUnit : List Unit → Bytes → UnitRecord → Result (List Unit) Refusal → Type 0
 TakesUnit units path record_of outcome = with_unit units (record { path = path; record_of = record_of }) ≡ outcome
 
--- the same where a record may have none
+-- the same for a record that may have no unit
 abbrev pub TakesFound : List Unit → Bytes → Option UnitRecord → Result (List Unit) Refusal → Type 0
 TakesFound units path found outcome = with_found units path found ≡ outcome
 
--- a record that can't be read is refused
+-- the unit of a record appended, or the refusal of its fault
 abbrev pub with_record : List Unit → File → Result (Option UnitRecord) At → Result (List Unit) Refusal
 with_record units file (Ok found) = with_found units file.path found
 with_record units file (Err at) = Err (refusal_at file.path at.line at.cause)
@@ -90,7 +90,7 @@ AreUnits files outcome = InTurn RecordComes with_record [] files outcome
 
 -- ---- the folder
 
--- whether a name in the folder is that of a record
+-- whether a name is that of a record: a file that ends in `.conf`
 abbrev pub is_record : Name → Bool
 is_record name = not name.folder && ends_with nat_eq name.text (codes ".conf")
 
@@ -107,13 +107,13 @@ module _ (places : Places) (files : Files) where
   abbrev pub record_files : List File
   record_files = map (file_found true files) paths_of_records
 
--- where there are more than are read, this is refused behind those that are
+-- after the records that fit, too many of them are refused
 abbrev pub unless_beyond : Places → Bool → Result (List Unit) Refusal → Result (List Unit) Refusal
 unless_beyond places true outcome = outcome
 unless_beyond places false (Ok units) = Err (refusal_at places.installed 0 TooMany)
 unless_beyond places false (Err refusal) = Err refusal
 
--- the units whose records these files are, as far as so many are read, or the first refusal
+-- the units of these records before the first one too many, or the first refusal
 abbrev pub AreUnitsOf : Places → List File → Result (List Unit) Refusal → Type 0
 AreUnitsOf places all outcome =
     let read = fitting 0 0 all in
@@ -123,33 +123,33 @@ AreUnitsOf places all outcome =
 abbrev pub ReadsUnits : Places → Files → Result (List Unit) Refusal → Type 0
 ReadsUnits places files outcome = AreUnitsOf places (record_files places files) outcome
 
--- ---- what records mention
+-- ---- names that records mention
 
--- the name of the package of the unit at a place
+-- the package name of the unit at a place
 abbrev pub name_at : List Unit → ℕ → List Bytes
 name_at units place = elim (slice_get units place) [ None ↦ [] | Some u ↦ unit_name u ∷ [] ]
 
--- the name of the package of a unit, where the unit has a record
+-- the package name of the unit with this id, if it has a record
 abbrev pub known_name : List Unit → Bytes → List Bytes
 known_name units id = elim (place_of units id) [ None ↦ [] | Some place ↦ name_at units place ]
 
--- the names of the packages of the units that a unit needs, as far as these have records
+-- the package names of the units that a unit needs, except those without a record
 abbrev pub needed_names : List Unit → Unit → List Bytes
 needed_names units u = flat_map (known_name units) u.record_of.depends
 
--- the names that some records mention, of which only those of one name count
+-- the names that the records of one name mention, among some records
 abbrev pub needed_among : List Unit → Bytes → List Unit → List Bytes
 needed_among units name some = flat_map (λ u. if same_text (unit_name u) name then needed_names units u else []) some
 
--- the names that the records of a name mention
+-- the names that the records of one name mention
 abbrev pub needed_by : List Unit → Bytes → List Bytes
 needed_by units name = needed_among units name units
 
--- the same as a test
+-- whether the name and version of a unit are well-formed
 abbrev pub is_formed : Unit → Bool
 is_formed u = is_package_name (unit_name u) && is_version u.record_of.version.parts
 
--- the name and the version of a unit have their forms
+-- the name and version of a unit are well-formed
 pub record IsFormed (u : Unit) : Type 0 where
   pub name : is_package_name (unit_name u) ≡ true
   pub version : is_version u.record_of.version.parts ≡ true

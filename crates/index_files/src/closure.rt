@@ -1,4 +1,4 @@
-// Names are read one after the other, each once: first those with which the closure begins, then those that are mentioned.
+// The closure is read name by name, each name once: first the roots, then the names that they mention.
 ghost use Rattle.std.specs.Prelude.{◌≡◌, ◌<◌, [], length, map, get_or, IfOk, IfSome, OnOk, IsErrOf};
 ghost use Rattle.std.specs.Option.{option_copied};
 ghost use Rattle.outside_folder.specs.Calls.{Leaves};
@@ -21,14 +21,14 @@ use outside_folder::{Folder, Trouble};
 use plan_types::{List, Named, NoMemory, Text};
 use std::alloc::Global;
 
-/// A name of the closure, and its files in the index.
+/// A name of the closure with its releases.
 #[derive(Debug, Drop)]
 pub struct FoundName {
     pub name: Text,
     pub releases: List<Release>,
 }
 
-/// Reads all names of the closure; `None` where their files are too many after those that were counted.
+/// Reads all names of the closure. None if the files are too many, with those counted before.
 pub(crate) fn read_closure<F: Folder>(
     alloc: Global,
     before: &ReadBefore,
@@ -79,7 +79,7 @@ fn put_extra(names: &mut IndexSet<Text>, extra: &[Named]) -> Result<(), NoMemory
     Ok(())
 }
 
-// Reads the files of the name at a place, and puts the names that it mentions behind the others.
+// Reads the releases of the name at this place, and adds the names that it mentions.
 fn visit<F: Folder>(
     alloc: Global,
     before: &ReadBefore,
@@ -112,7 +112,7 @@ fn name_at(names: &IndexSet<Text>, place: usize) -> Result<Text, NoMemory>
     names.get_index(place).unwrap().copy()
 }
 
-// The local package of a name.
+// The local package of a name, if there is one.
 fn local_of<'a>(locals: &'a Locals, name: &Text) -> Option<&'a Local>
     ensures { asked_by_local (option_copied result) ≡ asked_locally locals.now.list name.now }
 {
@@ -120,7 +120,7 @@ fn local_of<'a>(locals: &'a Locals, name: &Text) -> Option<&'a Local>
     Some(&locals.list.as_slice()[place])
 }
 
-// Puts the names that a name mentions.
+// Adds the names that a name mentions.
 fn put_mentioned(
     names: &mut IndexSet<Text>,
     before: &ReadBefore,

@@ -1,4 +1,4 @@
-// A file is read from the folder, and then only what it holds is looked at.
+// Files as they are read from the folder.
 ghost use Rattle.std.specs.Prelude.{◌≡◌, ◌+◌, ◌==◌, false, length, map, not, IfOk, IfSome, IsErrOf};
 ghost use Rattle.std.specs.List.{AllByRecursion};
 ghost use Rattle.outside_folder.specs.Calls.{Leaves};
@@ -18,7 +18,7 @@ pub(crate) struct File {
 }
 
 impl File {
-    /// How many files it counts as.
+    /// The number of files that it counts as.
     pub fn count(&self) -> usize
         ensures { result ≡ count_of self.now }
     {
@@ -29,7 +29,7 @@ impl File {
         }
     }
 
-    /// Its bytes; a file that is too large counts as none.
+    /// Its number of bytes; 0 if it is too large.
     pub fn size(&self) -> usize
         ensures { result ≡ size_of self.now }
     {
@@ -41,14 +41,14 @@ impl File {
     }
 }
 
-/// Files that were read, and whether there are more of them than are read.
+/// The files that were read, and whether the next one was too many.
 #[derive(Debug, Drop)]
 pub(crate) struct Fetched {
     pub files: List<File>,
     pub beyond: bool,
 }
 
-/// Reads the files at these paths, each of which may have none, up to the first that is one too many.
+/// Reads the files at these paths, some of which may be missing, up to the first one too many.
 pub(crate) fn read_counted<F: Folder>(
     alloc: Global,
     paths: &[Text],
@@ -78,7 +78,7 @@ pub(crate) fn read_counted<F: Folder>(
     })
 }
 
-/// Reads the file at a path, which was listed or may have none.
+/// Reads the file at a path. `listed`: the folder has listed it, so it counts as empty if it is gone by now.
 pub(crate) fn read_file<F: Folder>(
     alloc: Global,
     path: &Text,

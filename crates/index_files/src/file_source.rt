@@ -1,4 +1,4 @@
-// What the file of a package is read as.
+// The source of a package's file.
 ghost use Rattle.std.specs.Prelude.{IfOk, IfErr};
 ghost use Rattle.std.specs.declared.result.Result.TheVariants.{Ok, Err};
 ghost use Rattle.plan_types.specs.Refusal.{RefusesAt};
@@ -11,7 +11,7 @@ use outside_folder::Content;
 use plan_types::{Cause, Env, Fault};
 use std::alloc::Global;
 
-/// What the file of a package says. One that is gone counts as empty.
+/// The source of a package's file, or its fault. A missing file counts as empty.
 pub(crate) fn source_in(alloc: Global, content: &Content, env: &Env) -> Result<Source, Fault>
     requires { IsWithin content.now }
     ensures source { IfOk result (λ source. Comes env.now content.now (Ok source)) }

@@ -1,6 +1,7 @@
-//! The files from which an index is made. In go a folder and the paths of its local files; out come the local packages, the
-//! installed units and the files of the index that are reached from them, each with what it was read as, or the first
-//! refusal. Where the folder tells its files, all of this is as the definitions say, whatever the order of reading.
+//! The files of an index. In go a folder, the paths of its local files, and the extra packages. Out come the local
+//! packages, the installed units, and the releases of the closure, which has all names that are reached from local and
+//! extra packages; or the first refusal. Over an observable folder the outcome is that of the definition
+//! (`AreReadings`).
 #![tactic(auto)]
 
 mod closure;

@@ -1,17 +1,17 @@
-// What is kept of a local package.
+// A local package.
 ghost use Rattle.std.specs.Prelude.{◌≡◌, IfOk};
 
 use cabal_file::Source;
 use plan_types::{NoMemory, Text};
 
-/// A local package: the path of its file, and what that says.
+/// A local package with the path of its file.
 #[derive(Debug)]
 pub struct Local {
     pub path: Text,
     pub source: Source,
 }
 
-// Written out, so that it is a function of its own, which is proved here and called where a local package is let go.
+// Explicit, so that it is proved once: a derived one is expanded at each exit.
 impl Drop for Local {
     fn drop(self) {
         let Local {
@@ -22,7 +22,7 @@ impl Drop for Local {
 }
 
 impl Local {
-    /// What the file at a path says, with a path of its own.
+    /// A source with a copy of the path.
     pub(crate) fn at(path: &Text, source: Source) -> Result<Local, NoMemory>
         ensures { IfOk result (λ local. local ≡ record { path = path.now; source = source }) }
     {
@@ -41,7 +41,7 @@ impl Local {
         path
     }
 
-    /// What its file says.
+    /// The source of its file.
     pub fn into_source(self) -> Source
         ensures { result ≡ self.source }
     {

@@ -1,4 +1,4 @@
-// The local packages: each file is read and judged before the next, and no two packages have one name.
+// The local packages, each judged before the next is read. Their names are distinct.
 ghost use Rattle.std.specs.Prelude.{◌≡◌, ◌++◌, ◌∷◌, [], position, None, IfOk, IfSome, IsErrOf};
 ghost use Rattle.outside_folder.specs.Calls.{Leaves};
 ghost use Rattle.index_files.specs.File.{IsReadable};
@@ -17,7 +17,7 @@ use outside_folder::Folder;
 use plan_types::{Cause, Env, Fault, Halt, List, NoMemory, Refusal, Text};
 use std::alloc::Global;
 
-/// Local packages by their names.
+/// Local packages with their names.
 #[derive(Debug)]
 pub(crate) struct Locals {
     pub list: List<Local>,
@@ -25,7 +25,7 @@ pub(crate) struct Locals {
     ghost named: { names.keys ≡ local_names list },
 }
 
-// Written out, so that it is a function of its own, which is proved here and called where local packages are let go.
+// Explicit, so that it is proved once: a derived one is expanded at each exit.
 impl Drop for Locals {
     fn drop(self) {
         let Locals {
@@ -111,7 +111,7 @@ impl Locals {
         Ok(Locals { list, names })
     }
 
-    /// The packages alone.
+    /// The packages without the set of names.
     pub fn into_list(self) -> List<Local>
         ensures { result ≡ self.list }
     {

@@ -1,4 +1,4 @@
-// The names that descriptions and releases ask for.
+// The names on which descriptions and releases depend.
 ghost use Rattle.std.specs.Prelude.{◌≡◌, map, flat_map, OnOk};
 ghost use Rattle.flatten.specs.Demands.{outward_among, outward_in};
 ghost use Rattle.plan_types.specs.Guarded.{of_group};
@@ -12,7 +12,7 @@ use crate::release::{Judged, Release};
 use indexmap::IndexSet;
 use plan_types::{Component, Dep, DepGroup, Description, NoMemory, Text};
 
-/// Puts the names that releases ask for.
+/// Adds the names on which releases depend.
 pub(crate) fn put_asked(names: &mut IndexSet<Text>, releases: &[Release]) -> Result<(), NoMemory>
     ensures { OnOk result (names.new.keys ≡ put_all names.old.keys (asked_in releases.now)) }
 {
@@ -31,7 +31,7 @@ fn put_asked_by(names: &mut IndexSet<Text>, judged: &Judged) -> Result<(), NoMem
     }
 }
 
-/// Puts the names of the packages that a description asks for.
+/// Adds the names of the packages on which a description depends.
 pub(crate) fn put_asked_packages(
     names: &mut IndexSet<Text>,
     d: &Description,

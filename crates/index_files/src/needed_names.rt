@@ -1,4 +1,4 @@
-// The names that the records of units mention.
+// The names that unit records mention.
 ghost use Rattle.std.specs.Prelude.{◌≡◌, ◌++◌, List, ℕ, IfOk, OnOk};
 ghost use Rattle.index_files.specs.Units.{known_name, needed_by, needed_names};
 
@@ -8,13 +8,13 @@ use indexmap::IndexMap;
 use plan_types::{List, NoMemory, Text};
 use std::alloc::Global;
 
-/// For the name of each package with records, the names that these mention.
+/// For each package with records, the names that these mention.
 #[derive(Debug)]
 pub(crate) struct Needed {
     pub by_name: IndexMap<Text, List<Text>>,
 }
 
-// Written out, so that it is a function of its own, which is proved here and called where names are let go.
+// Explicit, so that it is proved once: a derived one is expanded at each exit.
 impl Drop for Needed {
     fn drop(self) {
         let Needed { by_name: _by_name } = self;
@@ -37,7 +37,7 @@ impl Needed {
         Ok(needed)
     }
 
-    /// The names that the records of a name mention.
+    /// The names that the records of a package mention.
     pub(crate) fn by(&self, name: &Text) -> &[Text]
         ensures { result.now ≡ needed_in self.now name.now }
     {
@@ -61,7 +61,7 @@ impl Needed {
     }
 }
 
-// The names of the packages of the units that a unit needs, as far as these have records.
+// The package names of the units that a unit needs, except those without a record.
 fn needed_names(alloc: Global, units: &Units, unit: &Unit) -> Result<List<Text>, NoMemory>
     ensures { IfOk result (λ names. names ≡ needed_names units.now.list unit.now) }
 {

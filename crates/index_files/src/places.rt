@@ -1,10 +1,10 @@
-// Where the files of an index lie.
+// The paths of an index's files.
 ghost use Rattle.std.specs.Prelude.{◌≡◌, IfOk};
 ghost use Rattle.index_files.specs.Places.{name_dir, record_path, release_path, under};
 
 use plan_types::{NoMemory, Places, Text};
 
-/// The path of a record.
+/// The path of a unit record.
 pub(crate) fn record_path(places: &Places, name: &str) -> Result<Text, NoMemory>
     ensures { IfOk result (λ path. path ≡ record_path places.now name.now) }
 {
@@ -18,7 +18,7 @@ pub(crate) fn name_dir(places: &Places, name: &str) -> Result<Text, NoMemory>
     under(&places.index, name)
 }
 
-/// The path of a package's file.
+/// The path of a release's file.
 pub(crate) fn release_path(places: &Places, name: &str, dir: &str) -> Result<Text, NoMemory>
     ensures { IfOk result (λ path. path ≡ release_path places.now name.now dir.now) }
 {

@@ -1,4 +1,4 @@
-// What is read before the index, and over which the closure is read.
+// What is known before the index is read.
 ghost use Rattle.index_files.specs.NeededNames.{needed_in};
 ghost use Rattle.index_files.specs.Units.{needed_by};
 ghost use Rattle.std.specs.Prelude.{◌≡◌, List, ℕ};
@@ -8,7 +8,7 @@ use crate::needed_names::Needed;
 use crate::units::Units;
 use plan_types::{Env, List, Named, Places};
 
-/// What stands before the index is read.
+/// The ground of the closure: all that is known before the index is read.
 #[derive(Debug, Drop)]
 pub(crate) struct ReadBefore<'a> {
     pub env: &'a Env,

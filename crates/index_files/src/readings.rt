@@ -1,4 +1,4 @@
-// All that is read of a folder, in order: local files, records, the files of the closure.
+// All that is read of a folder, in order: local files, unit records, and the releases of the closure.
 ghost use Rattle.std.specs.Prelude.{◌≡◌, IfOk, IfSome, IsErrOf};
 ghost use Rattle.outside_folder.specs.Calls.{Leaves};
 ghost use Rattle.std.specs.List.{IsDistinct};
@@ -23,19 +23,19 @@ use outside_folder::{Folder, Name, Trouble, list_names};
 use plan_types::{Env, Halt, List, Named, NoMemory, Places, Text};
 use std::alloc::Global;
 
-/// What was read of a folder.
+/// All that was read of a folder.
 #[derive(Debug, Drop)]
 pub struct Readings {
     /// In the order of their paths.
     pub locals: List<Local>,
-    /// In the order of their paths; also those that need a unit without a record.
+    /// In the order of their paths, including those that need a unit without a record.
     pub units: List<Unit>,
     /// The names of the closure, each once.
     pub found: List<FoundName>,
 }
 
-/// Reads the local files at these paths, the records, and the files of the closure, which begins with the names of the local
-/// packages and the others that are given.
+/// Reads the local files at these paths, then the unit records, then the releases of the closure. The closure begins
+/// with the names of the local packages and the extra packages.
 pub fn read_index_files<F: Folder>(
     alloc: Global,
     paths: &List<Text>,

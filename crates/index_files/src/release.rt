@@ -1,4 +1,4 @@
-// The files of a package in the index: what each says of it, or why it is left out.
+// The releases of a package in the index, each with its source or the fault for which it is skipped.
 ghost use Rattle.std.specs.Prelude.{◌≡◌, length, IfOk, OnOk};
 ghost use Rattle.std.specs.List.{AllByRecursion};
 ghost use Rattle.std.specs.declared.result.Result.TheVariants.{Ok};
@@ -14,22 +14,22 @@ use outside_folder::Content;
 use plan_types::{Cause, Description, Env, Fault, List, NoMemory, Text, Version};
 use std::alloc::Global;
 
-/// A file of the index: what it says, or the fault for which it is left out.
+/// A release's source, or the fault for which it is skipped.
 #[derive(Debug, Drop)]
 pub enum Judged {
     Readable(Source),
-    /// The line is 0 where the cause has none.
+    /// The line is 0 if the cause has none.
     Faulty { line: u32, cause: Cause },
 }
 
-/// A file of the index and what it was judged as.
+/// A file of the index with its judgement.
 #[derive(Debug, Drop)]
 pub struct Release {
     pub path: Text,
     pub judged: Judged,
 }
 
-/// The releases of a package, in the order of the files of its versions.
+/// The releases of a package, in the order of its version directories.
 pub(crate) fn releases_of(
     alloc: Global,
     name: &Text,

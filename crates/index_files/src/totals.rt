@@ -1,4 +1,4 @@
-// The limits on what is read of the records and of the index.
+// Limits on the records and releases that are read.
 ghost use Rattle.std.specs.Prelude.{◌≡◌, ◌+◌, ◌≤◌, not, if◌then◌else◌, IfOk};
 ghost use Rattle.plan_types.specs.Refusal.{refusal_at};
 ghost use Rattle.index_files.specs.Totals.{is_too_many};
@@ -6,13 +6,13 @@ ghost use Rattle.index_files.specs.Totals.{is_too_many};
 use plan_types::{Cause, Halt, NoMemory, Refusal, Text};
 use std::alloc::Global;
 
-/// How many files are read at most.
+/// The most files that are read.
 const FILES_LIMIT: usize = 20_000;
 
-/// How many bytes they have together at most.
+/// The most bytes of these files together.
 const BYTES_LIMIT: usize = 268_435_456;
 
-/// How many files were read, and how many bytes they had.
+/// The number of files read so far, and of their bytes.
 #[derive(Debug, Drop)]
 pub(crate) struct Totals {
     pub files: usize,
@@ -29,7 +29,7 @@ impl Totals {
         Totals { files: 0, bytes: 0 }
     }
 
-    /// Counts so many files with so many bytes, unless they are too many.
+    /// Counts these files and bytes, and returns true; false, with nothing counted, if they would be too many.
     pub fn count(&mut self, files: usize, bytes: usize) -> bool
         ensures fits { result ≡ not (is_too_many (self.old.files + files) (self.old.bytes + bytes)) }
         ensures files { self.new.files ≡ (if result then self.old.files + files else self.old.files) }
@@ -44,7 +44,7 @@ impl Totals {
     }
 }
 
-/// The refusal of a directory with more than is read.
+/// The refusal of a directory with too many files.
 pub(crate) fn too_many(alloc: Global, place: &Text) -> Result<Halt, NoMemory>
     ensures { IfOk result (λ halt. halt ≡ Halt.Refused (refusal_at place.now 0 Cause.TooMany)) }
 {

@@ -1,16 +1,16 @@
-// What is kept of an installed unit.
+// An installed unit.
 ghost use Rattle.std.specs.Prelude.{◌≡◌, IfOk};
 
 use plan_types::{NoMemory, Text, UnitRecord};
 
-/// An installed unit: the path of its record, and what that says.
+/// An installed unit with the path of its record.
 #[derive(Debug)]
 pub struct Unit {
     pub path: Text,
     pub record_of: UnitRecord,
 }
 
-// Written out, so that it is a function of its own, which is proved here and called where a unit is let go.
+// Explicit, so that it is proved once: a derived one is expanded at each exit.
 impl Drop for Unit {
     fn drop(self) {
         let Unit {
@@ -21,7 +21,7 @@ impl Drop for Unit {
 }
 
 impl Unit {
-    /// What the record at a path says, with a path of its own.
+    /// A record with a copy of the path.
     pub(crate) fn at(path: &Text, record_of: UnitRecord) -> Result<Unit, NoMemory>
         ensures { IfOk result (λ unit. unit ≡ record { path = path.now; record_of = record_of }) }
     {
@@ -40,7 +40,7 @@ impl Unit {
         path
     }
 
-    /// What its record says.
+    /// Its record.
     pub fn into_record(self) -> UnitRecord
         ensures { result ≡ self.record_of }
     {

@@ -1,4 +1,4 @@
-// The installed units: each record is read and judged before the next, and no two units have one id.
+// The installed units, each record judged before the next is read. Their ids are distinct.
 ghost use Rattle.std.specs.Prelude.{◌≡◌, ◌≤◌, ◌++◌, ◌∷◌, [], ℕ, List, true, length, map, Some, None, IfOk, IfErr, IfSome, IsErrOf};
 ghost use Rattle.std.specs.List.{IsDistinct, list_all};
 ghost use Rattle.std.specs.declared.result.Result.TheVariants.{Ok, Err};
@@ -20,7 +20,7 @@ use plan_types::{Cause, Fault, Halt, List, NoMemory, Places, Refusal, Text, Unit
 use std::alloc::Global;
 use unit_record::read_record;
 
-/// Units by their ids.
+/// Units with their ids.
 #[derive(Debug)]
 pub(crate) struct Units {
     pub list: List<Unit>,
@@ -29,7 +29,7 @@ pub(crate) struct Units {
     ghost formed: { list_all is_formed list ≡ true },
 }
 
-// Written out, so that it is a function of its own, which is proved here and called where units are let go.
+// Explicit, so that it is proved once: a derived one is expanded at each exit.
 impl Drop for Units {
     fn drop(self) {
         let Units {
@@ -39,14 +39,14 @@ impl Drop for Units {
     }
 }
 
-/// Units, and what their records count as.
+/// Units, and the totals of their records.
 #[derive(Debug, Drop)]
 pub(crate) struct Counted {
     pub units: Units,
     pub totals: Totals,
 }
 
-/// Reads the records at these paths, which were listed, up to the first refusal or the first record that is one too many.
+/// Reads the records at these paths, up to the first refusal or the first record too many.
 pub(crate) fn read_records<F: Folder>(
     alloc: Global,
     places: &Places,
@@ -137,7 +137,7 @@ impl Units {
         Ok(Units { list, ids })
     }
 
-    /// The units alone.
+    /// The units without the set of ids.
     pub fn into_list(self) -> List<Unit>
         ensures { result ≡ self.list }
     {

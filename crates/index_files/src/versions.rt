@@ -1,4 +1,4 @@
-// The versions of a package in the index, by the names of their directories.
+// The versions of a package in the index, from the names of their directories.
 ghost use Rattle.std.specs.Prelude.{IfOk, OnOk};
 ghost use Rattle.index_files.specs.Releases.{AddsVersion, AreVersions};
 
@@ -7,14 +7,14 @@ use plan_types::{List, NoMemory, Text, Version};
 use std::alloc::Global;
 use version_range::version_of;
 
-/// A version and the name of its directory.
+/// A version with the name of its directory.
 #[derive(Debug, Drop)]
 pub(crate) struct VersionDir {
     pub text: Text,
     pub version: Version,
 }
 
-/// The names that read as versions.
+/// The names that are versions.
 pub(crate) fn versions_among(alloc: Global, names: &[Name]) -> Result<List<VersionDir>, NoMemory>
     ensures { IfOk result (AreVersions names.now) }
 {

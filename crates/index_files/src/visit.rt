@@ -1,4 +1,4 @@
-// What is read of the index under one name.
+// The releases of one name.
 ghost use Rattle.std.specs.Prelude.{◌≡◌, IfOk, IfSome, IsErrOf};
 ghost use Rattle.outside_folder.specs.Calls.{Leaves};
 ghost use Rattle.outside_folder.specs.Folder.{IsInOrder};
@@ -16,7 +16,7 @@ use outside_folder::{Folder, Name, Trouble, list_names};
 use plan_types::{List, NoMemory, Places, Text};
 use std::alloc::Global;
 
-/// Reads the files of a name; `None` where they are too many. Under the name of a local package nothing is read.
+/// Reads the releases of a name; none if the files are too many. A local name has no releases.
 pub(crate) fn read_name<F: Folder>(
     alloc: Global,
     before: &ReadBefore,

@@ -6,7 +6,7 @@ use Rattle.index_files.specs.Steps.{AreKept, ArePartly, pair_up}
 use Rattle.index_files.specs.declared.closure.FoundName.{FoundName}
 use Rattle.index_files.proofs.closure.read_closure.Given as goal
 
--- the names that were read, and those that are yet to be
+-- the names that were read, and those that are still to be read
 abbrev pub invariant-loop-alloc : goal.invariant-loop-alloc
 invariant-loop-alloc g l = record {
   within : length l.found ≤ length l.names.keys;
@@ -16,6 +16,6 @@ invariant-loop-alloc g l = record {
   folder : Leaves g.F.Folder.tells g.F.Folder.faults l.fn.folder l.folder ⊥;
 }
 
--- no more names than there are numbers
+-- at most 2^64 names are read
 abbrev pub decreases-loop-alloc : goal.decreases-loop-alloc
 decreases-loop-alloc g l = 2 ^ 64 - length l.found

@@ -1,4 +1,4 @@
--- the files so far lead to the packages so far
+-- the packages so far are those of the files so far
 use Rattle.std.proofs.Common.{◌≡◌, List, [], true, map, take, Some}
 use Rattle.outside_folder.specs.Calls.{Leaves}
 use Rattle.outside_folder.specs.Files.{Files}

@@ -1,4 +1,4 @@
--- the packages of the groups so far
+-- the package names of the groups so far
 use Rattle.std.proofs.Common.{◌≡◌, take, flat_map}
 use Rattle.index_files.proofs.Groups.{group_names}
 use Rattle.index_files.specs.Names.{put_all}

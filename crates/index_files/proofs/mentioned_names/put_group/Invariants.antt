@@ -1,4 +1,4 @@
--- the packages of the dependencies so far
+-- the package names of the dependencies so far
 use Rattle.std.proofs.Common.{◌≡◌, take, flat_map}
 use Rattle.index_files.proofs.Groups.{asked_name}
 use Rattle.index_files.specs.Names.{put_all}

@@ -1,4 +1,4 @@
--- the packages of the components so far
+-- the package names of the components so far
 use Rattle.std.proofs.Common.{◌≡◌, map, take}
 use Rattle.std.specs.Prelude.{flat_map}
 use Rattle.flatten.specs.Demands.{Outward, outward_in}

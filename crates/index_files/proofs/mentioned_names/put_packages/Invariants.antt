@@ -1,4 +1,4 @@
--- the packages of the dependencies so far
+-- the package names of the dependencies so far
 use Rattle.std.proofs.Common.{◌≡◌, map, take}
 use Rattle.plan_types.specs.declared.dependency.Dep.{Dep}
 use Rattle.index_files.specs.Names.{put_all}

@@ -1,4 +1,4 @@
--- the records so far, all of which fit, lead to the units so far
+-- the units so far are those of the records so far, all of which fit
 use Rattle.std.proofs.Common.{◌≡◌, List, [], true, map, take, Some}
 use Rattle.outside_folder.specs.Calls.{Leaves}
 use Rattle.outside_folder.specs.Files.{Files}
