@@ -1,4 +1,4 @@
--- Packages that are made one by one, each from what is taken out for its name.
+-- Packages made one by one, each from the entries taken out for its name.
 use Rattle.std.proofs.Common.{◌≡◌, Bool, true, false, cond, ◌||◌, if◌then◌else◌, List, [], ◌∷◌, ◌++◌, map, refl, sym, ◌∙◌, ap}
 use Rattle.std.specs.List.{AllByRecursion, IsDistinct}
 use Rattle.std.specs.Cmp.Lexicographic.{nat_list_eq_equiv}
@@ -26,7 +26,7 @@ map_same f g h (x ∷ xs) = (λ i. h x i ∷ map f xs) ∙ ap (λ l. g x ∷ l) 
 abbrev pub names_of : List FoundName → List Bytes
 names_of found = map (λ (f : FoundName). f.name) found
 
--- a name that differs from all is not among them
+-- a new name is not listed among earlier ones
 pub fresh-name : (done : List FoundName) (one : FoundName) (rest : List FoundName) → IsDistinct same_text (names_of (done ++ one ∷ rest)) → is_listed (names_of done) one.name ≡ false
 unfolding IsDistinct
 fresh-name [] one rest h = refl
@@ -37,7 +37,7 @@ fresh-name (d ∷ done) one rest h =
     later [] k = k.0
     later (e ∷ ds) k = later ds k.1
 
--- a name that isn't among all isn't the last, nor among those before it
+-- a name that isn't in a list is neither the last one nor among the earlier ones
 pub not-listed : (done : List FoundName) (one : FoundName) (name : Bytes) → is_listed (names_of (done ++ one ∷ [])) name ≡ false → (is_listed (names_of done) name ≡ false) × (same_text one.name name ≡ false)
 not-listed [] one name h = (refl, nat_list_eq_equiv.symm one.name name ∙ (or_parts (same_text name one.name) false h).0)
 not-listed (d ∷ done) one name h =
@@ -53,12 +53,12 @@ module _ (is_asked : Bytes → Bool) (own units : Bytes → List Entry) where
       ∙ (λ i. so_far i ++ package_from one.name (is_asked one.name) (p i) (release_entries one.releases ++ in_order is_unit_below (q i)) ∷ [])
       ∙ sym (map_more (package_by is_asked own units) done one)
 
--- the names that are asked for, and whether one is among them
+-- a name is listed iff it is that of an extra package
 pub asked-for : (extra : List Named) (name : Bytes) → is_listed (map (λ (n : Named). n.name) extra) name ≡ is_extra extra name
 asked-for [] name = refl
 asked-for (n ∷ extra) name = (λ i. nat_list_eq_equiv.symm name n.name i || asked-for extra name i)
 
--- one more entry, where it has the name
+-- one more entry, if it has the name
 pub named-more : (name : Bytes) (entries : List Entry) (entry : Entry) → entries_named name entries ++ (if same_text entry.instance.name name then entry ∷ [] else []) ≡ entries_named name (entries ++ entry ∷ [])
 named-more name [] entry = by (same_text entry.instance.name name)
   where

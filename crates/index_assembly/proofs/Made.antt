@@ -1,4 +1,4 @@
--- The index of what was gathered.
+-- The index of the gathered packages.
 use Rattle.std.proofs.Common.{◌≡◌, Bool, List, ◌++◌, map, ◌∙◌, ap}
 use Rattle.std.specs.Prelude.{flat_map}
 use Rattle.plan_types.specs.declared.dependency.Named.{Named}

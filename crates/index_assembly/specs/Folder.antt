@@ -10,7 +10,7 @@ use Rattle.plan_types.specs.declared.index.Places.{Places}
 use Rattle.index_files.specs.declared.readings.Readings.{Readings}
 use Rattle.index_assembly.specs.Index.{IsIndexOf}
 
--- what readings come to
+-- the outcome of readings: their index, or the refusal
 abbrev pub Gathers : List Named → Result Readings Refusal → Result Index Refusal → Type 0
 Gathers extra (Ok readings) outcome = (index : Index) × IsIndexOf extra readings index × (outcome ≡ Ok index)
 Gathers extra (Err refusal) outcome = outcome ≡ Err refusal

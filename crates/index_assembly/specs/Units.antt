@@ -5,7 +5,7 @@ use Rattle.index_files.specs.declared.unit.Unit.{Unit}
 use Rattle.index_assembly.specs.Entries.{unit_entries}
 use Rattle.index_assembly.specs.Lacks.{AreLacking}
 
--- those of the units that lack nothing
+-- the entries of the units that lack none
 pub record AreEntriesOf (units : List Unit) (entries : List Entry) : Type 0 where
   pub lacking : List Bool
   pub lacks : AreLacking units lacking

@@ -1,4 +1,4 @@
-// Entries by the names of their packages.
+// Entries grouped by the names of their packages.
 ghost use Rattle.std.specs.Prelude.{◌≡◌, ◌∷◌, List, ℕ, [], false, IfOk, OnOk};
 ghost use Rattle.index_assembly.specs.Entries.{entries_named};
 ghost use Rattle.plan_types.specs.Bytes.{same_text};
@@ -8,13 +8,13 @@ use plan_types::{Entry, List, NoMemory, Text};
 use std::alloc::Global;
 use std::mem;
 
-/// Entries by the names of their packages, in the order in which they were put.
+/// Entries grouped by the names of their packages, in the order of insertion.
 #[derive(Debug)]
 pub(crate) struct Groups {
     pub by_name: IndexMap<Text, List<Entry>>,
 }
 
-// Written out, so that it is proved once and not at each exit of each function that owns one.
+// Explicit, so that it is proved once: a derived one is expanded at each exit.
 impl Drop for Groups {
     fn drop(self) {
         let Groups { by_name: _by_name } = self;
@@ -50,7 +50,7 @@ impl Groups {
         }
     }
 
-    /// Takes out what it holds for a name.
+    /// Takes out the entries of a name.
     pub(crate) fn take(&mut self, alloc: Global, name: &Text) -> List<Entry>
         ensures taken { result ≡ held self.old name.now }
         ensures others { (other : List ℕ) → same_text name.now other ≡ false → held self.new other ≡ held self.old other }

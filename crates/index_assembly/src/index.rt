@@ -1,4 +1,4 @@
-// The index of what was read: entries, packages, and their orders.
+// The index of what was read: its entries, packages and orders.
 ghost use Rattle.std.specs.Prelude.{◌≡◌, ◌++◌, List, ℕ, IfOk, OnOk, map, flat_map};
 ghost use Rattle.std.specs.List.{IsDistinct};
 ghost use Rattle.index_files.specs.Names.{is_listed};
@@ -17,7 +17,7 @@ use indexmap::IndexSet;
 use plan_types::{Entry, Index, List, Named, NoMemory, Text, Warning};
 use std::alloc::Global;
 
-/// The index of what was read of a folder, in which `extra` names the packages that are asked for besides local ones.
+/// The index of what was read of a folder. `extra` has the extra packages of the project.
 pub fn index_of(alloc: Global, readings: Readings, extra: &List<Named>) -> Result<Index, NoMemory>
     requires units { IsDistinct same_text (unit_ids readings.units) }
     requires names { IsDistinct same_text (map (λ f. f.name) readings.found) }

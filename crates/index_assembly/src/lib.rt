@@ -1,6 +1,6 @@
-//! The index of packages, made of what was read of a folder: the instances of each package in their order, the files of the
-//! index that are left out, and what a user should know of. A unit is left out where one that it needs, over one unit or
-//! several, has no record.
+//! The index of packages. In go the readings of a folder and the extra packages. Out comes their index (`IsIndexOf`):
+//! packages in goal order, instances in order, skipped files and warnings. A unit is left out if a unit without a
+//! record is reached from it through needs.
 #![tactic(auto)]
 
 mod groups;

@@ -1,4 +1,4 @@
-// Releases, units, packages and skipped files in their orders.
+// The orders of releases, units, packages and skipped files.
 ghost use Rattle.std.specs.Prelude.{◌≡◌, OnOk};
 ghost use Rattle.plan_types.specs.Members.{order};
 ghost use Rattle.flatten.specs.Sound.{unit_order};

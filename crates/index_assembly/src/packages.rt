@@ -1,4 +1,4 @@
-// Packages, each from its local package, or from its releases and its units.
+// Packages, each made of its local package, or of its releases and units.
 ghost use Rattle.std.specs.Prelude.{◌≡◌, ◌++◌, ◌∷◌, List, ℕ, [], IfOk, OnOk, length, map, flat_map};
 ghost use Rattle.std.specs.List.{IsDistinct};
 ghost use Rattle.index_files.specs.Names.{is_listed};
@@ -19,7 +19,7 @@ use indexmap::IndexSet;
 use plan_types::{Body, Entry, Instance, List, NoMemory, Origin, Package, Skipped, Text};
 use std::alloc::Global;
 
-/// Packages, and the files that were left out, neither in order.
+/// Packages and skipped files, both still unordered.
 #[derive(Debug, Drop)]
 pub(crate) struct Gathered {
     pub packages: List<Package>,
@@ -91,7 +91,7 @@ fn package_from(name: Text, extra: bool, own: List<Entry>, others: List<Entry>) 
     }
 }
 
-// The releases that can be read, and the units behind them. What is left out is told.
+// The readable releases in order, followed by the units in order. Faulty releases go into `skipped`.
 fn entries_with(
     alloc: Global,
     releases: List<Release>,
@@ -149,7 +149,7 @@ fn push_release(
     }
 }
 
-/// The entry of a release, or of a local package.
+/// The entry of a release or a local package.
 pub(crate) fn source_entry(alloc: Global, local: bool, source: Source) -> Result<Entry, NoMemory>
     ensures { IfOk result (λ entry. entry ≡ source_entry local source) }
 {

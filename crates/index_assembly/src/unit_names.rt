@@ -1,4 +1,4 @@
-// The units that have records, by their ids.
+// The units that have records, by id.
 ghost use Rattle.std.specs.Prelude.{◌≡◌, ◌++◌, List, IfOk, OnOk, map, position};
 ghost use Rattle.std.specs.List.{IsDistinct, list_any};
 ghost use Rattle.index_files.specs.Units.{known_name, needed_names, unit_ids, unit_name, place_of};
@@ -12,14 +12,14 @@ use indexmap::IndexSet;
 use plan_types::{List, NoMemory, Text};
 use std::alloc::Global;
 
-/// The ids of units, and the names of their packages by the places of the ids.
+/// The ids of units, and at the same places the names of their packages.
 #[derive(Debug)]
 pub(crate) struct UnitNames {
     pub ids: IndexSet<Text>,
     pub names: List<Text>,
 }
 
-// Written out, so that it is proved once and not at each exit of each function that owns one.
+// Explicit, so that it is proved once: a derived one is expanded at each exit.
 impl Drop for UnitNames {
     fn drop(self) {
         let UnitNames {
@@ -39,7 +39,7 @@ impl UnitNames {
         Ok(UnitNames { ids, names })
     }
 
-    /// The places of the units that a unit needs, as far as these have records.
+    /// The places of the units that a unit needs, except those without a record.
     pub(crate) fn places(&self, alloc: Global, unit: &Unit) -> Result<List<usize>, NoMemory>
         ensures { (units : List Unit) → Knows units self.now → IfOk result (λ places. places ≡ needed_places units unit.now) }
     {
@@ -79,7 +79,7 @@ impl UnitNames {
         }
     }
 
-    /// The names of the packages of the units that a unit needs, as far as these have records.
+    /// The package names of the units that a unit needs, except those without a record.
     pub(crate) fn needs(&self, alloc: Global, unit: &Unit) -> Result<List<Text>, NoMemory>
         ensures { (units : List Unit) → Knows units self.now → IfOk result (λ names. names ≡ needed_names units unit.now) }
     {

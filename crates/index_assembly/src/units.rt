@@ -1,4 +1,4 @@
-// The entries of the units that lack nothing.
+// The entries of units, without those that lack a needed unit.
 ghost use Rattle.std.specs.Prelude.{◌≡◌, ◌++◌, ◌+◌, ◌<◌, List, false, IfOk, OnOk, length, map, slice_index_or};
 ghost use Rattle.std.specs.List.{IsDistinct};
 ghost use Rattle.index_files.specs.Units.{unit_ids};
@@ -15,7 +15,7 @@ use index_files::Unit;
 use plan_types::{Body, Entry, Instance, List, NoMemory, Origin, UnitRecord};
 use std::alloc::Global;
 
-/// The entries of the units that lack nothing.
+/// The entries of the units from which no unit without a record is reached.
 pub(crate) fn entries_of(alloc: Global, units: List<Unit>) -> Result<List<Entry>, NoMemory>
     requires { IsDistinct same_text (unit_ids units) }
     ensures { IfOk result (AreEntriesOf units) }
@@ -25,7 +25,7 @@ pub(crate) fn entries_of(alloc: Global, units: List<Unit>) -> Result<List<Entry>
     kept_entries(alloc, units, lacking.as_slice(), &known)
 }
 
-// Which units lack something.
+// Marks the units from which a unit without a record is reached.
 fn lacking_of(alloc: Global, units: &[Unit], known: &UnitNames) -> Result<List<bool>, NoMemory>
     requires { Knows units.now known.now }
     ensures { IfOk result (AreLacking units.now) }

@@ -1,4 +1,4 @@
--- what the local packages so far gave
+-- the entries and warnings of the local packages so far
 use Rattle.std.proofs.Common.{◌≡◌, ◌++◌}
 use Rattle.std.specs.Prelude.{flat_map}
 use Rattle.index_assembly.specs.Entries.{local_entries}

@@ -1,4 +1,4 @@
--- the packages so far, and what is yet held
+-- the packages so far, and the entries not taken yet
 use Rattle.std.proofs.Common.{◌≡◌, ◌++◌, ℕ, List, false, map}
 use Rattle.std.specs.Vec.Iter.{into_iter_items}
 use Rattle.std.specs.Prelude.{flat_map}

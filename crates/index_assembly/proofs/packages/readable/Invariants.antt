@@ -1,4 +1,4 @@
--- what the releases so far gave
+-- the entries and skipped files of the releases so far
 use Rattle.std.proofs.Common.{◌≡◌, ◌++◌}
 use Rattle.std.specs.Prelude.{flat_map}
 use Rattle.index_files.specs.declared.release.Release.{Release}

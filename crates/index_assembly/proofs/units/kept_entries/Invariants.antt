@@ -1,4 +1,4 @@
--- the entries of the units so far that lack nothing
+-- the entries of the units so far that lack none
 use Rattle.std.proofs.Common.{◌≡◌, ◌++◌, length, map}
 use Rattle.std.specs.Vec.Iter.{into_iter_items}
 use Rattle.index_assembly.specs.Entries.{unit_entry, unmarked}

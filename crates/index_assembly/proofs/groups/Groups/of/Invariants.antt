@@ -1,4 +1,4 @@
--- what the entries so far gave
+-- the groups of the entries so far
 use Rattle.std.proofs.Common.{◌≡◌, ℕ, List}
 use Rattle.index_assembly.specs.Entries.{entries_named}
 use Rattle.index_assembly.specs.Groups.{held}
