@@ -1,5 +1,5 @@
--- Lists that are made of blocks and put in order: where of two members of different blocks one is less, the result is the
--- same whatever the order of the blocks.
+-- Sorted lists that are joined from blocks. If elements of different blocks never tie, the order of the blocks doesn't
+-- matter.
 use Rattle.std.proofs.Common.{◌≡◌, Bool, true, false, not, inl, inr, List, [], ◌∷◌, ◌++◌, map, refl, sym, ◌∙◌, ap, if◌then◌else◌}
 use Rattle.std.specs.Prelude.{flat_map}
 use Rattle.std.specs.Cmp.{IsStrictWeakOrder}
@@ -10,7 +10,7 @@ use Rattle.outside_folder.specs.Files.{Bytes}
 use Rattle.package_index.proofs.Taken.{IsIn, Leaves, at-in, in-front, in-taken, keys-apart}
 use Rattle.plan_types.specs.Bytes.{same_text}
 
--- one of two is less
+-- exactly one of the two is less
 abbrev pub IsApart : {X : Type 0} → (X → X → Bool) → X → X → Type 0
 IsApart lt a b = lt a b ≡ not (lt b a)
 
@@ -18,7 +18,7 @@ abbrev pub AreApart : {X : Type 0} → (X → X → Bool) → List X → List X 
 AreApart lt xs ys = AllByRecursion (λ x. AllByRecursion (IsApart lt x) ys) xs
 
 module _ {X : Type 0} (lt : X → X → Bool) (order : IsStrictWeakOrder lt) where
-  -- ---- one is put in front, or behind the first
+  -- ---- the inserted element becomes the first or the second
 
   front : (a y : X) (ys : List X) → lt y a ≡ false → put lt a (y ∷ ys) ≡ a ∷ y ∷ ys
   front a y ys e = ap (λ t. if t then y ∷ put lt a ys else a ∷ y ∷ ys) e
@@ -26,7 +26,7 @@ module _ {X : Type 0} (lt : X → X → Bool) (order : IsStrictWeakOrder lt) whe
   over : (a y : X) (ys : List X) → lt y a ≡ true → put lt a (y ∷ ys) ≡ y ∷ put lt a ys
   over a y ys e = ap (λ t. if t then y ∷ put lt a ys else a ∷ y ∷ ys) e
 
-  -- before what is put in where neither it nor the first is less
+  -- the inserted element comes before another inserted one, if neither that nor the first is less
   front-put : (a b y : X) (ys : List X) → lt b a ≡ false → lt y a ≡ false → put lt a (put lt b (y ∷ ys)) ≡ a ∷ put lt b (y ∷ ys)
   front-put a b y ys e k = elim (lt y b) as (λ t. put lt a (if t then y ∷ put lt b ys else b ∷ y ∷ ys) ≡ a ∷ (if t then y ∷ put lt b ys else b ∷ y ∷ ys)) [
     | true ↦ front a y (put lt b ys) k
@@ -39,7 +39,7 @@ module _ {X : Type 0} (lt : X → X → Bool) (order : IsStrictWeakOrder lt) whe
     | false ↦ λ e. absurd (false≢true (sym (order.chain y b a e (order.one_way a b k)) ∙ h))
   ] refl
 
-  -- ---- two are put in
+  -- ---- two inserted elements
 
   put-less : (a b : X) → lt a b ≡ true → (l : List X) → put lt a (put lt b l) ≡ put lt b (put lt a l)
   put-less a b less [] = front a b [] (order.one_way a b less) ∙ sym (over b a [] less)

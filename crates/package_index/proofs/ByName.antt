@@ -1,4 +1,4 @@
--- The first member of a name, and that it is the only one.
+-- The first element with a name is the only one.
 use Rattle.std.proofs.Common.{◌≡◌, ℕ, zero, suc, Bool, true, false, List, [], ◌∷◌, map, get_or, Some, None, refl, sym, ap, ◌∙◌}
 use Rattle.std.specs.Prelude.{position}
 use Rattle.std.specs.List.{AllByRecursion, IsDistinct, list_any, slice_get}
@@ -29,7 +29,7 @@ module _ {X : Type 0} (key : X → List ℕ) where
         | Some x ↦ λ e. (x, refl, ap test (same_Some (key x) (get_or (map key xs) i []) e) ∙ place.1)
       ] there
 
-  -- each of a name is the one that was found
+  -- each element with the name is the one that was found
   pub the-only-one : (name : List ℕ) (xs : List X) (i : ℕ) (found : X) → IsDistinct same_text (map key xs) → slice_get xs i ≡ Some found → is_named key name found ≡ true → AllByRecursion (λ x. is_named key name x ≡ true → x ≡ found) xs
   unfolding IsDistinct
   the-only-one name [] i found once at named = tt
@@ -44,7 +44,7 @@ module _ {X : Type 0} (key : X → List ℕ) where
     the-only-one name xs i found once.1 at named,
   )
 
-  -- where none is found, none is of the name
+  -- if none is found, none has the name
   pub none-named : (name : List ℕ) (xs : List X) → position (same_text name) (map key xs) ≡ None → AllByRecursion (λ x. is_named key name x ≡ true → ⊥) xs
   none-named name xs none =
       let fails = each-fails (λ x. same_text name (key x)) xs (sym (some-map (same_text name) key xs) ∙ position-none (same_text name) (map key xs) none) in

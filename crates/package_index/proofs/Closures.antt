@@ -1,5 +1,5 @@
--- The closure is one: a name that is reached is among the names of every closure, so that two have the same names, and some
--- of them have no more files than all.
+-- The closure is unique: a reached name is in every closure, so two closures have the same names. A part of the closure
+-- has no more files than the whole.
 use Rattle.std.proofs.Common.{◌≡◌, ℕ, ◌+◌, ◌≤◌, Bool, true, false, inl, inr, List, [], ◌∷◌, ◌++◌, map, refl, sym, ◌∙◌, ap, subst, arith}
 use Rattle.std.specs.Prelude.{flat_map}
 use Rattle.std.specs.List.{AllByRecursion, IsDistinct, list_all}
@@ -24,7 +24,7 @@ all-in p [] x h i = absurd i
 all-in p (y ∷ xs) x h (inl e) = ap p e ∙ (and_parts (p y) (list_all p xs) h).0
 all-in p (y ∷ xs) x h (inr i) = all-in p xs x (and_parts (p y) (list_all p xs) h).1 i
 
--- names that are all among others have each of theirs there
+-- a member of a subset is in the set
 listed-there : (names xs : List Bytes) (name : Bytes) → list_all (is_listed names) xs ≡ true → is_listed xs name ≡ true → is_listed names name ≡ true
 listed-there names [] name h k = absurd (false≢true k)
 listed-there names (x ∷ xs) name h k =
@@ -34,7 +34,7 @@ listed-there names (x ∷ xs) name h k =
       | inr i ↦ listed-there names xs name all.1 i
     ]
 
--- a name that is listed has its visit
+-- a listed name has a visit
 visit-listed : (visits : List Visit) (name : Bytes) → is_listed (names_of visits) name ≡ true → (visit : Visit) × IsIn visits visit × (name ≡ visit.name)
 visit-listed [] name h = absurd (false≢true h)
 visit-listed (v ∷ visits) name h = elim (or_cases (same_text name v.name) (is_listed (names_of visits) name) h) [
@@ -68,7 +68,7 @@ module _ {R : Type 0} (reads : Visit → List R) (bare-reads : (v : Visit) → r
   bare-all [] = refl
   bare-all (v ∷ visits) = λ i. bare-reads v i ++ bare-all visits i
 
-  -- visits that are among others, each once, have no more files
+  -- a part, each visit once, has no more files than the whole
   part-counts : (count : List R → ℕ) → count [] ≡ 0 → ((a b : List R) → count (a ++ b) ≡ count a + count b) → (parts visits : List Visit) → IsDistinct same_text (names_of parts)
       → ((z : Visit) → IsIn (map bare parts) z → IsIn (map bare visits) z) → count (flat_map reads parts) ≤ count (flat_map reads visits)
   part-counts count none add parts visits once there =
@@ -79,7 +79,7 @@ module _ {R : Type 0} (reads : Visit → List R) (bare-reads : (v : Visit) → r
       omega (arith, a, b, c)
 
 module _ (one_source : HasOneSource) (ground : Ground) (files : Files) where
-  -- ---- what is reached
+  -- ---- reached names
 
   module _ (visits : List Visit) (closure : IsClosure ground files visits) where
     mentioned-there : (v : Visit) (name : Bytes) → IsIn visits v → is_listed (mentioned ground (found_of v)) name ≡ true → is_listed (names_of visits) name ≡ true
@@ -94,14 +94,14 @@ module _ (one_source : HasOneSource) (ground : Ground) (files : Files) where
         let one = one-visit ground files one_source visit f.0 f.2 v (at-in (IsVisit ground files) visits f.0 closure.read f.1) in
         mentioned-there f.0 name f.1 (ap (λ w. is_listed (mentioned ground (found_of w)) name) (sym one) ∙ h)
 
-    -- a name that is reached has its visit here
+    -- a reached name has its visit in the closure
     visit-there : (v : Visit) → IsReached ground files v.name → IsVisit ground files v → IsIn visits v
     visit-there v r h =
         let f = visit-listed visits v.name (reached-there v.name r) in
         let one = one-visit ground files one_source v f.0 f.2 h (at-in (IsVisit ground files) visits f.0 closure.read f.1) in
         subst (IsIn visits) (sym one) f.1
 
-    -- and the versions of a part are those here
+    -- the versions of a part are those in the closure
     part-there : (v : Visit) → IsPart ground files v → IsIn (map bare visits) (bare v)
     part-there v p =
         let f = visit-listed visits v.name (reached-there v.name p.reached) in
@@ -115,7 +115,7 @@ module _ (one_source : HasOneSource) (ground : Ground) (files : Files) where
 
   -- ---- outcomes
 
-  -- a part of the closure that is too many makes the whole too many
+  -- if a part of the closure has too many files, the whole has
   part-too-many : (count size : ℕ) → IsBeyond ground count size files → (visits : List Visit) → IsClosure ground files visits
       → is_too_many (count + count_all (flat_map (visited_files ground files) visits)) (size + size_all (flat_map (visited_files ground files) visits)) ≡ true
   part-too-many count size beyond visits closure =
@@ -131,13 +131,13 @@ module _ (one_source : HasOneSource) (ground : Ground) (files : Files) where
   visits-there visits closure others other v i =
       visit-there visits closure v (at-in (λ (w : Visit). IsReached ground files w.name) others v other.reached i) (at-in (IsVisit ground files) others v other.read i)
 
-  -- two closures differ in the order of their names alone
+  -- two closures differ only in the order of their names
   pub one-closure : (visits others : List Visit) → IsClosure ground files visits → IsClosure ground files others → Leaves visits others []
   one-closure visits others closure other =
       taken-all (λ (v : Visit). v.name) visits others closure.once other.once
       (visits-there others other visits closure) (visits-there visits closure others other)
 
-  -- a closure that is read isn't too many
+  -- a closure that was read hasn't too many files
   pub never-beyond : {A : Type 0} (count size : ℕ) → IsBeyond ground count size files → (visits : List Visit) → IsClosure ground files visits
       → is_too_many (count + count_all (flat_map (visited_files ground files) visits)) (size + size_all (flat_map (visited_files ground files) visits)) ≡ false → A
   never-beyond count size beyond visits closure few = absurd (false≢true (sym few ∙ part-too-many count size beyond visits closure))

@@ -1,4 +1,4 @@
--- Lists in which no two have one key.
+-- Lists whose elements have distinct keys.
 use Rattle.std.proofs.Common.{◌≡◌, ℕ, ◌≤◌, Bool, true, false, cond, List, [], ◌∷◌, length, map, filter, refl, sym, ap, ◌∙◌, arith}
 use Rattle.std.specs.List.{IsDistinct}
 use Rattle.std.specs.Cmp.Lexicographic.{bytes_decides}
@@ -21,12 +21,12 @@ module _ {X : Type 0} (key : X → List ℕ) where
   abbrev pub is_named : List ℕ → X → Bool
   is_named name x = same_text (key x) name
 
-  -- what differs from one of a name isn't of that name
+  -- an element whose key differs from that of a named one doesn't have the name
   pub other-name : (name : List ℕ) (x y : X) → is_named name x ≡ true → same_text (key x) (key y) ≡ false → is_named name y ≡ false
   other-name name x y named apart =
       nat_list_eq_equiv.symm (key y) name ∙ ap (λ n. same_text n (key y)) (sym ((bytes_decides (key x) name).0 named)) ∙ apart
 
-  -- at most one is of a name
+  -- at most one element has the name
   pub one-named : (name : List ℕ) (xs : List X) → IsDistinct same_text (map key xs) → length (filter (is_named name) xs) ≤ 1
   unfolding IsDistinct
   one-named name [] once = omega arith

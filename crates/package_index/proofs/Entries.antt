@@ -1,4 +1,4 @@
--- What makes an entry of a package.
+-- Conditions for a sound entry of a package.
 use Rattle.std.proofs.Common.{◌≡◌, Bool, true, false, List, sym, ap, ◌∙◌}
 use Rattle.std.specs.List.{list_all}
 use Rattle.plan_types.specs.declared.condition.Env.{Env}
@@ -15,7 +15,7 @@ use Rattle.index_assembly.specs.Entries.{source_entry, unit_entry}
 use Rattle.package_index.proofs.Sources.{IsWell}
 
 module _ (env : Env) (index : Index) where
-  -- an entry of each package of this name that is local or isn't
+  -- a sound entry in every package of this name, for this value of `local`
   abbrev pub IsEntryOf : Bool → Bytes → Entry → Type 0
   IsEntryOf local name e = (p : Package) → p.local ≡ local → p.name ≡ name → IsEntry env index p e
 

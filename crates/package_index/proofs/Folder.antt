@@ -1,4 +1,4 @@
--- The index of a folder, or its first refusal, is one.
+-- A folder has at most one outcome: its index or its first refusal.
 use Rattle.std.proofs.Common.{◌≡◌, ℕ, Bool, List, map, Result, Ok, Err, sym, ◌∙◌, ap, subst}
 use Rattle.std.specs.Prelude.{flat_map}
 use Rattle.plan_types.specs.declared.condition.Env.{Env}
@@ -55,7 +55,7 @@ module _ (one_source : HasOneSource) (extra : List Named) where
     one-indexed (Err e) (Ok s) a b h k p q = never-beyond one_source ground files count size h.beyond k.found.visits k.found.closure k.found.few
     one-indexed (Err e) (Err f) a b h k p q = p ∙ ap Err (h.refusal_is ∙ sym k.refusal_is) ∙ sym q
 
-  -- readings that are refused alike
+  -- readings refused alike have the same outcome
   one-refused : (refusal : Refusal) (r s : Result Readings Refusal) (a b : Result Index Refusal) → r ≡ Err refusal → s ≡ Err refusal → Gathers extra r a → Gathers extra s b → a ≡ b
   one-refused refusal r s a b h k p q =
       let u : a ≡ Err refusal = subst (λ readings. Gathers extra readings a) h p in

@@ -1,5 +1,4 @@
--- Lists that are put into an order: what is so of each member still is, some that passes still does, and where keys differ
--- each is below those after it.
+-- Sorted lists: they have the same elements, and they rise strictly if keys differ.
 use Rattle.std.proofs.Common.{◌≡◌, ℕ, Bool, true, false, ◌||◌, if◌then◌else◌, inl, inr, List, [], ◌∷◌, map, refl, sym, ap, ◌∙◌, Ordering, Less, Equal, Greater, is_lt}
 use Rattle.std.specs.Cmp.{IsTotalOrder}
 use Rattle.std.specs.List.{AllByRecursion, IsDistinct, list_any}
@@ -47,7 +46,7 @@ module _ {X : Type 0} (lt : X → X → Bool) where
     | inr e ↦ or_right (p x) (list_any p (in_order lt xs)) (some-in-order p xs e)
   ])
 
--- an order that tells any two members apart whose keys differ
+-- an order under which only elements with equal keys tie
 module _ {X : Type 0} (cmp : X → X → Ordering) (key : X → List ℕ) (total : IsTotalOrder cmp) (tells : (a b : X) → cmp a b ≡ Equal → key a ≡ key b) where
   abbrev below : X → X → Bool
   below a b = is_lt (cmp a b)
@@ -58,7 +57,7 @@ module _ {X : Type 0} (cmp : X → X → Ordering) (key : X → List ℕ) (total
   apart-back : (a b : X) → IsApart a b → IsApart b a
   apart-back a b apart = nat_list_eq_equiv.symm (key b) (key a) ∙ apart
 
-  -- one isn't below another, and their keys differ
+  -- the second isn't less, and the keys differ, so the first is less
   other-less : (a b : X) → below b a ≡ false → IsApart a b → cmp a b ≡ Less
   other-less a b over apart = by (cmp b a) refl
     where
@@ -105,7 +104,7 @@ module _ {X : Type 0} (cmp : X → X → Ordering) (key : X → List ℕ) (total
       once-put x (in_order below xs)
       (each-in-order below (IsApart x) xs (each-of-map (λ k. same_text (key x) k ≡ false) key xs once.0)) (once-in-order xs once.1)
 
--- keys that rise as their members do
+-- keys rise as their elements do
 pub keys-rise : {X K : Type 0} (cmp : K → K → Ordering) (key : X → K) (xs : List X) → IsStrictlySortedBy (λ a b. cmp (key a) (key b)) xs → IsStrictlySortedBy cmp (map key xs)
 unfolding IsStrictlySortedBy
 keys-rise cmp key [] rises = tt

@@ -1,4 +1,4 @@
--- The index has a package for each name that was found, and each unit that is kept, unless a local package hides it.
+-- The index has a package for each name of the closure, and each kept unit unless a local package hides it.
 use Rattle.std.proofs.Common.{◌≡◌, Bool, true, ◌&&◌, ◌||◌, List, ◌++◌, map, refl, sym, ap, ◌∙◌}
 use Rattle.std.specs.List.{list_any}
 use Rattle.std.proofs.lemmas.Bool.{and_from}
@@ -40,7 +40,7 @@ module _ (extra : List Named) (locals : List Local) (units : List Unit) (lacking
       package-from (λ p. p.extra ≡ is_extra extra f.name) f.name (is_extra extra f.name) (entries_named f.name (local_entries locals)) (release_entries f.releases ++ sorted units lacking f.name)
       (λ none. refl) (λ e more is. refl)
 
-  -- a unit that is kept stands in the package of its name, unless that is local
+  -- a kept unit is in the package of its name, unless that is local
   module _ (id : Bytes) (had : IsHad units lacking id) where
     abbrev is_there : Package → Bool
     is_there p = p.local || list_any (is_unit id) p.entries

@@ -1,4 +1,4 @@
--- The local packages: each is what its file says, and what one of a name asks for is mentioned under that name.
+-- Local packages: each has the source of its file, and the names on which it depends are mentioned.
 use Rattle.std.proofs.Common.{◌≡◌, ℕ, true, List, [], ◌∷◌, map, Option, Some, None, Ok, refl, sym, ap, ◌∙◌}
 use Rattle.std.specs.Prelude.{option_and_then, position}
 use Rattle.std.specs.List.{AllByRecursion, IsDistinct, slice_get}

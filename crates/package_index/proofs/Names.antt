@@ -1,4 +1,4 @@
--- The names of packages have their form: those with which the closure begins, and those that are mentioned.
+-- Package names are well-formed: the roots of the closure, and the names that are mentioned.
 use Rattle.std.proofs.Common.{◌≡◌, ℕ, true, false, if◌then◌else◌, inl, inr, List, [], ◌∷◌, ◌++◌, map, Option, Some, None, refl, sym, subst}
 use Rattle.std.specs.Prelude.{option_and_then, position}
 use Rattle.std.specs.List.{AllByRecursion, list_any, slice_get}
@@ -30,13 +30,13 @@ use Rattle.plan_types.specs.Bytes.{same_text}
 abbrev HasForm : Bytes → Type 0
 HasForm name = is_package_name name ≡ true
 
--- a name among those that have their form
+-- a name listed among well-formed ones is well-formed
 listed-formed : (name : Bytes) (names : List Bytes) → AllByRecursion HasForm names → is_listed names name ≡ true → HasForm name
 listed-formed name names all listed =
     from-some (same_text name) (HasForm name) names
     (each-then HasForm (λ other. same_text name other ≡ true → HasForm name) names (λ other h e. subst HasForm (sym ((bytes_decides name other).0 e)) h) all) listed
 
--- ---- what a local package asks for
+-- ---- dependencies of local packages
 
 each-looked : (P : Local → Type 0) (locals : List Local) (place : Option ℕ) (local : Local) → AllByRecursion P locals → option_and_then (slice_get locals) place ≡ Some local → P local
 each-looked P locals None local all is = absurd (none-some local is)
@@ -46,7 +46,7 @@ asked-formed : (env : Env) (asking : Option Local) → ((local : Local) → aski
 asked-formed env None well = tt
 asked-formed env (Some local) well = each-listed is_package_name (asked_packages local.source.description) (well local refl).asked
 
--- ---- what units need
+-- ---- needs of units
 
 module _ (units : List Unit) (formed : AllByRecursion IsFormed units) where
   at-formed : (place : ℕ) → AllByRecursion HasForm (name_at units place)
@@ -75,7 +75,7 @@ module _ (units : List Unit) (formed : AllByRecursion IsFormed units) where
         | false ↦ tt
       ]))
 
--- ---- what releases ask for
+-- ---- dependencies of releases
 
 release-formed : (env : Env) (name : Bytes) (judged : Judged) → IsReleaseOf env name judged → AllByRecursion HasForm (asked_by judged)
 release-formed env name (Readable source) good = each-listed is_package_name (asked_packages source.description) good.well.asked

@@ -1,4 +1,4 @@
--- The index knows each unit that a unit needs.
+-- The index has each unit that a kept unit needs.
 use Rattle.std.proofs.Common.{◌≡◌, ℕ, Bool, true, ◌&&◌, List, [], ◌∷◌, ◌++◌, flat_map, Option, Some, None, refl, sym, ap, ◌∙◌}
 use Rattle.std.specs.List.{AllByRecursion, list_all}
 use Rattle.std.proofs.lemmas.Bool.{and_from, and_parts}
@@ -13,7 +13,7 @@ module _ (units : List Unit) (lacking : List Bool) where
   abbrev names : List Bytes → List Bytes
   names ids = flat_map (known_name units) ids
 
-  -- the name of a unit that is had
+  -- the package name of a kept unit
   name-known : (id : Bytes) (had : IsHad units lacking id) → known_name units id ≡ unit_name had.u ∷ []
   name-known id had =
       ap (λ (o : Option ℕ). elim o as (λ o. List Bytes) [ None ↦ [] | Some place ↦ name_at units place ]) had.placed

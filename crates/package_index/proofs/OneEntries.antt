@@ -1,4 +1,4 @@
--- The packages and the skipped files of an index, whatever the order in which the names were found.
+-- The packages and skipped files of an index don't depend on the order of the names.
 use Rattle.std.proofs.Common.{◌≡◌, Bool, false, not, List, [], ◌∷◌, ◌++◌, map, refl, sym, ◌∙◌, ap, subst}
 use Rattle.std.specs.Prelude.{flat_map}
 use Rattle.std.specs.Cmp.{IsTotalOrder}
@@ -35,7 +35,7 @@ use Rattle.plan_types.specs.Bytes.{same_text}
 
 -- ---- orders
 
--- of two that don't compare as equal, one is less
+-- of two that don't tie, exactly one is less
 apart-by : {K : Type 0} (R : K → K → Ordering) → IsTotalOrder R → (x y : K) → (R x y ≡ Equal → ⊥) → is_lt (R x y) ≡ not (is_lt (R y x))
 apart-by R total x y never =
     elim (R y x) as (λ o. R x y ≡ ordering_reverse o → is_lt (R x y) ≡ not (is_lt o)) [

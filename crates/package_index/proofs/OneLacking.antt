@@ -1,4 +1,4 @@
--- Which units lack one is one.
+-- The marks of units that lack one are unique.
 use Rattle.std.proofs.Common.{◌≡◌, ◌↔◌, ℕ, zero, suc, Bool, true, false, List, [], ◌∷◌, length, refl, sym, ◌∙◌, ap, arith}
 use Rattle.common_laws.specs.Graphs.{IsMarked}
 use Rattle.index_assembly.specs.Lacks.{AreLacking}
@@ -9,7 +9,7 @@ as-marked true b h = sym (h.0 refl)
 as-marked false true h = h.1 refl
 as-marked false false h = refl
 
--- lists of one length with the same marks are one
+-- lists of the same length with the same marks are equal
 same-marks : (a b : List Bool) → length a ≡ length b → ((i : ℕ) → IsMarked a i → IsMarked b i) → ((i : ℕ) → IsMarked b i → IsMarked a i) → a ≡ b
 same-marks [] [] l there back = refl
 same-marks [] (y ∷ b) l there back = absurd (grind (arith, l))

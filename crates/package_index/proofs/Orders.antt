@@ -1,4 +1,4 @@
--- The orders of packages, releases and units, and what each tells apart.
+-- The orders of packages, releases and units, and the keys that they distinguish.
 use Rattle.std.proofs.Common.{◌≡◌, ℕ, List, Ordering, Equal}
 use Rattle.std.specs.Cmp.{IsTotalOrder}
 use Rattle.std.specs.Cmp.Lexicographic.{slice_cmp}

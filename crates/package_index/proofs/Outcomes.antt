@@ -1,4 +1,4 @@
--- What local files and records come to is one.
+-- The outcomes of local files and unit records are unique.
 use Rattle.std.proofs.Common.{◌≡◌, ◌==◌, ℕ, true, List, [], length, map, Option, Some, None, sym, ◌∙◌, ap}
 use Rattle.std.specs.declared.result.Result.{Result}
 use Rattle.plan_types.specs.declared.condition.Env.{Env}
@@ -19,11 +19,11 @@ use Rattle.plan_types.specs.declared.index.Places.{Places}
 use Rattle.index_files.specs.declared.unit.Unit.{Unit}
 use Rattle.index_files.proofs.Turns.{one-outcome}
 
--- a file comes to one thing
+-- a file has at most one source or fault
 abbrev pub HasOneSource : Type 0
 HasOneSource = (env : Env) (bytes : Bytes) (a b : Result Source At) → IsSource env bytes a → IsSource env bytes b → a ≡ b
 
--- a record is read as one thing
+-- a record has at most one reading
 abbrev pub HasOneRecord : Type 0
 HasOneRecord = (bytes : Bytes) (a b : Result (Option UnitRecord) ℕ) → IsRecord bytes a → IsRecord bytes b → a ≡ b
 

@@ -1,4 +1,4 @@
--- A package whose entries stand in order: one release of a local package, or releases and then units.
+-- A package whose entries are in order: one local release, or releases followed by units.
 use Rattle.std.proofs.Common.{◌≡◌, ◌≤◌, Bool, true, false, not, List, [], ◌∷◌, ◌++◌, length, map, filter, refl, sym, ap, ◌∙◌, subst, arith}
 use Rattle.std.specs.List.{AllByRecursion, IsDistinct}
 use Rattle.std.specs.List.Sorted.{IsStrictlySortedBy}
@@ -60,7 +60,7 @@ module _ (here after : List Entry) (are-releases : AllByRecursion IsRelease here
         units_once = subst (λ es. IsDistinct same_text (map id_of es)) (sym second) once;
       }
 
--- from local packages of the name, or from all else
+-- by cases: a local package of the name, or all other entries
 pub package-from : (P : Package → Type 0) (name : Bytes) (extra : Bool) (own others : List Entry)
     → (own ≡ [] → P (record { name = name; local = false; extra = extra; entries = others }))
     → ((e : Entry) (more : List Entry) → own ≡ e ∷ more → P (record { name = name; local = true; extra = extra; entries = e ∷ more }))

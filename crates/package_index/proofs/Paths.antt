@@ -1,5 +1,5 @@
--- A file of the index lies in the directory of one name alone, whatever bytes the name has: what stands before the next
--- slash is told by how many slashes stand in it.
+-- A release file is in the directory of one name alone, whatever bytes the name has: the number of slashes gives its
+-- length.
 use Rattle.std.proofs.Common.{◌≡◌, ℕ, ◌+◌, true, ◌==◌, List, [], ◌∷◌, ◌++◌, cond, sym, refl, ◌∙◌, ap, arith}
 use Rattle.std.specs.Prelude.{codes}
 use Rattle.std.specs.Char.{is_ascii_digit}
@@ -70,7 +70,7 @@ before-slash (x ∷ m) (y ∷ n) xs ys e c =
     let counted = ap (λ b. slashes (b ∷ m)) one in
     ap (λ b. b ∷ m) one ∙ ap (λ bs. y ∷ bs) (before-slash m n xs ys (other-bytes x y (m ++ 47 ∷ xs) (n ++ 47 ∷ ys) e) (omega (arith, c, counted)))
 
--- the path behind the directory of the index
+-- the path below the index directory
 abbrev behind : Bytes → Bytes → Bytes
 behind name dir = name ++ 47 ∷ (dir ++ 47 ∷ (name ++ codes ".cabal"))
 
@@ -90,7 +90,7 @@ path-is places name dir =
     ∙ append_assoc ((below ++ name) ++ slash) dir (47 ∷ file) ∙ append_assoc (below ++ name) slash (dir ++ 47 ∷ file)
     ∙ append_assoc below name (47 ∷ (dir ++ 47 ∷ file)) ∙ append_assoc places.index slash (behind name dir)
 
--- a path of a file of this name
+-- the path is a release file of this name
 abbrev pub IsPathOf : Places → Bytes → Bytes → Type 0
 IsPathOf places name path = (dir : Bytes) × HasNoSlash dir × (path ≡ release_path places name dir)
 

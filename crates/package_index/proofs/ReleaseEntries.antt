@@ -1,4 +1,4 @@
--- The entries of releases: they rise by version, and each is an entry of its package.
+-- The entries of releases rise by version, and each is a sound entry of its package.
 use Rattle.std.proofs.Common.{◌≡◌, true, false, List, map, refl}
 use Rattle.std.specs.List.{AllByRecursion}
 use Rattle.std.specs.List.Sorted.{IsStrictlySortedBy}

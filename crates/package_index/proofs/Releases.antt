@@ -1,4 +1,4 @@
--- The releases of a package: each is in its place, and no two are of one version.
+-- The releases of a package: each has the name and version of its path, and versions are distinct.
 use Rattle.std.proofs.Common.{◌≡◌, ℕ, Bool, true, false, if◌then◌else◌, ◌⊎◌, inl, inr, List, [], ◌∷◌, ◌++◌, map, flat_map, Result, Ok, Err, refl, sym, ap, ◌∙◌, subst}
 use Rattle.std.specs.List.{AllByRecursion, IsDistinct}
 use Rattle.std.specs.Cmp.Lexicographic.{bytes_decides}
@@ -23,19 +23,19 @@ use Rattle.common_laws.specs.Each.{each-append}
 use Rattle.package_index.proofs.Sources.{IsWell}
 use Rattle.plan_types.specs.Bytes.{same_text}
 
--- as they stand, before they are put into an order
+-- the entries before sorting
 abbrev pub entries_of : List Release → List Entry
 entries_of releases = flat_map (λ release. entries_in release.judged) releases
 
 abbrev pub numbers_of : Entry → List ℕ
 numbers_of e = e.instance.version.parts
 
--- a source that states its name
+-- a sound source with this name
 pub record IsSourceOf (env : Env) (name : Bytes) (source : Source) : Type 0 where
   pub well : IsWell env source
   pub name_is : source.description.name ≡ name
 
--- what is so of a release of this name
+-- a release of this name: its source is sound, if it is readable
 abbrev pub IsReleaseOf : Env → Bytes → Judged → Type 0
 IsReleaseOf env name (Readable source) = IsSourceOf env name source
 IsReleaseOf env name (Faulty line cause) = Unit {0}
@@ -48,7 +48,7 @@ pub record AreGood (env : Env) (name : Bytes) (releases : List Release) : Type 0
   pub each : AllByRecursion (λ r. IsReleaseOf env name r.judged) releases
   pub once : IsDistinct same_text (map numbers_of (entries_of releases))
 
--- what holds of the entry of each that can be read
+-- a property of the source, if it is readable
 abbrev pub OfReadable : (Source → Type 0) → Judged → Type 0
 OfReadable P (Readable source) = P source
 OfReadable P (Faulty line cause) = Unit {0}
@@ -65,7 +65,7 @@ module _ (env : Env) (well : (content : Content) (source : Source) → Comes env
   abbrev IsAt : List ℕ → Judged → Type 0
   IsAt numbers judged = IsReleaseOf env name judged × HasNumbers numbers judged
 
-  -- versions in turn, each with one release or none
+  -- versions in order, each with at most one release
   abbrev AreAt : List (List ℕ) → List Release → Type 0
   AreAt [] releases = releases ≡ []
   AreAt (numbers ∷ all) releases =
@@ -82,7 +82,7 @@ module _ (env : Env) (well : (content : Content) (source : Source) → Comes env
   judged-at version content (Ok source) comes = in-place version source (is_in_place name version source.description) refl (well content source comes)
   judged-at version content (Err at) comes = (tt, tt)
 
-  -- what is here is nothing or one release
+  -- at most one release is here
   abbrev Here : List ℕ → List Release → Type 0
   Here numbers here = (here ≡ []) ⊎ ((r : Release) × IsAt numbers r.judged × (here ≡ r ∷ []))
 
@@ -107,14 +107,14 @@ module _ (env : Env) (well : (content : Content) (source : Source) → Comes env
   none-at [] releases is = is
   none-at (numbers ∷ all) releases is = inl (none-at all releases is)
 
-  -- those in the files of some directories; without files there are none
+  -- the releases of some directories and files; without files there are none
   are-at : (dirs : List _) (files : List _) (releases : List Release) → AreReleases env name dirs files releases → AreAt (map (λ dir. dir.version.parts) dirs) releases
   are-at [] files releases is = is
   are-at (dir ∷ dirs) [] releases is = none-at (map (λ d. d.version.parts) (dir ∷ dirs)) releases is
   are-at (dir ∷ dirs) (file ∷ files) releases (here, more, is, rest, joined) =
       put-on dir.version.parts (map (λ d. d.version.parts) dirs) here more releases (is-here dir.version file.path file.content here is) (are-at dirs files more rest) joined
 
-  -- ---- what follows
+  -- ---- consequences
 
   abbrev IsGood : Release → Type 0
   IsGood r = IsReleaseOf env name r.judged
@@ -127,7 +127,7 @@ module _ (env : Env) (well : (content : Content) (source : Source) → Comes env
   abbrev versions : List Release → List (List ℕ)
   versions releases = map numbers_of (entries_of releases)
 
-  -- the versions of releases are among those in turn
+  -- a property of the versions holds of those of the releases
   one-more : (P : List ℕ → Type 0) (numbers : List ℕ) (judged : Judged) (rest : List Entry) → HasNumbers numbers judged → P numbers → AllByRecursion P (map numbers_of rest) → AllByRecursion P (map numbers_of (entries_in judged ++ rest))
   one-more P numbers (Readable source) rest is h each = (subst P (sym is) h, each)
   one-more P numbers (Faulty line cause) rest is h each = each

@@ -1,4 +1,4 @@
--- The index that is made of readings is sound.
+-- The index of readings is sound.
 use Rattle.std.proofs.Common.{◌≡◌, ◌≤◌, true, false, List, [], ◌∷◌, ◌++◌, map, length, refl, sym, ap, ◌∙◌, subst}
 use Rattle.std.specs.List.{AllByRecursion, IsDistinct, list_all}
 use Rattle.std.specs.List.Sorted.{IsStrictlySortedBy}
@@ -94,7 +94,7 @@ module _ (extra : List Named) (readings : Readings) (index : Index) (made : IsIn
       once = subst (λ ps. IsDistinct same_text (map name_of ps)) (sym packages-are) (once-in-order package_cmp name_of package_cmp_total package-told (map of readings.found) once);
     }
 
-    -- ---- what is so of each name
+    -- ---- each name
 
     abbrev IsClosed : FoundName → Type 0
     IsClosed f = AllByRecursion Listed (mentioned ground f)

@@ -1,4 +1,4 @@
--- What is so of a file that could be read.
+-- Sources of files without fault.
 use Rattle.std.proofs.Common.{◌≡◌, ℕ, true, inl, inr, List, Option, Some, None, Result, Ok, Err, refl, sym, subst}
 use Rattle.std.specs.List.{list_all}
 use Rattle.plan_types.specs.Name.{is_package_name}
@@ -17,7 +17,7 @@ use Rattle.cabal_file.specs.Source.{OfDescription, source_of, unless_beyond}
 use Rattle.cabal_file.specs.declared.source.Source.{Source}
 use Rattle.index_files.specs.Sources.{Comes, OfBytes, bytes_in}
 
--- what is so of any description that elements have
+-- all descriptions that are read are sound and well-formed
 pub record AreDescribed : Type 0 where
   pub sound : (items : List Element) (digest : List ℕ) (d : Description) → Describes items digest (Ok d) → IsDescription d
   pub name : (items : List Element) (digest : List ℕ) (d : Description) → Describes items digest (Ok d) → is_package_name d.name ≡ true

@@ -1,4 +1,4 @@
--- The members of one list that are taken out of another.
+-- Removing the elements of one list from another.
 use Rattle.std.proofs.Common.{◌≡◌, ℕ, ◌+◌, false, inl, inr, List, [], ◌∷◌, ◌++◌, length, map, refl, sym, ◌∙◌, ap, subst, arith, length-append}
 use Rattle.std.specs.Prelude.{◌⊎◌, flat_map}
 use Rattle.std.specs.List.{AllByRecursion, IsDistinct}
@@ -13,7 +13,7 @@ module _ {X : Type 0} where
   IsIn [] x = ⊥
   IsIn (y ∷ ys) x = (x ≡ y) ⊎ IsIn ys x
 
-  -- what is left of a list, out of which the members of another are taken
+  -- the rest of a list without the elements of another
   abbrev pub Leaves : List X → List X → List X → Type 0
   Leaves [] ys rest = ys ≡ rest
   Leaves (x ∷ xs) ys rest = (before : List X) × (behind : List X) × (ys ≡ before ++ x ∷ behind) × Leaves xs (before ++ behind) rest
@@ -28,7 +28,7 @@ module _ {X : Type 0} where
   split (y ∷ ys) x (inl e) = ([], ys, ap (λ z. z ∷ ys) (sym e))
   split (y ∷ ys) x (inr h) = let s = split ys x h in (y ∷ s.0, s.1, ap (λ zs. y ∷ zs) s.2)
 
-  -- another one, or the one that is taken
+  -- an element is the removed one, or another one
   pub in-rest : (before : List X) (x : X) (behind : List X) (z : X) → IsIn (before ++ x ∷ behind) z → (z ≡ x) ⊎ IsIn (before ++ behind) z
   in-rest [] x behind z h = h
   in-rest (y ∷ before) x behind z (inl e) = inr (inl e)
@@ -42,7 +42,7 @@ module _ {X : Type 0} where
   in-front (y ∷ before) behind z (inl e) = inl e
   in-front (y ∷ before) behind z (inr h) = inr (in-front before behind z h)
 
-  -- where nothing is left, all were taken
+  -- if nothing is left, all elements were removed
   pub in-taken : (xs ys : List X) (z : X) → Leaves xs ys [] → IsIn ys z → IsIn xs z
   in-taken [] ys z l h = subst (λ zs. IsIn zs z) l h
   in-taken (x ∷ xs) ys z l h = elim (in-rest l.0 x l.1 z (subst (λ zs. IsIn zs z) l.2 h)) [
@@ -58,7 +58,7 @@ module _ {X : Type 0} where
       let more = left-length xs (l.0 ++ l.1) rest l.3 in
       omega (arith, whole, less, more)
 
--- what is counted in a list is counted in what is taken and in what is left
+-- a count over a list is that of the removed elements and of the rest
 module _ {X R : Type 0} (f : X → List R) (count : List R → ℕ) (add : (a b : List R) → count (a ++ b) ≡ count a + count b) where
   count-one : (before : List X) (x : X) (behind : List X) → count (flat_map f (before ++ x ∷ behind)) ≡ count (f x) + count (flat_map f (before ++ behind))
   count-one [] x behind = add (f x) (flat_map f behind)
@@ -76,7 +76,7 @@ module _ {X R : Type 0} (f : X → List R) (count : List R → ℕ) (add : (a b 
       let more = left-count xs (l.0 ++ l.1) rest none l.3 in
       omega (arith, whole, a, more)
 
--- ---- members that are told apart by a key
+-- ---- elements with distinct keys
 
 module _ {X : Type 0} (key : X → Bytes) where
   apart : (x z : X) (xs : List X) → AllByRecursion (λ k. same_text (key x) k ≡ false) (map key xs) → IsIn xs z → same_text (key x) (key z) ≡ false
@@ -91,7 +91,7 @@ module _ {X : Type 0} (key : X → Bytes) where
   unfolding IsDistinct
   keys-apart x z xs d i = apart x z xs d.0 i
 
-  -- members of another list, each once, can be taken out of it
+  -- distinct elements of a list can be removed from it
   pub taken : (xs ys : List X) → IsDistinct same_text (map key xs) → ((z : X) → IsIn xs z → IsIn ys z) → (rest : List X) × Leaves xs ys rest
   unfolding IsDistinct
   taken [] ys d within = (ys, refl)
@@ -104,7 +104,7 @@ module _ {X : Type 0} (key : X → Bytes) where
       let t = taken xs (s.0 ++ s.1) d.1 others in
       (t.0, (s.0, s.1, s.2, t.1))
 
-  -- lists with the same members, each once, are one in another order
+  -- lists with the same distinct elements are permutations of each other
   pub taken-all : (xs ys : List X) → IsDistinct same_text (map key xs) → IsDistinct same_text (map key ys)
       → ((z : X) → IsIn xs z → IsIn ys z) → ((z : X) → IsIn ys z → IsIn xs z) → Leaves xs ys []
   taken-all xs ys d e there back =

@@ -1,4 +1,4 @@
--- The entries of units: they rise, no two have one id, and each is an entry of its package.
+-- The entries of units rise, their ids are distinct, and each is a sound entry of its package.
 use Rattle.std.proofs.Common.{◌≡◌, ℕ, Bool, true, false, if◌then◌else◌, List, [], ◌∷◌, map, Some, refl, sym, ap, subst}
 use Rattle.std.specs.List.{AllByRecursion, IsDistinct, slice_get}
 use Rattle.std.specs.List.Sorted.{IsStrictlySortedBy}
@@ -24,7 +24,7 @@ use Rattle.package_index.proofs.Package.{IsUnit, id_of}
 use Rattle.package_index.proofs.Units.{IsHad, needs-had}
 use Rattle.plan_types.specs.Bytes.{same_text}
 
--- an entry of a package of this name
+-- whether an entry has this package name
 abbrev pub is_of : Bytes → Entry → Bool
 is_of name = is_named (λ (e : Entry). e.instance.name) name
 
@@ -55,7 +55,7 @@ module _ (units : List Unit) (lacking : List Bool) (name : Bytes) where
   pub units-once : IsDistinct same_text (unit_ids units) → IsDistinct same_text (map id_of sorted)
   units-once once = once-in-order unit_order id_of unit_order_total unit-told named (ids-once once)
 
-  -- ---- each is an entry
+  -- ---- each is sound
 
   module _ (listed : Bytes → Bool) where
     abbrev Listed : Bytes → Type 0

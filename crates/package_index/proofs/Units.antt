@@ -1,4 +1,4 @@
--- A unit that isn't marked needs units that have records and aren't marked.
+-- A unit without a mark needs only units that have records and no mark.
 use Rattle.std.proofs.Common.{◌≡◌, ℕ, zero, suc, Bool, true, false, List, [], ◌∷◌, ◌++◌, map, flat_map, Option, Some, None, refl, sym, ap, ◌∙◌, subst}
 use Rattle.std.specs.Prelude.{slice_index_or}
 use Rattle.std.specs.List.{AllByRecursion, Contains, list_any, slice_get}
@@ -15,7 +15,7 @@ use Rattle.package_index.proofs.Marks.{IsUnmarked}
 use Rattle.package_index.proofs.ByName.{found-at}
 use Rattle.plan_types.specs.Bytes.{same_text}
 
--- what stands at a place, and what a function makes of it
+-- the image of an element at a place
 map-at : {A B : Type 0} (f : A → B) (xs : List A) (i : ℕ) (x : A) (d : B) → slice_get xs i ≡ Some x → slice_index_or (map f xs) i d ≡ f x
 map-at f [] i x d at = absurd (none-some x at)
 map-at f (y ∷ xs) zero x d at = ap f (same_Some y x at)
@@ -25,7 +25,7 @@ each-contained : {A : Type 0} (P : A → Type 0) (xs : List A) → ((x : A) → 
 each-contained P xs f = each-then (Contains xs) P xs f (recursion_from_All (Contains xs) xs (All-contains_itself xs))
 
 module _ (units : List Unit) (lacking : List Bool) where
-  -- the unit of an id, which isn't marked
+  -- the unit of an id, without a mark
   pub record IsHad (id : Bytes) : Type 0 where
     pub place : ℕ
     pub u : Unit

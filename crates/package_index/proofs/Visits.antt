@@ -1,4 +1,4 @@
--- What is read under a name is one, and each file of it is one of the name's.
+-- The visit of a name is unique, and its files are release files of that name.
 use Rattle.std.proofs.Common.{◌≡◌, Bool, true, false, List, [], ◌∷◌, ◌++◌, Option, Some, None, refl, sym, ◌∙◌, ap, subst}
 use Rattle.std.specs.List.{AllByRecursion}
 use Rattle.plan_types.specs.declared.condition.Env.{Env}
@@ -62,7 +62,7 @@ module _ (one_source : HasOneSource) where
 -- ---- a name
 
 module _ (ground : Ground) (files : Files) where
-  -- the versions of a name are one
+  -- the versions of a name are unique
 
   one-dirs : (name : Bytes) (local : Bool) (d e : _) (r s : List Release)
       → HasVersions ground files (record { name = name; dirs = d; releases = r }) local → HasVersions ground files (record { name = name; dirs = e; releases = s }) local → d ≡ e
@@ -81,7 +81,7 @@ module _ (ground : Ground) (files : Files) where
   pub has-versions : (v : Visit) → IsVisit ground files v → HasVersions ground files v (is_local ground v.name)
   has-versions v h = read-versions v (is_local ground v.name) h
 
-  -- and so is all that is read
+  -- all that is read of a name is unique
 
   module _ (one_source : HasOneSource) where
     one-read : (name : Bytes) (local : Bool) (d e : _) (r s : List Release)
@@ -119,7 +119,7 @@ module _ (env : Env) (places : Places) (files : Files) (name : Bytes) where
   path-of version path TooLarge releases p h = path-of-one version path TooLarge releases p h
   path-of version path (Holds bytes) releases p h = path-of-one version path (Holds bytes) releases p h
 
-  -- behind the versions that come first
+  -- one more directory, before those that are done
   paths-behind : (text : Bytes) (version : Option Version) (more : _) (releases : List Release) → IsVersionOf text version
       → ((rest : List Release) → AreReleases env name more (files_below places files name more) rest → AllByRecursion (IsReleaseOf places name) rest)
       → AreReleases env name (version_dir text version ++ more) (files_below places files name (version_dir text version ++ more)) releases → AllByRecursion (IsReleaseOf places name) releases

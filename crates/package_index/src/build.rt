@@ -1,4 +1,4 @@
-// The files of a folder are read first, and then the index is made of them.
+// Reads the files of a folder, and then makes the index of them.
 ghost use Rattle.std.specs.Prelude.{IfOk, IfSome, IsErrOf};
 ghost use Rattle.plan_types.specs.Refusal.{Answers};
 ghost use Rattle.flatten.specs.Sound.{IsSound};
@@ -13,8 +13,8 @@ use outside_folder::Folder;
 use plan_types::{Env, Halt, Index, List, Named, Places, Text};
 use std::alloc::Global;
 
-/// The index of a folder with local files at these paths, in which `extra` names the packages that are asked for
-/// besides; or the first refusal: of a local file, of a record, or that too much would be read.
+/// The index of a folder with these local files and extra packages. Or the first refusal: of a local file, of a unit
+/// record, or of too many files.
 pub fn build_index<F: Folder>(
     alloc: Global,
     locals: &List<Text>,

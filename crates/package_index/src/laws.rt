@@ -1,4 +1,4 @@
-// The index of what was read is sound, in any folder, and a folder has one.
+// The index of any folder is sound, and a folder has at most one.
 ghost use Rattle.std.specs.Prelude.{◌≡◌, List, Result};
 ghost use Rattle.plan_types.specs.declared.condition.Env.{Env};
 ghost use Rattle.plan_types.specs.declared.dependency.Named.{Named};
@@ -17,7 +17,7 @@ use cabal_file::one_source;
 use sound_description::{what_is_described_has_forms, what_is_described_is_sound};
 use unit_record::one_record;
 
-/// The index of what was read is sound, in any folder.
+/// The index of what was read is sound, over any folder.
 pub fn what_is_gathered_is_sound()
     ensures { (env : Env) (places : Places) (extra : List Named) (readings : Readings) (index : Index)
         → HaveForm env places extra readings → AreNamed extra → IsIndexOf extra readings index → IsSound env index }
@@ -26,7 +26,7 @@ pub fn what_is_gathered_is_sound()
     what_is_described_has_forms();
 }
 
-/// Each name that is asked for besides has a package, and a package says whether it is one.
+/// Each extra package is in the index, and exactly these packages are marked as extra.
 pub fn extras_are_there()
     ensures has { (env : Env) (places : Places) (extra : List Named) (readings : Readings) (index : Index)
         → HaveForm env places extra readings → IsIndexOf extra readings index → AreThere extra index }
@@ -34,7 +34,7 @@ pub fn extras_are_there()
         → IsIndexOf extra readings index → AreMarked extra index }
 {}
 
-/// A folder's files have one index, or one first refusal.
+/// A folder has at most one outcome: one index or one first refusal.
 pub fn one_folder_index()
     ensures { (env : Env) (places : Places) (extra : List Named) (paths : List Bytes) (files : Files) (a b : Result Index Refusal)
         → IsFolderIndex env places extra paths files a → IsFolderIndex env places extra paths files b → a ≡ b }

@@ -1,7 +1,7 @@
-//! The index of a folder. In go the paths of its local files, the names that a project asks for besides, and where the
-//! index and the records of installed units lie; out comes the index of packages, or the first refusal. In any folder the
-//! index that comes out is sound, so that a plan can be made from it: its packages stand in goal order, what they ask for
-//! is there, and no unit in it lacks one that it needs. Where the folder tells its files, it is the one that they make.
+//! The index of a folder. In go the paths of its local files, the extra packages, and the directories of the index and
+//! of the unit records. Out comes the index, or the first refusal. Over any folder the index is sound (`IsSound`):
+//! packages are in goal order, and all packages and units that are needed are there. Over an observable folder the
+//! outcome is that of the definition (`IsFolderIndex`), and it is unique (`one_folder_index`).
 #![tactic(auto)]
 
 mod build;
