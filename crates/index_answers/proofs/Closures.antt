@@ -1,5 +1,5 @@
--- The closure is read name by name, to its end or to one file too many: each name that mentions any is known or has a file, so
--- that few of them come before that.
+-- The closure is read name by name, to its end or to too many files. Reading ends: a name that mentions another is
+-- known or has a file, and both kinds are bounded.
 use Rattle.std.proofs.Common.{◌≡◌, inl, inr, ◌+◌, ◌≤◌, ℕ, zero, suc, Bool, true, false, List, [], ◌∷◌, ◌++◌, map, Option, Some, None, Result, Ok, Err, refl, sym, ap, ◌∙◌, subst, arith}
 use Rattle.std.specs.Prelude.{flat_map, nat_lt}
 use Rattle.std.specs.List.{AllByRecursion, IsDistinct, list_all}
@@ -35,7 +35,7 @@ module _ (ground : Ground) (files : Files) (count size : ℕ) where
   abbrev Read : Type 0
   Read = (found : Option (List FoundName)) × Reaches ground count size files found
 
-  -- these names were read, and those are still to be read
+  -- `done` was read; `pending` is still to be read
   record Stand (done : List Visit) (pending : List Bytes) : Type 0 where
     once : IsDistinct same_text (names_of done ++ pending)
     begun : list_all (is_listed (names_of done ++ pending)) (roots ground) ≡ true
@@ -76,7 +76,7 @@ module _ (ground : Ground) (files : Files) (count size : ℕ) where
       → are_too_many ground files count size done ≡ true → Read
   beyond done once reached read many = (None, record { parts = done; once = once; inside = parts_of done reached read; many = many })
 
-  -- ---- one name more
+  -- ---- one more name
 
   abbrev counted : List Visit → ℕ
   counted done = count + count_all (flat_map (visited_files ground files) done)
@@ -84,7 +84,7 @@ module _ (ground : Ground) (files : Files) (count size : ℕ) where
   abbrev unseen : List Visit → ℕ
   unseen done = left (known_names ground) (names_of done)
 
-  -- so many turns are left at most
+  -- `fuel` bounds the names that mention others and are still to be read
   abbrev Within : ℕ → List Visit → Type 0
   Within fuel done = 20001 + unseen done ≤ fuel + counted done
 
@@ -143,7 +143,7 @@ module _ (ground : Ground) (files : Files) (count size : ℕ) where
         few = few;
       }
 
-      -- where it mentions a name, a turn fewer is left
+      -- a name that mentions another one uses up fuel
       within_fewer : (fuel : ℕ) (name : Bytes) (names : List Bytes) → mentions ≡ name ∷ names → Within (suc fuel) done → Within fuel more
       within_fewer fuel name names some low =
           elim (fertile ground files v visit name names some) [

@@ -1,4 +1,4 @@
--- A name that mentions any is that of a local package or of a record, or a file is read under it.
+-- A name that mentions another one is that of a local package or a unit record, or has a file.
 use Rattle.std.proofs.Common.{◌≡◌, ◌⊎◌, inl, inr, ◌≤◌, ℕ, zero, suc, Bool, true, false, ◌||◌, if◌then◌else◌, List, [], ◌∷◌, ◌++◌, map, refl, sym, ap, ◌∙◌, arith}
 use Rattle.std.specs.Prelude.{option_and_then, slice_get}
 use Rattle.std.proofs.lemmas.Bool.{false≢true, or_left}
@@ -17,7 +17,7 @@ use Rattle.index_files.specs.declared.unit.Unit.{Unit}
 use Rattle.index_answers.proofs.Lists.{no_position}
 use Rattle.index_answers.proofs.Visits.{none_read}
 
--- the names of local packages and of records
+-- the names of local packages and unit records
 abbrev pub known_names : Ground → List Bytes
 known_names ground = local_names ground.locals ++ map unit_name ground.units
 

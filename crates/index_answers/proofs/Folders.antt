@@ -1,4 +1,4 @@
--- The project and the index of a folder, or a first refusal.
+-- A folder has a project and an index, or a first refusal.
 use Rattle.std.proofs.Common.{List, Result, Ok, Err, refl}
 use Rattle.plan_types.specs.declared.condition.Env.{Env}
 use Rattle.plan_types.specs.declared.dependency.Named.{Named}

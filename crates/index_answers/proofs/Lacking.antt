@@ -1,5 +1,5 @@
--- Which units lack one is found unit by unit: of the marks so far, one more is set where a unit needs one that has a mark, until
--- there is no such unit.
+-- The units that lack one are marked one by one: a unit gets a mark if it needs a marked one, until there is none
+-- left.
 use Rattle.std.proofs.Common.{◌≡◌, ◌⊎◌, inl, inr, ◌+◌, ◌<◌, ◌≤◌, ℕ, zero, suc, Bool, true, false, not, ◌&&◌, ◌||◌, if◌then◌else◌, List, [], ◌∷◌, length, map, refl, sym, ap, ◌∙◌, subst, arith}
 use Rattle.std.specs.Prelude.{◌==◌, slice_index_or}
 use Rattle.std.specs.List.{list_any}
@@ -12,7 +12,7 @@ use Rattle.file_answers.proofs.Cycles.{below_more}
 use Rattle.index_files.specs.declared.unit.Unit.{Unit}
 use Rattle.index_assembly.specs.Lacks.{AreLacking, lacks_one, needed_places}
 
--- ---- a place that passes a test
+-- ---- a search for a number that passes a test
 
 abbrev Has : (ℕ → Bool) → ℕ → Type 0
 Has test n = ((u : ℕ) × (u < n) × (test u ≡ true)) ⊎ ((u : ℕ) → u < n → test u ≡ false)
@@ -34,7 +34,7 @@ one_more mark u w = (w == u) || mark w
 abbrev one_unless : Bool → ℕ
 one_unless marked = if marked then 0 else 1
 
--- how many of the first have no mark
+-- the number of the first `n` without a mark
 abbrev unmarked : (ℕ → Bool) → ℕ → ℕ
 unmarked mark zero = 0
 unmarked mark (suc n) = one_unless (mark n) + unmarked mark n

@@ -1,4 +1,4 @@
--- Names that are listed, and how many of some names aren't among those that were seen.
+-- Listed names, and the number of names not seen yet.
 use Rattle.std.proofs.Common.{◌≡◌, ◌+◌, ◌<◌, ◌≤◌, ℕ, suc, Bool, true, false, ◌||◌, if◌then◌else◌, List, [], ◌∷◌, ◌++◌, length, refl, sym, ap, ◌∙◌, arith, None}
 use Rattle.std.specs.Prelude.{nat_lt, position}
 use Rattle.std.specs.List.{AllByRecursion, IsDistinct, list_any, position_or_len}
@@ -11,7 +11,7 @@ use Rattle.plan_types.specs.Bytes.{same_text}
 use Rattle.index_files.specs.Names.{is_listed}
 use Rattle.common_laws.specs.Each.{each-front}
 
--- what holds of what is listed holds of each
+-- a property of listed names holds of each
 pub each_of : (P : Bytes → Type 0) (xs : List Bytes) → ((x : Bytes) → is_listed xs x ≡ true → P x) → AllByRecursion P xs
 each_of P [] f = tt
 each_of P (x ∷ xs) f = (f x (or_left (same_text x x) (is_listed xs x) (nat_list_eq_equiv.refl x)), each_of P xs (λ y h. f y (or_right (same_text y x) (is_listed xs y) h)))
@@ -21,7 +21,7 @@ unfolding IsDistinct
 distinct_front [] ys once = tt
 distinct_front (x ∷ xs) ys once = (each-front (λ y. same_text x y ≡ false) xs ys once.0, distinct_front xs ys once.1)
 
--- what stands behind names, each once, isn't among them
+-- in a list of distinct names, a name is not among those before it
 pub not_in_front : (xs : List Bytes) (name : Bytes) (ys : List Bytes) → IsDistinct same_text (xs ++ name ∷ ys) → is_listed xs name ≡ false
 unfolding IsDistinct
 not_in_front [] name ys once = refl
@@ -34,7 +34,7 @@ not_in_front (x ∷ xs) name ys once = ap (λ b. b || is_listed xs name) other �
     other : same_text name x ≡ false
     other = nat_list_eq_equiv.symm name x ∙ at xs once.0
 
--- ---- how many are left
+-- ---- the number not seen yet
 
 abbrev one_unless : Bool → ℕ
 one_unless seen = if seen then 0 else 1
@@ -59,7 +59,7 @@ left_less (x ∷ xs) seen name =
     let more = left_less xs seen name in
     omega (arith, here, is, more)
 
--- one of them that wasn't seen before
+-- it drops with a new name that is seen
 pub left_drops : (xs seen : List Bytes) (name : Bytes) → is_listed xs name ≡ true → is_listed seen name ≡ false → left xs (seen ++ name ∷ []) < left xs seen
 left_drops [] seen name h new = absurd (false≢true h)
 left_drops (x ∷ xs) seen name h new = by (same_text name x) refl (λ behind. left_drops xs seen name behind new)

@@ -1,4 +1,4 @@
--- What is taken one after the other comes to an outcome, and so do the local files and the records of a folder.
+-- Items processed one after another have an outcome, and so have the local files and the unit records of a folder.
 use Rattle.std.proofs.Common.{◌==◌, true, List, [], ◌∷◌, length, map, Option, Some, None, Result, Ok, Err, refl}
 use Rattle.plan_types.specs.declared.condition.Env.{Env}
 use Rattle.plan_types.specs.declared.index.Places.{Places}
@@ -20,7 +20,7 @@ use Rattle.index_files.specs.declared.unit.Unit.{Unit}
 use Rattle.file_answers.proofs.Records.{some_record}
 use Rattle.file_answers.proofs.Sources.{some_source}
 
--- what is behind a value or a refusal
+-- the outcome after a value or a refusal
 pub go_on : {S T R : Type 0} (next : Result S R) (Rest : S → Result T R → Type 0) → ((s : S) → (outcome : Result T R) × Rest s outcome)
     → (outcome : Result T R) × GoesOn next (λ s. Rest s outcome) outcome
 go_on (Ok s) Rest more = more s

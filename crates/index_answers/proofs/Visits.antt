@@ -1,4 +1,4 @@
--- What is read under a name: its versions and their releases, none of them where no file is there.
+-- The visit of a name: its versions and releases; none of these without a file.
 use Rattle.std.proofs.Common.{◌≡◌, Bool, true, false, List, [], ◌∷◌, ◌++◌, refl, sym, ◌∙◌, subst, arith}
 use Rattle.std.proofs.lemmas.List.Sums.{sum_by-append}
 use Rattle.plan_types.specs.declared.condition.Env.{Env}
@@ -41,7 +41,7 @@ module _ (env : Env) (name : Bytes) where
       let more = some_releases dirs files in
       (here.0 ++ more.0, (here.0, more.0, here.1, more.1, refl))
 
-  -- ---- where nothing counts
+  -- ---- files that count as none
 
   none_in : (version : Version) (path : Bytes) (content : Content) (releases : List Release) → count_of (record { path = path; content = content }) ≡ 0
       → IsReleaseIn env name version path content releases → releases ≡ []
