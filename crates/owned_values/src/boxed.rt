@@ -1,4 +1,4 @@
-// A value in a box, seen as itself.
+// A value in a box, with the value as its view.
 ghost use Rattle.std.specs.Prelude.{◌≡◌, IfOk};
 
 use crate::NoMemory;

@@ -1,5 +1,5 @@
-//! Lists, texts and shared values that tell where memory is wanting. A contract sees a `Text` as its list of bytes, a `List` as
-//! its list of items and a `Boxed` or a `Shared` as its value, so that the types of the crates above compare by what they hold.
+//! Lists, texts, boxes and shared values whose allocations can fail. Out of memory is a result, never an abort. A contract
+//! sees a `Text` as its list of bytes, a `List` as its list of items, and a `Boxed` or a `Shared` as the value inside.
 #![tactic(auto)]
 
 mod boxed;

@@ -36,7 +36,7 @@ impl<T> List<T> {
         }
     }
 
-    /// The empty list, with room for so many items.
+    /// The empty list, with capacity for `room` items.
     pub fn with_room(alloc: Global, room: usize) -> Result<List<T>, NoMemory>
         ensures { IfOk result (λ list. list ≡ []) }
     {
@@ -75,7 +75,7 @@ impl<T> List<T> {
         self.items.is_empty()
     }
 
-    /// Takes the last item off.
+    /// Removes the last item and returns it.
     pub fn pop(&mut self) -> Option<T>
         ensures { MatchOption result ((self.old ≡ []) × (self.new ≡ [])) (λ last. self.old ≡ self.new ++ last ∷ []) }
     {
@@ -84,14 +84,14 @@ impl<T> List<T> {
 }
 
 impl<T: Drop> List<T> {
-    /// Keeps the first items.
+    /// Keeps the first `len` items.
     pub fn truncate(&mut self, len: usize)
         ensures { self.new ≡ take len self.old }
     {
         self.items.truncate(len);
     }
 
-    /// Puts an item in the place of another.
+    /// Replaces the item at an index.
     pub fn set(&mut self, index: usize, item: T)
         requires { index < length self.old }
         ensures { self.new ≡ slice_set self.old index item }
@@ -99,7 +99,7 @@ impl<T: Drop> List<T> {
         self.items[index] = item;
     }
 
-    /// Appends an item. After the refusal the item is dropped.
+    /// Appends an item. On an error the item is dropped.
     pub fn push(&mut self, item: T) -> Result<(), NoMemory>
         ensures ok { OnOk result (self.new ≡ self.old ++ item ∷ []) }
         ensures err { OnErr result (self.new ≡ self.old) }
@@ -108,7 +108,7 @@ impl<T: Drop> List<T> {
         Ok(())
     }
 
-    /// Moves all items of another list behind its own. After a refusal both are as they were.
+    /// Moves all items of another list to the end of this one. On an error both lists are unchanged.
     pub fn append(&mut self, other: &mut List<T>) -> Result<(), NoMemory>
         ensures ok { OnOk result (self.new ≡ self.old ++ other.old) }
         ensures emptied { OnOk result (other.new ≡ []) }

@@ -1,7 +1,7 @@
-// Want of memory.
+// Out of memory.
 use std::alloc::{AllocError, AllocFailed};
 
-/// Memory was wanting. What the call was to change is as it was.
+/// Out of memory. The arguments of the failed call are unchanged.
 #[derive(Clone, Copy, Debug, PartialEq, Eq)]
 pub struct NoMemory;
 

@@ -1,4 +1,4 @@
-// A value that several hold, seen as itself.
+// A shared value, with the value as its view.
 ghost use Rattle.std.specs.Prelude.{◌≡◌, IfOk, MatchOption};
 
 use crate::NoMemory;
@@ -6,7 +6,7 @@ use std::alloc::Global;
 use std::marker::Model;
 use std::rc::Rc;
 
-/// A value on the heap that several hold, which a contract sees as the value itself. A copy of it holds the same one.
+/// A reference-counted value on the heap, which a contract sees as the value itself.
 #[derive(Debug, Drop)]
 pub struct Shared<T> {
     inner: Rc<T>,
@@ -27,7 +27,7 @@ impl<T> Shared<T> {
         &self.inner
     }
 
-    /// The value, where nobody else holds it.
+    /// The value, if this is its last reference.
     pub fn into_inner(self) -> Option<T>
         ensures { MatchOption result (Unit {0}) (λ value. value ≡ self) }
     {
@@ -44,7 +44,7 @@ impl<T: Drop> Shared<T> {
         Ok(Shared { inner })
     }
 
-    /// The same value, held once more.
+    /// One more reference to the same value.
     pub fn copy(&self) -> Result<Shared<T>, NoMemory>
         ensures { IfOk result (λ copied. copied ≡ self.now) }
     {

@@ -50,7 +50,7 @@ impl Text {
         })
     }
 
-    /// The text of bytes that are ASCII.
+    /// A text from ASCII bytes.
     pub fn from_ascii(alloc: Global, bytes: &[u8]) -> Result<Text, NoMemory>
         requires { IsAscii bytes.now }
         ensures { IfOk result (λ copied. copied ≡ bytes.now) }

@@ -1,4 +1,4 @@
--- `Boxed` as a type that may hold the type that holds it.
+-- `Boxed` as a type former, so that a recursive type can contain it.
 use mathlib.Core.Path.{refl}
 use mathlib.Core.Former.{Former, this, const, pair, via}
 use base.Stored.{gnil}
