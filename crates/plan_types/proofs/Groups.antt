@@ -1,4 +1,4 @@
--- Tests of the dependencies of groups.
+-- Tests of the dependencies in groups.
 use Rattle.std.proofs.Common.{◌≡◌, Bool, ◌||◌, List, [], ◌∷◌, map, refl, sym, ap, ◌∙◌}
 use Rattle.std.specs.List.{list_any}
 use Rattle.std.proofs.lemmas.List.Folds.{list_any-append}
@@ -12,7 +12,7 @@ module _ (test : Dep → Bool) where
   in-group when [] = refl
   in-group when (dep ∷ deps) = ap (λ b. test dep || b) (in-group when deps)
 
-  -- a dependency of a group is as tested, where one is that a contract sees
+  -- a test passes for some dependency of the groups iff it does for some one in the view
   pub some-in-groups : (groups : List DepGroup) → list_any (λ group. list_any test group.deps) groups ≡ list_any (λ (guarded : GuardedDep). test guarded.dep) (in_groups groups)
   some-in-groups [] = refl
   some-in-groups (group ∷ groups) =

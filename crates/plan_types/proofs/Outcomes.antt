@@ -1,4 +1,4 @@
--- What is known of an outcome under a premise that holds.
+-- Outcomes that are known under a true premise.
 use Rattle.std.proofs.Common.{ℕ}
 use Rattle.std.specs.Prelude.{IfErr}
 use Rattle.std.specs.declared.result.Result.{Result}

@@ -1,4 +1,4 @@
--- How a range is put together again.
+-- How the copy of a range is rebuilt.
 use Rattle.std.proofs.Common.{◌≡◌, ◌<◌, ◌≤◌, List, [], ◌∷◌, ◌++◌, refl, sym, ap, ◌∙◌, arith, Bor}
 use Rattle.plan_types.specs.declared.range.Range.{Range, size-Range}
 use Rattle.plan_types.specs.declared.range.Range.TheViews.{sized-Both, sized-Either}
@@ -18,15 +18,15 @@ below_rebuilt : (waiting : List Joined) (first : Range) → size-Range first ≤
 below_rebuilt [] first = omega arith
 below_rebuilt (w ∷ ws) first = let le = below_rebuilt ws first in let more = below_joined (rebuilt ws first) w in omega (arith, le, more)
 
--- what is joined is put aside, and its left side is next
+-- the invariant holds after a right operand is pushed
 pub put_aside : (waiting new : List Joined) (joined : Joined) (left part whole : Range) → new ≡ waiting ++ joined ∷ [] → left ≡ joined_to part joined → rebuilt waiting left ≡ whole → rebuilt new part ≡ whole
 put_aside waiting new joined left part whole n is h = ap (λ w. rebuilt w part) n ∙ rebuilt_push waiting joined part ∙ ap (rebuilt waiting) (sym is) ∙ h
 
--- what was put aside last is joined
+-- the invariant holds after a right operand is popped and joined
 pub taken_up : (waiting left : List Joined) (seen joined : Joined) (part new whole : Range) → waiting ≡ left ++ seen ∷ [] → seen ≡ joined → new ≡ joined_to part joined → rebuilt waiting part ≡ whole → rebuilt left new ≡ whole
 taken_up waiting left seen joined part new whole w s n h = ap (rebuilt left) (n ∙ ap (joined_to part) (sym s)) ∙ sym (rebuilt_push left seen part) ∙ ap (λ l. rebuilt l part) (sym w) ∙ h
 
--- what was put aside is smaller than the whole
+-- a pending operand, with its left side, is no larger than the whole
 waits_below : (waiting left : List Joined) (seen joined : Joined) (part whole : Range) → waiting ≡ left ++ seen ∷ [] → seen ≡ joined → rebuilt waiting part ≡ whole → size-Range (joined_to part joined) ≤ size-Range whole
 waits_below waiting left seen joined part whole w s h =
     let same = ap size-Range (taken_up waiting left seen joined part (joined_to part joined) whole w s refl h) in

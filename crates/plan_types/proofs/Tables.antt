@@ -8,7 +8,7 @@ pub pushed-row : (before : List Cond) (rows : List Row) (row : Row) → conds_be
 pushed-row before [] row = refl
 pushed-row before (first ∷ rows) row = pushed-row (before ++ cond_of before first ∷ []) rows row
 
--- what stands in a table stands in it where it has grown
+-- an entry of a table is still there after the table grows
 pub get-front : {X : Type 0} (xs ys : List X) (i : ℕ) (x : X) → slice_get xs i ≡ Some x → slice_get (xs ++ ys) i ≡ Some x
 get-front [] ys i x e = absurd (cc e)
 get-front (y ∷ xs) ys zero x e = e

@@ -11,16 +11,16 @@ same_text = pointwise nat_eq
 abbrev pub is_blank : ℕ → Bool
 is_blank b = b == 32 || b == 9
 
--- nothing but blanks
+-- blanks only
 abbrev pub Blanks : List ℕ → Type 0
 Blanks text = list_all is_blank text ≡ true
 
--- the first byte of a text is this one
+-- whether the text's first byte is this one
 abbrev pub begins_with : ℕ → List ℕ → Bool
 begins_with byte [] = false
 begins_with byte (b ∷ bs) = b == byte
 
--- the values of a field as one text, with a space between two
+-- the values of a field, joined by single spaces
 abbrev pub joined_text : List (List ℕ) → List ℕ
 joined_text [] = []
 joined_text (value ∷ []) = value

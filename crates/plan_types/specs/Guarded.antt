@@ -1,10 +1,10 @@
--- Dependencies under conditions, one by one.
+-- Dependencies under conditions.
 use Rattle.std.specs.Prelude.{◌≡◌, List, All, Some, map, flat_map, slice_get}
 use Rattle.plan_types.specs.declared.condition.Cond.{Cond}
 use Rattle.plan_types.specs.declared.dependency.Dep.{Dep}
 use Rattle.plan_types.specs.declared.description.DepGroup.{DepGroup}
 
--- a dependency, and the condition of the branches in which it stands
+-- a dependency, and the condition of the branches around it
 pub record GuardedDep : Type 0 where
   pub when : Cond
   pub dep : Dep
@@ -13,13 +13,13 @@ pub record GuardedDep : Type 0 where
 abbrev pub under : Cond → Dep → GuardedDep
 under when dep = record { when = when; dep = dep }
 
--- those of a group stand under its condition
+-- the dependencies of a group, each under the group's condition
 abbrev pub of_group : DepGroup → List GuardedDep
 of_group group = map (under group.when) group.deps
 
 abbrev pub in_groups : List DepGroup → List GuardedDep
 in_groups = flat_map of_group
 
--- the condition of each group stands in this table
+-- each group's number gives its condition in this table
 abbrev pub AreTabled : List Cond → List DepGroup → Type 0
 AreTabled conds = All (λ group. slice_get conds group.number ≡ Some group.when)

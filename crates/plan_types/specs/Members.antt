@@ -9,17 +9,17 @@ use Rattle.plan_types.specs.declared.range.Range.{Range}
 use Rattle.plan_types.specs.declared.range.Range.TheOpen.{Range-F, Any, Nothing, Equal, Prefix, AtLeast, Above, AtMost, Below, Major, Both, Either}
 use Rattle.plan_types.specs.declared.range.Range.TheFolds.{fold-Range}
 
--- how lists of numbers compare: 1.0 is below 1.0.0
+-- the lexicographic order of lists of numbers: 1.0 is below 1.0.0
 abbrev pub order : List ℕ → List ℕ → Ordering
 order = slice_cmp nat_cmp
 
--- where the versions that may stand for these end: the second number raised by one, a missing one being 0
+-- the exclusive end of a major version: the second number plus one, where a missing one is 0
 abbrev pub major_end : List ℕ → List ℕ
 major_end [] = []
 major_end (a ∷ []) = a ∷ 1 ∷ []
 major_end (a ∷ b ∷ ns) = a ∷ (b + 1) ∷ []
 
--- one layer of a range, with the members of its parts in their place
+-- the members of one layer of a range, from those of its parts
 abbrev pub members_step : Range-F (Version → Bool) → Version → Bool
 members_step Any v = true
 members_step Nothing v = false

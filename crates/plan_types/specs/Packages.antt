@@ -1,4 +1,4 @@
--- Words of components, instances and packages.
+-- Components, instances and packages.
 use Rattle.std.specs.Prelude.{ℕ, Bool, true, false, List, [], slice_index_or}
 use Rattle.plan_types.specs.declared.dependency.LibName.{LibName}
 use Rattle.plan_types.specs.declared.dependency.LibName.TheVariants as lib
@@ -23,7 +23,7 @@ abbrev pub is_main : LibName → Bool
 is_main lib.Main = true
 is_main (lib.Named name) = false
 
--- the main library is the one without a name
+-- a library's name; empty for the main one
 abbrev pub library_name : LibName → List ℕ
 library_name lib.Main = []
 library_name (lib.Named name) = name
@@ -38,7 +38,7 @@ abbrev pub is_installed : Body → Bool
 is_installed (Source description flat exposed) = false
 is_installed (Installed record_of needs) = true
 
--- what stands behind the last package
+-- the default for a place after the last package
 abbrev pub no_package : Package
 no_package = record { name = []; local = false; extra = false; entries = [] }
 
@@ -46,6 +46,6 @@ no_package = record { name = []; local = false; extra = false; entries = [] }
 abbrev pub package_at : List Package → ℕ → Package
 package_at packages p = slice_index_or packages p no_package
 
--- the instances of a package; none behind the last package
+-- the instances of a package; none after the last package
 abbrev pub entries_of : List Package → ℕ → List Entry
 entries_of packages p = (package_at packages p).entries

@@ -1,4 +1,4 @@
--- What a refusal tells.
+-- Refusals, faults, and the outcomes of steps.
 use Rattle.std.specs.Prelude.{ℕ, List, [], Result, Ok, Err}
 use Rattle.plan_types.specs.declared.refusal.Cause.{Cause}
 use Rattle.plan_types.specs.declared.refusal.Fault.{Fault}
@@ -9,28 +9,28 @@ use Rattle.plan_types.specs.declared.refusal.Halt.{Halt}
 use Rattle.plan_types.specs.declared.refusal.Halt.TheVariants as halt
 use Rattle.plan_types.specs.declared.refusal.Refusal.{Refusal}
 
--- a refusal of which nothing is said besides
+-- a refusal without a detail
 abbrev pub refusal_at : List ℕ → ℕ → Cause → Refusal
 refusal_at path line cause = record { path = path; line = line; cause = cause; detail = [] }
 
--- the fault of a text is a cause that has this, unless memory is wanting
+-- a text's fault is out of memory, or a cause with this property
 abbrev pub Refuses : (Cause → Type 0) → TextFault → Type 0
 Refuses P text_fault.NoMemory = Unit {0}
 Refuses P (text_fault.Bad cause) = P cause
 
--- the fault of a file is a line and a cause that have this, unless memory is wanting
+-- a file's fault is out of memory, or a line and a cause with this property
 abbrev pub RefusesAt : (ℕ → Cause → Type 0) → Fault → Type 0
 RefusesAt P fault.NoMemory = Unit {0}
 RefusesAt P (fault.At line cause) = P line cause
 
--- a step of a run answers such an outcome, unless the folder failed or memory was wanting
+-- a step's outcome has this property, unless a read failed or memory ran out
 abbrev pub Answers : {A : Type 0} → (Result A Refusal → Type 0) → Result A Halt → Type 0
 Answers Is (Ok a) = Is (Ok a)
 Answers Is (Err halt.NoMemory) = Unit {0}
 Answers Is (Err halt.Failed) = Unit {0}
 Answers Is (Err (halt.Refused refusal)) = Is (Err refusal)
 
--- the same where no folder is asked, so that nothing fails
+-- the same for a step that reads no folder, so that no read fails
 abbrev pub Settles : {A : Type 0} → (Result A Refusal → Type 0) → Result A Halt → Type 0
 Settles Is (Ok a) = Is (Ok a)
 Settles Is (Err halt.NoMemory) = Unit {0}

@@ -1,10 +1,10 @@
-// Conditions, what they are asked of, and settings of flags.
+// Conditions, the environment that decides them, and settings of flags.
 ghost use Rattle.std.specs.Prelude.{◌≡◌, IfOk};
 
 use crate::{NoMemory, Range, Shared, Text, Version};
 use std::alloc::Global;
 
-/// A condition, as it is written. Names are in lower case, and operating systems as they are compared.
+/// The syntax tree of a condition. Names are in lower case. The name of an operating system is its usual one.
 #[derive(Debug)]
 pub enum Cond {
     /// `true`
@@ -27,7 +27,7 @@ pub enum Cond {
     Or(Shared<Cond>, Shared<Cond>),
 }
 
-/// What a condition asks besides flags. All names are in lower case.
+/// The system, processor and compiler that decide tests other than flags. All names are in lower case.
 #[derive(Debug, Drop)]
 pub struct Env {
     pub os: Text,
@@ -44,7 +44,7 @@ pub struct FlagSet {
 }
 
 impl Cond {
-    /// The same condition, whose parts both hold.
+    /// A copy of the first layer, which shares the parts below.
     pub fn copy(&self, alloc: Global) -> Result<Cond, NoMemory>
         ensures { IfOk result (λ copied. copied ≡ self.now) }
     {
@@ -62,7 +62,8 @@ impl Cond {
     }
 }
 
-// Chains group from the left, so that the left side may be as deep as a file is long. What others hold too stays.
+// Chains are left-associative, so left operands may nest as deep as a file is long: a loop, not recursion.
+// The loop ends at the first part that is still shared.
 impl Drop for Cond {
     fn drop(mut self) {
         loop {

@@ -1,4 +1,4 @@
-// Conditions that are put together of each other.
+// Tables of conditions that share subconditions.
 ghost use Rattle.std.specs.Prelude.{◌≡◌, ◌++◌, [], ◌∷◌, Some, length, slice_get, IfOk, OnErr, OnOk};
 ghost use Rattle.plan_types.specs.Conditions.{cond_of, conds_of, numbered};
 
@@ -6,23 +6,23 @@ use crate::{Cond, Guard, List, NoMemory, Shared};
 use std::alloc::Global;
 use std::marker::Model;
 
-/// How a condition is put together of those with these numbers, which stand before it.
+/// A condition in a table, built from conditions of earlier rows by their numbers.
 #[derive(Debug, Drop)]
 pub enum Row {
-    /// Of its own tests.
+    /// A condition of its own.
     Own(Guard),
-    /// `!` of one of them.
+    /// `!` of an earlier one.
     Negated(usize),
-    /// `&&` of two.
+    /// `&&` of two earlier ones.
     Both(usize, usize),
 }
 
-/// Conditions, each by its number, which a contract sees as a list of them. What is counted of all of them is so counted row by
-/// row, where the conditions of a chain of branches would be as long together as the square of the chain.
+/// A table of conditions, which a contract sees as a list. Work on all of them goes row by row. Written out, the
+/// conditions of a chain of branches would have a total length quadratic in the chain.
 #[derive(Debug, Drop)]
 pub struct Conditions {
     rows: List<Row>,
-    /// What the rows stand for.
+    /// The condition of each row.
     guards: List<Guard>,
 }
 
@@ -43,7 +43,7 @@ impl Model for Conditions {
 }
 
 impl Conditions {
-    /// None so far.
+    /// The empty table.
     pub fn new(alloc: Global) -> Conditions
         ensures { result ≡ [] }
     {
@@ -53,7 +53,7 @@ impl Conditions {
         }
     }
 
-    /// Adds a condition. Its number is told.
+    /// Adds a condition and returns its number.
     pub fn push(&mut self, alloc: Global, row: Row) -> Result<usize, NoMemory>
         ensures added { OnOk result (self.new ≡ self.old ++ cond_of self.old row ∷ []) }
         ensures same { OnErr result (self.new ≡ self.old) }
@@ -85,7 +85,7 @@ impl Conditions {
         }
     }
 
-    /// The condition with this number, held once more; `true` where there is none.
+    /// A shared copy of the condition with this number; `true` if there is none.
     pub fn guard(&self, alloc: Global, number: usize) -> Result<Guard, NoMemory>
         ensures { IfOk result (λ guard. guard ≡ numbered self.now number) }
     {
@@ -95,7 +95,7 @@ impl Conditions {
         }
     }
 
-    /// How each is put together.
+    /// The rows of the table.
     pub fn rows(&self) -> &[Row]
         ensures { conds_of result.now ≡ self.now }
     {
@@ -103,7 +103,7 @@ impl Conditions {
     }
 }
 
-/// A condition, and where it stands in a table, which a contract sees as the condition itself.
+/// A condition and its place in a table, which a contract sees as the condition itself.
 #[derive(Debug, Drop)]
 pub struct TabledCond {
     cond: Guard,
@@ -127,7 +127,7 @@ impl Model for TabledCond {
 }
 
 impl TabledCond {
-    /// A condition that stands in a table.
+    /// A condition with its number in a table.
     pub fn new(cond: Guard, number: usize, conds: Shared<Conditions>) -> TabledCond
         requires { slice_get conds number ≡ Some cond }
         ensures { result ≡ cond }
@@ -139,7 +139,7 @@ impl TabledCond {
         }
     }
 
-    /// A condition that is a table of its own.
+    /// A condition in a table of its own.
     pub fn alone(alloc: Global, cond: Guard) -> Result<TabledCond, NoMemory>
         ensures { IfOk result (λ alone. alone ≡ cond) }
     {

@@ -1,7 +1,7 @@
-// What a project asks of its packages.
+// The constraints of a project.
 use crate::{FlagSet, List, Range, Text};
 
-/// Where a constraint holds: at top level, everywhere, in every setup script, or in that of a package.
+/// Where a constraint applies: at top level, everywhere, in every setup script, or in that of a package.
 #[derive(Debug, PartialEq, Eq, Drop)]
 pub enum Scope {
     Top,
@@ -10,7 +10,7 @@ pub enum Scope {
     SetupOf(Text),
 }
 
-/// What a constraint asks of a package.
+/// What a constraint requires of a package.
 #[derive(Debug, Drop)]
 pub enum What {
     Range(Range),

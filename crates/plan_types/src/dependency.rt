@@ -34,7 +34,7 @@ impl LibName {
     }
 }
 
-/// What a dependency is on: libraries, an executable that builds, or libraries of the setup script.
+/// The kind of a dependency: on libraries, on an executable for the build, or on libraries for the setup script.
 #[derive(Clone, Copy, Debug, PartialEq, Eq)]
 pub enum DepKind {
     Library,
@@ -45,16 +45,16 @@ pub enum DepKind {
 /// A dependency of a description.
 #[derive(Debug, Drop)]
 pub struct Dep {
-    /// Of the field's name, from 1.
+    /// The line of the field's name, from 1.
     pub line: u32,
     pub kind: DepKind,
     pub package: Text,
-    /// In the order in which they are written; none for a tool.
+    /// In written order; none for a tool.
     pub libs: List<LibName>,
     /// Empty unless the dependency is on a tool.
     pub exe: Text,
     pub range: Range,
-    /// Whether it means a component of the package itself.
+    /// Whether the target is a component of the same package.
     pub internal: bool,
 }
 
@@ -88,7 +88,7 @@ fn copy_libs(alloc: Global, libs: &List<LibName>) -> Result<List<LibName>, NoMem
     Ok(copied)
 }
 
-/// A package and the versions of it that are meant.
+/// A package and a range of its versions.
 #[derive(Debug, Drop)]
 pub struct Named {
     pub name: Text,

@@ -1,11 +1,11 @@
-// What a `.cabal` file says of its package.
+// The description of a package, from its `.cabal` file.
 ghost use Rattle.std.specs.Prelude.{◌≡◌, All};
 ghost use Rattle.plan_types.specs.Guarded.{AreTabled, in_groups};
 
 use crate::{Conditions, Dep, Guard, List, Shared, Spec, TabledCond, Text, Version};
 use std::marker::Model;
 
-/// What a component is.
+/// The kind of a component.
 #[derive(Clone, Copy, Debug, PartialEq, Eq)]
 pub enum CompKind {
     Library,
@@ -15,17 +15,17 @@ pub enum CompKind {
     Foreign,
 }
 
-/// Dependencies, and the condition of the branches in which they stand.
+/// Dependencies, and the condition of the branches around them.
 #[derive(Debug, Drop)]
 pub struct DepGroup {
     pub when: Guard,
-    /// Of the condition in the table of its component.
+    /// The number of the condition in the component's table.
     pub number: usize,
     pub deps: List<Shared<Dep>>,
 }
 
-/// Dependencies in file order, each under a condition, which a contract sees one by one. Those that stand beside each other in the
-/// same place are held together, and their conditions stand in a table.
+/// Dependencies in file order, each under a condition. A contract sees them one by one. Neighbours under the same
+/// branches form a group. The conditions of the groups are in a table.
 #[derive(Debug, Drop)]
 pub struct GuardedDeps {
     conds: Shared<Conditions>,
@@ -49,7 +49,7 @@ impl Model for GuardedDeps {
 }
 
 impl GuardedDeps {
-    /// Groups whose conditions stand in a table.
+    /// Groups whose conditions are in a table.
     pub fn new(conds: Shared<Conditions>, groups: List<DepGroup>) -> GuardedDeps
         requires { AreTabled conds groups }
         ensures { result ≡ in_groups groups }
@@ -57,14 +57,14 @@ impl GuardedDeps {
         GuardedDeps { conds, groups }
     }
 
-    /// The dependencies, place by place.
+    /// The dependencies, by groups.
     pub fn groups(&self) -> &[DepGroup]
         ensures { in_groups result.now ≡ self.now }
     {
         self.groups.as_slice()
     }
 
-    /// The table of their conditions as well.
+    /// The table of conditions, and the groups.
     pub fn tabled(&self) -> (&Conditions, &[DepGroup])
         ensures groups { in_groups result.1.now ≡ self.now }
         ensures tabled { AreTabled result.0.now result.1.now }
@@ -76,19 +76,19 @@ impl GuardedDeps {
 /// A component of a package.
 #[derive(Debug)]
 pub struct Component {
-    /// Of its section, from 1.
+    /// The line of its section, from 1.
     pub line: u32,
     pub kind: CompKind,
     /// Empty for the main library.
     pub name: Text,
-    /// Whether it is a library with a name of its own that others may use.
+    /// Whether it is a named library that other packages may use.
     pub public: bool,
     pub buildable: TabledCond,
-    /// In file order, imported ones in front.
+    /// In file order, imported ones first.
     pub deps: GuardedDeps,
 }
 
-// Written out, so that it is proved once and not at each exit of each function that owns one.
+// Explicit, so that it is proved once: a derived one is expanded at each exit.
 impl Drop for Component {
     fn drop(self) {
         let Component {
@@ -105,27 +105,27 @@ impl Drop for Component {
 /// A flag that a package declares. Its name is in lower case.
 #[derive(Debug, PartialEq, Eq, Drop)]
 pub struct FlagDecl {
-    /// Of its section, from 1.
+    /// The line of its section, from 1.
     pub line: u32,
     pub name: Text,
     pub default: bool,
-    /// Whether the planner may choose its default alone, unless a constraint gives it.
+    /// Whether the planner may choose only its default, unless a constraint sets it.
     pub manual: bool,
 }
 
-/// What a `.cabal` file says of its package.
+/// The contents of a `.cabal` file.
 #[derive(Debug)]
 pub struct Description {
     pub spec: Spec,
     pub name: Text,
     pub version: Version,
-    /// Whether it builds by a setup script of its own.
+    /// Whether the package has a setup script of its own.
     pub custom: bool,
     /// In the order of their names.
     pub flags: List<FlagDecl>,
     /// In file order.
     pub components: List<Component>,
-    /// Of the setup script. Those that nobody wrote have the line 0.
+    /// The dependencies of the setup script. Default ones have the line 0.
     pub setup: List<Dep>,
     /// The SHA-256 of the file, as digits in lower case.
     pub digest: Text,
@@ -133,7 +133,7 @@ pub struct Description {
     pub warnings: List<u32>,
 }
 
-// Written out, so that it is proved once and not at each exit of each function that owns one.
+// Explicit, so that it is proved once: a derived one is expanded at each exit.
 impl Drop for Description {
     fn drop(self) {
         let Description {

@@ -5,8 +5,7 @@ ghost use Rattle.plan_types.specs.Bytes.{joined_text};
 use crate::{List, NoMemory, Text};
 use std::alloc::Global;
 
-/// A part of a file: a field, or a section with items of its own. Lines are numbered from 1, and
-/// names are in lower case.
+/// A part of a file: a field, or a section with its own items. Lines are numbered from 1. Names are in lower case.
 #[derive(Debug, Drop)]
 pub enum Element {
     Field {
@@ -22,7 +21,7 @@ pub enum Element {
     },
 }
 
-/// The text of a field, where it is read further: its values joined by one space.
+/// The text of a field: its values joined by single spaces.
 pub fn joined_text(alloc: Global, values: &[Text]) -> Result<Text, NoMemory>
     ensures { IfOk result (λ text. text ≡ joined_text values.now) }
 {

@@ -1,4 +1,4 @@
-// A condition that several hold.
+// A shared condition.
 ghost use Rattle.std.specs.Prelude.{◌≡◌, IfOk};
 ghost use Rattle.plan_types.specs.declared.condition.Cond.TheVariants.{Not, And};
 
@@ -6,7 +6,7 @@ use crate::{Cond, NoMemory, Shared};
 use std::alloc::Global;
 use std::marker::Model;
 
-/// A condition that several hold, which a contract sees as the condition itself.
+/// A shared condition, which a contract sees as the condition itself.
 #[derive(Debug, Drop)]
 pub struct Guard {
     cond: Shared<Cond>,
@@ -25,7 +25,7 @@ impl Model for Guard {
 }
 
 impl Guard {
-    /// A condition that others may hold too.
+    /// Makes a condition that can be shared.
     pub fn new(alloc: Global, cond: Cond) -> Result<Guard, NoMemory>
         ensures { IfOk result (λ guard. guard ≡ cond) }
     {
@@ -33,7 +33,7 @@ impl Guard {
         Ok(Guard { cond })
     }
 
-    /// The same condition, held once more.
+    /// One more reference to the same condition.
     pub fn copy(&self) -> Result<Guard, NoMemory>
         ensures { IfOk result (λ copied. copied ≡ self.now) }
     {
@@ -41,7 +41,7 @@ impl Guard {
         Ok(Guard { cond })
     }
 
-    /// The condition that is held.
+    /// The condition itself.
     pub fn get(&self) -> &Cond
         ensures { result.now ≡ self.now }
     {

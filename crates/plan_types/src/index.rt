@@ -11,14 +11,14 @@ pub enum PartName {
     Benches,
 }
 
-/// A part that a dependency asks to be on or off.
+/// The value of a flag or stanza under which a dependency counts.
 #[derive(Debug, PartialEq, Eq, Drop)]
 pub struct Literal {
     pub part: PartName,
     pub on: bool,
 }
 
-/// A dependency, and what has to be on or off for it to count.
+/// A dependency that counts only where all its literals are true.
 #[derive(Debug, Drop)]
 pub struct FlatDep {
     pub when: List<Literal>,
@@ -26,7 +26,7 @@ pub struct FlatDep {
     pub dep: Shared<Dep>,
 }
 
-/// What others may use of a package.
+/// The libraries and executables of a package that other packages may use.
 #[derive(Debug, PartialEq, Eq, Drop)]
 pub struct Exposed {
     pub libs: List<LibName>,
@@ -61,7 +61,7 @@ pub struct Instance {
     pub unit: Text,
 }
 
-/// What is known of an instance.
+/// The data of an instance: a description, or the record of a unit.
 #[derive(Debug, Drop)]
 pub enum Body {
     Source {
@@ -99,19 +99,19 @@ impl Body {
     }
 }
 
-/// An instance and what is known of it.
+/// An instance and its data.
 #[derive(Debug, Drop)]
 pub struct Entry {
     pub instance: Instance,
     pub body: Body,
 }
 
-/// A package and its instances, which are named by their places.
+/// A package and its instances. An instance's number is its place in the list.
 #[derive(Debug, Drop)]
 pub struct Package {
     pub name: Text,
     pub local: bool,
-    /// Whether the project asks for it besides its local packages.
+    /// Whether the project plans it besides its local packages.
     pub extra: bool,
     pub entries: List<Entry>,
 }
@@ -145,7 +145,7 @@ pub struct Skipped {
     pub cause: Cause,
 }
 
-/// Something that was accepted unread and that a user should know of.
+/// A field or section that was accepted unread, for the user's information.
 #[derive(Debug, PartialEq, Eq, Drop)]
 pub struct Warning {
     pub path: Text,

@@ -1,4 +1,5 @@
-//! Plain data of the planner: versions and ranges, conditions, descriptions, projects and indexes, and what is refused.
+//! The planner's data types: versions and ranges, conditions, descriptions, projects, indexes and refusals. Nothing is
+//! read or planned here. The contracts define names, the members of a range, and conditions by number in a table.
 #![tactic(auto)]
 
 mod condition;

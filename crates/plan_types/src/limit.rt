@@ -2,6 +2,6 @@
 #[derive(Clone, Copy, Debug, Drop, PartialEq, Eq)]
 pub enum Limit {
     Unlimited,
-    /// The number of exhausted points that are counted; the next one, where it isn't the first point, ends the search.
+    /// At most this many exhausted points. One more ends the search, unless it is the root.
     At(u64),
 }

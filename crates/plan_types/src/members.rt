@@ -1,4 +1,4 @@
-// Which versions a range has.
+// The members of a range.
 ghost use Rattle.std.specs.Prelude.{◌≡◌, ◌+◌, ◌&&◌, [], ◌∷◌};
 ghost use Rattle.std.specs.Ordering.{is_lt};
 ghost use Rattle.plan_types.specs.Members.{members, major_end, order};
@@ -10,7 +10,7 @@ impl Range {
     pub fn has(&self, v: &Version) -> bool
         ensures { result ≡ members self.now v.now }
     {
-        // Chains group from the left, so the right sides are asked first.
+        // Chains are left-associative, so the loop descends on the left and recursion takes the right.
         let mut range = self;
         loop {
             match range {
@@ -43,7 +43,7 @@ impl Range {
     }
 }
 
-// The numbers are below the end of the versions that may stand for x.
+// Whether the numbers are below the end of the major version of x.
 fn ends_before(numbers: &[u32], x: &[u32]) -> bool
     ensures { result ≡ is_lt (order numbers.now (major_end x.now)) }
 {
@@ -54,7 +54,7 @@ fn ends_before(numbers: &[u32], x: &[u32]) -> bool
     }
 }
 
-// The first two numbers are at most these.
+// Whether the first two numbers are at most a and b.
 fn are_at_most(numbers: &[u32], a: u32, b: u32) -> bool
     ensures { result ≡ is_lt (order numbers.now (a ∷ (b + 1) ∷ [])) }
 {

@@ -1,18 +1,18 @@
-// What is planned, and how.
+// A project and the settings of a plan.
 use crate::{Constraint, Env, Limit, List, Named, Relax, Text, Warning};
 
-/// Where local packages are looked for.
+/// An entry of `packages` or `optional-packages`: where to look for local packages.
 #[derive(Debug, PartialEq, Eq, Drop)]
 pub struct ProjectEntry {
     pub path: Text,
-    /// Of the field, from 1; 0 where no file has it.
+    /// The line of the field, from 1; 0 if no file has it.
     pub line: u32,
     pub text: Text,
     /// Whether it may match nothing.
     pub optional: bool,
 }
 
-/// What the project files say.
+/// The contents of the project files.
 #[derive(Debug)]
 pub struct Project {
     pub entries: List<ProjectEntry>,
@@ -31,7 +31,7 @@ pub struct Project {
     pub warnings: List<Warning>,
 }
 
-// Written out, so that it is proved once and not at each exit of each function that owns one.
+// Explicit, so that it is proved once: a derived one is expanded at each exit.
 impl Drop for Project {
     fn drop(self) {
         let Project {
@@ -51,7 +51,7 @@ impl Drop for Project {
     }
 }
 
-/// What a plan is made for.
+/// The environment and project of a plan, and the limit of its search.
 #[derive(Debug, Drop)]
 pub struct Settings {
     pub env: Env,

@@ -7,7 +7,7 @@ ghost use Rattle.plan_types.specs.Format.{is_old, has_bare_libraries};
 use crate::{Boxed, NoMemory, Version};
 use std::alloc::Global;
 
-/// The cabal-version of a file, which says what its texts may hold and mean.
+/// The cabal-version of a file, which decides the syntax and meaning of its texts.
 #[derive(Clone, Copy, Debug, PartialEq, Eq)]
 pub enum Spec {
     V2_4,
@@ -16,7 +16,7 @@ pub enum Spec {
 }
 
 impl Spec {
-    /// Sets of versions, libraries of a package by name, `visibility` and imports in branches came with 3.0.
+    /// Before 3.0, which brought sets of versions, libraries by name, `visibility` and imports in branches.
     pub fn is_old(self) -> bool
         ensures { result ≡ is_old self }
     {
@@ -26,7 +26,7 @@ impl Spec {
         }
     }
 
-    /// Whether the name of an own library stands for it in place of a package, as it did before 3.4.
+    /// Whether the bare name of an own library means that library and not a package. This was so before 3.4.
     pub fn has_bare_libraries(self) -> bool
         ensures { result ≡ has_bare_libraries self }
     {
@@ -37,7 +37,7 @@ impl Spec {
     }
 }
 
-/// A set of versions, as it is written.
+/// The syntax tree of a set of versions.
 #[derive(Debug)]
 pub enum Range {
     /// `-any`
@@ -64,7 +64,7 @@ pub enum Range {
     Either(Boxed<Range>, Boxed<Range>),
 }
 
-/// What joins a right side to the left side before it.
+/// An operator and its right operand, while the left operand is copied.
 #[derive(Clone, Copy)]
 pub enum Joined<'a> {
     Both(&'a Range),
@@ -87,7 +87,7 @@ impl Range {
     }
 }
 
-// The first operand. The left side may be as deep as a file is long, so what is joined to it is put aside.
+// Copies the leftmost operand and pushes the right ones. A loop, as left operands may nest as deep as a file is long.
 fn copy_first<'a>(
     alloc: Global,
     waiting: &mut Vec<Joined<'a>>,
@@ -136,7 +136,7 @@ fn either(alloc: Global, left: Range, right: Range) -> Result<Range, NoMemory>
     Ok(Range::Either(left, right))
 }
 
-// Chains group from the left, so that the left side may be as deep as a file is long.
+// Chains are left-associative, so left operands may nest as deep as a file is long: a loop, not recursion.
 impl Drop for Range {
     fn drop(mut self) {
         loop {

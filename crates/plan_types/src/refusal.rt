@@ -12,13 +12,13 @@ use std::alloc::Global;
 pub enum Cause {
     /// The bytes aren't UTF-8.
     NotUtf8,
-    /// A brace where none may stand.
+    /// A brace where none is allowed.
     StrayBrace,
     /// A brace that is never closed.
     UnclosedBrace,
     /// A name is missing, or isn't of its form.
     BadName,
-    /// More than 64 constructs are open at a place.
+    /// More than 64 constructs are open at once.
     TooDeep,
     /// A version isn't of its form.
     BadVersion,
@@ -36,9 +36,9 @@ pub enum Cause {
     MissingField,
     /// A description is of another cabal-version than those that are read.
     WrongCabalVersion,
-    /// A value or a section that may not stand where it does.
+    /// A value or a section that isn't allowed here.
     BadField,
-    /// A second thing of one name, or a library that is named as its package.
+    /// A name that is already taken, or a library with the name of its package.
     DuplicateName,
     /// An import names no common stanza before it.
     UnknownStanza,
@@ -54,9 +54,9 @@ pub enum Cause {
     ComponentCycle,
     /// More than 256 ways to set the flags of a dependency's condition.
     TooManyPaths,
-    /// Of a project: it is Cabal's, and this planner leaves it out.
+    /// In a project: a feature of Cabal's that this planner doesn't have.
     Unsupported,
-    /// An entry of a project gives no file.
+    /// An entry of a project matches no file.
     NoMatch,
     /// A directory of a project has more than one `.cabal` file.
     TwoCabalFiles,
@@ -72,7 +72,7 @@ pub enum Cause {
     DuplicateLocal,
     /// A unit has the id of an earlier one.
     DuplicateUnit,
-    /// There are more files, or more bytes in them, than are read.
+    /// There are more files, or more bytes in them, than the limit.
     TooMany,
     /// A line of a file of build events can't be read.
     BadEvent,
@@ -93,11 +93,11 @@ impl From<NoMemory> for Fault {
     }
 }
 
-/// What ends a step of a run before its answer.
+/// Why a step of a run ends without a result.
 #[derive(Debug, PartialEq, Eq, Drop)]
 pub enum Halt {
     NoMemory,
-    /// The outside failed.
+    /// A failed read.
     Failed,
     Refused(Refusal),
 }
@@ -125,7 +125,7 @@ impl From<NoMemory> for TextFault {
     }
 }
 
-/// What is refused: the file, the line (0 where it has none), the cause, and what is said besides.
+/// A refusal: the file, the line (0 for none), the cause, and a detail that depends on the cause.
 #[derive(Debug, PartialEq, Eq, Drop)]
 pub struct Refusal {
     pub path: Text,
@@ -137,7 +137,7 @@ pub struct Refusal {
 impl Refusal {
     ghost use Rattle.plan_types.specs.Refusal.{refusal_at};
 
-    /// A refusal of which nothing is said besides.
+    /// A refusal without a detail.
     pub fn at(alloc: Global, path: Text, line: u32, cause: Cause) -> Refusal
         ensures { result ≡ refusal_at path line cause }
     {

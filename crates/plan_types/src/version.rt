@@ -21,7 +21,7 @@ impl Version {
         self.parts.as_slice().cmp(other.parts.as_slice())
     }
 
-    /// Makes it `0`, the least version.
+    /// Sets the version to `0`, the least one.
     pub fn make_least(&mut self)
         requires { 0 < length self.old.parts }
         ensures { self.new.parts ≡ 0 ∷ [] }

@@ -2,7 +2,7 @@ use Rattle.std.proofs.Common.{◌≡◌, ◌++◌, length}
 use Rattle.plan_types.specs.Bytes.{joined_text}
 use Rattle.plan_types.proofs.element.joined_text.Given as goal
 
--- with what is left the text is whole
+-- the text so far and the rest make the whole text
 abbrev pub invariant-loop-rest : goal.invariant-loop-rest
 invariant-loop-rest l = l.text ++ joined_text l.rest ≡ joined_text l.values
 

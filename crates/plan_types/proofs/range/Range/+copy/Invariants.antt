@@ -6,7 +6,7 @@ use Rattle.plan_types.proofs.range.Range.+copy.Given as goal
 abbrev pub decreases-copy : goal.decreases-copy
 decreases-copy l = size-Range l.self.now
 
--- what is copied, and what was put aside, make the whole
+-- the copy so far and the pending operands make the whole
 abbrev pub invariant-loop-joined : goal.invariant-loop-joined
 invariant-loop-joined l = rebuilt l.waiting.items l.copied ≡ l.self
 
