@@ -1,4 +1,4 @@
--- What holds of each member of a list, and of some.
+-- Lemmas on properties of all members of a list, and of some member.
 use Rattle.std.proofs.Common.{◌≡◌, ℕ, zero, suc, Bool, true, false, ◌&&◌, ◌||◌, cond, inl, inr, List, [], ◌∷◌, ◌++◌, map, flat_map, filter, Some, refl, ap, ◌∙◌, subst}
 use Rattle.std.specs.List.{AllByRecursion, list_all, list_any, slice_get}
 use Rattle.std.proofs.lemmas.Bool.{false≢true, and_from, and_parts, or_cases, or_left, or_right}
@@ -26,7 +26,7 @@ pub each-of-flat : {A B : Type 0} (P : B → Type 0) (f : A → List B) (xs : Li
 each-of-flat P f [] h = tt
 each-of-flat P f (x ∷ xs) h = (each-front P (f x) (flat_map f xs) h, each-of-flat P f xs (each-back P (f x) (flat_map f xs) h))
 
--- what holds of anything
+-- a property of everything
 pub each-any : {A : Type 0} (P : A → Type 0) (xs : List A) → ((x : A) → P x) → AllByRecursion P xs
 each-any P [] f = tt
 each-any P (x ∷ xs) f = (f x, each-any P xs f)
@@ -39,7 +39,7 @@ pub each-of-map : {A B : Type 0} (P : B → Type 0) (f : A → B) (xs : List A) 
 each-of-map P f [] h = tt
 each-of-map P f (x ∷ xs) h = (h.0, each-of-map P f xs h.1)
 
--- what follows from one fact of each, or from two
+-- a consequence of one property of all members, or of two
 pub each-then : {A : Type 0} (P Q : A → Type 0) (xs : List A) → ((x : A) → P x → Q x) → AllByRecursion P xs → AllByRecursion Q xs
 each-then P Q [] f h = tt
 each-then P Q (x ∷ xs) f h = (f x h.0, each-then P Q xs f h.1)
@@ -48,7 +48,7 @@ pub each-both : {A : Type 0} (P Q R : A → Type 0) (xs : List A) → ((x : A) �
 each-both P Q R [] f h k = tt
 each-both P Q R (x ∷ xs) f h k = (f x h.0 k.0, each-both P Q R xs f h.1 k.1)
 
--- a member that passes a test has what each that passes has
+-- a property of all members that pass a test
 pub each-passed : {A : Type 0} (p : A → Bool) (P : A → Type 0) (xs : List A) → AllByRecursion (λ x. p x ≡ true → P x) xs → AllByRecursion P (filter p xs)
 each-passed p P [] h = tt
 each-passed p P (x ∷ xs) h =
@@ -85,7 +85,7 @@ filter-none p (x ∷ xs) h = ap (λ b. cond b (x ∷ filter p xs) (filter p xs))
 
 -- ---- some member
 
--- some member passes, and what each that passes gives is had
+-- elimination: some member passes, and each that passes implies G
 pub from-some : {A : Type 0} (p : A → Bool) (G : Type 0) (xs : List A) → AllByRecursion (λ x. p x ≡ true → G) xs → list_any p xs ≡ true → G
 from-some p G [] h some = absurd (false≢true some)
 from-some p G (x ∷ xs) h some = elim (or_cases (p x) (list_any p xs) some) [
@@ -104,7 +104,7 @@ pub some-map : {A B : Type 0} (p : B → Bool) (f : A → B) (xs : List A) → l
 some-map p f [] = refl
 some-map p f (x ∷ xs) = ap (λ b. p (f x) || b) (some-map p f xs)
 
--- one that passes both tests is kept by the one
+-- a member that passes both tests is in the list that one test filters
 pub some-kept : {A : Type 0} (keep p : A → Bool) (xs : List A) → list_any (λ x. keep x && p x) xs ≡ true → list_any p (filter keep xs) ≡ true
 some-kept keep p [] some = absurd (false≢true some)
 some-kept keep p (x ∷ xs) some =

@@ -1,25 +1,25 @@
--- Paths, and graphs in which each node has the list of those that it needs.
+-- Graphs as adjacency lists (for each node the nodes that it needs), and paths.
 use Rattle.std.proofs.Common.{arith}
 use Rattle.std.specs.Prelude.{◌≡◌, ◌<◌, ℕ, zero, suc, Bool, true, false, List, [], ◌∷◌, length, All, Contains, slice_index_or}
 
--- one edge or more, each from where the one before it ends
+-- a path of one or more edges
 pub data IsPath {X : Type 0} (Edge : X → X → Type 0) : X → X → Type 0 where
   last : {v w : X} → Edge v w → IsPath Edge v w
   more : {v w x : X} → Edge v w → IsPath Edge w x → IsPath Edge v x
 
--- no path leads back to where it began
+-- there is no cycle
 abbrev pub HasNoCycle : {X : Type 0} → (X → X → Type 0) → Type 0
 HasNoCycle Edge = (v : _) → IsPath Edge v v → ⊥
 
--- u needs v
+-- an edge from u to v: u needs v
 abbrev pub Needs : List (List ℕ) → ℕ → ℕ → Type 0
 Needs needs u v = Contains (slice_index_or needs u []) v
 
--- each node that is needed is there
+-- well-formed: each edge leads to a node of the graph
 abbrev pub IsGraph : List (List ℕ) → Type 0
 IsGraph needs = All (All (λ v. v < length needs)) needs
 
--- a node has a mark
+-- a node is marked
 abbrev pub IsMarked : List Bool → ℕ → Type 0
 IsMarked marked u = slice_index_or marked u false ≡ true
 

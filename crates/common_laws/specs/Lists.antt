@@ -1,4 +1,4 @@
--- Lists: members, tests of all and of some, filters, pairs, and what stands at a place.
+-- Lemmas on lists: members, tests of all and of some, filters, pairs, and indices.
 use Rattle.std.proofs.Common.{◌≡◌, ◌≢◌, ℕ, zero, suc, ◌+◌, ◌<◌, Bool, true, false, cond, ◌&&◌, ◌||◌, List, [], ◌∷◌, ◌++◌, length, map, take, drop, get_or, refl, sym, ap, ◌∙◌, subst, inl, inr, arith, ◌⊎◌, add-one}
 use Rattle.std.specs.List.{Contains, All, AllPairs, filter, flat_map, list_all, list_any}
 use Rattle.std.proofs.Math.Seq.{drop-cons}
@@ -36,7 +36,7 @@ contains-append (y ∷ xs) ys x h =
       | inr k ↦ elim (contains-append xs ys x k) [ inl l ↦ inl (contains-tail y xs x l) | inr r ↦ inr r ]
     ]
 
--- where an item of a joined list comes from
+-- an item of a `flat_map` comes from some item of the list
 pub contains-flat_map : {X Y : Type 0} (f : X → List Y) (xs : List X) (y : Y) → Contains (flat_map f xs) y → (x : X) × Contains xs x × Contains (f x) y
 contains-flat_map f [] y h = absurd (contains-none y h)
 contains-flat_map f (x ∷ xs) y h =
@@ -69,7 +69,7 @@ contains-map f (x ∷ xs) y h =
       | inr r ↦ let found = contains-map f xs y r in (found.0, contains-tail x xs found.0 found.1, found.2)
     ]
 
--- an item that a filter kept is an item that passes
+-- a kept item is in the list and passes the test
 pub contains-filter : {X : Type 0} (test : X → Bool) (xs : List X) (x : X) → Contains (filter test xs) x → Contains xs x × (test x ≡ true)
 contains-filter test [] x h = absurd (contains-none x h)
 contains-filter test (y ∷ xs) x h =
@@ -81,7 +81,7 @@ contains-filter test (y ∷ xs) x h =
       | false ↦ λ is k. let found = contains-filter test xs x k in (contains-tail y xs x found.0, found.1)
     ] refl h
 
--- a filter that keeps nothing
+-- if a filter keeps nothing, no item passes
 pub filter-none : {X : Type 0} (test : X → Bool) (xs : List X) → filter test xs ≡ [] → (x : X) → Contains xs x → test x ≡ false
 filter-none test [] e x h = absurd (contains-none x h)
 filter-none test (y ∷ xs) e x h =
@@ -110,12 +110,12 @@ pub all-flat_map : {X Y : Type 0} (test : Y → Bool) (f : X → List Y) (xs : L
 all-flat_map test f [] = refl
 all-flat_map test f (x ∷ xs) = all-append test (f x) (flat_map f xs) ∙ ap (λ b. list_all test (f x) && b) (all-flat_map test f xs)
 
--- what follows equal fronts is equal
+-- equal prefixes cancel
 pub cancel-front : {X : Type 0} (xs ys zs : List X) → xs ++ ys ≡ xs ++ zs → ys ≡ zs
 cancel-front [] ys zs h = h
 cancel-front (x ∷ xs) ys zs h = cancel-front xs ys zs (cc h)
 
--- an item of which one was taken out
+-- a list without one occurrence of an item
 pub without : {X : Type 0} (xs : List X) (x : X) → Contains xs x → (rest : List X) × (suc (length rest) ≡ length xs) × ((y : X) → Contains xs y → (x ≡ y → ⊥) → Contains rest y)
 without [] x h = absurd (contains-none x h)
 without (z ∷ xs) x h =
@@ -138,7 +138,7 @@ once-head x xs h k = h 0 (suc k.0) x (omega arith) (omega (arith, k.1)) (sym k.2
 pub once-tail : {X : Type 0} (x : X) (xs : List X) → AllPairs (λ a b. a ≢ b) (x ∷ xs) → AllPairs (λ a b. a ≢ b) xs
 once-tail x xs h i j d l k = h (suc i) (suc j) d (omega (arith, l)) (omega (arith, k))
 
--- where each item stands once, what is earlier than an item stands in front of it
+-- in a list without repetition, an item before `a` is in the prefix that ends at `a`
 pub earlier-in-front : {X : Type 0} (a b : X) (front rest before between after : List X)
     → AllPairs (λ x y. x ≢ y) (front ++ a ∷ rest) → front ++ a ∷ rest ≡ before ++ (b ∷ between ++ (a ∷ after)) → Contains front b
 earlier-in-front a b [] rest [] between after once e =
@@ -202,14 +202,14 @@ filter-contains test (y ∷ xs) x h k =
       ]
     ] refl
 
--- a filter by a test that says the same of each member
+-- filters by tests that agree on each member
 pub filter-same : {X : Type 0} (test other : X → Bool) (xs : List X) → ((x : X) → Contains xs x → test x ≡ other x) → filter test xs ≡ filter other xs
 filter-same test other [] h = refl
 filter-same test other (x ∷ xs) h =
     ap (λ b. cond b (x ∷ filter test xs) (filter test xs)) (h x (contains-head x xs))
     ∙ ap (λ l. cond (other x) (x ∷ l) l) (filter-same test other xs (λ y k. h y (contains-tail x xs y k)))
 
--- one filter behind another
+-- two filters in a row
 pub filter-twice : {X : Type 0} (test other : X → Bool) (xs : List X) → filter other (filter test xs) ≡ filter (λ x. test x && other x) xs
 filter-twice test other [] = refl
 filter-twice test other (x ∷ xs) =

@@ -1,4 +1,4 @@
--- What the elements of lists pass.
+-- Lemmas on boolean tests of all elements of a list, and of some element.
 use Rattle.std.proofs.Common.{◌≡◌, Bool, true, false, ◌&&◌, inl, inr, List, [], ◌∷◌, ◌++◌, map, flat_map, filter, cond, refl}
 use Rattle.std.specs.List.{list_all, list_any, AllByRecursion}
 use Rattle.std.proofs.lemmas.Bool.{false≢true, and_parts, and_from, or_left, or_right, or_cases}
@@ -15,7 +15,7 @@ all-front p (x ∷ xs) ys h =
     let parts = and_parts (p x) (list_all p (xs ++ ys)) h in
     and_from (p x) (list_all p xs) parts.0 (all-front p xs ys parts.1)
 
--- a test that says less
+-- a weaker test
 pub all-less : {A : Type 0} (p q : A → Bool) → ((x : A) → p x ≡ true → q x ≡ true) → (xs : List A) → list_all p xs ≡ true → list_all q xs ≡ true
 all-less p q less [] h = refl
 all-less p q less (x ∷ xs) h =

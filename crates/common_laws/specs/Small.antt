@@ -58,7 +58,7 @@ on-err (Err e) P h = h
 
 -- ---- numbers
 
--- a number, or the greatest that 64 bits hold
+-- the minimum of a number and the greatest 64-bit number
 abbrev pub capped : ℕ → ℕ
 capped n = min n (2 ^ 64 - 1)
 
