@@ -1,4 +1,4 @@
--- Where a text may be cut: behind bytes that are all ASCII.
+-- Character boundaries: after a prefix of ASCII bytes.
 use Rattle.std.proofs.Common.{◌≡◌, ℕ, zero, suc, ◌<◌, Bool, true, List, get_or, refl, subst, arith}
 use Rattle.std.specs.List.{prefix_len}
 use Rattle.std.specs.Str.{IsUtf8, IsCharBoundary}
@@ -7,7 +7,7 @@ use Rattle.std.proofs.lemmas.Str.{IsCharBoundary-start, IsCharBoundary-after_asc
 use Rattle.std.proofs.lemmas.Bool.Decides.{nat_tests}
 use Rattle.plan_types.specs.Bytes.{is_blank}
 
--- where a test passes ASCII alone
+-- a test passes only ASCII bytes
 abbrev pub PassesAscii : (ℕ → Bool) → Type 0
 PassesAscii p = (b : ℕ) → p b ≡ true → b < 128
 
@@ -18,7 +18,7 @@ boundary-at p text (suc n) ascii u e =
     let low : get_or text n 0 < 128 = ascii (get_or text n 0) (prefix_len_passes p text n 0 (omega arith)) in
     subst (λ k. IsCharBoundary text k) (omega arith) (IsCharBoundary-after_ascii text n u (omega arith) low)
 
--- a text may be cut behind its first bytes that pass
+-- the end of the longest prefix that passes is a character boundary
 pub boundary_front : (p : ℕ → Bool) (text : List ℕ) → PassesAscii p → IsUtf8 text → IsCharBoundary text (prefix_len p text)
 boundary_front p text ascii u = boundary-at p text (prefix_len p text) ascii u refl
 

@@ -1,4 +1,4 @@
--- Parts read one after the other, against the language of their chains.
+-- A reader of chains is correct for the language of chains.
 use Rattle.std.proofs.Common.{◌≡◌, ◌≢◌, ℕ, zero, suc, ◌+◌, ◌<◌, true, List, [], ◌∷◌, ◌++◌, length, Option, Some, None, Result, Ok, Err, refl, sym, ap, ◌∙◌, subst, append_assoc, append-nil, length-append, arith}
 use Rattle.plan_types.specs.declared.refusal.Cause.{Cause}
 use Rattle.plan_types.specs.declared.refusal.TextFault.TheVariants.{Bad}
@@ -8,14 +8,14 @@ use Rattle.text_grammar.proofs.TextKind.{Kind}
 use Rattle.text_grammar.proofs.Chains.{Goes, begun, goes_on, is_done, ends, step, stop, broken}
 use Rattle.text_grammar.proofs.Fronts.{Reader, errs, ends_some, Read, Fault, fault_up}
 
--- a reader of what comes next, if anything does
+-- a reader of an optional next part
 abbrev pub Option-Reader : Type 0 → Type 0
 Option-Reader B = List ℕ → Result (Option (B × List ℕ)) Cause
 
 abbrev pub all_of : {A B : Type 0} → (A → B → A) → Reader A → Option-Reader B → Reader A
 all_of join first next text = first text >>= chained join next
 
--- The readers read these languages, where E tells which texts may follow.
+-- The readers are correct for these languages; E relates a text to the texts that may follow it.
 pub record Parts {A B : Type 0} (First : List ℕ → A → Type 0) (Next : List ℕ → B → Type 0) (E : List ℕ → List ℕ → Type 0) (first : Reader A) (next : Option-Reader B) : Type 0 where
   pub first_reads : (text : List ℕ) (x : A) (rest : List ℕ) → First text x → E text rest → first (text ++ rest) ≡ Ok (x, rest)
   pub first_read : (text : List ℕ) (x : A) (rest : List ℕ) → first text ≡ Ok (x, rest) → Read First E text x rest
@@ -44,7 +44,7 @@ pub err_of : {A : Type 0} (read : Result A Cause) → errs read ≡ true → (ca
 err_of (Ok x) h = absurd (cc h)
 err_of (Err cause) h = (cause, refl)
 
--- what is read where something comes next
+-- a read as that of a present next part
 abbrev pub as_next : {B : Type 0} → Result (B × List ℕ) Cause → Result (Option (B × List ℕ)) Cause
 as_next read = read >>= λ p. Ok (Some p)
 
@@ -79,7 +79,7 @@ module _ {A B : Type 0} (join : A → B → A) (First : List ℕ → A → Type 
   pub reads : {text : List ℕ} {x : A} → Chain join First Next text x → (rest : List ℕ) → E text rest → next rest ≡ Ok None → all_of join first next (text ++ rest) ≡ Ok (x, rest)
   reads {text} {x} c rest e none = is_done join next x rest (all_of join first next (text ++ rest)) (reach c rest e) none
 
-  -- what was read, with nothing more behind it
+  -- a whole chain was read, and no part follows
   pub record AllRead (text : List ℕ) (x : A) (rest : List ℕ) : Type 0 where
     pub read : Read (Chain join First Next) E text x rest
     pub none : next rest ≡ Ok None
@@ -123,14 +123,14 @@ pub map_chain : {A B : Type 0} (join : A → B → A) (First First' : List ℕ �
 map_chain join First First' Next Next' f g {text} {x} (one h) = one (f text x h)
 map_chain join First First' Next Next' f g (more {next = front} {right = right} c n) = more (map_chain join First First' Next Next' f g c) (g front right n)
 
--- The same with one more parenthesis: the faults of the whole are those of its parts.
+-- The same for a grammar and a wider one: the faults of a chain are those of its parts.
 module _ {A B : Type 0} (kind : Kind) (join : A → B → A) (First First' : List ℕ → A → Type 0) (Next Next' : List ℕ → B → Type 0) (E : List ℕ → List ℕ → Type 0)
     (first first' : Reader A) (next next' : Option-Reader B) (rules : Parts First Next E first next) (rules' : Parts First' Next' E first' next')
     (wider : (text : List ℕ) (x : A) → First text x → First' text x) (wider-next : (text : List ℕ) (y : B) → Next text y → Next' text y) where
   pub wide : {text : List ℕ} {x : A} → Chain join First Next text x → Chain join First' Next' text x
   wide c = map_chain join First First' Next Next' wider wider-next c
 
-  -- the next part fails behind its first byte
+  -- the next part fails after its first byte
   pub record NextFault (text : List ℕ) (cause : Cause) : Type 0 where
     pub fault : Fault kind Next Next' next next' text cause
     pub begun : fault.front ≢ []

@@ -1,4 +1,4 @@
--- Reading parts one after the other, as a loop does.
+-- Reading a chain by a loop.
 use Rattle.std.proofs.Common.{◌≡◌, ℕ, zero, suc, ◌+◌, ◌<◌, List, length, Option, Some, None, Result, Ok, Err, refl, sym, ap, ◌∙◌, arith}
 use Rattle.plan_types.specs.declared.refusal.Cause.{Cause}
 use Rattle.plan_types.specs.declared.refusal.TextFault.{TextFault}
@@ -6,7 +6,7 @@ use Rattle.plan_types.specs.declared.refusal.TextFault.TheVariants.{NoMemory, Ba
 use Rattle.text_grammar.specs.Reading.{◌>>=◌, Fails, chain}
 
 module _ {A B : Type 0} (join : A → B → A) (next : List ℕ → Result (Option (B × List ℕ)) Cause) where
-  -- what is left is read to the end that the whole has
+  -- invariant: reading the rest gives the result of the whole
   pub record Goes (left : A) (rest : List ℕ) (whole : Result (A × List ℕ) Cause) : Type 0 where
     pub fuel : ℕ
     pub enough : length rest < fuel

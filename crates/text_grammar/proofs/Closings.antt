@@ -1,4 +1,4 @@
--- What may stand behind a part and blanks, and what is read up to a byte that closes it.
+-- A part, blanks and a closing byte, and what may follow a part and blanks.
 use Rattle.std.proofs.Common.{◌≡◌, ◌⊎◌, inl, inr, ℕ, Bool, true, false, List, [], ◌∷◌, ◌++◌, Result, Ok, Err, refl, sym, ap, ◌∙◌, subst, append_assoc, append-nil}
 use Rattle.std.proofs.lemmas.Bool.{false≢true}
 use Rattle.plan_types.specs.declared.refusal.Cause.{Cause}
@@ -9,9 +9,9 @@ use Rattle.text_grammar.proofs.Fronts.{Reader, head_of, errs, Apart, apart_same_
 use Rattle.text_grammar.proofs.ChainParts.{ok_parts, errs_then}
 use Rattle.text_grammar.proofs.Spaces.{starts_like, begins_like, Begun, begun, due_here, due_gone, blanks_none, ends_blanks, cut, skip_over}
 
--- ---- what stands behind a part and blanks
+-- ---- after a part and blanks
 
--- Behind the blanks there stands another text instead: it begins as what stood there, or with a digit where none is before it.
+-- Another text after the blanks: it begins with the same byte, or with a digit that no digit precedes.
 pub record Instead (digits : Digits) (front behind again : List ℕ) : Type 0 where
   pub begins : (head_of again ≡ head_of (skip_blanks behind)) ⊎ ((starts digits.digit again ≡ true) × (ends_with digits.digit (front ++ (cut behind).blanks) ≡ false))
 
@@ -41,7 +41,7 @@ apart_end digits front [] [] all a d = refl
 apart_end digits front [] (b ∷ rest) all a d = digits.digit_on b (a (ap (ends_with digits.digit) (sym (append-nil front)) ∙ d))
 apart_end digits front (b ∷ bs) rest all a d = absurd (false≢true (sym (ends_behind digits.digit front b bs ∙ ends_blanks digits (b ∷ bs) all) ∙ d))
 
--- Behind a part and blanks stands what may not stand there, nor may another text instead.
+-- A fault after a part and blanks: neither the rest nor such another text may follow.
 pub misplaced : {A B : Type 0} (kind : Kind) (K K' : List ℕ → A → Type 0) (Q Q' : List ℕ → Result B Cause) (front behind : List ℕ) → Apart kind.digits front behind
     → (more : List ℕ) (x : A) → K (front ++ instead behind more) x → ((again : List ℕ) → Instead kind.digits front behind again → errs (Q' (front ++ instead behind again)) ≡ true)
     → Fault kind K K' Q Q' (front ++ behind) (miss kind (skip_blanks behind))
@@ -77,7 +77,7 @@ last_close test text after close other = ap (ends_with test) (sym (append_assoc 
 
 module _ {A : Type 0} (kind : Kind) (close : ℕ) (other : kind.digits.digit close ≡ false) (solid : is_blank close ≡ false)
     (L : List ℕ → A → Type 0) (E : List ℕ → List ℕ → Type 0) (P : Reader A) where
-  -- the part may be followed by blanks and the byte
+  -- blanks and the closing byte may follow the part
   module _ (reads : (text : List ℕ) (x : A) (rest : List ℕ) → L text x → E text rest → P (text ++ rest) ≡ Ok (x, rest))
       (closes : (text : List ℕ) (x : A) (after rest : List ℕ) → L text x → Blanks after → E text (after ++ close ∷ rest)) where
     pub closed_reads : {text : List ℕ} {x : A} → Closed close L text x → (rest : List ℕ) → closing (miss kind) close P (text ++ rest) ≡ Ok (x, rest)
@@ -106,7 +106,7 @@ module _ {A : Type 0} (kind : Kind) (close : ℕ) (other : kind.digits.digit clo
         by (Err cause) q = absurd (cc (h, ap (λ r. r >>= closed_at (miss kind) close) q))
         by (Ok p) q = at p (read text p.0 p.1 q) (sym (ap (λ r. r >>= closed_at (miss kind) close) q) ∙ h) (begun close (skip_blanks p.1))
 
-    -- the faults, where one more parenthesis may be open for L', E' and P'
+    -- the faults; L', E' and P' are those of the wider grammar
     module _ (L' : List ℕ → A → Type 0) (E' : List ℕ → List ℕ → Type 0) (P' : Reader A)
         (wider : (text : List ℕ) (x : A) → L text x → L' text x)
         (apart : (text rest : List ℕ) → E text rest → Apart kind.digits text rest)

@@ -1,4 +1,4 @@
--- The words of a text, one by one from its front.
+-- The words of a text, from left to right.
 use Rattle.std.proofs.Common.{◌≡◌, ◌<◌, ℕ, suc, ◌+◌, Bool, true, false, not, cond, List, [], ◌∷◌, length, take, drop, get_or, refl, sym, subst, ap, ◌∙◌, arith, inl, inr}
 use Rattle.std.specs.Prelude.{filter}
 use Rattle.std.specs.List.{prefix_len, slice_split, onto_first}
@@ -28,7 +28,7 @@ module _ (p : ℕ → Bool) where
   abbrev pub pieces : List ℕ → List (List ℕ)
   pieces text = filter is_filled (slice_split p text)
 
-  -- how many bytes the first word has
+  -- the length of the first word
   abbrev pub until : List ℕ → ℕ
   until text = prefix_len (λ b. not (p b)) text
 
@@ -38,7 +38,7 @@ module _ (p : ℕ → Bool) where
       ap (λ n. pieces (drop n (b ∷ bs))) one ∙ ih ∙ sym (ap (filter is_filled) (slice_split-cons_yes p b bs e))
   after-cons b bs false e ih = refl
 
-  -- separators in front change nothing
+  -- leading separators don't change the words
   pub after : (text : List ℕ) → pieces (drop (prefix_len p text) text) ≡ pieces text
   after [] = refl
   after (b ∷ bs) = after-cons b bs (p b) refl (after bs)
@@ -71,12 +71,12 @@ module _ (p : ℕ → Bool) where
   no_word-cons b bs false e ih =
       λ h. absurd (let k : 1 + until bs ≡ 0 = sym (ap (λ t. cond (not t) (1 + until bs) 0) e) ∙ h in omega (arith, k))
 
-  -- nothing but separators
+  -- separators only
   pub no_word : (text : List ℕ) → until (drop (prefix_len p text) text) ≡ 0 → pieces (drop (prefix_len p text) text) ≡ []
   no_word [] h = refl
   no_word (b ∷ bs) h = no_word-cons b bs (p b) refl (no_word bs) h
 
-  -- a text may be cut behind a word
+  -- the end of a word is a character boundary
   pub boundary_until : (text : List ℕ) → PassesAscii p → IsCharBoundary text (until text)
   boundary_until text ascii = elim (cases_lt (until text) (length text)) [
     | inl lt ↦ IsCharBoundary-before_ascii text (until text) lt (ascii (get_or text (until text) 0) (not-false _ (prefix_len_stops (λ b. not (p b)) text 0 lt)))

@@ -1,4 +1,4 @@
--- A text doesn't both stand for a value and have a fault, and has one first fault at most.
+-- A text has a value or a fault, never both, and at most one first fault.
 use Rattle.std.proofs.Common.{◌≡◌, ℕ, List, [], ◌∷◌, ◌++◌, Result, Ok, Err, refl, sym, ap, ◌∙◌, subst, append_assoc, append-nil}
 use Rattle.std.specs.Result.{IfOk, IfErr, MatchResult}
 use Rattle.plan_types.specs.declared.refusal.Cause.{Cause}
@@ -7,7 +7,7 @@ use Rattle.plan_types.specs.declared.refusal.TextFault.TheVariants.{NoMemory, Ba
 use Rattle.plan_types.specs.Refusal.{Refuses}
 use Rattle.text_grammar.specs.FirstFault.{Viable, Stuck, FirstFault}
 
--- of two fronts of a text one goes on from the other
+-- of two prefixes of a text, one is a prefix of the other
 pub data Order (xs ys zs ws : List ℕ) : Type 0 where
   shorter : (b : ℕ) (between : List ℕ) → zs ≡ xs ++ b ∷ between → ys ≡ b ∷ (between ++ ws) → Order xs ys zs ws
   same : xs ≡ zs → ys ≡ ws → Order xs ys zs ws
@@ -28,7 +28,7 @@ order (x ∷ xs) ys (z ∷ zs) ws e = by (order xs ys zs ws (cc e))
     by (longer b between p q) = longer b between (λ i. head i ∷ p i) q
 
 module _ {A : Type 0} (Stands : List ℕ → A → Type 0) (CauseAt : List ℕ → List ℕ → Cause → Type 0) where
-  -- nothing that goes on can be completed where the front is stuck
+  -- no continuation completes a stuck prefix
   stuck_not : (front rest : List ℕ) (b : ℕ) (others : List ℕ) → rest ≡ b ∷ others → Stuck Stands front rest → (more : List ℕ) (x : A) → Stands ((front ++ b ∷ []) ++ more) x → ⊥
   stuck_not front rest b others e stuck more x s = subst (Stuck Stands front) e stuck (more, x, s)
 
@@ -42,7 +42,7 @@ module _ {A : Type 0} (Stands : List ℕ → A → Type 0) (CauseAt : List ℕ �
       by [] e = subst (Stuck Stands f.front) e f.stops x (subst (λ t. Stands t x) (ap (λ t. f.front ++ t) e ∙ append-nil f.front) whole)
       by (b ∷ rest) e = stuck_not f.front f.rest b rest e f.stops rest x (subst (λ t. Stands t x) (ap (λ t. f.front ++ t) e ∙ sym (append_assoc f.front (b ∷ []) rest)) whole)
 
-  -- a front that can be completed isn't longer than one that is stuck
+  -- a viable prefix isn't longer than a stuck one
   not_longer : (front rest longer-front : List ℕ) (b : ℕ) (between others : List ℕ) → longer-front ≡ front ++ b ∷ between → rest ≡ b ∷ others → Stuck Stands front rest → Viable Stands longer-front → ⊥
   not_longer front rest longer-front b between others p q stuck v =
       stuck_not front rest b others q stuck (between ++ v.0) v.1
@@ -57,7 +57,7 @@ module _ {A : Type 0} (Stands : List ℕ → A → Type 0) (CauseAt : List ℕ �
         by (same p q) = one_cause g.front g.rest c d (subst (λ front. CauseAt front g.rest c) p (subst (λ rest. CauseAt f.front rest c) q f.is)) g.is
         by (longer b between p q) = absurd (not_longer g.front g.rest f.front b between (between ++ f.rest) p q g.stops f.goes_on)
 
-    -- ---- what a call answered
+    -- ---- results of calls
 
     module _ (text : List ℕ) (one_value : (x y : A) → Stands text x → Stands text y → x ≡ y) where
       pub only_value : (answer : Result A TextFault) → IfOk answer (λ x. Stands text x) → IfErr answer (Refuses (FirstFault Stands CauseAt text))

@@ -1,4 +1,4 @@
--- Readers of what stands at the front of a text, and where each of them is stuck.
+-- Readers of a prefix of a text, and where each is stuck.
 use Rattle.std.proofs.Common.{◌≡◌, ◌≢◌, ◌⊎◌, inl, inr, ℕ, Bool, true, false, List, [], ◌∷◌, ◌++◌, Option, Some, None, Result, Ok, Err, refl, sym, ap, ◌∙◌, subst, append_assoc, append-nil}
 use Rattle.std.specs.Prelude.{if◌then◌else◌}
 use Rattle.std.proofs.lemmas.Bool.{false≢true}
@@ -20,7 +20,7 @@ errs (Err cause) = true
 
 -- ---- what may follow
 
--- the last byte of a text that goes on is that of what follows
+-- the last byte of a joined text is that of its second part
 pub ends_behind : (test : ℕ → Bool) (front : List ℕ) (b : ℕ) (bs : List ℕ) → ends_with test (front ++ b ∷ bs) ≡ ends_with test (b ∷ bs)
 ends_behind test [] b bs = refl
 ends_behind test (x ∷ []) b bs = refl
@@ -34,7 +34,7 @@ pub ends_kept : (test : ℕ → Bool) (front back : List ℕ) → ends_with test
 ends_kept test front [] h = ap (ends_with test) (append-nil front) ∙ h
 ends_kept test front (b ∷ bs) h = ends_behind test front b bs
 
--- nothing goes on a digit at the end
+-- after a final digit, the rest doesn't begin with a byte that continues a number
 abbrev pub Apart : Digits → List ℕ → List ℕ → Type 0
 Apart digits front rest = ends_with digits.digit front ≡ true → starts digits.on rest ≡ false
 
@@ -51,7 +51,7 @@ module _ (digits : Digits) where
   pub apart_within : (pre front rest : List ℕ) → ends_with digits.digit pre ≡ false → Apart digits (pre ++ front) rest → Apart digits front rest
   apart_within pre front rest e a d = a (ends_kept digits.digit pre front e ∙ d)
 
-  -- what may follow a text depends on its end
+  -- what may follow a text depends only on its end
   pub apart_longer : (pre text rest : List ℕ) → text ≢ [] → Apart digits text rest → Apart digits (pre ++ text) rest
   apart_longer pre text rest some a d = a (sym (ends_some digits.digit pre text some) ∙ d)
 
@@ -62,9 +62,9 @@ pub some_append : (front back : List ℕ) → back ≢ [] → front ++ back ≢ 
 some_append [] back some e = some e
 some_append (b ∷ bs) back some e = cc e
 
--- ---- what was read
+-- ---- successful reads
 
--- the front stands for x, and the rest may follow it
+-- a prefix that denotes x, and a rest that may follow it
 pub record Read {A : Type 0} (L : List ℕ → A → Type 0) (E : List ℕ → List ℕ → Type 0) (text : List ℕ) (x : A) (rest : List ℕ) : Type 0 where
   pub front : List ℕ
   pub whole : text ≡ front ++ rest
@@ -73,11 +73,11 @@ pub record Read {A : Type 0} (L : List ℕ → A → Type 0) (E : List ℕ → L
 
 -- ---- where a reader is stuck
 
--- it fails with every text that goes on by the same byte
+-- the reader fails on every text that continues with the same byte
 abbrev pub Dead : {A : Type 0} → (List ℕ → Result A Cause) → List ℕ → List ℕ → Type 0
 Dead P front rest = (again : List ℕ) → head_of again ≡ head_of rest → errs (P (front ++ again)) ≡ true
 
--- no digit may stand here
+-- the reader fails on every text that continues with a digit
 abbrev pub NoDigit : Digits → {A : Type 0} → (List ℕ → Result A Cause) → List ℕ → Type 0
 NoDigit digits P front = (digit : ℕ) (again : List ℕ) → digits.digit digit ≡ true → errs (P (front ++ digit ∷ again)) ≡ true
 
@@ -99,7 +99,7 @@ pub record Fault {A B : Type 0} (kind : Kind) (L L' : List ℕ → A → Type 0)
   pub goes_on : L (front ++ more) value
   pub why : Why kind L L' P P' front rest cause
 
--- where another byte is due, which is no digit
+-- the reason where the byte that is due is no digit
 pub due_why : {A B : Type 0} (kind : Kind) (L L' : List ℕ → A → Type 0) (P P' : List ℕ → Result B Cause) (front rest : List ℕ) → Dead P' front rest
     → (ends_with kind.digits.digit front ≡ true → starts kind.digits.digit rest ≡ false) → (ends_with kind.digits.digit front ≡ false → NoDigit kind.digits P' front) → Why kind L L' P P' front rest (miss kind rest)
 due_why kind L L' P P' front rest dead other none = by (kind.newer rest) refl (ends_with kind.digits.digit front) refl
@@ -121,17 +121,17 @@ due_fault kind L L' P P' front rest more x goes dead other none = record {
   why = due_why kind L L' P P' front rest dead other none;
 }
 
--- what stands in one language completes another
+-- each text of L, after `pre`, can be completed to a text of K
 abbrev pub Completes : {A B : Type 0} → (List ℕ → A → Type 0) → List ℕ → (List ℕ → B → Type 0) → Type 0
 Completes L pre K = (text : List ℕ) (x : _) → L text x → (after : List ℕ) × (y : _) × K (pre ++ (text ++ after)) y
 
--- ---- faults handed up
+-- ---- faults of a part as faults of the whole
 
--- it goes on by the byte at which the reader is stuck, or by a digit
+-- a text that begins with the same byte as the rest, or with a digit
 abbrev pub Like : Digits → List ℕ → List ℕ → Type 0
 Like digits again rest = (head_of again ≡ head_of rest) ⊎ (starts digits.digit again ≡ true)
 
--- where R fails, S fails, which reads pre first
+-- if R fails on a text like this, S fails on it after `pre`
 abbrev pub PassesLike : Digits → {B D : Type 0} → (List ℕ → Result B Cause) → (List ℕ → Result D Cause) → List ℕ → List ℕ → List ℕ → Type 0
 PassesLike digits R S pre front rest = (again : List ℕ) → Like digits again rest → errs (R (front ++ again)) ≡ true → errs (S (pre ++ (front ++ again))) ≡ true
 
@@ -148,7 +148,7 @@ module _ (digits : Digits) {B D : Type 0} (R : List ℕ → Result B Cause) (S :
   digit_up : NoDigit digits R front → NoDigit digits S (pre ++ front)
   digit_up none digit again is = ap (λ t. errs (S t)) (append_assoc pre front (digit ∷ again)) ∙ pass (digit ∷ again) (inr is) (none digit again is)
 
--- A fault is handed up by a reader that reads pre first, fails where this one fails, and whose language this one's completes.
+-- A fault of P is one of Q, which reads `pre` first and fails where P fails; the language of P completes that of Q.
 module _ {A B C D : Type 0} (kind : Kind) (L L' : List ℕ → A → Type 0) (P P' : List ℕ → Result B Cause) (K K' : List ℕ → C → Type 0) (Q Q' : List ℕ → Result D Cause) (pre : List ℕ) (completes : Completes L pre K) (completes' : Completes L' pre K') where
   pub why_up : (front rest : List ℕ) {cause : Cause} → ends_with kind.digits.digit (pre ++ front) ≡ ends_with kind.digits.digit front → PassesLike kind.digits P Q pre front rest → PassesLike kind.digits P' Q' pre front rest
       → Why kind L L' P P' front rest cause → Why kind K K' Q Q' (pre ++ front) rest cause
@@ -181,7 +181,7 @@ module _ {A B C D : Type 0} (kind : Kind) (L L' : List ℕ → A → Type 0) (P 
       → Passes P Q pre f.front → Passes P' Q' pre f.front → Fault kind K K' Q Q' (pre ++ text) cause
   fault_up text cause f ends pass pass' = fault_up_like text cause f ends (λ again like h. pass again h) (λ again like h. pass' again h)
 
--- a reader that is stuck is so with every text that goes on by the same byte
+-- a stuck reader fails on every text that continues with the same byte
 pub why_dead : {A B : Type 0} (kind : Kind) (L L' : List ℕ → A → Type 0) (P P' : List ℕ → Result B Cause) (front rest : List ℕ) {cause : Cause} → Why kind L L' P P' front rest cause
     → (again : List ℕ) → head_of again ≡ head_of rest → errs (P (front ++ again)) ≡ false → errs (P' (front ++ again)) ≡ false → ⊥
 why_dead kind L L' P P' front rest (new_form form dead) again same h k = false≢true (sym k ∙ dead again same)
@@ -201,11 +201,11 @@ digit_some test (b ∷ bs) h e = cc e
 
 -- ---- a whole text
 
--- one byte more of a text that can be completed
+-- a viable prefix, one byte longer
 pub viable_by : {A : Type 0} (L : List ℕ → A → Type 0) (front : List ℕ) (b : ℕ) (others : List ℕ) (x : A) → L (front ++ b ∷ others) x → Viable L (front ++ b ∷ [])
 viable_by L front b others x s = (others, x, subst (λ t. L t x) (sym (append_assoc front (b ∷ []) others)) s)
 
--- The readers read what stands in their languages. So where they are stuck, no text stands there.
+-- The readers accept all of their languages, so a stuck prefix has no completion.
 module _ {A B : Type 0} (kind : Kind) (L L' : List ℕ → A → Type 0) (P P' : List ℕ → Result B Cause)
     (finds : (text : List ℕ) (x : A) → L text x → errs (P text) ≡ false) (finds' : (text : List ℕ) (x : A) → L' text x → errs (P' text) ≡ false)
     (widens : (text : List ℕ) (x : A) → L text x → L' text x) where
@@ -216,13 +216,13 @@ module _ {A B : Type 0} (kind : Kind) (L L' : List ℕ → A → Type 0) (P P' :
   stuck_of front [] why = λ x s. not_stands front [] why [] refl x (subst (λ t. L t x) (sym (append-nil front)) s)
   stuck_of front (b ∷ rest) why = λ v. not_stands front (b ∷ rest) why (b ∷ v.0) refl v.1 (subst (λ t. L t v.1) (append_assoc front (b ∷ []) v.0) v.2)
 
-  -- where no digit is read, none can be
+  -- if the reader accepts no digit here, the language has none here
   pub no_viable_digit : (front : List ℕ) → NoDigit kind.digits P' front → (digit : ℕ) → kind.digits.digit digit ≡ true → Viable L (front ++ digit ∷ []) → ⊥
   no_viable_digit front none digit d v =
       let s = widens (front ++ digit ∷ v.0) v.1 (subst (λ t. L t v.1) (append_assoc front (digit ∷ []) v.0) v.2) in
       false≢true (sym (finds' (front ++ digit ∷ v.0) v.1 s) ∙ none digit v.0 d)
 
-  -- where the wider reader is stuck too, nothing goes on in the wider language
+  -- if the wider reader is stuck too, the wider language has no completion
   pub not_wider : (front : List ℕ) (b : ℕ) (rest : List ℕ) → Dead P' front (b ∷ rest) → Viable L' (front ++ b ∷ []) → ⊥
   not_wider front b rest dead v =
       let s = subst (λ t. L' t v.1) (append_assoc front (b ∷ []) v.0) v.2 in

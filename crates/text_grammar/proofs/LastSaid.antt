@@ -1,4 +1,4 @@
--- What is said by one more.
+-- The last value after one more element.
 use Rattle.std.proofs.Common.{◌≡◌, List, [], ◌∷◌, ◌++◌, Option, Some, None, refl, ap, ◌∙◌}
 use Rattle.std.specs.Option.{option_or}
 use Rattle.text_grammar.specs.Last.{last_said}

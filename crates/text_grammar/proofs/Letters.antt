@@ -1,4 +1,4 @@
--- Readers made of a byte that passes a test and a reader behind it, and of words in any case.
+-- Readers of a byte that passes a test and then a part, and of words in any case.
 use Rattle.std.proofs.Common.{◌≡◌, ℕ, Bool, true, false, List, [], ◌∷◌, ◌++◌, Option, Some, None, Result, Ok, Err, refl, sym, ap, ◌∙◌, subst, append-nil}
 use Rattle.std.specs.Prelude.{◌==◌}
 use Rattle.std.specs.Char.{to_ascii_lowercase}
@@ -16,14 +16,14 @@ use Rattle.text_grammar.proofs.ChainParts.{ok_parts}
 use Rattle.text_grammar.proofs.Marks.{led_at, led_reads, led_read, led_fault}
 use Rattle.text_grammar.proofs.Steps.{Good, errs_valued, valued_itself}
 
--- ---- a language and a wider one
+-- ---- a language inside a wider one
 
--- the reader reads this language
+-- the reader is correct for this language
 pub record Reads {A : Type 0} (digits : Digits) (L : List ℕ → A → Type 0) (R : Reader A) : Type 0 where
   pub read : (text : List ℕ) (x : A) (rest : List ℕ) → R text ≡ Ok (x, rest) → Read L (Apart digits) text x rest
   pub reads : (text : List ℕ) (x : A) (rest : List ℕ) → L text x → Apart digits text rest → R (text ++ rest) ≡ Ok (x, rest)
 
--- both readers read their languages, and where the first fails, it is stuck
+-- both readers are correct for their languages, and the first fails only where it is stuck
 pub record Pair {A : Type 0} (kind : Kind) (L L' : List ℕ → A → Type 0) (R R' : Reader A) : Type 0 where
   pub narrow : Reads kind.digits L R
   pub wide : Reads kind.digits L' R'
@@ -55,7 +55,7 @@ first test (b ∷ bs) = by (test b) refl
     by true q = passes b bs refl q
     by false q = fails q
 
--- ---- a byte that must stand here, or may
+-- ---- a required or an optional byte
 
 pub data Passing {A : Type 0} (test : ℕ → Bool) (K : List ℕ → A → Type 0) : List ℕ → A → Type 0 where
   passing : (b : ℕ) {text : List ℕ} {x : A} → test b ≡ true → K text x → Passing test K (b ∷ text) x
@@ -94,7 +94,7 @@ module _ {A : Type 0} (digits : Digits) (test : ℕ → Bool) (other : (b : ℕ)
         apart = apart_before digits (b ∷ []) r.front rest (other b is) r.apart;
       }
 
-      -- a byte that must stand here
+      -- a required byte
       module _ (missing : List ℕ → Cause) where
         due_reads : {text : List ℕ} {x : A} → Passing test K text x → (rest : List ℕ) → Apart digits text rest → pass_due missing test R (text ++ rest) ≡ Ok (x, rest)
         due_reads {x = x} (passing b {text = text} h l) rest a = choose_here (λ t. Err (missing t)) b h (text ++ rest) ∙ k.reads text x rest l (apart_within digits (b ∷ []) text rest (other b h) a)
@@ -109,7 +109,7 @@ module _ {A : Type 0} (digits : Digits) (test : ℕ → Bool) (other : (b : ℕ)
         pub reads_due : Reads digits (Passing test K) (pass_due missing test R)
         reads_due = record { read = due_read; reads = λ text x rest l a. due_reads l rest a }
 
-      -- a byte that may stand here
+      -- an optional byte
       module _ (M : List ℕ → A → Type 0) (T : Reader A) (m : Reads digits M T) (never : Never test M) where
         choose_reads : {text : List ℕ} {x : A} → Fork test K M text x → (rest : List ℕ) → Apart digits text rest → pass_choose test R T (text ++ rest) ≡ Ok (x, rest)
         choose_reads {x = x} (here b {text = text} h l) rest a = choose_here T b h (text ++ rest) ∙ k.reads text x rest l (apart_within digits (b ∷ []) text rest (other b h) a)
@@ -137,7 +137,7 @@ module _ {A : Type 0} (kind : Kind) (test : ℕ → Bool) (other : (b : ℕ) →
       text cause f (ends_kept kind.digits.digit (b ∷ []) f.front (other b is))
       (λ again like e. ap errs (same (f.front ++ again)) ∙ e) (λ again like e. ap errs (same' (f.front ++ again)) ∙ e)
 
-  -- a byte that must stand here
+  -- a required byte
   module _ (byte : ℕ) (is-byte : test byte ≡ true) (sample : List ℕ) (value : A) (is : K sample value) where
     abbrev D : Reader A
     D = pass_due (miss kind) test R
@@ -174,7 +174,7 @@ module _ {A : Type 0} (kind : Kind) (test : ℕ → Bool) (other : (b : ℕ) →
         wider : (text : List ℕ) (x : A) → Passing test K text x → Passing test K' text x
         wider text x (passing b {text = t} p l) = passing b p (k.wider t x l)
 
-  -- a byte that may stand here
+  -- an optional byte
   module _ (M M' : List ℕ → A → Type 0) (T T' : Reader A) (m : Pair kind M M' T T') (never : Never test M) (never' : Never test M') where
     abbrev C : Reader A
     C = pass_choose test R T
@@ -269,7 +269,7 @@ module _ {A B : Type 0} (kind : Kind) (f : A → B) where
       fault = map_fault;
     }
 
--- the same readers and languages, said otherwise
+-- equal readers and equal languages
 pub pair_as : {A : Type 0} (kind : Kind) (L L' : List ℕ → A → Type 0) (R R' : Reader A) → Pair kind L L' R R' → (K K' : List ℕ → A → Type 0)
     → ((text : List ℕ) (x : A) → L text x → K text x) → ((text : List ℕ) (x : A) → K text x → L text x) → ((text : List ℕ) (x : A) → L' text x → K' text x) → ((text : List ℕ) (x : A) → K' text x → L' text x)
     → (Q Q' : Reader A) → ((text : List ℕ) → Q text ≡ R text) → ((text : List ℕ) → Q' text ≡ R' text) → Pair kind K K' Q Q'

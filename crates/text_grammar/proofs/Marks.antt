@@ -1,4 +1,4 @@
--- Blanks before a part, and a mark between two.
+-- Blanks before a part, and a mark between two parts.
 use Rattle.std.proofs.Common.{◌≡◌, inl, inr, ℕ, false, List, [], ◌∷◌, ◌++◌, Option, Some, None, Result, Ok, Err, sym, ap, ◌∙◌, subst, append_assoc, append-nil}
 use Rattle.plan_types.specs.declared.refusal.Cause.{Cause}
 use Rattle.plan_types.specs.Bytes.{is_blank, Blanks, begins_with}
@@ -8,7 +8,7 @@ use Rattle.text_grammar.proofs.TextKind.{Digits, Kind, starts}
 use Rattle.text_grammar.proofs.Fronts.{Reader, errs, Apart, ends_kept, apart_before, apart_within, Read, Like, Fault, fault_up_like}
 use Rattle.text_grammar.proofs.Spaces.{Never, never_starts, starts_like, byte_here, byte_gone, Begun, begun, due_here, due_gone, blanks_none, ends_blanks, Cut, cut, skip_over}
 
--- ---- blanks, and then a part
+-- ---- blanks, then a part
 
 abbrev pub led_at : {A : Type 0} → Reader A → Reader A
 led_at P text = P (skip_blanks text)
@@ -48,7 +48,7 @@ module _ {A : Type 0} (kind : Kind) (L L' : List ℕ → A → Type 0) (P P' : R
       completes : (K : List ℕ → A → Type 0) (c : Cut text) (t : List ℕ) (x : A) → K t x → (after : List ℕ) × (y : A) × Led K (c.blanks ++ (t ++ after)) y
       completes K c t x k = ([], x, subst (λ t'. Led K (c.blanks ++ t') x) (sym (append-nil t)) (led c.blanks c.all k))
 
--- ---- a mark of two bytes, and then a part
+-- ---- a mark of two bytes, then a part
 
 abbrev pub twice : ℕ → List ℕ
 twice byte = byte ∷ byte ∷ []
@@ -60,14 +60,14 @@ abbrev part_from : {A : Type 0} → Reader A → Option (List ℕ) → Result (O
 part_from P found = elim found [ None ↦ Ok None | Some rest ↦ P rest >>= λ p. Ok (Some p) ]
 
 module _ {A : Type 0} (P : Reader A) (missing : List ℕ → Cause) (byte : ℕ) (not-blank : is_blank byte ≡ false) where
-  -- behind blanks and both bytes
+  -- blanks and both bytes
   pub at_mark : (blanks rest : List ℕ) → Blanks blanks → next_at P missing byte (blanks ++ (byte ∷ byte ∷ rest)) ≡ (P rest >>= λ p. Ok (Some p))
   at_mark blanks rest are =
       ap (λ t. behind_from missing byte (byte_after byte t) >>= part_from P) (skip_over blanks (byte ∷ byte ∷ rest) are not-blank)
       ∙ ap (λ o. behind_from missing byte o >>= part_from P) (byte_here byte (byte ∷ rest))
       ∙ ap (λ r. (r >>= λ rest'. Ok (Some rest')) >>= part_from P) (due_here missing byte rest)
 
-  -- behind one
+  -- blanks and only one byte
   pub at_half : (blanks rest : List ℕ) → Blanks blanks → begins_with byte rest ≡ false → next_at P missing byte (blanks ++ (byte ∷ rest)) ≡ Err (missing rest)
   at_half blanks rest are other =
       ap (λ t. behind_from missing byte (byte_after byte t) >>= part_from P) (skip_over blanks (byte ∷ rest) are not-blank)
@@ -77,7 +77,7 @@ module _ {A : Type 0} (P : Reader A) (missing : List ℕ → Cause) (byte : ℕ)
   pub at_none : (text : List ℕ) → begins_with byte (skip_blanks text) ≡ false → next_at P missing byte text ≡ Ok None
   at_none text other = ap (λ o. behind_from missing byte o >>= part_from P) (byte_gone byte (skip_blanks text) other)
 
-  -- what stands behind the blanks of a text decides how it is read
+  -- the three ways to read a mark: none, half of it, or all of it
   pub data Mark (text : List ℕ) : Type 0 where
     no_mark : begins_with byte (skip_blanks text) ≡ false → next_at P missing byte text ≡ Ok None → Mark text
     half : (blanks rest : List ℕ) → Blanks blanks → text ≡ blanks ++ (byte ∷ rest) → begins_with byte rest ≡ false → next_at P missing byte text ≡ Err (missing rest) → Mark text

@@ -1,4 +1,4 @@
--- Operands joined by a mark of two bytes, as they are read.
+-- Reading operands joined by a mark of two bytes.
 use Rattle.std.proofs.Common.{◌≡◌, ◌≢◌, inl, ℕ, true, false, List, [], ◌∷◌, ◌++◌, Option, Some, None, Result, Ok, Err, refl, sym, ap, ◌∙◌, subst, append_assoc, append-nil}
 use Rattle.plan_types.specs.declared.refusal.Cause.{Cause}
 use Rattle.plan_types.specs.Bytes.{is_blank, Blanks, begins_with}
@@ -10,13 +10,13 @@ use Rattle.text_grammar.proofs.Spaces.{no_digits, begins_like}
 use Rattle.text_grammar.proofs.ChainParts.{Parts, NextFault, all_of, errs_then, as_next, as_next_ok, as_next_none, as_next_err, reads, read_all, fault_all}
 use Rattle.text_grammar.proofs.Marks.{twice, at_mark, at_half, at_none, Mark, no_mark, half, mark, marked}
 
--- the reader P reads the language L, where E tells which texts may follow
+-- the reader P is correct for the language L; E relates a text to the texts that may follow it
 pub record Rules {A : Type 0} (L : List ℕ → A → Type 0) (E : List ℕ → List ℕ → Type 0) (P : Reader A) : Type 0 where
   pub reads : (text : List ℕ) (r : A) (rest : List ℕ) → L text r → E text rest → P (text ++ rest) ≡ Ok (r, rest)
   pub read : (text : List ℕ) (r : A) (rest : List ℕ) → P text ≡ Ok (r, rest) → Read L E text r rest
   pub some : (text : List ℕ) (r : A) → L text r → text ≢ []
 
--- what may follow a text depends on its end
+-- what may follow a text depends only on its end
 pub record Follow (E : List ℕ → List ℕ → Type 0) : Type 0 where
   pub onto : (pre text rest : List ℕ) → text ≢ [] → E text rest → E (pre ++ text) rest
   pub from : (pre text rest : List ℕ) → text ≢ [] → E (pre ++ text) rest → E text rest
@@ -72,7 +72,7 @@ module _ {A : Type 0} (kind : Kind) (byte : ℕ) (not-blank : is_blank byte ≡ 
       opens : (text next rest : List ℕ) (y : A) → Next next y → E text (next ++ rest)
       opens text next rest y (behind blanks {text = part} are is) = subst (E text) (sym (flat blanks part rest)) (mark_follows text blanks (byte ∷ (part ++ rest)) are)
 
-  -- nothing more is joined by the mark
+  -- no further operand follows
   abbrev pub Ended : List ℕ → List ℕ → Type 0
   Ended text rest = E text rest × (begins_with byte (skip_blanks rest) ≡ false)
 
@@ -142,7 +142,7 @@ module _ {A : Type 0} (kind : Kind) (byte : ℕ) (not-blank : is_blank byte ≡ 
   half_errs : (blanks again : List ℕ) → Blanks blanks → begins_with byte again ≡ false → errs (next' (once blanks ++ again)) ≡ true
   half_errs blanks again are other = ap (λ t. errs (next' t)) (once_more blanks again) ∙ ap errs (at_half P' (miss kind) byte not-blank blanks again are other)
 
-  -- one byte of the mark stands there alone
+  -- only one byte of the mark
   fault_half : (blanks rest : List ℕ) → Blanks blanks → begins_with byte rest ≡ false → Failed (once blanks ++ rest) (miss kind rest)
   unfolding due_fault
   fault_half blanks rest are other = record {
@@ -155,7 +155,7 @@ module _ {A : Type 0} (kind : Kind) (byte : ℕ) (not-blank : is_blank byte ≡ 
     opens = λ text again. subst (E text) (sym (once_more blanks again)) (mark_follows text blanks again are);
   }
 
-  -- what stands behind the mark fails
+  -- the operand after the mark fails
   fault_part : (blanks rest : List ℕ) (cause : Cause) → Blanks blanks → Fault kind L L' P P' rest cause → Failed ((blanks ++ twice byte) ++ rest) cause
   unfolding fault_up fault_up_like
   fault_part blanks rest cause are f = record {

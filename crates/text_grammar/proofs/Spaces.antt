@@ -11,7 +11,7 @@ use Rattle.text_grammar.proofs.Fronts.{head_of, Like}
 
 -- ---- the first byte
 
--- no text of the language begins with such a byte, nor is it empty
+-- each text of the language begins with a byte that fails the test
 abbrev pub Never : {A : Type 0} → (ℕ → Bool) → (List ℕ → A → Type 0) → Type 0
 Never test L = (text : List ℕ) (x : _) → L text x → (b : ℕ) × (bs : List ℕ) × (text ≡ b ∷ bs) × (test b ≡ false)
 
@@ -34,13 +34,13 @@ pub starts_digit : (digits : Digits) (test : ℕ → Bool) → NotDigits digits 
 starts_digit digits test none [] d = refl
 starts_digit digits test none (b ∷ again) d = none b d
 
--- what is tested of the first byte stays so
+-- a test of the first byte is the same for a like rest
 pub starts_like : (digits : Digits) (test : ℕ → Bool) → NotDigits digits test → (front rest again : List ℕ) → Like digits again rest → starts test (front ++ rest) ≡ false → starts test (front ++ again) ≡ false
 starts_like digits test none [] rest again (inl e) h = starts_same test rest again e ∙ h
 starts_like digits test none [] rest again (inr d) h = starts_digit digits test none again d
 starts_like digits test none (b ∷ front) rest again like h = h
 
--- what passes a test that the byte doesn't pass is another byte
+-- a byte that passes differs from one that doesn't
 pub other_byte : (test : ℕ → Bool) (byte : ℕ) → test byte ≡ false → (b : ℕ) → test b ≡ true → (b == byte) ≡ false
 other_byte test byte none b h = by (b == byte) refl
   where
@@ -102,7 +102,7 @@ module _ (digits : Digits) where
   ends_blanks (b ∷ []) h = blank_no_digit b (and_parts (is_blank b) true h).0
   ends_blanks (b ∷ c ∷ bs) h = ends_blanks (c ∷ bs) (and_parts (is_blank b) (list_all is_blank (c ∷ bs)) h).1
 
--- a text is its blanks and what is behind them
+-- a text as its leading blanks and the rest
 pub record Cut (text : List ℕ) : Type 0 where
   pub blanks : List ℕ
   pub all : Blanks blanks

@@ -1,4 +1,4 @@
--- Readers made of a byte or blanks and a reader behind them, each against its language.
+-- Readers of a byte or blanks and then a part, each correct for its language.
 use Rattle.std.proofs.Common.{◌≡◌, inl, inr, ℕ, Bool, true, false, List, [], ◌∷◌, ◌++◌, Option, Some, None, Result, Ok, Err, refl, sym, ap, ◌∙◌, subst, append-nil}
 use Rattle.std.specs.Prelude.{◌==◌}
 use Rattle.std.proofs.lemmas.Bool.{false≢true}
@@ -12,7 +12,7 @@ use Rattle.text_grammar.proofs.ChainParts.{ok_parts}
 use Rattle.text_grammar.proofs.Spaces.{Never, never_starts, starts_same, no_digits, begins_like, byte_here, byte_gone, Begun, begun, due_here, due_gone}
 use Rattle.text_grammar.proofs.Marks.{led_at, led_reads, led_read, led_fault}
 
--- the reader reads this language, and where it fails, it is stuck
+-- the reader is correct for this language, and fails only where it is stuck
 pub record Good {A : Type 0} (kind : Kind) (L : List ℕ → A → Type 0) (R : Reader A) : Type 0 where
   pub read : (text : List ℕ) (x : A) (rest : List ℕ) → R text ≡ Ok (x, rest) → Read L (Apart kind.digits) text x rest
   pub reads : (text : List ℕ) (x : A) (rest : List ℕ) → L text x → Apart kind.digits text rest → R (text ++ rest) ≡ Ok (x, rest)
@@ -57,7 +57,7 @@ module _ {A : Type 0} (kind : Kind) (byte : ℕ) (other : kind.digits.digit byte
       let passes : (again : List ℕ) → Like kind.digits again f.rest → errs (R (f.front ++ again)) ≡ true → errs (S (byte ∷ (f.front ++ again))) ≡ true = λ again like e. ap errs (same (f.front ++ again)) ∙ e in
       fault_up_like kind K K R R L L S S (byte ∷ []) completes completes text cause f (ends_kept kind.digits.digit (byte ∷ []) f.front other) passes passes
 
-  -- a byte that must stand here
+  -- a required byte
   module _ (sample : List ℕ) (value : A) (is : K sample value) where
     passed : (rest : List ℕ) → due (miss kind) byte R (byte ∷ rest) ≡ R rest
     passed rest = ap (λ r. r >>= R) (due_here (miss kind) byte rest)
@@ -92,7 +92,7 @@ module _ {A : Type 0} (kind : Kind) (byte : ℕ) (other : kind.digits.digit byte
     pub good_due : Good kind (After byte K) (due (miss kind) byte R)
     good_due = record { read = due_read; reads = λ text x rest l a. due_reads l rest a; fault = missed_fault }
 
-  -- a byte that may stand here
+  -- an optional byte
   module _ (M : List ℕ → A → Type 0) (T : Reader A) (m : Good kind M T) (never : Never is_byte M) where
     choose_here : (rest : List ℕ) → choose byte R T (byte ∷ rest) ≡ R rest
     choose_here rest = ap (λ (o : Option (List ℕ)). elim o [ Some more ↦ R more | None ↦ T (byte ∷ rest) ]) (byte_here byte rest)
@@ -183,7 +183,7 @@ module _ {A B : Type 0} (kind : Kind) (L : List ℕ → A → Type 0) (R : Reade
     fault = map_fault;
   }
 
--- the same reader and the same language, said otherwise
+-- an equal reader and an equal language
 pub good_as : {A : Type 0} (kind : Kind) (L : List ℕ → A → Type 0) (R : Reader A) → Good kind L R → (K : List ℕ → A → Type 0) → ((text : List ℕ) (x : A) → L text x → K text x) → ((text : List ℕ) (x : A) → K text x → L text x)
     → (Q : Reader A) → ((text : List ℕ) → Q text ≡ R text) → Good kind K Q
 good_as {A} kind L R g K to from Q same = good_map kind L R g (λ x. x) K to (λ text x l. (x, from text x l, refl)) Q (λ text. same text ∙ valued_itself (R text))

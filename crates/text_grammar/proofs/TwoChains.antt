@@ -1,4 +1,4 @@
--- Factors joined by `&&` to terms, and terms by `||`, as they are read.
+-- Reading factors joined by `&&`, and terms joined by `||`.
 use Rattle.std.proofs.Common.{◌≡◌, ◌≢◌, ℕ, false, List, [], ◌∷◌, ◌++◌, codes, Ok, Err, refl, ap}
 use Rattle.plan_types.specs.declared.refusal.Cause.{Cause}
 use Rattle.plan_types.specs.Bytes.{is_blank, Blanks, begins_with}
@@ -78,7 +78,7 @@ module _ (kind : Kind) (on-and : kind.digits.on 38 ≡ false) (on-or : kind.digi
       pub wider_terms : (text : List ℕ) (x : A) → Terms both either F text x → Terms both either F' text x
       wider_terms text x c = map_chain either (Term both F) (Term both F') (Behind (codes "||") (Term both F)) (Behind (codes "||") (Term both F')) wider_term (wider_behind (codes "||") (Term both F) (Term both F') wider_term) c
 
-      -- ---- where they are stuck
+      -- ---- faults
 
       module _ (R R' : Reader A) (unblank : Never is_blank F) (unblank' : Never is_blank F')
           (reads : (text : List ℕ) (x : A) (rest : List ℕ) → F text x → Apart kind.digits text rest → R (text ++ rest) ≡ Ok (x, rest))

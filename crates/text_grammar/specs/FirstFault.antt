@@ -1,17 +1,17 @@
--- The first byte of a text at which no reading goes on. Stands tells which text stands for which value.
+-- The first byte of a text at which no reading continues, in a language `Stands`.
 use Rattle.std.specs.Prelude.{◌≡◌, ℕ, List, [], ◌∷◌, ◌++◌}
 use Rattle.plan_types.specs.declared.refusal.Cause.{Cause}
 
--- some bytes complete the text
+-- a viable prefix: some bytes complete it to a text of the language
 abbrev pub Viable : {A : Type 0} → (List ℕ → A → Type 0) → List ℕ → Type 0
 Viable {A} Stands front = (more : List ℕ) × (x : A) × Stands (front ++ more) x
 
--- no reading goes on at the first byte of the rest, or at the end of the text
+-- no reading continues by the first byte of the rest; at the end of the text, the prefix isn't in the language
 abbrev pub Stuck : {A : Type 0} → (List ℕ → A → Type 0) → List ℕ → List ℕ → Type 0
 Stuck {A} Stands front [] = (x : A) → Stands front x → ⊥
 Stuck Stands front (b ∷ rest) = Viable Stands (front ++ b ∷ []) → ⊥
 
--- the text is read up to here, no reading goes on, and this is the cause
+-- a viable prefix at which the text is stuck, and the cause there
 pub record FirstFault {A : Type 0} (Stands : List ℕ → A → Type 0) (CauseAt : List ℕ → List ℕ → Cause → Type 0) (text : List ℕ) (cause : Cause) : Type 0 where
   pub front : List ℕ
   pub rest : List ℕ

@@ -1,10 +1,10 @@
-// Single bytes at the front of a text.
+// The first bytes of a text.
 ghost use Rattle.std.specs.Prelude.{◌≡◌, ◌≢◌, ◌∷◌, ◌<◌, ◌≤◌, ℕ, List, length, IfSome, IfNone};
 ghost use Rattle.std.specs.Option.{option_copied};
 ghost use Rattle.plan_types.specs.Bytes.{begins_with};
 ghost use Rattle.text_grammar.specs.Reading.{skip_blanks, byte_after};
 
-/// Without the spaces and tabs at the front.
+/// The text without its leading spaces and tabs.
 pub fn skip_blanks(text: &[u8]) -> &[u8]
     ensures rest { result.now ≡ skip_blanks text.now }
     ensures within { length result.now ≤ length text.now }
@@ -19,7 +19,7 @@ pub fn skip_blanks(text: &[u8]) -> &[u8]
     rest
 }
 
-/// What follows the byte, where it is the first.
+/// The rest of the text, if this byte is its first.
 pub fn byte_after(text: &[u8], byte: u8) -> Option<&[u8]>
     ensures value { option_copied result ≡ byte_after byte text.now }
     ensures some { IfSome result (λ rest. text.now ≡ byte ∷ rest.now) }
@@ -32,7 +32,7 @@ pub fn byte_after(text: &[u8], byte: u8) -> Option<&[u8]>
     }
 }
 
-/// Whether the byte is the first.
+/// Whether this byte is the first.
 pub fn begins_with(text: &[u8], byte: u8) -> bool
     ensures { result ≡ begins_with byte text.now }
 {

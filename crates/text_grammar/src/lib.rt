@@ -1,7 +1,7 @@
-//! What texts of several kinds have in common: blanks, marks, words, parts that are led or joined in chains,
-//! the first byte at which no reading goes on, and what is said last. The definitions are generic in the
-//! language, which tells which text stands for which value; the lemmas carry a reader's answers up from its
-//! parts.
+//! Common grammar of texts: blanks, marks, words and chains of operators. Functions take bytes and return the rest of
+//! a text, its words, or a boolean. The definitions are generic in the language, a relation of texts and values.
+//! `FirstFault` is the first byte at which no reading continues. The lemmas build a correct reader from readers of
+//! its parts.
 #![tactic(auto)]
 
 mod bytes;

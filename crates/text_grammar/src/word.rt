@@ -1,4 +1,4 @@
-// Words that stand between separators, and words that stand as values.
+// The words of a text, and words that are values.
 ghost use Rattle.std.specs.Prelude.{◌≡◌, ◌<◌, [], ◌∷◌, length, not, IfOk, MatchOption};
 ghost use Rattle.std.specs.List.{prefix_len};
 ghost use Rattle.text_grammar.specs.Words.{boolean, is_between, package_name, words};
@@ -6,7 +6,7 @@ ghost use Rattle.text_grammar.specs.Words.{boolean, is_between, package_name, wo
 use plan_types::{List, NoMemory, Text, is_package_name};
 use std::alloc::Global;
 
-/// What stands between the words of a text.
+/// The separators of words.
 #[derive(Clone, Copy, Debug, PartialEq, Eq)]
 pub enum Between {
     Spaces,
@@ -15,7 +15,7 @@ pub enum Between {
     BlanksAndCommas,
 }
 
-/// True or false, in any case.
+/// The boolean of `true` or `false`, in any case.
 pub fn boolean(text: &[u8]) -> Option<bool>
     ensures { result ≡ boolean text.now }
 {
@@ -28,7 +28,7 @@ pub fn boolean(text: &[u8]) -> Option<bool>
     }
 }
 
-/// A text that is a package's name.
+/// The text, if it is a package's name.
 pub fn package_name(text: Text) -> Option<Text>
     ensures { result ≡ package_name text }
 {
@@ -52,7 +52,7 @@ pub fn words(alloc: Global, between: Between, text: &str) -> Result<List<Text>, 
     Ok(found)
 }
 
-// The first word of a text, and what follows it.
+// The first word of a text, and the rest.
 fn first_word(between: Between, text: &str) -> Option<(&str, &str)>
     ensures { MatchOption result (words between text.now ≡ [])
         (λ p. (words between text.now ≡ p.0.now ∷ words between p.1.now) × (length p.1.now < length text.now)) }
@@ -65,7 +65,7 @@ fn first_word(between: Between, text: &str) -> Option<(&str, &str)>
     Some(text.split_at(length))
 }
 
-// How many separators are at the front.
+// The number of leading separators.
 fn separators(between: Between, text: &[u8]) -> usize
     ensures { result ≡ prefix_len (is_between between) text.now }
 {
@@ -82,7 +82,7 @@ fn word_length(between: Between, text: &[u8]) -> usize
         .count()
 }
 
-/// Whether a byte stands between words.
+/// Whether a byte is a separator.
 pub fn is_between(between: Between, byte: u8) -> bool
     ensures { result ≡ is_between between byte }
 {
