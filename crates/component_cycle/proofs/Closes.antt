@@ -1,4 +1,4 @@
--- The last group is settled, once none of its needs waits.
+-- The last group is settled once none of its targets waits.
 use Rattle.std.proofs.Common.{◌≡◌, ◌≢◌, Bool, true, ℕ, ◌+◌, ◌-◌, ◌<◌, ◌≤◌, List, [], ◌∷◌, ◌++◌, length, take, drop, None, get_or, refl, sym, ap, ◌∙◌, subst, inl, inr, ◌⊎◌, arith, length-drop}
 use Rattle.std.specs.List.{All, Contains, AllPairs}
 use Rattle.std.proofs.lemmas.Bool.{cases_eq, cases_lt, false≢true}
@@ -30,7 +30,7 @@ module _ (needs : List (List ℕ)) (s : Search) (h : IsSound needs s None) (ms :
   pub group-starts : m.place < length s.path
   group-starts = (h.marked m last-mark).0
 
-  -- a need of the group's nodes is settled, or in the group
+  -- a target of a node in the group is settled, or in the group
   need : (i w : ℕ) → m.place ≤ i → i < length s.path → Needs needs (at s i) w
       → ((b : Bool) × (state s w ≡ Settled b)) ⊎ ((p : ℕ) × (m.place ≤ p) × (p < length s.path) × (at s p ≡ w))
   need i w from l edge =
@@ -152,7 +152,7 @@ module _ (needs : List (List ℕ)) (s : Search) (h : IsSound needs s None) (ms :
       at-front : (i : ℕ) → i < m.place → at t i ≡ at s i
       at-front i l = get_or-take m.place s.path i 0 l
 
-      -- a node that was settled is settled as it was
+      -- a settled node keeps its state
       kept-settled : (u : ℕ) (d : Bool) → state s u ≡ Settled d → state t u ≡ Settled d
       unfolding IsInGroup
       kept-settled u d k =

@@ -1,4 +1,4 @@
--- What is to do falls when a node is seen.
+-- The remaining work falls when a node is first seen.
 use Rattle.std.proofs.Common.{◌≡◌, ◌≢◌, ℕ, zero, suc, ◌+◌, ◌<◌, List, [], ◌∷◌, length, get_or, set, refl, arith}
 use Rattle.component_cycle.specs.declared.search.State.{State}
 use Rattle.component_cycle.specs.declared.search.State.TheVariants.{Unseen, OnPath, Settled}
@@ -13,7 +13,7 @@ costs-set (ns ∷ needs) (y ∷ states) (suc v) x h e =
     let rest = costs-set needs states v x (omega (arith, h)) (omega (arith, e)) in
     omega (arith, rest)
 
--- the cost of a state that was seen
+-- a seen node costs nothing
 pub cost-seen : (ns : List ℕ) (x : State) → x ≢ Unseen → cost ns x ≡ 0
 cost-seen ns Unseen h = absurd (h refl)
 cost-seen ns (OnPath i) h = refl

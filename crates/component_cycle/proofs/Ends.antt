@@ -1,4 +1,4 @@
--- The search before its first node, between two, and after its last.
+-- The search before its first root, between two roots, and after its last.
 use Rattle.std.proofs.Common.{◌≡◌, ◌≢◌, Bool, true, false, cond, ℕ, ◌<◌, List, [], length, Option, Some, None, position, replicate, get_or, refl, sym, ap, ◌∙◌, subst, inl, inr, arith}
 use Rattle.std.specs.List.{Contains, position_or_len}
 use Rattle.std.proofs.lemmas.List.Sums.{fails_before_first}
@@ -41,7 +41,7 @@ start-sound needs =
       source = λ l below. absurd (omega (arith, below));
     }
 
--- no element passes, where no position is found
+-- if no position is found, no element passes
 position-None : {X : Type 0} (p : X → Bool) (xs : List X) → position p xs ≡ None → (k : ℕ) (d : X) → k < length xs → p (get_or xs k d) ≡ false
 position-None p xs e k d l =
     elim (cases_lt (position_or_len p xs) (length xs)) [
@@ -86,7 +86,7 @@ module _ (needs : List (List ℕ)) (s : Search) (h : IsSound needs s None) (idle
     first-edge u v (last edge) = needs_within needs u v edge
     first-edge u v (more {w = x} edge p) = needs_within needs u x edge
 
-    -- a node is on a cycle exactly if its state says so
+    -- the state of a node on a cycle is `Settled(true)`
     says : (u : ℕ) → IsOnCycle needs u → is_on_cycle (state s u) ≡ true
     says u c =
         let found = all-settled u (first-edge u u c) in

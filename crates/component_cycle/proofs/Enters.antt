@@ -1,4 +1,4 @@
--- An unseen node becomes a group at the end of the path.
+-- An unseen node is appended to the path as a group of its own.
 use Rattle.std.proofs.Common.{◌≡◌, ◌≢◌, Bool, ℕ, ◌+◌, ◌-◌, ◌<◌, ◌≤◌, List, [], ◌∷◌, length, Some, None, get_or, refl, sym, ap, ◌∙◌, subst, inl, inr, ◌⊎◌, arith, get_or-set_same, get_or-set_other, length-set, length-append}
 use Rattle.std.specs.List.{Contains, AllPairs}
 use Rattle.std.proofs.lemmas.Bool.{cases_eq, cases_lt}
@@ -38,7 +38,7 @@ module _ (needs : List (List ℕ)) (s : Search) (v : ℕ) (h : IsSound needs s (
   path-length : length t.path ≡ n + 1
   path-length = length_push s.path v
 
-  -- the other states are those of nodes that are not v
+  -- a seen node isn't v
   not-v : (u : ℕ) → state s u ≢ Unseen → u ≢ v
   not-v u ne e = ne (ap (state s) e ∙ unseen)
 
@@ -139,7 +139,7 @@ module _ (needs : List (List ℕ)) (s : Search) (v : ℕ) (h : IsSound needs s (
             inl (ap (at t) e)
       ]
 
-  -- where a need of a node that stood on the path is now
+  -- the targets of nodes that were on the path before
   known-old : (i w : ℕ) → i < n → IsKnown s (Some v) i w → IsKnown t None i w
   known-old i w l (settled b e) = settled b (kept w (Settled b) e (settled-apart b))
   known-old i w l (on_path p e k) = on_path p (kept w (OnPath p) e (on-apart p)) (not-before-old i p l k)

@@ -1,4 +1,4 @@
--- The last group leads to a node of the path, which makes one group of all from its place on.
+-- An edge from the last group to a node of the path merges the groups from its own on.
 use Rattle.std.proofs.Common.{◌≡◌, Bool, ℕ, ◌+◌, ◌<◌, ◌≤◌, List, [], ◌∷◌, ◌++◌, length, Option, Some, None, MatchOption, get_or, refl, sym, ap, ◌∙◌, subst, inl, inr, ◌⊎◌, arith}
 use Rattle.std.specs.List.{Contains, AllPairs}
 use Rattle.std.proofs.lemmas.Bool.{cases_lt}
@@ -124,7 +124,7 @@ module _ (needs : List (List ℕ)) (s : Search) (v p : ℕ) (h : IsSound needs s
   known-done low i w (waits l below k f) = waits l below k f
   known-done low i w (looked_at k) = let same : v ≡ w = cc k in on_path p (ap (state s) (sym same) ∙ here) (λ x c le. low x c)
 
-  -- nothing is left to join
+  -- all groups are merged
   pub joined-done : ((x : Mark) → Contains s.marks x → x.place ≤ p) → IsSound needs s None
   joined-done low =
       record {
@@ -142,14 +142,14 @@ module _ (needs : List (List ℕ)) (s : Search) (v p : ℕ) (h : IsSound needs s
         source = h.source;
       }
 
-  -- nor is it where the last group doesn't begin behind the place
+  -- the same if the last group doesn't begin after the place
   pub joined-all : (s.marks ≡ []) ⊎ HasLast s.marks (λ m. m.place ≤ p) → (x : Mark) → Contains s.marks x → x.place ≤ p
   joined-all (inl none) x k = absurd (no-mark x (subst (λ l. Contains l x) none k))
   joined-all (inr (m, (front, is), low)) x k =
       let top = last-greatest front m x (subst (λ l. AllPairs IsBelow l) is h.rising) (subst (λ l. Contains l x) is k) in
       omega (arith, top.0, low)
 
--- the need that is looked at is settled
+-- the target of the edge is settled
 module _ (needs : List (List ℕ)) (s : Search) (v : ℕ) (h : IsSound needs s (Some v)) (b : Bool) (here : state s v ≡ Settled b) where
   known-settled : (i w : ℕ) → IsKnown s (Some v) i w → IsKnown s None i w
   known-settled i w (settled d k) = settled d k
@@ -174,7 +174,7 @@ module _ (needs : List (List ℕ)) (s : Search) (v : ℕ) (h : IsSound needs s (
         source = h.source;
       }
 
--- a need of the last group is looked at
+-- an edge is taken from the last group
 module _ (needs : List (List ℕ)) (s : Search) (h : IsSound needs s None) (ms : List Mark) (m : Mark) (e : s.marks ≡ ms ++ m ∷ []) (rest : List ℕ) (v : ℕ) (last : s.waiting ≡ rest ++ v ∷ []) (some : m.waiting ≤ length rest) where
   abbrev popped : Search
   popped = with_waiting s rest
@@ -247,7 +247,7 @@ module _ (needs : List (List ℕ)) (s : Search) (h : IsSound needs s None) (ms :
   pub looked-edge : (u : ℕ) × Needs needs u v
   looked-edge = (at s source.place, edge)
 
--- what a list is after its last item is taken off
+-- a list after its last item is removed
 pub popped-is : {X : Type 0} (taken : Option X) (old new front : List X) (x : X)
     → MatchOption taken ((old ≡ []) × (new ≡ [])) (λ last. old ≡ new ++ last ∷ []) → old ≡ front ++ x ∷ [] → new ≡ front
 popped-is None old new front x k e = absurd (omega (arith, ap length e, length_push front x, ap length k.0))

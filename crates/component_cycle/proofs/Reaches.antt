@@ -1,4 +1,4 @@
--- Paths that are joined, and what is closed under edges.
+-- Joined paths, and properties that are closed under edges.
 use Rattle.std.proofs.Common.{◌≢◌, ◌<◌, ℕ, List, [], length, subst, sym, ap, inl, inr, arith}
 use Rattle.std.proofs.lemmas.Bool.{cases_lt}
 use Rattle.std.proofs.lemmas.List.{get_or_past}
@@ -21,11 +21,11 @@ pub path-apart : (needs : List (List ℕ)) (u v : ℕ) → u ≢ v → Reaches n
 path-apart needs u v ne (inl e) = absurd (ne e)
 path-apart needs u v ne (inr p) = p
 
--- what holds of all that a node with it needs holds of all that the node leads to
+-- a property that edges keep is kept by paths
 pub path-keeps : (needs : List (List ℕ)) (P : ℕ → Type 0) → ((u v : ℕ) → P u → Needs needs u v → P v) → (u v : ℕ) → P u → IsPath (Needs needs) u v → P v
 path-keeps needs P closed u v h (last e) = closed u v h e
 path-keeps needs P closed u v h (more {w = x} e p) = path-keeps needs P closed x v (closed u x h e) p
 
--- what a node beyond the graph needs
+-- each edge leads to a node of the graph
 pub to-edge : (needs : List (List ℕ)) → IsGraph needs → (u v : ℕ) → Needs needs u v → v < length needs
 to-edge needs h u v (k, l, e) = let below = h u [] (needs_within needs u v (k, l, e)) k v l in omega (arith, below, e)

@@ -11,7 +11,7 @@ led_to = (1 ∷ []) ∷ (2 ∷ []) ∷ (1 ∷ []) ∷ []
 one_on_cycle : IsOnCycle led_to 1
 one_on_cycle = more {w = 2} (0, omega arith, refl) (last (0, omega arith, refl))
 
--- what a node of it leads to comes after 0
+-- no path of it leads to 0
 never-zero : (u v : ℕ) → IsPath (Needs led_to) u v → 0 < v
 never-zero zero v (last (zero, l, e)) = omega (arith, e)
 never-zero (suc zero) v (last (zero, l, e)) = omega (arith, e)

@@ -1,4 +1,4 @@
--- What holds while the path of groups grows and shrinks.
+-- The invariant of the search.
 use Rattle.std.specs.Prelude.{◌≡◌, ◌≢◌, ◌↔◌, ◌⊎◌, ℕ, ◌+◌, ◌<◌, ◌≤◌, Bool, true, false, List, [], ◌∷◌, ◌++◌, length, Option, Some, None, IsTrue, Contains, slice_index, slice_index_or, slice_set}
 use Rattle.std.specs.List.{AllPairs}
 use Rattle.component_cycle.specs.declared.search.State.{State}
@@ -16,47 +16,47 @@ state s v = slice_index_or s.states v Unseen
 abbrev pub at : Search → ℕ → ℕ
 at s i = slice_index s.path i
 
--- the last of some marks
+-- the last mark
 abbrev pub IsLast : List Mark → Mark → Type 0
 IsLast marks m = (front : List Mark) × (marks ≡ front ++ m ∷ [])
 
--- there is a last mark, of which this holds
+-- there is a last mark, with this property
 abbrev pub HasLast : List Mark → (Mark → Type 0) → Type 0
 HasLast marks P = (m : Mark) × IsLast marks m × P m
 
--- each group that begins at place i or before begins at j or before
+-- place j isn't before the group of place i
 abbrev pub IsNotBefore : Search → ℕ → ℕ → Type 0
 IsNotBefore s i j = (m : Mark) → Contains s.marks m → m.place ≤ i → m.place ≤ j
 
--- v is u, or a path leads from u to v
+-- v is u, or is reachable from u
 abbrev pub Reaches : List (List ℕ) → ℕ → ℕ → Type 0
 Reaches needs u v = (u ≡ v) ⊎ IsPath (Needs needs) u v
 
--- where a need of the node at place i is: it is settled, or on the path in the group or behind it, or it waits, or it
--- is the one that is looked at
+-- a target v of the node at place i is settled, is on the path no earlier than the group of i, waits, or is the target
+-- of the current edge
 pub data IsKnown (s : Search) (loose : Option ℕ) (i v : ℕ) : Type 0 where
   settled : (b : Bool) → state s v ≡ Settled b → IsKnown s loose i v
   on_path : (p : ℕ) → state s v ≡ OnPath p → IsNotBefore s i p → IsKnown s loose i v
   waits : (l : ℕ) → l < length s.waiting → slice_index s.waiting l ≡ v → ((m : Mark) → Contains s.marks m → m.place ≤ i → m.waiting ≤ l) → IsKnown s loose i v
   looked_at : loose ≡ Some v → IsKnown s loose i v
 
--- whose need a waiting one is: that of a node in the same group
+-- a waiting target has an edge from a node of the same group
 pub record HasSource (needs : List (List ℕ)) (s : Search) (l : ℕ) : Type 0 where
   pub place : ℕ
   pub within : place < length s.path
   pub edge : Needs needs (at s place) (slice_index s.waiting l)
   pub same_group : (m : Mark) → Contains s.marks m → (m.place ≤ place ↔ m.waiting ≤ l)
 
--- a settled node is on a cycle exactly if its state says so
+-- a settled node lies on a cycle iff its state is `Settled(true)`
 pub record IsRight (needs : List (List ℕ)) (u : ℕ) (b : Bool) : Type 0 where
   pub cycle : b ≡ true → IsOnCycle needs u
   pub none : b ≡ false → IsOnCycle needs u → ⊥
 
--- a mark stands before another
+-- a mark is before another
 abbrev pub IsBelow : Mark → Mark → Type 0
 IsBelow m n = (m.place < n.place) × (m.waiting ≤ n.waiting)
 
--- what a search keeps is right: what is settled, what is on the path and in which group, and what waits
+-- the invariant: of settled nodes, of the path and its groups, and of waiting targets
 pub record IsSound (needs : List (List ℕ)) (s : Search) (loose : Option ℕ) : Type 0 where
   pub count : length s.states ≡ length needs
   pub placed : (u i : ℕ) → state s u ≡ OnPath i → (i < length s.path) × (at s i ≡ u)
@@ -71,11 +71,11 @@ pub record IsSound (needs : List (List ℕ)) (s : Search) (loose : Option ℕ) :
   pub known : (i v : ℕ) → i < length s.path → Needs needs (at s i) v → IsKnown s loose i v
   pub source : (l : ℕ) → l < length s.waiting → HasSource needs s l
 
--- each node of the path leads to v
+-- a path leads from each node of the path to v
 abbrev pub Leads : List (List ℕ) → Search → ℕ → Type 0
 Leads needs s v = (i : ℕ) → i < length s.path → IsPath (Needs needs) (at s i) v
 
--- v begins a group of its own at the end of the path, and its needs wait
+-- v is appended to the path as a group of its own, and its targets wait
 abbrev pub entered : List (List ℕ) → ℕ → Search → Search
 entered needs v s =
     record {
@@ -93,33 +93,33 @@ AreSettled nodes on_cycle states = (i : ℕ) → i < length nodes → slice_inde
 abbrev pub OthersStay : List ℕ → List State → List State → Type 0
 OthersStay nodes old new = (v : ℕ) → (Contains nodes v → ⊥) → slice_index_or new v Unseen ≡ slice_index_or old v Unseen
 
--- what there is to do yet for a node that isn't seen
+-- the remaining work for a node in this state
 abbrev pub cost : List ℕ → State → ℕ
 cost ns Unseen = length ns + 2
 cost ns (OnPath i) = 0
 cost ns (Settled b) = 0
 
--- what there is to do yet for all nodes
+-- the remaining work for all nodes
 abbrev pub costs : List (List ℕ) → List State → ℕ
 costs [] states = 0
 costs (ns ∷ needs) [] = 0
 costs (ns ∷ needs) (x ∷ states) = cost ns x + costs needs states
 
--- what there is to do yet
+-- the measure of the search: the remaining work
 abbrev pub to_do : List (List ℕ) → Search → ℕ
 to_do needs s = costs needs s.states + length s.waiting + length s.marks
 
--- from one state of the search to a later one
+-- a later state of the search, with a bound on the remaining work
 pub record GoesOn (needs : List (List ℕ)) (s t : Search) (bound : ℕ) : Type 0 where
   pub sound : IsSound needs t None
   pub seen : (v : ℕ) → state s v ≢ Unseen → state t v ≢ Unseen
   pub less : to_do needs t < bound
 
--- a step by which less is left to do
+-- a step that lowers the measure
 abbrev pub Steps : List (List ℕ) → Search → Search → Type 0
 Steps needs s t = GoesOn needs s t (to_do needs s)
 
--- a step by which no more is left to do
+-- a step that doesn't raise the measure
 abbrev pub Follows : List (List ℕ) → Search → Search → Type 0
 Follows needs s t = GoesOn needs s t (to_do needs s + 1)
 
@@ -129,12 +129,12 @@ is_on_cycle Unseen = false
 is_on_cycle (OnPath i) = false
 is_on_cycle (Settled b) = b
 
--- whether the nodes of a whole group lie on cycles
+-- whether the nodes of a component lie on cycles
 pub record IsCyclic (needs : List (List ℕ)) (group : List ℕ) (b : Bool) : Type 0 where
   pub several : 2 ≤ length group → b ≡ true
   pub alone : length group ≡ 1 → (IsTrue b ↔ Needs needs (slice_index group 0) (slice_index group 0))
 
--- where these nodes were seen before, as much is left to do as before
+-- if these nodes were seen before, the remaining work is the same
 abbrev pub SeenCostNothing : List ℕ → List State → List State → Type 0
 SeenCostNothing nodes old new = (needs : List (List ℕ)) → length old ≡ length needs
     → ((i : ℕ) → i < length nodes → slice_index_or old (slice_index nodes i) Unseen ≢ Unseen) → costs needs new ≡ costs needs old

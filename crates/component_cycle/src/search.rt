@@ -1,7 +1,7 @@
-// The nodes of the path stand in groups, and those of a group lead to each other. From each group on the path an edge
-// leads into the next. A need of the last group is looked at: an unseen node becomes a group at the end of the path,
-// and a node on the path makes one group of all from its own on. Once the last group has no need left, it is settled:
-// all that its nodes lead to is settled, so that it is a whole strongly connected component.
+// The path-based algorithm for strongly connected components. The path is cut into groups. The nodes of a group reach
+// each other, and each group has an edge into the next. A step takes an edge from the last group. An unseen target
+// becomes a new last group; a target on the path merges all groups from its own on. A last group without further edges
+// is a whole strongly connected component, and is settled.
 ghost use Rattle.std.specs.Prelude.{◌≡◌, ◌≢◌, ◌≤◌, ◌<◌, ◌↔◌, ◌⊎◌, ℕ, List, [], ◌++◌, length, IsTrue, IfOk, OnOk, MatchOption, true, false, All, Contains, drop, slice_index, slice_index_or, replicate, position};
 ghost use Rattle.component_cycle.specs.declared.search.State.{State};
 ghost use Rattle.component_cycle.specs.declared.search.Mark.{Mark};
@@ -11,17 +11,17 @@ ghost use Rattle.component_cycle.specs.Search.{IsSound, IsLast, HasLast, Follows
 use plan_types::{List, NoMemory};
 use std::alloc::Global;
 
-/// What is known of a node.
+/// The state of a node.
 #[derive(Clone, Copy, Drop)]
 pub(crate) enum State {
     Unseen,
-    /// Its place on the path.
+    /// On the path, at this place.
     OnPath(usize),
-    /// Whether it lies on a cycle.
+    /// Its component is complete; whether the node lies on a cycle.
     Settled(bool),
 }
 
-/// Where a group begins on the path, and where its needs begin among those that wait.
+/// The start of a group on the path, and of its targets in `waiting`.
 #[derive(Clone, Copy, Drop)]
 pub(crate) struct Mark {
     pub place: usize,
@@ -35,7 +35,7 @@ pub(crate) struct Search {
     pub marks: List<Mark>,
 }
 
-// Written out, so that it is proved once and not at each exit of each function that owns one.
+// Explicit, so that it is proved once: a derived one is expanded at each exit.
 impl Drop for Search {
     fn drop(self) {
         let Search {
@@ -59,7 +59,7 @@ impl Search {
         })
     }
 
-    // Makes a node the last group of the path.
+    // Appends a node to the path as a group of its own.
     fn enter(&mut self, needs: &[List<usize>], node: usize) -> Result<(), NoMemory>
         requires node { node < length needs.now }
         requires count { length self.old.states ≡ length needs.now }
@@ -74,7 +74,7 @@ impl Search {
         push_all(&mut self.waiting, needs[node].as_slice())
     }
 
-    /// Settles a node, and all that it leads to.
+    /// Settles a node and all nodes that it reaches.
     pub(crate) fn settle(&mut self, needs: &[List<usize>], root: usize) -> Result<(), NoMemory>
         requires graph { IsGraph needs.now }
         requires root { root < length needs.now }
@@ -112,7 +112,7 @@ impl Search {
         self.marks.as_slice().last().copied()
     }
 
-    // Whether the last group begins behind a place.
+    // Whether the last group begins after a place.
     fn begins_behind(&self, place: usize) -> bool
         ensures behind { result ≡ true → HasLast self.now.marks (λ m. place < m.place) }
         ensures not_behind { result ≡ false → (self.now.marks ≡ []) ⊎ HasLast self.now.marks (λ m. m.place ≤ place) }
@@ -123,7 +123,7 @@ impl Search {
         }
     }
 
-    // Looks at a need of the last group, or settles the group where none waits.
+    // Takes an edge from the last group, or settles the group if no edge is left.
     fn step(&mut self, needs: &[List<usize>], mark: Mark) -> Result<(), NoMemory>
         requires graph { IsGraph needs.now }
         requires sound { IsSound needs.now self.old None }
@@ -140,7 +140,7 @@ impl Search {
         }
     }
 
-    // Looks at a node to which the last group leads. Where it stands on the path, all from its place on are one group.
+    // Takes an edge from the last group to a node. If the node is on the path, merges the groups from its own on.
     fn look_at(&mut self, needs: &[List<usize>], node: usize) -> Result<(), NoMemory>
         requires sound { IsSound needs.now self.old (Some node) }
         requires leads { Leads needs.now self.old node }
@@ -173,7 +173,7 @@ impl Search {
         self.marks.pop();
     }
 
-    /// The first node that is settled as one on a cycle.
+    /// The first settled node that lies on a cycle.
     pub(crate) fn first_on_cycle(&self) -> Option<usize>
         ensures { result ≡ position is_on_cycle self.now.states }
     {
@@ -184,7 +184,7 @@ impl Search {
     }
 }
 
-// The path from a place on.
+// The path from a place to its end.
 fn behind(path: &List<usize>, place: usize) -> &[usize]
     requires { place ≤ length path.now }
     ensures { result.now ≡ drop place path.now }
@@ -202,7 +202,7 @@ fn is_on_cycle(state: State) -> bool
     }
 }
 
-// Whether the nodes of a whole group lie on cycles: it has several, or one that needs itself.
+// Whether the nodes of a component lie on cycles: there are several, or one that needs itself.
 fn is_cyclic(needs: &[List<usize>], group: &[usize]) -> bool
     requires { All (λ v. v < length needs.now) group.now }
     ensures { IsCyclic needs.now group.now result }
