@@ -1,4 +1,4 @@
-// Lists that are found by keys.
+// Maps from keys to lists.
 ghost use Rattle.std.specs.Prelude.{◌≡◌, ◌++◌, [], ◌∷◌, OnOk, OnErr, if◌then◌else◌};
 ghost use Rattle.keyed_lists.specs.Lists.{all_but_last, items_at};
 
@@ -7,10 +7,10 @@ use plan_types::{List, NoMemory};
 use std::alloc::Global;
 use std::hash::Hash;
 
-/// Lists that are found by keys.
+/// A map from keys to lists.
 pub type Lists<K, T> = IndexMap<K, List<T>>;
 
-/// Puts an item behind those that a key has.
+/// Appends an item to the list of a key.
 pub fn push_at<K: Eq + Hash + Drop, T: Drop>(
     alloc: Global,
     lists: &mut Lists<K, T>,
@@ -29,7 +29,7 @@ pub fn push_at<K: Eq + Hash + Drop, T: Drop>(
     Ok(())
 }
 
-/// Takes the last of the items off that a key has.
+/// Removes the last item from the list of a key.
 pub fn pop_at<K: Eq + Hash, T: Drop>(lists: &mut Lists<K, T>, key: &K)
     ensures { (k : K) → items_at K.eq lists.new k ≡ (if K.eq key.now k then all_but_last (items_at K.eq lists.old k) else items_at K.eq lists.old k) }
 {
@@ -38,7 +38,7 @@ pub fn pop_at<K: Eq + Hash, T: Drop>(lists: &mut Lists<K, T>, key: &K)
     }
 }
 
-/// The items that a key has.
+/// The list of a key; empty if it has none.
 pub fn items_at<'a, K: Eq + Hash, T>(lists: &'a Lists<K, T>, key: &K) -> &'a [T]
     ensures { result.now ≡ items_at K.eq lists.now key.now }
 {
