@@ -1,4 +1,4 @@
--- Marks, one more or some more of them.
+-- Marking one more node, or several.
 use Rattle.std.proofs.Common.{◌≡◌, ◌<◌, ◌≤◌, ◌⊎◌, ◌↔◌, inl, inr, ⊎_elim, ℕ, zero, suc, ◌+◌, Bool, true, false, not, List, [], ◌∷◌, ◌++◌, length, get_or, take, refl, sym, subst, ap, ◌∙◌, arith}
 use Rattle.std.specs.Prelude.{Contains, count_by}
 use Rattle.std.proofs.lemmas.Bool.{cases_eq}
@@ -18,7 +18,7 @@ is false = inr (λ e. cc)
 pub is_marked : (led : List Bool) (i : ℕ) → IsMarked led i ⊎ (IsMarked led i → ⊥)
 is_marked led i = is (get_or led i false)
 
--- from some marks and what waits to more marks, where those that are new wait
+-- marks and waiting nodes before and after some nodes are marked
 pub record Marks (gone : List ℕ) (old new : List Bool) (before behind : List ℕ) : Type 0 where
   pub same : length new ≡ length old
   pub marked : (i : ℕ) → IsMarked new i ↔ IsMarked old i ⊎ (Contains gone i × (i < length old))
@@ -74,7 +74,7 @@ marks_more nodes n node a c x z lt is h = subst (λ g. Marks g a c x z) (sym (ta
 pub marks_all : (nodes : List ℕ) (n : ℕ) (a c : List Bool) (x z : List ℕ) → length nodes ≤ n → Marks (take n nodes) a c x z → Marks nodes a c x z
 marks_all nodes n a c x z over = subst (λ g. Marks g a c x z) (take_all n nodes over)
 
--- the places of the first marks
+-- the marked places among the first ones
 module _ (marked : List Bool) where
   abbrev pub Places : List ℕ → ℕ → Type 0
   Places found n = (i : ℕ) → Contains found i ↔ (i < n) × IsMarked marked i

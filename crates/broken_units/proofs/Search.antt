@@ -1,4 +1,4 @@
--- What holds while nodes wait.
+-- The invariant of the search.
 use Rattle.std.proofs.Common.{◌≡◌, ◌<◌, ◌⊎◌, ◌↔◌, inl, inr, ⊎_elim, ℕ, ◌+◌, Bool, not, List, [], ◌∷◌, ◌++◌, length, get_or, sym, subst, ◌∙◌, arith, length-append}
 use Rattle.std.specs.Prelude.{Contains, count_by}
 use Rattle.std.proofs.lemmas.List.Elements.{Contains-append_left, Contains-push, Contains-push_cases}
@@ -7,7 +7,7 @@ use Rattle.broken_units.specs.Leads.{IsUser, Leads, here, over}
 use Rattle.common_laws.specs.Graphs.{IsMarked, Needs, marked_within, needs_within}
 use Rattle.broken_units.proofs.Marked.{Marks, is_marked}
 
--- Each node that is marked leads to one that was marked at first, and what needs a marked node is marked, or that node waits.
+-- Each marked node reaches an initially marked one. The users of a marked node are marked, or the node waits.
 pub record Search (needs : List (List ℕ)) (first led : List Bool) (waiting : List ℕ) : Type 0 where
   pub same : length led ≡ length needs
   pub leads : (i : ℕ) → IsMarked led i → Leads needs first i

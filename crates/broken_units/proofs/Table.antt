@@ -1,4 +1,4 @@
--- The tables of users, one user further.
+-- The table of users, after one more user.
 use Rattle.std.proofs.Common.{zero, suc, ◌≡◌, ◌<◌, ◌≤◌, ◌⊎◌, ◌↔◌, ℕ, ◌+◌, List, [], ◌∷◌, ◌++◌, length, get_or, set, take, refl, sym, subst, ap, ◌∙◌, arith}
 use Rattle.std.specs.Prelude.{Contains}
 use Rattle.std.proofs.Common.{inl, inr, ⊎_elim}
@@ -32,7 +32,7 @@ module _ (users : List (List ℕ)) (node user : ℕ) (old new : List ℕ) (withi
   added u v = ⊎_elim (λ e. subst (λ w. IsUser (set users node new) u w ↔ Added users node user u w) (sym e) (here u)) (λ n. there u v n) (cases_eq v node)
 
 module _ (old : List (List ℕ)) (user : ℕ) (nodes : List ℕ) where
-  -- the users so far, where the first nodes were gone through
+  -- the table after some of a user's nodes
   abbrev pub With : List (List ℕ) → List ℕ → Type 0
   With users gone = (length users ≡ length old) × ((u v : ℕ) → IsUser users u v ↔ IsUser old u v ⊎ ((u ≡ user) × Contains gone v × (v < length old)))
 
@@ -69,7 +69,7 @@ pub no_user : (users : List (List ℕ)) → ((v : ℕ) → get_or users v [] ≡
 no_user users h u v l = contains-none u (subst (λ us. Contains us u) (h v) l)
 
 module _ (needs : List (List ℕ)) where
-  -- the users, where the first nodes were gone through
+  -- the table after the first n users
   abbrev pub Users : List (List ℕ) → ℕ → Type 0
   Users users n = (length users ≡ length needs) × ((u v : ℕ) → IsUser users u v ↔ (u < n) × Needs needs u v × (v < length needs))
 

@@ -1,8 +1,8 @@
--- Which nodes of a graph, in which each node has the list of those that it needs, lead to a marked one.
+-- The nodes that reach a marked node, in a graph that is given by adjacency lists.
 use Rattle.std.specs.Prelude.{◌≡◌, ◌<◌, ◌↔◌, ◌⊎◌, ℕ, Bool, List, [], length, Contains, slice_index_or}
 use Rattle.common_laws.specs.Graphs.{Needs, IsMarked}
 
--- a node is marked, or needs one that leads to a marked one
+-- a node is marked, or a path leads from it to a marked node
 pub data Leads (needs : List (List ℕ)) (marked : List Bool) : ℕ → Type 0 where
   here : {u : ℕ} → IsMarked marked u → Leads needs marked u
   over : {u : ℕ} (v : ℕ) → Needs needs u v → Leads needs marked v → Leads needs marked u
@@ -11,18 +11,18 @@ pub data Leads (needs : List (List ℕ)) (marked : List Bool) : ℕ → Type 0 w
 abbrev pub IsUser : List (List ℕ) → ℕ → ℕ → Type 0
 IsUser users u v = Contains (slice_index_or users v []) u
 
--- these are the users of each node
+-- the users are the reversed edges of the graph
 abbrev pub AreUsers : List (List ℕ) → List (List ℕ) → Type 0
 AreUsers needs users = (length users ≡ length needs) × ((u v : ℕ) → IsUser users u v ↔ Needs needs u v × (v < length needs))
 
--- one becomes a user of such nodes
+-- one user is added to all nodes with this property
 abbrev pub AddsUser : ℕ → (ℕ → Type 0) → List (List ℕ) → List (List ℕ) → Type 0
 AddsUser user Of old new = (u v : ℕ) → IsUser new u v ↔ IsUser old u v ⊎ ((u ≡ user) × Of v × (v < length old))
 
--- such nodes are marked too
+-- all nodes with this property are marked too
 abbrev pub MarksMore : (ℕ → Type 0) → List Bool → List Bool → Type 0
 MarksMore Of old new = (i : ℕ) → IsMarked new i ↔ IsMarked old i ⊎ (Of i × (i < length old))
 
--- those that weren't marked before have to wait too
+-- the newly marked nodes wait too
 abbrev pub NewlyMarkedWait : List Bool → List Bool → List ℕ → List ℕ → Type 0
 NewlyMarkedWait old_led new_led old new = (i : ℕ) → Contains new i ↔ Contains old i ⊎ (IsMarked new_led i × (IsMarked old_led i → ⊥))

@@ -1,4 +1,4 @@
-// The nodes that lead to marked ones.
+// The nodes that reach a marked node.
 ghost use Rattle.std.specs.Prelude.{◌≡◌, ◌+◌, ◌<◌, ◌≤◌, ◌⊎◌, ◌↔◌, ℕ, [], length, true, false, not, Contains, IfOk, OnOk, count_by, slice_index_or};
 ghost use Rattle.broken_units.specs.Leads.{IsUser, Leads, MarksMore, NewlyMarkedWait};
 ghost use Rattle.common_laws.specs.Graphs.{IsMarked, Needs};
@@ -7,7 +7,7 @@ use crate::users::users_of;
 use plan_types::{List, NoMemory};
 use std::alloc::Global;
 
-/// Which nodes lead to a marked one.
+/// Which nodes are marked or reach a marked node.
 pub fn leading(
     alloc: Global,
     needs: &[List<usize>],
@@ -48,7 +48,7 @@ fn places(alloc: Global, marked: &[bool]) -> Result<List<usize>, NoMemory>
     Ok(found)
 }
 
-// Marks nodes. Those that weren't marked have to wait.
+// Marks nodes, and pushes the newly marked ones.
 fn mark_all(
     nodes: &[usize],
     led: &mut List<bool>,

@@ -1,11 +1,11 @@
-// The users of each node: the nodes that need it.
+// Reversed edges: the users of a node are the nodes that need it.
 ghost use Rattle.std.specs.Prelude.{◌≡◌, ◌<◌, ◌≤◌, ◌⊎◌, ◌↔◌, ℕ, [], length, Contains, IfOk, OnOk, slice_index_or, take};
 ghost use Rattle.broken_units.specs.Leads.{IsUser, AreUsers, AddsUser};
 
 use plan_types::{List, NoMemory};
 use std::alloc::Global;
 
-/// The users of each node. A number that is no node has none.
+/// The users of each node. Edges to numbers that are no nodes are ignored.
 pub fn users_of(alloc: Global, needs: &[List<usize>]) -> Result<Vec<List<usize>>, NoMemory>
     ensures { IfOk result (λ users. AreUsers needs.now users.items) }
 {
