@@ -1,4 +1,4 @@
--- Names that are put into a set one by one, and the goal order by their numbers.
+-- Sets of names built by insertion, and the goal order by numbers.
 use Rattle.std.proofs.Common.{◌≡◌, ℕ, ◌<◌, Bool, true, false, cond, ◌||◌, List, [], ◌∷◌, ◌++◌, ◌+◌, length, map, fold, take, get_or, refl, sym, ap, ◌∙◌, subst, append_assoc, append-nil, if◌then◌else◌, inl, inr}
 use Rattle.std.specs.List.{list_any, dedup, dedup_from, AllByRecursion, IsDistinct}
 use Rattle.std.specs.List.Sorted.{IsSorted, IsStrictlySortedBy}
@@ -27,7 +27,7 @@ use Rattle.plan_types.specs.Bytes.{same_text}
 use Rattle.common_laws.specs.Small.{or-last}
 use Rattle.plan_types.specs.Packages.{no_package}
 
--- a name that is put behind others isn't among these
+-- in a list of distinct names, a name isn't among those before it
 none-before : (names : List Name) (name : Name) (more : List Name) → IsDistinct same_text (names ++ name ∷ more) → list_any (same_text name) names ≡ false
 none-before [] name more h = refl
 none-before (n ∷ names) name more h =
@@ -38,7 +38,7 @@ none-before (n ∷ names) name more h =
     at-end [] m more h = h.0
     at-end (x ∷ ns) m more h = at-end ns m more h.1
 
--- names that differ go in one by one
+-- inserting distinct names appends them
 put-all : (names more : List Name) → IsDistinct same_text (names ++ more) → fold (insert_key same_text) names more ≡ names ++ more
 put-all names [] h = sym (append-nil names)
 put-all names (n ∷ more) h =
@@ -50,7 +50,7 @@ put-all names (n ∷ more) h =
 pub distinct-kept : (names : List Name) → IsDistinct same_text names → fold (insert_key same_text) [] names ≡ names
 distinct-kept names h = put-all [] names h
 
--- names that are sorted and differ rise
+-- sorted distinct names are strictly sorted
 
 kept-from : (name : Name) (names : List Name) → IsDistinct same_text (name ∷ names) → dedup_from same_text name names ≡ name ∷ names
 kept-from name [] h = refl
@@ -66,7 +66,7 @@ kept (n ∷ names) h = kept-from n names h
 pub sorted-rise : (names : List Name) → IsSorted (slice_cmp nat_cmp) names → IsDistinct same_text names → IsStrictlySortedBy (slice_cmp nat_cmp) names
 sorted-rise names sorted distinct = subst (IsStrictlySortedBy (slice_cmp nat_cmp)) (kept names distinct) (IsStrictlySortedBy-dedup nat_list_cmp_total texts_ties names sorted)
 
--- names that are put in are the names that were
+-- insertion keeps the set of names
 
 or-turn : (a b c : Bool) → ((a || b) || c) ≡ (b || (a || c))
 or-turn true true c = refl
@@ -98,7 +98,7 @@ listed-all names (n ∷ more) q =
 pub names-stay : (names : List Name) (q : Name) → is_listed (fold (insert_key same_text) [] names) q ≡ is_listed names q
 names-stay names q = listed-all [] names q
 
--- places in a sorted list are in its order
+-- in a strictly sorted list, the order of places is the order of items
 
 place-order : {K : Type 0} (R : K → K → Ordering) → IsTotalOrder R → (xs : List K) → IsStrictlySortedBy R xs → (d : K) (i j : ℕ) → i < length xs → j < length xs → nat_cmp i j ≡ R (get_or xs i d) (get_or xs j d)
 place-order R total xs sorted d i j hi hj = elim (cases_order i j) [
@@ -157,7 +157,7 @@ module _ (packages : List Package) (names : NameTable) (sorted : IsStrictlySorte
       ∙ ap (λ o. ordering_then (qual_order packages v.qual w.qual) (ordering_then o (part_cmp v.part w.part))) (by-package v.«package» w.«package» hv.package_is hw.package_is)
       ∙ ap (λ o. ordering_then (qual_order packages v.qual w.qual) (ordering_then (by_package packages v.«package» w.«package») o)) (by-part v.part w.part hv.part_is hw.part_is)
 
--- one name more is put in
+-- one more name is inserted
 pub put-one : {X : Type 0} (name : X → Name) (start : List Name) (xs : List X) (i : ℕ) (x : X) (before after : List Name) (n : Name)
     → i < length xs → x ≡ get_or xs i x → n ≡ name x → before ≡ fold (insert_key same_text) start (map name (take i xs)) → after ≡ insert_key same_text before n
     → after ≡ fold (insert_key same_text) start (map name (take (i + 1) xs))

@@ -15,7 +15,7 @@ use Rattle.qualified_goals.specs.Variable.{qual_cmp, part_cmp, var_cmp, is_befor
 use Rattle.qualified_goals.specs.SameVariable.{same_var-is}
 use Rattle.common_laws.specs.Small.{is-less}
 
--- an order that is another one at each pair is total where that is
+-- an order that agrees with a total order is total
 total-alike : {K : Type 0} (R S : K → K → Ordering) → ((x y : K) → R x y ≡ S x y) → IsTotalOrder S → IsTotalOrder R
 total-alike R S e o = record {
   antisymm = λ x y. e x y ∙ o.antisymm x y ∙ ap ordering_reverse (sym (e y x));
@@ -109,7 +109,7 @@ part_cmp_total = total-alike part_cmp part_parts part-parts part_parts_total
 pub var_cmp_total : IsTotalOrder var_cmp
 var_cmp_total = then_total (on_total (λ (v : Var). v.qual) qual_cmp_total) (then_total (on_total (λ (v : Var). v.«package») nat_cmp_total) (on_total (λ (v : Var). v.part) part_cmp_total))
 
--- what a test for before says
+-- laws of `is_before`
 
 pub before-itself : (v : Var) → is_before v v ≡ false
 before-itself v = ap is_lt (tied_itself var_cmp_total v)
@@ -130,11 +130,11 @@ neither-equal Less h k = absurd (false≢true (sym h))
 neither-equal Equal h k = refl
 neither-equal Greater h k = absurd (false≢true (sym k))
 
--- two variables of which neither is before the other are one
+-- two variables are equal if neither is before the other
 pub before-neither : (v w : Var) → is_before v w ≡ false → is_before w v ≡ false → v ≡ w
 before-neither v w h k = same_var-is v w (neither-equal (var_cmp v w) h (sym (ap is_lt (var_cmp_total.antisymm w v)) ∙ k))
 
--- what isn't after a lesser one isn't after a greater one
+-- `is_before` is negatively transitive
 pub not-before-trans : (u v w : Var) → is_before v u ≡ false → is_before w v ≡ false → is_before w u ≡ false
 not-before-trans u v w h k =
     elim (is_before w u) as (λ b. is_before w u ≡ b → b ≡ false) [

@@ -1,4 +1,4 @@
--- Packages with these names stand in goal order.
+-- Packages with these names are in goal order.
 use Rattle.std.proofs.Common.{◌≡◌, Bool, true, false, [], ◌∷◌, ap, ◌∙◌, codes}
 use Rattle.std.specs.List.{IsDistinct}
 use Rattle.std.specs.List.Sorted.{IsStrictlySortedBy}

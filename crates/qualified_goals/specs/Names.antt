@@ -1,4 +1,4 @@
--- Names and their numbers, and the goal order in terms of names.
+-- Names and their numbers, and the goal order by names.
 use Rattle.std.specs.Prelude.{◌≡◌, ℕ, ◌<◌, ⊤, Bool, false, List, [], length, map, flat_map, position, codes, Option, get_or, if◌then◌else◌}
 use Rattle.std.specs.List.{list_any, IsDistinct}
 use Rattle.std.specs.List.Sorted.{IsStrictlySortedBy}
@@ -19,15 +19,15 @@ use Rattle.qualified_goals.specs.Variable.{var_cmp}
 use Rattle.plan_types.specs.Bytes.{same_text}
 use Rattle.plan_types.specs.Packages.{declared_by, no_package}
 
--- a name is its bytes
+-- the bytes of a name
 abbrev pub Name : Type 0
 Name = List ℕ
 
--- whether a name is among these
+-- whether a name is in the list
 abbrev pub is_listed : List Name → Name → Bool
 is_listed names name = list_any (same_text name) names
 
--- a name's number is its place among the names of its kind
+-- the names of packages and of flags; a name's number is its place among its kind
 pub record NameTable : Type 0 where
   pub packages : List Name
   pub flags : List Name
@@ -36,7 +36,7 @@ pub record NameTable : Type 0 where
 abbrev pub number_of : List Name → Name → Option ℕ
 number_of names name = position (same_text name) names
 
--- the name that has a number
+-- the name with this number
 abbrev pub name_of : List Name → ℕ → Name
 name_of names number = get_or names number []
 
@@ -50,7 +50,7 @@ package_names packages = map (λ p. p.name) packages
 abbrev pub flags_in : Package → List FlagDecl
 flags_in p = flat_map (λ e. declared_by e.body) p.entries
 
--- the names of the flags that descriptions declare, as often as they do
+-- the names of all declared flags, with repetitions
 abbrev pub flag_names : List Package → List Name
 flag_names packages = map (λ f. f.name) (flat_map flags_in packages)
 
@@ -62,18 +62,18 @@ class_of p = if same_text p.name (codes "base") then 0 else if p.local then 1 el
 abbrev pub package_cmp : Package → Package → Ordering
 package_cmp p q = ordering_then (nat_cmp (class_of p) (class_of q)) (slice_cmp nat_cmp p.name q.name)
 
--- packages stand in goal order, each name once
+-- packages are in goal order, with distinct names
 pub record AreInGoalOrder (packages : List Package) : Type 0 where
   pub rising : IsStrictlySortedBy package_cmp packages
   pub once : IsDistinct same_text (package_names packages)
 
--- A package has its place in the index as its number. Flags are numbered in byte order.
+-- packages are numbered by place in the index, and flags in byte order
 pub record AreNumbers (packages : List Package) (names : NameTable) : Type 0 where
   pub packages_are : names.packages ≡ package_names packages
   pub flags_rise : IsStrictlySortedBy (slice_cmp nat_cmp) names.flags
   pub flags_are : (name : Name) → is_listed names.flags name ≡ is_listed (flag_names packages) name
 
--- the numbers of a variable are those of names
+-- variables whose numbers have names
 
 -- the packages that a qualifier names have numbers
 abbrev pub HasQual : NameTable → Qual → Type 0
@@ -139,6 +139,6 @@ part_order flags Benches Benches = Equal
 abbrev pub goal_order : List Package → List Name → Var → Var → Ordering
 goal_order packages flags v w = ordering_then (qual_order packages v.qual w.qual) (ordering_then (by_package packages v.«package» w.«package») (part_order flags v.part w.part))
 
--- the order of variables, which is by their numbers, is the goal order
+-- the order of variables by numbers is the goal order by names
 abbrev pub IsGoalOrder : List Package → NameTable → Type 0
 IsGoalOrder packages names = (v w : Var) → HasNumbers names v → HasNumbers names w → var_cmp v w ≡ goal_order packages names.flags v w

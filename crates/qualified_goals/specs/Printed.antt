@@ -1,4 +1,4 @@
--- The texts of variables.
+-- The printed forms of variables.
 use Rattle.std.specs.Prelude.{[], ◌++◌, codes}
 use Rattle.qualified_goals.specs.declared.variable.Qual.{Qual}
 use Rattle.qualified_goals.specs.declared.variable.Qual.TheVariants.{Top, Setup, Exe}

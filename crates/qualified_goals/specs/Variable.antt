@@ -1,4 +1,4 @@
--- Variables, which are equal where they name the same part of a package under one qualifier.
+-- The goal order of variables by numbers, and their equality.
 use Rattle.std.specs.Prelude.{Bool, true, false}
 use Rattle.std.specs.Ordering.{nat_cmp, ordering_then, is_eq, is_lt}
 use Rattle.std.specs.declared.cmp.Ordering.{Ordering}
@@ -40,10 +40,10 @@ part_cmp Benches q = Greater
 abbrev pub var_cmp : Var → Var → Ordering
 var_cmp v w = ordering_then (qual_cmp v.qual w.qual) (ordering_then (nat_cmp v.package w.package) (part_cmp v.part w.part))
 
--- whether two variables are one
+-- whether two variables are equal
 abbrev pub same_var : Var → Var → Bool
 same_var v w = is_eq (var_cmp v w)
 
--- whether a variable comes before another one
+-- whether a variable is before another
 abbrev pub is_before : Var → Var → Bool
 is_before v w = is_lt (var_cmp v w)

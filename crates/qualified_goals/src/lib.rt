@@ -1,5 +1,6 @@
-//! Goals of the planner: what is chosen, for which package, and where. Variables hold numbers, and their derived
-//! order is the order in which goals are taken; `Names` gives the names of an index these numbers, and prints variables.
+//! Variables of the planner: a qualifier, a package and a part, all by numbers. Their derived order is the goal order.
+//! `Names` takes an index, numbers its packages and flags, and prints variables. It promises that the order by numbers
+//! is the goal order by names.
 #![tactic(auto)]
 
 mod names;

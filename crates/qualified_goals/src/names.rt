@@ -1,4 +1,4 @@
-// The numbers of packages and flags, and the names behind them.
+// The numbers of packages and flags, and their names.
 ghost use Rattle.std.specs.Prelude.{◌≡◌, ◌<◌, ◌++◌, [], ◌∷◌, List, ℕ, length, map, fold, flat_map, IfOk, IfSome, OnOk};
 ghost use Rattle.std.specs.List.{IsDistinct};
 ghost use Rattle.std.specs.List.Sorted.{IsStrictlySortedBy};
@@ -16,7 +16,7 @@ use plan_types::{Body, FlagDecl, Index, NoMemory, Package, Text};
 use std::alloc::Global;
 use std::marker::Model;
 
-/// The names that variables speak of by numbers. A package's number is its place in the index, and a flag's is its
+/// The names behind the numbers of variables. A package's number is its place in the index. A flag's number is its
 /// place among the names of all flags, in byte order.
 #[derive(Debug)]
 pub struct Names {
@@ -24,7 +24,7 @@ pub struct Names {
     flags: IndexSet<Text>,
 }
 
-// Written out, so that it is proved once and not at each exit of each function that owns one.
+// Explicit, so that it is proved once: a derived one is expanded at each exit.
 impl Drop for Names {
     fn drop(self) {
         let Names {
@@ -70,7 +70,7 @@ impl Names {
         number_in(&self.flags, name)
     }
 
-    /// A variable as it is shown. A number that is in no table has no name.
+    /// The printed form of a variable. A number outside the table has an empty name.
     pub fn print_var(&self, alloc: Global, v: Var) -> Result<Text, NoMemory>
         ensures { IfOk result (λ text. text ≡ var_text self.now v) }
     {

@@ -2,7 +2,7 @@
 ghost use Rattle.std.specs.Prelude.{◌≡◌};
 ghost use Rattle.qualified_goals.specs.Variable.{same_var, is_before};
 
-/// Where a package is chosen: at top level, in the setup of a package, or for a tool of a package.
+/// The qualifier of a goal: top level, the setup of a package, or a tool of a package.
 #[derive(Clone, Copy, Debug, Drop, PartialEq, Eq, PartialOrd, Ord, Hash)]
 pub enum Qual {
     Top,
@@ -12,7 +12,7 @@ pub enum Qual {
     Exe(u64, u64),
 }
 
-/// What of a package is chosen: its instance, a flag by its number, or whether it has its tests or benchmarks.
+/// The part of a package that a variable is for: its instance, a flag by number, its tests, or its benchmarks.
 #[derive(Clone, Copy, Debug, Drop, PartialEq, Eq, PartialOrd, Ord, Hash)]
 pub enum Part {
     Package,
@@ -29,14 +29,14 @@ pub struct Var {
     pub part: Part,
 }
 
-/// Whether two variables are one, by the goal order's own test.
+/// Whether two variables are equal, by the goal order.
 pub fn is_same(v: Var, w: Var) -> bool
     ensures { result ≡ same_var v w }
 {
     v.cmp(&w).is_eq()
 }
 
-/// Whether a variable comes before another one in goal order.
+/// Whether a variable is before another in goal order.
 pub fn is_before(v: Var, w: Var) -> bool
     ensures { result ≡ is_before v w }
 {
