@@ -34,7 +34,7 @@ pub starts_digit : (digits : Digits) (test : ℕ → Bool) → NotDigits digits 
 starts_digit digits test none [] d = refl
 starts_digit digits test none (b ∷ again) d = none b d
 
--- a test of the first byte is the same for a like rest
+-- if the first byte fails the test, it fails for a like rest too
 pub starts_like : (digits : Digits) (test : ℕ → Bool) → NotDigits digits test → (front rest again : List ℕ) → Like digits again rest → starts test (front ++ rest) ≡ false → starts test (front ++ again) ≡ false
 starts_like digits test none [] rest again (inl e) h = starts_same test rest again e ∙ h
 starts_like digits test none [] rest again (inr d) h = starts_digit digits test none again d

@@ -14,7 +14,7 @@ pub record Digits : Type 0 where
   pub blank_on : (b : ℕ) → is_blank b ≡ true → on b ≡ false
 
 -- The syntax of a later version, the bytes that only the wider grammar reads (each with a cause), the
--- cause of a missing digit, and the cause of every other fault.
+-- cause of a missing or misplaced digit, and the cause of every other fault.
 pub record Kind : Type 0 where
   pub digits : Digits
   pub newer : List ℕ → Bool
