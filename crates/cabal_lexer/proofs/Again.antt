@@ -1,4 +1,4 @@
--- The canonical text of a tree stands for the tree again, but for the numbers of its lines.
+-- The canonical text of a tree parses as the same tree, except for line numbers.
 use Rattle.std.proofs.Common.{◌≡◌, ℕ, zero, suc, ◌+◌, ◌-◌, ◌<◌, ◌≤◌, Bool, true, false, cond, List, [], ◌∷◌, ◌++◌, length, take, drop, refl, sym, ◌∙◌, ap, subst, arith, append_assoc, length-append}
 use Rattle.std.specs.Prelude.{reverse, map, not, ◌&&◌, ◌||◌, ◌==◌, nat_le, if◌then◌else◌}
 use Rattle.std.specs.declared.result.Result.TheVariants.{Ok}
@@ -27,7 +27,7 @@ use Rattle.cabal_lexer.proofs.Printing.{joined, Clean, AllClean, clean-append, B
 use Rattle.std.proofs.lemmas.Bool.{not-true, and_parts, and_from}
 use Rattle.text_grammar.proofs.Boundaries.{boundary_front, is_blank-ascii}
 
--- ---- what is known of the lines that were read
+-- ---- properties of parsed lines
 
 pub record IsKeptText (text : List ℕ) : Type 0 where
   pub piece : Piece text
@@ -310,7 +310,7 @@ name-low [] rest n = let h = name-some [] n in absurd (omega arith)
 name-low (b ∷ name) rest n = bytes-low (b ∷ name) n.bytes
 
 module _ (s : List ℕ) (i : IsIndent s) (depth k number : ℕ) (low : nat_le depth 64 ≡ true) (name : List ℕ) (n : IsName name) where
-  -- a field whose line is known, with the further values on their own lines
+  -- a field with a known first line, and the further values on their own lines
   field-lines : (x first : List ℕ) (given more : List (List ℕ)) (text : List ℕ) → Piece x → 0 < length x → is_comment x ≡ false → ends_with_return x ≡ false → BeginsAscii x →
       opening x ≡ Ok (field name first) → Further more → list_all (λ value. not (ends_with_return value)) more ≡ true → first_value first ++ more ≡ given →
       text ≡ joined ((s ++ x) ∷ value_raws s more) → PrintedItem s depth k text (Field number name given)
@@ -332,7 +332,7 @@ module _ (s : List ℕ) (i : IsIndent s) (depth k number : ℕ) (low : nat_le de
         ∙ sym (zero-field number name given);
   }
 
-  -- a field with nothing behind its colon
+  -- a field without a value after its colon
   bare-field : (values : List (List ℕ)) (text : List ℕ) → Further values → list_all (λ value. not (ends_with_return value)) values ≡ true →
       text ≡ s ++ name ++ (58 ∷ 10 ∷ value_lines s values) → PrintedItem s depth k text (Field number name values)
   unfolding ends_with_return
@@ -411,7 +411,7 @@ module _ (s : List ℕ) (i : IsIndent s) (depth k number : ℕ) (low : nat_le de
         (opening-section name (b ∷ args) n p c e)
         (simp append_assoc refl)
 
--- ---- the parts of a line that was read
+-- ---- the parts of a parsed line
 
 begins-take : (b n : ℕ) (x : List ℕ) → begins_with b x ≡ false → begins_with b (take n x) ≡ false
 begins-take b zero [] h = refl

@@ -1,4 +1,4 @@
--- What a line of the canonical text begins, and what the parts of an opening are.
+-- The openings of canonical lines, and the parts of an opening.
 use Rattle.std.proofs.Common.{◌≡◌, ℕ, zero, suc, Bool, true, false, List, [], ◌∷◌, ◌++◌, take, drop, refl, sym, ◌∙◌, ap, subst, arith, append-nil}
 use Rattle.std.specs.Prelude.{map, ◌&&◌, ◌||◌, ◌==◌, nat_le, if◌then◌else◌}
 use Rattle.std.specs.declared.result.Result.{Result}

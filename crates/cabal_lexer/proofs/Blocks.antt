@@ -1,4 +1,4 @@
--- One element, and what the lines behind it stand for.
+-- One element, and the elements of the lines after it.
 use Rattle.std.proofs.Common.{◌≡◌, ℕ, ◌+◌, Bool, false, List, [], ◌∷◌, ◌++◌, refl, sym, ◌∙◌, ap, subst, append_assoc, append-nil}
 use Rattle.plan_types.specs.declared.element.Element.{Element}
 use Rattle.plan_types.specs.declared.refusal.Cause.{Cause}
@@ -6,7 +6,7 @@ use Rattle.cabal_lexer.specs.Lines.{Line}
 use Rattle.cabal_lexer.specs.Layout.{ends, Ends, nothing, element, Block, run, braced_run, indented, enclosed, Fails, later, Cut, IsElement}
 use Rattle.cabal_lexer.proofs.Runs.{Ends-front}
 
--- a block is one before another rest too, that ends it
+-- a block is also one before another rest that ends it
 pub block_before : {depth : ℕ} {braced : Bool} {line : Line} {block rest : List Line} {item : Element} → Block depth braced line block rest item →
     (other : List Line) → (Ends (line.indent + 1) braced rest → Ends (line.indent + 1) braced other) → Block depth braced line block other item
 block_before (run b i x) other t = run b i (t x)
@@ -31,7 +31,7 @@ module _ {bound depth : ℕ} {braced : Bool} {line : Line} {block more after : L
   pub fails_more : {at : Line} {cause : Cause} → Fails bound depth braced after at cause → Fails bound depth braced (line ∷ more) at cause
   fails_more {at} {cause} f = subst (λ v. Fails bound depth braced (line ∷ v) at cause) (sym whole) (later line block after e b f)
 
--- What the rest of some lines stands for, the lines do behind the front; and where the rest fails, they do.
+-- The lines parse as the front, followed by the items of the rest. If the rest fails, the lines fail.
 pub record Leads (bound depth : ℕ) (braced : Bool) (lines : List Line) (front : List Element) (rest : List Line) : Type 0 where
   pub cut : (items : List Element) (end : List Line) → Cut bound depth braced rest items end → Cut bound depth braced lines (front ++ items) end
   pub fails : (at : Line) (cause : Cause) → Fails bound depth braced rest at cause → Fails bound depth braced lines at cause

@@ -1,4 +1,4 @@
--- A text has one tree at most, one first fault at most, and never both.
+-- A text has at most one tree, at most one first fault, and never both.
 use Rattle.std.proofs.Common.{◌≡◌, ℕ, suc, Bool, true, false, List, [], ◌∷◌, ◌++◌, length, refl, sym, ◌∙◌, ap, subst, arith, append_assoc, append-nil}
 use Rattle.std.proofs.Common.{◌⊎◌, inl, inr}
 use Rattle.std.specs.Result.{IfOk, IfErr, MatchResult}
@@ -23,7 +23,7 @@ use Rattle.cabal_lexer.proofs.Reading as reading
 use Rattle.cabal_lexer.proofs.Total.{stands_cut, fails_at, judge}
 use Rattle.cabal_lexer.proofs.Soundness.{Closing, Misfits, misfits, left_open, split}
 
--- ---- what stands for items doesn't fail
+-- ---- lines that parse as items don't fail
 
 whole_read : {bound depth : ℕ} {braced : Bool} (lines : List Line) {items : List Element} → Stands bound depth braced lines items →
     reading.read (suc (length lines)) bound depth braced lines ≡ done items []
@@ -53,7 +53,7 @@ no_end : (rest : List Line) → Ends 0 false rest → rest ≡ []
 no_end [] h = refl
 no_end (line ∷ rest) h = absurd (grind (arith, nat_tests))
 
--- a cut of a whole text leaves nothing
+-- a cut of a whole text has no rest
 pub whole_cut : {lines rest : List Line} {items : List Element} → Cut 0 1 false lines items rest → StandsFor lines items
 whole_cut {lines} {rest} {items} c =
     subst (λ v. StandsFor v items) (sym (c.whole ∙ ap (λ v. c.front ++ v) (no_end rest c.ended) ∙ append-nil c.front)) c.stands
@@ -61,7 +61,7 @@ whole_cut {lines} {rest} {items} c =
 sound_closing : (front whole : List Line) → Closing 0 1 false front whole → Sound front
 sound_closing front whole c = record { closers = c.closers; close = c.close; items = c.items; stands = c.stands }
 
--- a line that misfits isn't part of what is sound
+-- sound lines have no misfit
 misfits_unsound : {lines : List Line} {at : Line} {cause : Cause} (m : Misfits 0 1 false lines at cause) (more : List Line) → Sound (m.front ++ at ∷ more) → ⊥
 misfits_unsound {lines} {at} m more s =
     stands_or_fails (m.front ++ at ∷ (more ++ s.closers)) (subst (λ v. StandsFor v s.items) (append_assoc m.front (at ∷ more) s.closers) s.stands) (m.again (more ++ s.closers))
@@ -102,7 +102,7 @@ never_both s (fault.misfit front line rest before not_sound) =
     not_sound (sound_front (front ++ line ∷ []) rest (subst Sound (sym (append_assoc front (line ∷ []) rest)) (sound_whole _ s)))
 never_both s (fault.unclosed lines line sound none fails) = none _ s
 
--- where two fronts of one list end
+-- two prefixes of one list: equal, or one inside the other
 parts : {A : Type 0} (front other : List A) (x y : A) (rest more : List A) → front ++ x ∷ rest ≡ other ++ y ∷ more →
     (x ≡ y) ⊎ (((others : List A) × (other ≡ (front ++ x ∷ []) ++ others)) ⊎ ((others : List A) × (front ≡ (other ++ y ∷ []) ++ others)))
 parts [] [] x y rest more e = inl cc
@@ -142,7 +142,7 @@ same_fault (fault.unclosed lines line sound none fails) (fault.unclosed others a
 pub one_fault : {lines : List Line} {n m : ℕ} {c d : Cause} → FirstFault lines n c → FirstFault lines m d → (n ≡ m) × (c ≡ d)
 one_fault f g = same_fault f g refl
 
--- ---- of a text's bytes
+-- ---- for the bytes of a text
 
 pub one_tree : (bytes : List ℕ) (a b : List Element) → IsTree bytes a → IsTree bytes b → a ≡ b
 one_tree bytes a b s t = one_items (kept_lines bytes) s.1 t.1
@@ -162,7 +162,7 @@ At-refused faults.NoMemory e u h = tt
 At-refused {bytes} (faults.At number cause) e u h =
     inr (u, subst (λ n. FirstFault (kept_lines bytes) n cause) (sym h.1) (first_fault (subst (λ v. Fails 0 1 false v h.0 cause) e h.2)))
 
--- ---- of a result
+-- ---- for a result
 
 pub tree_found : (bytes : List ℕ) (r : Result (List Element) Fault) → IfOk r (λ items. IsTree bytes items) → IfErr r (RefusesAt (IsFault bytes)) →
     (items : List Element) → IsTree bytes items → MatchResult r (λ found. found ≡ items) (RefusesAt (λ _ _. ⊥))

@@ -21,7 +21,7 @@ run_len-le bound braced lines = prefix_len-le-length (λ line. not (ends bound b
 nil-from_drop : (lines : List Line) (n : ℕ) → n ≡ length lines → drop n lines ≡ []
 nil-from_drop lines n e = ap (λ k. drop k lines) e ∙ drop-length lines
 
--- the line behind the first n
+-- the line after the first n
 pub line_at : (lines : List Line) (n : ℕ) → n < length lines → (line : Line) × (drop n lines ≡ line ∷ drop (n + 1) lines)
 line_at [] n l = absurd (omega arith)
 line_at (line ∷ lines) zero l = (line, refl)
@@ -87,7 +87,7 @@ open_section bound depth braced line more name args items n c l e b =
     let all : c.front ≡ more = sym (c.whole ∙ ap (λ v. c.front ++ v) (nil-from_drop more n l) ∙ append-nil c.front) in
     open_items line more e b (subst (λ v. Stands 0 (depth + 1) true v items) all c.stands)
 
--- a fault of one kind as one of another
+-- a fault with one property has a weaker one
 pub At-map : {P Q : Line → Cause → Type 0} (fault : Fault) → ((at : Line) (cause : Cause) → P at cause → Q at cause) → At P fault → At Q fault
 At-map faults.NoMemory f p = tt
 At-map (faults.At number cause) f p = (p.0, p.1, f p.0 cause p.2)

@@ -1,4 +1,4 @@
--- Pieces of a text: without blanks at both ends, and of one line.
+-- Pieces of a text: of one line, without blanks at both ends.
 use Rattle.std.proofs.Common.{◌≡◌, ℕ, zero, suc, ◌+◌, ◌-◌, ◌<◌, Bool, true, false, cond, List, [], ◌∷◌, ◌++◌, length, take, drop, refl, ◌∙◌, ap, subst, arith, append_assoc, one-add}
 use Rattle.std.specs.Prelude.{reverse, ◌==◌}
 use Rattle.std.specs.List.{prefix_len, list_all, All}
@@ -22,7 +22,7 @@ pub record Piece (text : List ℕ) : Type 0 where
   pub one_line : OneLine text
   pub utf8 : IsUtf8 text
 
--- ---- fronts that pass
+-- ---- prefixes that pass
 
 pub prefix-past : (p : ℕ → Bool) (xs ys : List ℕ) → list_all p xs ≡ true → prefix_len p ys ≡ 0 → prefix_len p (xs ++ ys) ≡ length xs
 prefix-past p [] ys h e = e

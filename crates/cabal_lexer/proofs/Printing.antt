@@ -12,7 +12,7 @@ use Rattle.plan_types.specs.Bytes.{is_blank}
 use Rattle.cabal_lexer.specs.RoundTrip.{ends_with_return}
 use Rattle.cabal_lexer.proofs.Pieces.{OneLine, Piece, trim-behind, indent-behind}
 
--- each line with a newline behind it
+-- each line, followed by a line feed
 abbrev pub joined : List (List ℕ) → List ℕ
 joined raws = flat_map (λ raw. raw ++ 10 ∷ []) raws
 

@@ -1,4 +1,4 @@
--- A reading of lines, from the first on, in numbered steps. It shows that lines stand for one list of items at most.
+-- A function that parses lines by fuel. It shows that lines parse as at most one list of items.
 use Rattle.std.proofs.Common.{◌≡◌, ℕ, zero, suc, ◌+◌, ◌<◌, Bool, true, false, cond, List, [], ◌∷◌, ◌++◌, length, take, drop, refl, sym, ◌∙◌, ap, subst, arith, append_assoc, append-nil, length-append}
 use Rattle.std.proofs.Math.Seq.{take-append_seam, drop-append_seam}
 use Rattle.std.specs.declared.result.Result.{Result}
@@ -61,7 +61,7 @@ read zero bound depth braced lines = done [] lines
 read (suc n) bound depth braced [] = done [] []
 read (suc n) bound depth braced (line ∷ more) = step (read n) bound depth braced line more
 
--- ---- what stands for items is read
+-- ---- lines that parse as items are read
 
 ended_read : (bound depth : ℕ) (braced : Bool) (tail : List Line) (n : ℕ) → Ends bound braced tail → read n bound depth braced tail ≡ done [] tail
 unfolding read
@@ -80,7 +80,7 @@ past_braced_seam : (next : List Line → Outcome) (make : List Line → Element)
 past_braced_seam next make line n values rest e =
     rw e (rw (take-append_seam values rest) (rw (drop-append_seam values rest) refl))
 
--- a step at a line that isn't below the bound
+-- a step at a line inside the block
 steps : (go : Reader) (bound depth : ℕ) (braced : Bool) (line : Line) (more : List Line) (r : Result Opening Cause) → ends bound braced line ≡ false →
     within depth (opening line.text) ≡ r → step go bound depth braced line more ≡ past go bound depth braced line more r
 steps go bound depth braced line more r e b =
@@ -122,7 +122,7 @@ mutual
       ∙ ap (past_block (read n bound depth braced) (λ items. Section line.number name args items) line)
       (stands_read s (close ∷ after) n (Ends-close close after c) (subst (λ v. length v < n) (append_assoc block (close ∷ []) after) l))
 
--- ---- what fails is read so
+-- ---- lines that fail are read as a failure
 
 pub fails_read : {bound depth : ℕ} {braced : Bool} {lines : List Line} {at : Line} {cause : Cause} → Fails bound depth braced lines at cause →
     (n : ℕ) → length lines < n → read n bound depth braced lines ≡ fault at cause

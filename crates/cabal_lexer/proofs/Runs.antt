@@ -7,7 +7,7 @@ use Rattle.cabal_lexer.specs.Lines.{Line}
 use Rattle.cabal_lexer.specs.Layout.{closes, ends, Ends, Inside}
 use Rattle.std.proofs.lemmas.Bool.{or_parts, or_left, or_right}
 
--- how many lines stand inside
+-- the number of lines inside the block
 abbrev pub run_len : ℕ → Bool → List Line → ℕ
 run_len bound braced lines = prefix_len (λ line. not (ends bound braced line)) lines
 
@@ -15,7 +15,7 @@ and-not : (a b : Bool) → (not a && b) ≡ true → (a ≡ false) × (b ≡ tru
 and-not true b h = cc
 and-not false b h = (refl, h)
 
--- a run is as long as the lines that stand inside, where what follows doesn't
+-- a run has all lines inside the block, if the next line ends the block
 pub run_len-append : (bound : ℕ) (braced : Bool) (values rest : List Line) → Inside bound braced values → Ends bound braced rest →
     run_len bound braced (values ++ rest) ≡ length values
 run_len-append bound braced [] [] h e = refl
@@ -55,7 +55,7 @@ ends-deeper-at bound braced line at h true e k =
     or_left _ _ (below-more bound line.indent at.indent (or_parts (nat_lt line.indent bound) _ h).0 e)
 ends-deeper-at bound braced line at h false e k = or_right (nat_lt at.indent (line.indent + 1)) _ k
 
--- what is below a bound is below a block behind a line that isn't below it
+-- a rest that ends a block also ends the deeper blocks of its lines
 pub Ends-deeper : (bound : ℕ) (braced : Bool) (line : Line) (rest : List Line) → ends bound braced line ≡ false → Ends bound braced rest → Ends (line.indent + 1) braced rest
 Ends-deeper bound braced line [] h k = tt
 Ends-deeper bound braced line (at ∷ rest) h k = ends-deeper-at bound braced line at h (nat_lt at.indent bound) refl k

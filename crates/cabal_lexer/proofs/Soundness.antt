@@ -1,4 +1,4 @@
--- What fails is sound up to the line at which it fails, and no further.
+-- Lines that fail are sound up to the line of the fault, and unsound with it.
 use Rattle.std.proofs.Common.{◌≡◌, ℕ, ◌+◌, Bool, true, false, List, [], ◌∷◌, ◌++◌, refl, sym, ◌∙◌, ap, subst, append_assoc, append-nil}
 use Rattle.std.specs.Prelude.{◌&&◌}
 use Rattle.std.specs.List.{list_all}
@@ -13,7 +13,7 @@ use Rattle.cabal_lexer.specs.Opening.{Opening, is_lone, opening, within}
 use Rattle.cabal_lexer.specs.Layout.{closes, ends, Ends, Stands, nothing, element, Block, braced_run, indented, enclosed, Fails, misfit, open_run, open_items, in_indented, in_enclosed, later}
 use Rattle.cabal_lexer.proofs.Blocks.{block_before}
 
--- the lines `}` that close what is open at the end of some lines
+-- the lines `}` that close the open braces at the end of some lines
 pub record Closing (bound depth : ℕ) (braced : Bool) (front whole : List Line) : Type 0 where
   pub closers : List Line
   pub close : list_all closes closers ≡ true

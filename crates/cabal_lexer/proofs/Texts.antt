@@ -1,4 +1,4 @@
--- Texts: where they may be cut, and the lines in them.
+-- Texts: their character boundaries and their lines.
 use Rattle.std.proofs.Common.{◌≡◌, ℕ, zero, suc, ◌+◌, ◌-◌, ◌<◌, ◌≤◌, Bool, true, false, cond, List, [], ◌∷◌, ◌++◌, length, take, drop, get_or, refl, sym, ◌∙◌, ap, subst, arith, append_assoc, append-nil, length-drop}
 use Rattle.std.specs.Prelude.{reverse, map, ◌==◌, nat_eq}
 use Rattle.std.specs.Borrow.{Bor}
@@ -26,7 +26,7 @@ boundary_end-at p text (suc n) ascii e =
     let at : length text - 1 - n ≡ length text - suc n = omega arith in
     subst (λ k. IsCharBoundary text k) at (IsCharBoundary-before_ascii text (length text - 1 - n) (omega arith) (subst (λ b. b < 128) same low))
 
--- a text may be cut before its last bytes that pass
+-- the start of the longest suffix that passes is a character boundary
 pub boundary_end : (p : ℕ → Bool) (text : List ℕ) → PassesAscii p → IsCharBoundary text (length text - prefix_len p (reverse text))
 boundary_end p text ascii = boundary_end-at p text (prefix_len p (reverse text)) ascii refl
 

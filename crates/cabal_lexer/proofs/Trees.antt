@@ -1,4 +1,4 @@
--- How the tree of a file begins, and how what its elements are goes on.
+-- The tree of a file, element by element.
 use Rattle.std.proofs.Common.{◌≡◌, ℕ, suc, ◌+◌, ◌<◌, length, List, ◌∷◌, ◌++◌, get_or, drop, sym, ap, ◌∙◌, add-one, append_assoc}
 use Rattle.std.proofs.Math.Seq.{drop-cons}
 use Rattle.plan_types.specs.declared.element.Element.{Element, fold-roll-Element}
@@ -15,7 +15,7 @@ pub section_in_front : (line : ℕ) (name args : List ℕ) (items : List Element
 section_in_front line name args items behind =
     ap (λ v. in_front v behind) (sym (rolls-Section line name args items)) ∙ ap (λ f. f behind) (fold-roll-Element (Tree → Tree) layer (open'.Section line name args items))
 
--- the tree of what is left begins with the next element
+-- the tree of the remaining elements begins with the next one
 pub tree_from : (items : List Element) (n : ℕ) (item : Element) → n < length items → get_or items n item ≡ item →
     tree_of (drop n items) ≡ in_front item (tree_of (drop (n + 1) items))
 tree_from items n item lt is =

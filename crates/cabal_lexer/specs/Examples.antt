@@ -37,7 +37,7 @@ kept : kept_lines text ≡ name_line ∷ value_line ∷ flag_line ∷ default_li
 unfolding kept_line is_kept is_comment trim trim_start trim_end indent without_mark
 kept = refl
 
--- what they begin where they stand: the field `name` with the value `x`, and the section `flag` with the args `F`, in braces
+-- their openings: the field `name` with the value `x`, and the section `flag` with the args `F`, in braces
 name_begins : Begins 1 name_line (field (110 ∷ 97 ∷ 109 ∷ 101 ∷ []) (120 ∷ []))
 unfolding opening named_opening field_opening section_opening ends_with_brace before_brace lower_case name_len is_lone trim trim_start trim_end indent
 name_begins = refl
@@ -63,7 +63,7 @@ closing : opening (125 ∷ []) ≡ Err StrayBrace
 unfolding opening
 closing = refl
 
--- the lines stand for a field with the values `x` and `y`, and a section with one field
+-- the lines parse as a field with the values `x` and `y`, and a section with one field
 stands : StandsFor (name_line ∷ value_line ∷ flag_line ∷ default_line ∷ close_line ∷ [])
     (Field 1 (110 ∷ 97 ∷ 109 ∷ 101 ∷ []) ((120 ∷ []) ∷ (121 ∷ []) ∷ [])
     ∷ Section 4 (102 ∷ 108 ∷ 97 ∷ 103 ∷ []) (70 ∷ []) (Field 5 (100 ∷ 101 ∷ 102 ∷ 97 ∷ 117 ∷ 108 ∷ 116 ∷ []) ((84 ∷ 114 ∷ 117 ∷ 101 ∷ []) ∷ []) ∷ []) ∷ [])

@@ -10,19 +10,19 @@ use Rattle.cabal_lexer.specs.Lines.{Line, kept_lines}
 use Rattle.cabal_lexer.specs.Opening.{opening, cause_of}
 use Rattle.cabal_lexer.specs.Layout.{Stands, Fails, closes}
 
--- a whole text's lines: without a bound, at depth 1, inside no brace
+-- the lines of a whole text: bound 0, depth 1, outside braces
 abbrev pub StandsFor : List Line → List Element → Type 0
 StandsFor lines items = Stands 0 1 false lines items
 
--- Lines are sound where, with some lines `}` behind them, they stand for items.
+-- Sound lines: with some lines `}` appended, they parse as items.
 pub record Sound (lines : List Line) : Type 0 where
   pub closers : List Line
   pub close : list_all closes closers ≡ true
   pub items : List Element
   pub stands : StandsFor (lines ++ closers) items
 
--- The first fault of lines is at the last line of the shortest front that isn't sound. Where all of
--- them are sound but don't stand for items, it is the brace that was opened last and is still open.
+-- The first fault of lines is at the last line of their shortest unsound prefix. If the lines are sound but parse as no
+-- items, it is at the last brace that is still open.
 pub data FirstFault : List Line → ℕ → Cause → Type 0 where
   misfit : (front : List Line) (line : Line) (rest : List Line) →
       ((shorter others : List Line) → front ≡ shorter ++ others → Sound shorter) → (Sound (front ++ line ∷ []) → ⊥) →
@@ -30,7 +30,7 @@ pub data FirstFault : List Line → ℕ → Cause → Type 0 where
   unclosed : (lines : List Line) (line : Line) → Sound lines → ((items : List Element) → StandsFor lines items → ⊥) →
       Fails 0 1 false lines line UnclosedBrace → FirstFault lines line.number UnclosedBrace
 
--- the bytes of a text are a tree's
+-- the bytes parse as this tree
 abbrev pub IsTree : List ℕ → List Element → Type 0
 IsTree bytes items = IsUtf8 bytes × StandsFor (kept_lines bytes) items
 
@@ -38,7 +38,7 @@ IsTree bytes items = IsUtf8 bytes × StandsFor (kept_lines bytes) items
 abbrev pub bad_line : List ℕ → ℕ
 bad_line bytes = count_by (λ b. b == 10) (take (utf8_valid_len bytes) bytes) + 1
 
--- the first fault of a file: its bytes, or its layout
+-- the first fault of a file: bad UTF-8, else a fault of its layout
 abbrev pub IsFault : List ℕ → ℕ → Cause → Type 0
 IsFault bytes line cause =
     ((IsUtf8 bytes → ⊥) × (line ≡ bad_line bytes) × (cause ≡ NotUtf8)) ⊎ (IsUtf8 bytes × FirstFault (kept_lines bytes) line cause)

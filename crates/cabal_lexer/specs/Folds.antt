@@ -1,4 +1,4 @@
--- What the folds of an element give, by its kind.
+-- The folds of an element, by its kind.
 use Rattle.std.specs.Prelude.{ℕ, ◌≡◌, Bool, not, ◌&&◌, List, [], ◌∷◌, ◌++◌}
 use Rattle.std.proofs.Common.{sym, ◌∙◌, ap}
 use Rattle.std.specs.List.{list_all}
@@ -22,22 +22,22 @@ text-section line name args items indent =
     ∙ ap (λ f. f indent) (fold-roll-Element (List ℕ → List ℕ) layer (open'.Section line name args items))
     ∙ ap (λ v. section_line indent name args ++ v) (flat_map-map (λ f. f (indent ++ 32 ∷ 32 ∷ [])) (fold-Element (List ℕ → List ℕ) layer) items)
 
--- a field without its line
+-- a field without its line number
 pub zero-field : (line : ℕ) (name : List ℕ) (values : List (List ℕ)) → fold-Element Element zero_layer (Field line name values) ≡ Field 0 name values
 zero-field line name values =
     ap (fold-Element Element zero_layer) (sym (rolls-Field line name values)) ∙ fold-roll-Element Element zero_layer (open'.Field line name values)
 
--- a section without its line
+-- a section without its line number
 pub zero-section : (line : ℕ) (name args : List ℕ) (items : List Element) → fold-Element Element zero_layer (Section line name args items) ≡ Section 0 name args (unnumbered items)
 zero-section line name args items =
     ap (fold-Element Element zero_layer) (sym (rolls-Section line name args items)) ∙ fold-roll-Element Element zero_layer (open'.Section line name args items)
 
--- whether the values of a field end in no carriage return
+-- whether no value of a field ends with a carriage return
 pub return-field : (line : ℕ) (name : List ℕ) (values : List (List ℕ)) → fold-Element Bool return_layer (Field line name values) ≡ list_all (λ value. not (ends_with_return value)) values
 return-field line name values =
     ap (fold-Element Bool return_layer) (sym (rolls-Field line name values)) ∙ fold-roll-Element Bool return_layer (open'.Field line name values)
 
--- whether no text of a section does
+-- whether no text of a section ends with a carriage return
 pub return-section : (line : ℕ) (name args : List ℕ) (items : List Element) →
     fold-Element Bool return_layer (Section line name args items) ≡ (not (ends_with_return args) && without_returns items)
 return-section line name args items =

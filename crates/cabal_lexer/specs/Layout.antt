@@ -1,4 +1,4 @@
--- Which elements the lines of a text stand for.
+-- The layout: which elements the lines of a text parse as.
 use Rattle.std.specs.Prelude.{ℕ, ◌≡◌, ◌+◌, Bool, true, false, ◌&&◌, ◌||◌, not, List, [], ◌∷◌, ◌++◌, map, nat_lt}
 use Rattle.std.specs.declared.result.Result.TheVariants.{Ok, Err}
 use Rattle.std.specs.List.{list_all}
@@ -11,25 +11,24 @@ use Rattle.plan_types.specs.Refusal.{RefusesAt}
 use Rattle.cabal_lexer.specs.Lines.{Line}
 use Rattle.cabal_lexer.specs.Opening.{Opening, field, braced_field, section, braced_section, is_lone, opening, within}
 
--- a line that is `}`, at any indent
+-- whether a line is `}`, at any indent
 abbrev pub closes : Line → Bool
 closes line = is_lone 125 line.text
 
--- A line ends what stands inside a brace where it closes the brace, and what is bounded by an indent
--- where its own indent is below the bound.
+-- whether a line ends a block: its indent is below the bound, or it is the `}` of a block in braces
 abbrev pub ends : ℕ → Bool → Line → Bool
 ends bound braced line = nat_lt line.indent bound || (braced && closes line)
 
--- the first of these lines ends a block
+-- the lines are empty, or the first of them ends the block
 abbrev pub Ends : ℕ → Bool → List Line → Type 0
 Ends bound braced [] = Unit {0}
 Ends bound braced (line ∷ lines) = ends bound braced line ≡ true
 
--- no line ends what they stand in
+-- no line ends the block
 abbrev pub Inside : ℕ → Bool → List Line → Type 0
 Inside bound braced lines = list_all (λ line. not (ends bound braced line)) lines ≡ true
 
--- an element's line, with what it begins at its depth
+-- a line has this opening at its depth
 abbrev pub Begins : ℕ → Line → Opening → Type 0
 Begins depth line begun = within depth (opening line.text) ≡ Ok begun
 
@@ -37,21 +36,21 @@ Begins depth line begun = within depth (opening line.text) ≡ Ok begun
 abbrev pub texts : List Line → List (List ℕ)
 texts lines = map (λ line. line.text) lines
 
--- the first value, where it isn't empty
+-- the first value, unless it is empty
 abbrev pub first_value : List ℕ → List (List ℕ)
 first_value [] = []
 first_value (b ∷ bs) = (b ∷ bs) ∷ []
 
 mutual
-  -- Lines stand for items where there are none of both, or where the lines are a first line that
-  -- isn't below the bound, its block, and a rest that stands for the remaining items.
+  -- The lines parse as the items: both are empty, or the lines are a first line inside the bound, its
+  -- block, and a rest that parses as the remaining items.
   pub data Stands : ℕ → ℕ → Bool → List Line → List Element → Type 0 where
     nothing : {bound depth : ℕ} {braced : Bool} → Stands bound depth braced [] []
     element : {bound depth : ℕ} {braced : Bool} {items : List Element} {item : Element} (line : Line) (block rest : List Line) →
         ends bound braced line ≡ false → Block depth braced line block rest item → Stands bound depth braced rest items →
         Stands bound depth braced (line ∷ block ++ rest) (item ∷ items)
 
-  -- A first line and the block behind it are one element, before this rest.
+  -- A first line and the block after it are one element; the rest follows.
   pub data Block : ℕ → Bool → Line → List Line → List Line → Element → Type 0 where
     -- the longest run of deeper lines
     run : {depth : ℕ} {braced : Bool} {line : Line} {name first : List ℕ} {values rest : List Line} →
@@ -61,25 +60,25 @@ mutual
     braced_run : {depth : ℕ} {braced : Bool} {line : Line} {name : List ℕ} {rest : List Line} (values : List Line) (close : Line) →
         Begins depth line (braced_field name) → Inside 0 true values → closes close ≡ true →
         Block depth braced line (values ++ close ∷ []) rest (Field line.number name (texts values))
-    -- deeper lines that stand for the items
+    -- deeper lines that parse as the items
     indented : {depth : ℕ} {braced : Bool} {line : Line} {name args : List ℕ} {block rest : List Line} {items : List Element} →
         Begins depth line (section name args) → Stands (line.indent + 1) (depth + 1) braced block items → Ends (line.indent + 1) braced rest →
         Block depth braced line block rest (Section line.number name args items)
-    -- lines that stand for the items without a bound, and then a `}`
+    -- lines at any indent that parse as the items, and then a `}`
     enclosed : {depth : ℕ} {braced : Bool} {line : Line} {name args : List ℕ} {rest : List Line} {items : List Element} (block : List Line) (close : Line) →
         Begins depth line (braced_section name args) → Stands 0 (depth + 1) true block items → closes close ≡ true →
         Block depth braced line (block ++ close ∷ []) rest (Section line.number name args items)
 
--- Lines fail at a line, by a cause.
+-- Parsing of lines fails at a line, with a cause.
 pub data Fails : ℕ → ℕ → Bool → List Line → Line → Cause → Type 0 where
   -- the first line begins no element
   misfit : {bound depth : ℕ} {braced : Bool} {cause : Cause} (line : Line) (rest : List Line) →
       ends bound braced line ≡ false → within depth (opening line.text) ≡ Err cause → Fails bound depth braced (line ∷ rest) line cause
-  -- nothing closes the values
+  -- the brace of the values isn't closed
   open_run : {bound depth : ℕ} {braced : Bool} {name : List ℕ} (line : Line) (values : List Line) →
       ends bound braced line ≡ false → Begins depth line (braced_field name) → Inside 0 true values →
       Fails bound depth braced (line ∷ values) line UnclosedBrace
-  -- nothing closes the items
+  -- the brace of the items isn't closed
   open_items : {bound depth : ℕ} {braced : Bool} {name args : List ℕ} {items : List Element} (line : Line) (block : List Line) →
       ends bound braced line ≡ false → Begins depth line (braced_section name args) → Stands 0 (depth + 1) true block items →
       Fails bound depth braced (line ∷ block) line UnclosedBrace
@@ -91,24 +90,24 @@ pub data Fails : ℕ → ℕ → Bool → List Line → Line → Cause → Type 
   in_enclosed : {bound depth : ℕ} {braced : Bool} {name args : List ℕ} {at : Line} {cause : Cause} (line : Line) (lines : List Line) →
       ends bound braced line ≡ false → Begins depth line (braced_section name args) → Fails 0 (depth + 1) true lines at cause →
       Fails bound depth braced (line ∷ lines) at cause
-  -- a line behind an element fails
+  -- a line after an element fails
   later : {bound depth : ℕ} {braced : Bool} {item : Element} {at : Line} {cause : Cause} (line : Line) (block rest : List Line) →
       ends bound braced line ≡ false → Block depth braced line block rest item → Fails bound depth braced rest at cause →
       Fails bound depth braced (line ∷ block ++ rest) at cause
 
--- The lines stand for these items up to this rest, which doesn't stand inside.
+-- The lines parse as these items up to this rest, which begins outside the block.
 pub record Cut (bound depth : ℕ) (braced : Bool) (lines : List Line) (items : List Element) (rest : List Line) : Type 0 where
   pub front : List Line
   pub whole : lines ≡ front ++ rest
   pub stands : Stands bound depth braced front items
   pub ended : Ends bound braced rest
 
--- The line and the lines behind it are this element, up to this rest.
+-- The line and the lines after it are this element, up to this rest.
 pub record IsElement (depth : ℕ) (braced : Bool) (line : Line) (lines : List Line) (item : Element) (rest : List Line) : Type 0 where
   pub block : List Line
   pub whole : lines ≡ block ++ rest
   pub is : Block depth braced line block rest item
 
--- a fault, unless memory is wanting, at a line that has this
+-- a fault at a line with this property, or out of memory
 abbrev pub At : (Line → Cause → Type 0) → Fault → Type 0
 At P = RefusesAt (λ number cause. (line : Line) × (number ≡ line.number) × P line cause)

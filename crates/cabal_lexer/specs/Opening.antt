@@ -1,4 +1,4 @@
--- How the text of a line begins an element.
+-- The openings of elements: the texts of their first lines.
 use Rattle.std.specs.Prelude.{ℕ, ◌-◌, Bool, ◌&&◌, ◌||◌, List, ◌==◌, if◌then◌else◌, length, map, take, drop, slice_index, nat_le}
 use Rattle.std.specs.declared.result.Result.{Result}
 use Rattle.std.specs.declared.result.Result.TheVariants.{Ok, Err}
@@ -12,7 +12,7 @@ use Rattle.cabal_lexer.specs.declared.opening.Opening.{Opening as Begun}
 use Rattle.cabal_lexer.specs.declared.opening.Opening.TheVariants as begun
 use Rattle.cabal_lexer.specs.Lines.{trim, trim_start, trim_end}
 
--- what a line opens
+-- the kind and parts of an element's first line
 pub data Opening : Type 0 where
   -- `name: first`, where the first value may be empty
   field : List ℕ → List ℕ → Opening
@@ -27,66 +27,66 @@ pub data Opening : Type 0 where
 abbrev pub is_name_byte : ℕ → Bool
 is_name_byte b = is_letter_or_digit b || b == 45 || b == 95 || b == 46
 
--- how many bytes of a text are its name
+-- the length of the name at the start of a text
 unfoldable pub name_len : List ℕ → ℕ
 name_len text = prefix_len is_name_byte text
 
--- names are kept in lower case
+-- a name in lower case
 unfoldable pub lower_case : List ℕ → List ℕ
 lower_case name = map to_ascii_lowercase name
 
--- the text is this one byte
+-- whether a text is this one byte
 unfoldable pub is_lone : ℕ → List ℕ → Bool
 is_lone b text = length text == 1 && slice_index text 0 == b
 
--- the byte `{`
+-- whether a text ends with `{`
 unfoldable pub ends_with_brace : List ℕ → Bool
 ends_with_brace text = slice_index text (length text - 1) == 123
 
--- `{` alone behind a colon begins values in braces
+-- the opening of a field; `{` alone after the colon begins values in braces
 unfoldable pub field_opening : List ℕ → List ℕ → Opening
 field_opening name value = if is_lone 123 value then braced_field name else field name value
 
--- the args before a brace
+-- the args without the brace at their end
 unfoldable pub before_brace : List ℕ → List ℕ
 before_brace args = trim_end (take (length args - 1) args)
 
--- what a line opens that has no colon
+-- the opening of a line without a colon
 unfoldable pub section_opening : List ℕ → List ℕ → Result Opening Cause
 section_opening name args =
     if ends_with_brace args then (if ends_with_brace (before_brace args) then Err StrayBrace else Ok (braced_section name (before_brace args)))
     else Ok (section name args)
 
--- what a name and the rest of its line begin
+-- the opening of a name and the rest of its line
 unfoldable pub named_opening : List ℕ → List ℕ → Result Opening Cause
 named_opening name rest =
     if begins_with 58 rest then Ok (field_opening name (trim (drop 1 rest))) else section_opening name (trim rest)
 
--- A brace comes before a want of a name.
+-- the opening of a line; `StrayBrace` comes before `BadName`
 unfoldable pub opening : List ℕ → Result Opening Cause
 opening text =
     if begins_with 125 text then Err StrayBrace
     else (if list_any is_letter (take (name_len text) text) then named_opening (lower_case (take (name_len text) text)) (trim_start (drop (name_len text) text))
     else Err BadName)
 
--- what a line begins at a depth, which is 1 at the top
+-- an opening at a depth, which is 1 at the top
 abbrev pub within : ℕ → Result Opening Cause → Result Opening Cause
 within depth (Ok opening) = if nat_le depth 64 then Ok opening else Err TooDeep
 within depth (Err cause) = Err cause
 
--- why a line that begins no element where it stands doesn't: by itself, or else since it is too deep
+-- the cause for a line that begins no element: its own fault, else that it is too deep
 abbrev pub cause_of : Result Opening Cause → Cause
 cause_of (Ok opening) = TooDeep
 cause_of (Err cause) = cause
 
--- what the code gives, with the names in lower case
+-- the opening as the code has it, with the name in lower case
 abbrev pub shown : Begun → Opening
 shown (begun.Field name first) = field (lower_case name.now) first.now
 shown (begun.BracedField name) = braced_field (lower_case name.now)
 shown (begun.Section name args) = section (lower_case name.now) args.now
 shown (begun.BracedSection name args) = braced_section (lower_case name.now) args.now
 
--- what a line begins, as what it opens, or its fault
+-- the code's opening or fault
 abbrev pub seen : Result Begun Cause → Result Opening Cause
 seen (Ok begun) = Ok (shown begun)
 seen (Err cause) = Err cause

@@ -1,4 +1,4 @@
--- What is kept of a tree where its canonical text is read again: all but the numbers of its lines.
+-- Trees without line numbers: what a canonical text keeps of its tree.
 use Rattle.std.specs.Prelude.{ℕ, ◌-◌, Bool, ◌&&◌, not, List, ◌==◌, length, map, slice_index}
 use Rattle.std.specs.List.{list_all}
 use Rattle.plan_types.specs.declared.element.Element.{Element, Element-F, fold-Element}
@@ -10,11 +10,11 @@ abbrev pub zero_layer : Element-F Element → Element
 zero_layer (Field line name values) = element.Field 0 name values
 zero_layer (Section line name args items) = element.Section 0 name args items
 
--- elements without their lines
+-- elements without line numbers
 abbrev pub unnumbered : List Element → List Element
 unnumbered items = map (fold-Element Element zero_layer) items
 
--- A carriage return at the end of a line belongs to the line's end.
+-- whether a text ends with a carriage return, which would be part of the line's end
 unfoldable pub ends_with_return : List ℕ → Bool
 ends_with_return text = slice_index text (length text - 1) == 13
 

@@ -1,25 +1,25 @@
--- The elements of a file, to be gone through in file order.
+-- The elements of a file as a tree, for recursion in file order.
 use Rattle.std.specs.Prelude.{◌≡◌, ℕ, List, [], ◌∷◌, ◌++◌, map}
 use Rattle.plan_types.specs.declared.element.Element.{Element, Element-F, fold-Element}
 use Rattle.plan_types.specs.declared.element.Element.TheOpen.{Field, Section}
 
--- an element, and those behind it
+-- an element and the elements after it
 pub data Tree : Type 0 where
   end : Tree
   field : (line : ℕ) (name : List ℕ) (values : List (List ℕ)) (behind : Tree) → Tree
   section : (line : ℕ) (name args : List ℕ) (items behind : Tree) → Tree
 
--- the last of these is in front of the end
+-- items in a chain, which ends with `end`
 abbrev pub chain : List (Tree → Tree) → Tree
 chain [] = end
 chain (item ∷ items) = item (chain items)
 
--- an element in front of others, from its items in front of theirs
+-- one layer of an element, in front of the elements after it
 abbrev pub layer : Element-F (Tree → Tree) → Tree → Tree
 layer (Field line name values) behind = field line name values behind
 layer (Section line name args items) behind = section line name args (chain items) behind
 
--- an element in front of others
+-- an element in front of the elements after it
 abbrev pub in_front : Element → Tree → Tree
 in_front = fold-Element (Tree → Tree) layer
 
@@ -27,6 +27,6 @@ in_front = fold-Element (Tree → Tree) layer
 abbrev pub tree_of : List Element → Tree
 tree_of items = chain (map in_front items)
 
--- what is behind the new parts goes on with what those in front are
+-- the old parts continued by found ones are the new parts and more
 abbrev pub Goes : {A : Type 0} → (List A → Type 0) → List A → List A → List A → Type 0
 Goes {A = A} Are old new more = (found : List A) × Are found × (new ++ more ≡ old ++ found)

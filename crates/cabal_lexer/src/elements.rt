@@ -9,7 +9,7 @@ use crate::opening::{Opening, opening_at};
 use plan_types::{Cause, Element, Fault, List, Text};
 use std::alloc::Global;
 
-/// The items that lines stand for, from the first line on, and how many lines these are.
+/// Parses items from the first line on. Returns them with the number of lines that they take.
 #[cycle(layout)]
 pub fn read_items(
     alloc: Global,
@@ -34,7 +34,7 @@ pub fn read_items(
     Ok((items, at))
 }
 
-/// The line at a place, where it stands inside.
+/// The line at a place, if it is inside the block.
 fn line_inside<'l, 'a>(
     lines: &'l [Line<'a>],
     at: usize,
@@ -54,7 +54,7 @@ fn line_inside<'l, 'a>(
     None
 }
 
-/// The element that a line begins, and how many more lines are its own.
+/// The element that a line begins, and the number of further lines that it takes.
 #[cycle(layout)]
 fn read_element(
     alloc: Global,

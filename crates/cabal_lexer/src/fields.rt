@@ -1,4 +1,4 @@
-// Fields, and the lines of their values.
+// Fields and their values.
 ghost use Rattle.std.specs.Prelude.{◌≡◌, ◌≤◌, ◌++◌, ◌∷◌, ℕ, Bool, false, not, drop, IfOk, IfErr, length};
 ghost use Rattle.std.specs.List.{prefix_len};
 ghost use Rattle.cabal_lexer.specs.Opening.{field, braced_field, lower_case};
@@ -8,7 +8,7 @@ use crate::lines::Line;
 use plan_types::{Cause, Element, Fault, List, NoMemory, Text};
 use std::alloc::Global;
 
-/// A field, up to the first line that isn't deeper, and how many lines are its values.
+/// A field, up to the first line that isn't deeper, and the number of lines that it takes.
 pub fn read_field(
     alloc: Global,
     line: &Line,
@@ -31,7 +31,7 @@ pub fn read_field(
     Ok((field, count))
 }
 
-/// A field in braces, and how many lines follow it up to the one that closes it.
+/// A field in braces, and the number of lines up to its `}`, inclusive.
 pub fn read_braced_field(
     alloc: Global,
     line: &Line,
@@ -62,7 +62,7 @@ pub fn read_braced_field(
     Ok((field, count + 1))
 }
 
-/// How many lines stand inside.
+/// The length of the longest prefix of lines inside the block.
 fn run_len(lines: &[Line], bound: usize, braced: bool) -> usize
     ensures value { result ≡ prefix_len (λ line. not (ends bound braced line)) lines.now }
     ensures bounded { result ≤ length lines.now }
@@ -82,7 +82,7 @@ pub fn in_lower_case(alloc: Global, name: &str) -> Result<Text, NoMemory>
     Text::from_str(alloc, name.as_str())
 }
 
-/// The values of a field: the first, where it isn't empty, and the texts of the lines.
+/// The values of a field: the first one, unless it is empty, and the texts of the lines.
 fn values_of(alloc: Global, first: &str, lines: &[Line]) -> Result<List<Text>, NoMemory>
     ensures { IfOk result (λ values. values ≡ first_value first.now ++ texts lines.now) }
 {

@@ -1,4 +1,4 @@
-// What holds of texts and their trees.
+// Laws of texts and their trees.
 ghost use Rattle.std.specs.Prelude.{◌≡◌, ℕ, List, true};
 ghost use Rattle.plan_types.specs.declared.element.Element.{Element};
 ghost use Rattle.plan_types.specs.declared.refusal.Cause.{Cause};
@@ -6,12 +6,12 @@ ghost use Rattle.cabal_lexer.specs.Fault.{IsTree, IsFault};
 ghost use Rattle.cabal_lexer.specs.Canonical.{canonical};
 ghost use Rattle.cabal_lexer.specs.RoundTrip.{unnumbered, without_returns};
 
-/// A text has one tree at most.
+/// A text has at most one tree.
 pub fn one_tree()
     ensures { (bytes : List ℕ) (a b : List Element) → IsTree bytes a → IsTree bytes b → a ≡ b }
 {}
 
-/// A text has one first fault at most.
+/// A text has at most one first fault.
 pub fn one_fault()
     ensures { (bytes : List ℕ) (n m : ℕ) (c d : Cause) → IsFault bytes n c → IsFault bytes m d
         → (n ≡ m) × (c ≡ d) }
@@ -23,8 +23,8 @@ pub fn tree_or_fault()
         → IsFault bytes line cause → ⊥ }
 {}
 
-/// The canonical text of a tree that a text has is a text of the same tree, but for the numbers of
-/// the lines, unless a value or the args of a section end with a carriage return.
+/// The canonical text of a text's tree parses as the same tree, except for line numbers. No value and no args may end
+/// with a carriage return.
 pub fn round_trip()
     ensures { (bytes : List ℕ) (items : List Element) → IsTree bytes items → without_returns items ≡ true →
         (again : List Element) × IsTree (canonical items) again × (unnumbered again ≡ unnumbered items) }

@@ -1,5 +1,6 @@
-//! From the bytes of a file to its fields and sections, by its lines, indents and braces, or to the
-//! first fault; and from these back to a text.
+//! The layout of Cabal files. `read_elements` takes the bytes of a file and returns its tree of fields and sections, by
+//! lines, indents and braces, or its first fault. The tree is unique, and so is the fault; no file has both.
+//! `print_elements` returns the canonical text of a tree, which parses as the same tree, except for line numbers.
 #![tactic(auto)]
 
 mod elements;

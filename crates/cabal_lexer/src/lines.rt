@@ -1,4 +1,4 @@
-// The lines of a file that are kept.
+// The kept lines of a file.
 ghost use Rattle.std.specs.Prelude.{◌≡◌, ◌+◌, ◌-◌, ◌^◌, ◌<◌, ◌≤◌, ◌++◌, IfOk, OnOk, length, reverse};
 ghost use Rattle.std.specs.List.{prefix_len};
 ghost use Rattle.std.specs.Str.Lines.{lines as text_lines};
@@ -11,7 +11,7 @@ use plan_types::NoMemory;
 use std::alloc::Global;
 use std::marker::Model;
 
-/// A line that is kept: its number, its indent, and its text without blanks at both ends.
+/// A kept line: its number, its indent, and its text without blanks at both ends.
 #[derive(Drop)]
 pub struct Line<'a> {
     number: u32,
@@ -57,7 +57,7 @@ impl<'a> Line<'a> {
         is_lone(self.text, b'}')
     }
 
-    /// Whether the line ends what stands inside a brace, or at this bound.
+    /// Whether the line ends a block with this bound, or a block in braces.
     pub fn ends(&self, bound: usize, braced: bool) -> bool
         ensures { result ≡ ends bound braced self.now }
     {
@@ -87,7 +87,7 @@ fn indent(text: &[u8]) -> usize
     text.iter().take_while(|byte| is_blank(**byte)).count()
 }
 
-/// The text without blanks in front.
+/// The text without leading blanks.
 pub fn trim_start(text: &str) -> &str
     ensures { result.now ≡ trim_start text.now }
 {
@@ -105,7 +105,7 @@ fn trailing(text: &[u8]) -> usize
         .count()
 }
 
-/// The text without blanks at its end.
+/// The text without trailing blanks.
 pub fn trim_end(text: &str) -> &str
     ensures { result.now ≡ trim_end text.now }
 {
@@ -135,7 +135,7 @@ fn is_kept(text: &str) -> bool
     !text.is_empty() && !is_comment(text.as_bytes())
 }
 
-/// Without the byte-order mark, where there is one.
+/// The text without its byte-order mark, if it has one.
 #[tactic(auto, unfolding(crate::specs::Lines::without_mark))]
 fn without_mark(text: &str) -> &str
     ensures { result.now ≡ without_mark text.now }
@@ -163,7 +163,7 @@ fn keep<'a>(kept: &mut Vec<Line<'a>>, number: u32, raw: &'a str) -> Result<(), N
     Ok(())
 }
 
-/// The lines of a text that are kept.
+/// The kept lines of a text.
 pub fn kept_lines<'a>(alloc: Global, text: &'a str) -> Result<Vec<Line<'a>>, NoMemory>
     requires { length text.now < 2 ^ 32 - 1 }
     ensures { IfOk result (λ kept. kept.items ≡ kept_from 1 (text_lines (without_mark text.now))) }

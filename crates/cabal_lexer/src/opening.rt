@@ -1,4 +1,4 @@
-// What a line opens.
+// The opening of an element: the text of its first line.
 ghost use Rattle.std.specs.Prelude.{◌≡◌, ◌≤◌, true, IfOk};
 ghost use Rattle.std.specs.List.{list_any};
 ghost use Rattle.plan_types.specs.Name.{is_letter};
@@ -8,7 +8,7 @@ ghost use Rattle.plan_types.specs.Bytes.{begins_with};
 use crate::lines::{is_lone, trim, trim_end, trim_start};
 use plan_types::Cause;
 
-/// What a line begins.
+/// The kind and parts of an element's first line.
 #[derive(Clone, Copy)]
 pub enum Opening<'a> {
     Field { name: &'a str, first: &'a str },
@@ -17,7 +17,7 @@ pub enum Opening<'a> {
     BracedSection { name: &'a str, args: &'a str },
 }
 
-/// What a line begins at a depth, which is 1 at the top.
+/// The opening of a line at a depth, which is 1 at the top.
 pub fn opening_at(text: &str, depth: u32) -> Result<Opening<'_>, Cause>
     ensures value { seen result ≡ within depth (opening text.now) }
     ensures shallow { IfOk result (λ _. depth ≤ 64) }

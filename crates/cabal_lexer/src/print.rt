@@ -1,4 +1,4 @@
-// Trees as texts.
+// The canonical text of a tree.
 ghost use Rattle.std.specs.Prelude.{◌≡◌, ◌++◌, [], ◌∷◌, IfOk, OnOk};
 ghost use Rattle.cabal_lexer.specs.Canonical.{value_lines, field_text, section_line, element_text, items_text, canonical};
 
@@ -8,8 +8,8 @@ use std::alloc::Global;
 
 /// The canonical text of a tree.
 ///
-/// An element at depth d is indented by 2 (d - 1) spaces. The first value of a field stands behind
-/// its colon, unless it is `{`, and each other on a line of its own, 4 spaces deeper than the field.
+/// An element at depth d is indented by 2 (d - 1) spaces. The first value of a field follows its colon,
+/// unless it is `{`. Each other value has a line of its own, 4 spaces deeper than the field.
 pub fn print_elements(alloc: Global, items: &List<Element>) -> Result<Text, NoMemory>
     ensures { IfOk result (λ text. text ≡ canonical items.now) }
 {

@@ -1,4 +1,4 @@
-// A file, read into its tree.
+// The tree of a file.
 ghost use Rattle.std.specs.Prelude.{◌≡◌, ◌+◌, ◌≤◌, ◌<◌, ◌==◌, ℕ, List, take, length, count_by, IfOk, IfErr, MatchResult};
 ghost use Rattle.std.specs.Str.{IsUtf8};
 ghost use Rattle.plan_types.specs.declared.element.Element.{Element};
@@ -14,16 +14,16 @@ use std::str;
 
 /// The tree of a text, or its first fault.
 ///
-/// `NotUtf8` comes before every other fault, and then the one with the least line. `UnclosedBrace`
-/// comes only where there is no other.
+/// `NotUtf8` comes before every other fault, then the fault on the least line. `UnclosedBrace` comes only
+/// if there is no other fault.
 pub fn read_elements(alloc: Global, bytes: &[u8]) -> Result<List<Element>, Fault>
     requires { length bytes.now ≤ 1048576 }
     ensures tree { IfOk result (λ items. IsTree bytes.now items) }
     ensures fault { IfErr result (RefusesAt (IsFault bytes.now)) }
-    // A text that has a tree isn't refused, but for want of memory.
+    // Complete for trees: a text with a tree gives it, or out of memory.
     ensures exactly_trees { (items : List Element) → IsTree bytes.now items →
         MatchResult result (λ found. found ≡ items) (RefusesAt (λ _ _. ⊥)) }
-    // A text that has a fault gives no tree, and no other fault.
+    // Complete for faults: a text with a fault gives it, or out of memory.
     ensures exactly_faults { (line : ℕ) (cause : Cause) → IsFault bytes.now line cause →
         MatchResult result (λ _. ⊥) (RefusesAt (λ at why. (at ≡ line) × (why ≡ cause))) }
 {

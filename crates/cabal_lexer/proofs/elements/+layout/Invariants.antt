@@ -2,7 +2,7 @@ use Rattle.std.proofs.Common.{◌+◌, ◌-◌, ◌*◌, ◌≤◌, length, drop
 use Rattle.cabal_lexer.proofs.Blocks.{Leads}
 use Rattle.cabal_lexer.proofs.elements.+layout.Given as goal
 
--- A call inside goes one deeper, or is for a part of the same element.
+-- A nested call goes one level deeper, or reads a part of the same element.
 abbrev pub decreases-read_items : goal.decreases-read_items
 decreases-read_items l = 3 * (66 - l.depth) + 2
 
