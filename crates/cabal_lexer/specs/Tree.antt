@@ -27,6 +27,6 @@ in_front = fold-Element (Tree → Tree) layer
 abbrev pub tree_of : List Element → Tree
 tree_of items = chain (map in_front items)
 
--- the old parts continued by found ones are the new parts and more
+-- the new parts, followed by `more`, are the old parts followed by a list with this property
 abbrev pub Goes : {A : Type 0} → (List A → Type 0) → List A → List A → List A → Type 0
 Goes {A = A} Are old new more = (found : List A) × Are found × (new ++ more ≡ old ++ found)

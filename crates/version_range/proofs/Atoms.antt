@@ -1,4 +1,4 @@
--- How an atom is read: a word, or an operator and what it compares with.
+-- Reading an atom: a word, or an operator with its operand.
 use Rattle.std.proofs.Common.{◌≡◌, ℕ, Bool, true, false, ◌&&◌, List, [], ◌∷◌, ◌++◌, Option, Some, None, Result, Ok, Err, refl, sym, ap, ◌∙◌, subst, append_assoc, if◌then◌else◌}
 use Rattle.std.specs.Prelude.{◌==◌, codes}
 use Rattle.std.specs.List.{list_all}
@@ -26,11 +26,11 @@ use Rattle.version_range.proofs.Sets.{compared_good, never_version, never_compar
 use Rattle.version_range.proofs.RangeKind.{decimals, range_kind}
 use Rattle.version_range.specs.Read.{missing}
 
--- a factor that begins with no parenthesis, as it is read
+-- the reader of a factor without parentheses
 abbrev pub atom_at : Spec → Reader Range
 atom_at spec text = elim (byte_after 45 text) [ Some rest ↦ word_at spec rest | None ↦ operator_at spec text >>= λ op. operand_at op.0 spec (skip_blanks op.1) ]
 
--- ---- no text begins so
+-- ---- bytes that begin no text
 
 never_led : {A : Type 0} (test : ℕ → Bool) (L : List ℕ → A → Type 0) → ((b : ℕ) → is_blank b ≡ true → test b ≡ false) → Never test L → Never test (Led L)
 never_led test L blank never text x (led [] {text = t} all l) = never t x l
@@ -45,7 +45,7 @@ never_choice test byte K M none never text x (there l) = never text x l
 
 -- ---- operands
 
--- what is compared with, where it is no set
+-- an operand that is no set
 abbrev Plain : Operator → List ℕ → Range → Type 0
 Plain Equal = EqualText
 Plain AtLeast = Compared AtLeast
@@ -142,7 +142,7 @@ never_operand : (spec : Spec) (op : Operator) (test : ℕ → Bool) → NotDigit
 never_operand spec op test none brace text r (plain l) = never_plain op test none text r l
 never_operand spec op test none brace text r (set {text = t} has l) = (123, t, refl, brace)
 
--- ---- what stands behind an operator
+-- ---- after an operator
 
 abbrev Opened : Spec → Operator → List ℕ → Range → Type 0
 Opened spec op = Led (Operand spec op)
@@ -153,7 +153,7 @@ opened_at spec op text = operand_at op spec (skip_blanks text)
 opened_good : (spec : Spec) (op : Operator) → Good (range_kind spec) (Opened spec op) (opened_at spec op)
 opened_good spec op = good_led (range_kind spec) (Operand spec op) (operand_at op spec) (operand_good spec op) (never_operand spec op is_blank (blanks_none decimals) refl)
 
--- no second byte of an operator begins it
+-- no operand begins with `=`
 never_opened : (spec : Spec) (op : Operator) → Never (λ c. c == 61) (Opened spec op)
 never_opened spec op = never_led (λ c. c == 61) (Operand spec op) (other_byte is_blank 61 refl) (never_operand spec op (λ c. c == 61) (no_digits decimals 61 refl) refl)
 
@@ -268,7 +268,7 @@ module _ (spec : Spec) where
       first (Ok more) = second (byte_due spec b more)
       first (Err cause) = refl
 
-  -- the operator, by the bytes that may begin it
+  -- the operator, by its first byte
   abbrev operator_by : List ℕ → Option (List ℕ) → Option (List ℕ) → Option (List ℕ) → Result (Operator × List ℕ) Cause
   operator_by text o p q = elim o [
     | Some rest ↦ Ok (either_at AtLeast Above rest)

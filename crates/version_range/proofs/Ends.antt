@@ -1,4 +1,4 @@
--- The order of versions, and lists of ends that rise.
+-- The order of versions, and rising lists of ends.
 use Rattle.std.proofs.Common.{◌≡◌, ◌≢◌, ◌⊎◌, inl, inr, ℕ, zero, suc, ◌%◌, ◌<◌, ◌≤◌, Bool, true, false, not, ◌||◌, List, [], ◌∷◌, ◌++◌, length, get_or, drop, refl, sym, ap, ◌∙◌, subst, ⊎_elim, arith, append_assoc, nat_eq}
 use Rattle.std.specs.declared.cmp.Ordering.{Ordering}
 use Rattle.std.specs.declared.cmp.Ordering.TheVariants.{Less, Equal, Greater}
@@ -72,7 +72,7 @@ compared a b = by (R a b) refl
     by Equal e = inr (inl (λ i. record { parts = exact_bytes a.parts b.parts e i }))
     by Greater e = inr (inr (ap is_lt (total.antisymm b a ∙ ap ordering_reverse e)))
 
--- ends above v hold nothing at v
+-- if all ends are above v, v isn't inside
 pub quiet : (v : Version) (xs : List Version) → all_above v xs ≡ true → inside xs v ≡ false
 quiet v [] h = refl
 quiet v (x ∷ xs) h =
@@ -112,7 +112,7 @@ before : (t : Bool) (v e : Version) (ends xs : List Version) → Takes t e ends 
 before true v e ends xs k h p = ap (λ l. inside l v) k ∙ rw p (quiet v xs (above_down v e xs p h))
 before false v e ends xs k h p = ap (λ l. inside l v) k ∙ quiet v xs (above_down v e xs p h)
 
--- These ends go on as the two lists do, from versions inside them or not.
+-- The ends `more` continue the joined set as xs and ys continue the two sets, from the states a and b.
 abbrev pub Continues : Joint → Bool → Bool → List Version → List Version → List Version → Type 0
 Continues j a b xs ys more = (v : Version) → flip (join j a b) (inside more v) ≡ join j (flip a (inside xs v)) (flip b (inside ys v))
 
@@ -161,7 +161,7 @@ module _ (j : Joint) (a b : Bool) (xs ys : List Version) (e : Version) (s t : Bo
       (λ i. join j (flip a (before s v e xs xs' step.first_takes step.first_above p i)) (flip b (before t v e ys ys' step.second_takes step.second_above p i)))
       ∙ (λ i. join j (flip_off a i) (flip_off b i))
 
-  -- where the union or the meet turns at e, e is an end of it
+  -- if the joined set changes at e, e is one of its ends
   pub turns : now ≢ was → Continues j a b xs ys (e ∷ more)
   turns ne v = by (is_below v e) refl
     where
@@ -176,7 +176,7 @@ module _ (j : Joint) (a b : Bool) (xs ys : List Version) (e : Version) (s t : Bo
       by false p = ap (λ w. flip w (inside more v)) (sym same) ∙ reached v p
       by true p = ap (flip was) (still v p) ∙ flip_off was ∙ sym (unreached v p)
 
--- ---- lists that rise
+-- ---- rising lists
 
 pub all_above_append : (v : Version) (xs ys : List Version) → all_above v (xs ++ ys) ≡ true → (all_above v xs ≡ true) × (all_above v ys ≡ true)
 all_above_append v [] ys h = (refl, h)
@@ -208,7 +208,7 @@ rises_put (o ∷ out) e xs ys h k a =
     let s = and_parts (all_above o (out ++ ys)) (rises (out ++ ys)) k in
     and_from (all_above o (out ++ e ∷ ys)) (rises (out ++ e ∷ ys)) (all_above_both o out (e ∷ ys) q.0 (and_from (is_below o e) (all_above o ys) r.0 (all_above_append o out ys s.0).1)) (rises_put out e xs ys p.1 s.1 a)
 
--- both lists rise on behind e
+-- both lists still rise after e
 step_rises : (out xs ys : List Version) (e : Version) (s t : Bool) (xs' ys' : List Version) → Takes s e xs xs' → Takes t e ys ys' → all_above e xs' ≡ true → all_above e ys' ≡ true → (s || t) ≡ true → rises (out ++ xs) ≡ true → rises (out ++ ys) ≡ true → (rises (out ++ e ∷ xs') ≡ true) × (rises (out ++ e ∷ ys') ≡ true)
 step_rises out xs ys e true true xs' ys' p q a b one h k = (ap (λ l. rises (out ++ l)) (sym p) ∙ h, ap (λ l. rises (out ++ l)) (sym q) ∙ k)
 step_rises out xs ys e true false xs' ys' p q a b one h k =
@@ -233,7 +233,7 @@ not_same_false false false h = refl
 
 -- ---- the loop that merges
 
--- so much of the two lists is merged
+-- the invariant of the merge
 pub record Merges (j : Joint) (xs ys out : List Version) (a b : Bool) (xs' ys' : List Version) : Type 0 where
   pub first_rises : are_ends (out ++ xs') ≡ true
   pub second_rises : are_ends (out ++ ys') ≡ true
@@ -314,7 +314,7 @@ front : (l : List Version) (x : Version) → 0 < length l → x ≡ get_or l 0 x
 front [] x n e = absurd (omega arith)
 front (z ∷ l) x n e = ap (λ w. w ∷ l) (sym e)
 
--- a front that is seen, and then taken off
+-- a front item that is seen, and then removed
 module _ (l : List Version) (x e : Version) (xs : List Version) (n : 0 < length l) (seen : x ≡ get_or l 0 x) (taken : e ≡ get_or l 0 e) (rest : xs ≡ drop 1 l) where
   left : l ≡ e ∷ xs
   left = front l e n taken ∙ ap (λ r. e ∷ r) (sym rest)
@@ -404,7 +404,7 @@ empty_when (e ∷ es) h =
     first_inside : (e : Version) (es : List Version) → rises (e ∷ es) ≡ true → inside (e ∷ es) e ≡ true
     first_inside e es r = rw (not_itself e) (ap not (quiet e es (and_parts (all_above e es) (rises es) r).0))
 
--- the same, where the code names the values
+-- the same, for the variables of the code
 pub merges_turn : (j : Joint) (xs ys out : List Version) (a b : Bool) (xs' ys' : List Version) (e : Version) (s t : Bool) (xs'' ys'' : List Version) (out' : List Version) (a' b' w w' d : Bool) → Merges j xs ys out a b xs' ys' → IsStep xs' ys' e s xs'' t ys'' → w ≡ join j a b → a' ≡ flip s a → b' ≡ flip t b → w' ≡ join j a' b' → d ≡ flip w w' → out' ≡ pushed d out e → Merges j xs ys out' a' b' xs'' ys''
 merges_turn j xs ys out a b xs' ys' e s t xs'' ys'' out' a' b' w w' d m step p q r u v o =
     subst (λ z. Merges j xs ys out' z b' xs'' ys'') (sym q)

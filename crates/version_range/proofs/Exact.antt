@@ -1,4 +1,4 @@
--- A text stands for one range at most, has one first fault at most, and never both; and reading tells which.
+-- A text denotes at most one range, has at most one first fault, and never both. The reader decides which.
 use Rattle.std.proofs.Common.{◌≡◌, ℕ, true, List, Option, Some, None, Result, Ok, Err, refl, sym, ap, ◌∙◌}
 use Rattle.std.specs.Result.{IfOk, IfErr, MatchResult}
 use Rattle.plan_types.specs.declared.range.Spec.{Spec}
@@ -25,7 +25,7 @@ module _ (spec : Spec) (n : ℕ) where
   pub range_or_fault : (text : List ℕ) (r : Range) (cause : Cause) → Stands spec n text r → FirstFault spec n text cause → ⊥
   range_or_fault = value_or_fault (Stands spec n) (CauseAt spec n)
 
-  -- the first of the causes that holds
+  -- the cause is unique
   one_cause : (front rest : List ℕ) {c d : Cause} → CauseAt spec n front rest c → CauseAt spec n front rest d → c ≡ d
   one_cause front rest (needs_version p) (needs_version q) = refl
   one_cause front rest (needs_version p) (bad_version q due) = absurd (q p)
@@ -47,7 +47,7 @@ module _ (spec : Spec) (n : ℕ) where
   pub one_fault : (text : List ℕ) (c d : Cause) → FirstFault spec n text c → FirstFault spec n text d → c ≡ d
   one_fault = exactly.one_fault (Stands spec n) (CauseAt spec n) (λ front rest c d. one_cause front rest {c = c} {d = d})
 
--- ---- what a call answered
+-- ---- results of calls
 
 module _ (spec : Spec) (text : List ℕ) where
   pub range_found : (answer : Result Range TextFault) → Gives (λ r. r) answer (range_of spec text) → IfOk answer (λ r. Stands spec 64 text r)
@@ -71,7 +71,7 @@ module _ (spec : Spec) (text : List ℕ) where
       → (cause : Cause) → FirstFault spec 64 text cause → MatchResult answer (λ found. ⊥) (Refuses (λ why. why ≡ cause))
   only_fault = exactly.only_fault (Stands spec 64) (CauseAt spec 64) (λ front rest c d. one_cause spec 64 front rest {c = c} {d = d}) text (one_range spec 64 text)
 
--- a text is one version at most
+-- a text is at most one version
 pub one_version_of : (text : List ℕ) (v w : Option Version) → IsVersionOf text v → IsVersionOf text w → v ≡ w
 one_version_of text None None p q = refl
 one_version_of text None (Some w) p q = absurd (p w.parts q.0 q.1)

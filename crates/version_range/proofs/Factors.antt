@@ -1,4 +1,4 @@
--- Factors, terms and ranges, as they are read.
+-- Reading factors, terms and ranges.
 use Rattle.std.proofs.Common.{◌≡◌, inl, inr, ℕ, zero, suc, Bool, true, false, List, [], ◌∷◌, ◌++◌, codes, Option, Some, None, Result, Ok, Err, refl, sym, ap, ◌∙◌, subst, append_assoc, append-nil}
 use Rattle.std.specs.Prelude.{◌==◌}
 use Rattle.std.specs.Char.{is_ascii_digit}
@@ -26,7 +26,7 @@ use Rattle.text_grammar.proofs.TwoChains as two
 
 -- ---- what may follow
 
--- the texts of both specifications have the same digits
+-- all cabal-versions have the same digits
 abbrev numbers : Kind
 numbers = range_kind V3_0
 
@@ -40,7 +40,7 @@ close_follows = two.close_follows numbers refl refl refl
 pub after_instead : (front rest again : List ℕ) → AfterRange front rest → Instead decimals front rest again → AfterRange front (instead rest again)
 after_instead = two.after_instead numbers refl refl refl
 
--- ---- a factor, over what stands in a parenthesis
+-- ---- a factor, by the reader of its parentheses
 
 at_open : (I : Reader Range) (spec : Spec) (rest : List ℕ) → factor_at I spec (40 ∷ rest) ≡ closing (missing spec) 41 I rest
 unfolding factor_at
@@ -113,7 +113,7 @@ unfolding Inside
 wider_inside spec zero text r none = absurd none
 wider_inside spec (suc n) text r c = wider_terms spec (Inside spec n) (Inside spec (suc n)) (wider_inside spec n) text r c
 
--- ---- where a factor is stuck
+-- ---- faults of a factor
 
 module _ (spec : Spec) (L L' : List ℕ → Range → Type 0) (I I' : Reader Range) (rules : Rules L AfterRange I) (rules' : Rules L' AfterRange I') (wider : (text : List ℕ) (r : Range) → L text r → L' text r) where
   abbrev FactorFault : List ℕ → Cause → Type 0
@@ -167,7 +167,7 @@ module _ (spec : Spec) where
   abbrev depth-rules : (n : ℕ) → Rules (Inside spec n) AfterRange (inside n spec)
   depth-rules n = inside_rules spec n
 
-  -- one parenthesis more than may be open
+  -- one parenthesis too many
   opened_zero : (text : List ℕ) (cause : Cause) → closing (missing spec) 41 (inside zero spec) text ≡ Err cause → OpenedFault spec zero (40 ∷ text) cause
   unfolding Inside inside
   opened_zero text cause h = subst (OpenedFault spec zero (40 ∷ text)) (cc h) (record {
@@ -187,7 +187,7 @@ module _ (spec : Spec) where
       still_deep [] same = absurd (cc same)
       still_deep (b ∷ again) same = let open' : b ≡ 40 = cc same in subst (λ x. errs (factor_at (inside zero spec) spec (x ∷ again)) ≡ true) (sym open') (ap errs (at_open (inside zero spec) spec again))
 
-  -- the fault of a range, or of what closes it, behind its opening parenthesis
+  -- the fault of a range in parentheses, or of its closing parenthesis
   opened_more : (n : ℕ) → ((text : List ℕ) (cause : Cause) → inside n spec text ≡ Err cause → Fault (range_kind spec) (Inside spec n) (Inside spec (suc n)) (inside n spec) (inside (suc n) spec) text cause)
       → (text : List ℕ) (cause : Cause) → closing (missing spec) 41 (inside n spec) text ≡ Err cause → OpenedFault spec n (40 ∷ text) cause
   opened_more n fault text cause h =
@@ -213,7 +213,7 @@ module _ (spec : Spec) where
   opened_fault zero text cause h = opened_zero text cause h
   opened_fault (suc n) text cause h = opened_more (suc n) (deeper n (opened_fault n)) text cause h
 
-  -- a range with at most n parentheses open is stuck where its parts are
+  -- the faults of a range with at most n open parentheses are those of its parts
   pub range_fault : (n : ℕ) (text : List ℕ) (cause : Cause) → range_in (inside n spec) spec text ≡ Err cause
       → Fault (range_kind spec) (Terms spec (Inside spec n)) (Terms spec (Inside spec (suc n))) (range_in (inside n spec) spec) (range_in (inside (suc n) spec) spec) text cause
   range_fault n = terms_fault spec (Inside spec n) (Inside spec (suc n)) (inside n spec) (inside (suc n) spec) (depth-rules n) (depth-rules (suc n)) (wider_inside spec n) (opened_fault n)

@@ -1,4 +1,4 @@
--- The versions of a range that a text stands for have the form of versions.
+-- The versions in the range of a text are well-formed.
 use Rattle.std.proofs.Common.{◌≡◌, ℕ, zero, suc, Bool, true, ◌&&◌, List, codes, sym, ap, ◌∙◌}
 use Rattle.std.proofs.lemmas.Bool.{and_from}
 use Rattle.plan_types.specs.declared.version.Version.{Version}

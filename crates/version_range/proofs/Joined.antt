@@ -1,4 +1,4 @@
--- Chains of sets that are joined alike.
+-- Chains of sets under one operator.
 use Rattle.std.proofs.Common.{◌≡◌, Bool, true, false, ◌&&◌, ◌||◌, List, [], ◌∷◌, ◌++◌, ◌≤◌, arith, refl, sym, ap, ◌∙◌}
 use Rattle.std.proofs.Math.Bool.{and_assoc, or_assoc}
 use Rattle.plan_types.specs.declared.version.Version.{Version}
@@ -30,7 +30,7 @@ joined_one Either x v = by (inside x v)
 pub joined_push : (j : Joint) (xs : List (List Version)) (y : List Version) (v : Version) → joined j (xs ++ y ∷ []) v ≡ join j (joined j xs v) (inside y v)
 joined_push j xs y v = joined_append j xs (y ∷ []) v ∙ ap (join j (joined j xs v)) (joined_one j y v)
 
--- an operand goes over from what is left to what was taken
+-- an operand moves from the rest to the taken ones
 pub join_over : (j : Joint) (l r t : Bool) → join j l (join j t r) ≡ join j (join j l r) t
 join_over Both true true true = refl
 join_over Both true true false = refl
@@ -53,7 +53,7 @@ join_back Either true false = refl
 join_back Either false true = refl
 join_back Either false false = refl
 
--- the first two, merged, go behind the rest
+-- the first two, merged, move to the end
 pub joined_behind : (j : Joint) (x y merged : List Version) (rest : List (List Version)) (v : Version) → inside merged v ≡ join j (inside x v) (inside y v) → joined j (rest ++ merged ∷ []) v ≡ joined j (x ∷ y ∷ rest) v
 joined_behind j x y merged rest v h =
     joined_push j rest merged v
@@ -62,7 +62,7 @@ joined_behind j x y merged rest v h =
     ∙ sym (ap (λ b. join j b (joined j rest v)) (joined_push j (x ∷ []) y v ∙ ap (λ b. join j b (inside y v)) (joined_one j x v)))
     ∙ sym (joined_append j (x ∷ y ∷ []) rest v)
 
--- Some operands of a chain are taken from its right end, and a range is left.
+-- Some operands are taken from the right end of a chain, and a range is left.
 pub record Takes_over (j : Joint) (left right : Range) (operands : List (List Version)) (rest : Range) : Type 0 where
   pub members_are : (v : Version) → HasNumbers v → join j (members rest v) (joined j operands v) ≡ join j (members left v) (members right v)
   pub versions_are : has_versions rest ≡ true

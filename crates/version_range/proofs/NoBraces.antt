@@ -1,4 +1,4 @@
--- In 2.4 no text of a range holds a `{`.
+-- In 2.4 no text of a range has a `{`.
 use Rattle.std.proofs.Common.{◌≡◌, ℕ, zero, suc, Bool, true, false, List, [], ◌∷◌, ◌++◌, codes, refl, sym, ap, ◌∙◌}
 use Rattle.std.specs.Prelude.{◌==◌, not}
 use Rattle.std.specs.Fmt.{decimal}
@@ -31,7 +31,7 @@ plain_append xs ys p q = list_all-append is_plain xs ys ∙ and_from (list_all i
 pub plain_parts : (xs ys : List ℕ) → Plain (xs ++ ys) → Plain xs × Plain ys
 plain_parts xs ys h = let p = and_parts (list_all is_plain xs) (list_all is_plain ys) (sym (list_all-append is_plain xs ys) ∙ h) in (p.0, p.1)
 
--- a byte that passes a test which `{` doesn't
+-- a byte that passes a test that `{` fails
 plain_by : (test : ℕ → Bool) → test 123 ≡ false → (b : ℕ) → test b ≡ true → is_plain b ≡ true
 plain_by test other b h = by (b == 123) refl
   where

@@ -18,7 +18,7 @@ use Rattle.version_range.specs.Version.{IsNumber, IsVersion, is_version, version
 own : IsNumeralModel (λ ds. all_ascii_digits ds ≡ true) (number_after 0)
 own = numerals_by_fold _ (search rules) number_after (search rules)
 
--- digits that make a number are its text
+-- the digits of a number are its text
 pub numeral_text : (ds : List ℕ) → all_ascii_digits ds ≡ true → 0 < length ds → length ds ≤ 9 → (get_or ds 0 0 ≡ 48 → length ds ≡ 1) → IsNumber (number_after 0 ds) × (ds ≡ decimal (number_after 0 ds))
 numeral_text ds all some few plain =
     let below : number_after 0 ds < 10 ^ 9 = digits_value_short own ds 9 all few in
@@ -48,7 +48,7 @@ pub all_push : (bs : List ℕ) (b : ℕ) → all_ascii_digits bs ≡ true → is
 all_push [] b h d = search rules
 all_push (x ∷ bs) b h d = let p = digit_front x bs h in tells_all_ascii_digits.more x (bs ++ b ∷ []) p.0 (all_push bs b p.1 d)
 
--- where digits end, the text is cut in one way
+-- a text splits into leading digits and the rest in one way
 pub one_cut : (as' bs xs ys : List ℕ) → all_ascii_digits as' ≡ true → all_ascii_digits bs ≡ true → begins_with_digit xs ≡ false → begins_with_digit ys ≡ false → as' ++ xs ≡ bs ++ ys → (as' ≡ bs) × (xs ≡ ys)
 one_cut [] [] xs ys p q f g e = (refl, e)
 one_cut [] (b ∷ bs) xs ys p q f g e = absurd (false≢true (sym f ∙ ap begins_with_digit e ∙ digit_test b (digit_front b bs q).0))
@@ -59,13 +59,13 @@ one_cut (a ∷ as') (b ∷ bs) xs ys p q f g e =
     let r = one_cut as' bs xs ys (digit_front a as' p).1 (digit_front b bs q).1 f g tails in
     (cc (heads, r.0), r.1)
 
--- a number at the front of a text is told from what follows it
+-- the number at the start of a text is unique
 pub one_number : (m n : ℕ) (xs ys : List ℕ) → IsNumber m → IsNumber n → begins_with_digit xs ≡ false → begins_with_digit ys ≡ false → decimal m ++ xs ≡ decimal n ++ ys → (m ≡ n) × (xs ≡ ys)
 one_number m n xs ys hm hn f g e =
     let r = one_cut (decimal m) (decimal n) xs ys (decimal_digits m hm) (decimal_digits n hn) f g e in
     (decimal_injective m n (omega arith) (omega arith) r.0, r.1)
 
--- numbers, with a point behind each
+-- numbers, each followed by a point
 abbrev pub pointed : List ℕ → List ℕ
 pointed [] = []
 pointed (n ∷ ns) = decimal n ++ 46 ∷ pointed ns
@@ -116,7 +116,7 @@ pub numbers_more : (ns : List ℕ) (n : ℕ) → AllByRecursion IsNumber ns → 
 numbers_more [] n h k = (k, tt)
 numbers_more (m ∷ ns) n h k = (h.0, numbers_more ns n h.1 k)
 
--- where a version's text goes on behind these numbers, so does the version
+-- if a version's text begins with these numbers, so does the version
 pub behind : (ps qs rest : List ℕ) → AllByRecursion IsNumber ps → IsVersion qs → pointed ps ++ rest ≡ version_text qs → (tail : List ℕ) × IsVersion tail × (qs ≡ ps ++ tail) × (rest ≡ version_text tail)
 behind [] qs rest h v e = (qs, v, refl, e)
 behind (p ∷ ps) [] rest h v e = absurd v
@@ -131,7 +131,7 @@ behind (p ∷ ps) (q ∷ r ∷ qs) rest h v e =
     let b = behind ps (r ∷ qs) rest h.1 v.1 tails in
     (b.0, b.1, cc (o.0, b.2), b.3)
 
--- no two versions have one text
+-- `version_text` is injective
 pub one_version : (as' bs : List ℕ) → IsVersion as' → IsVersion bs → version_text as' ≡ version_text bs → as' ≡ bs
 one_version [] bs v w e = absurd v
 one_version (a ∷ []) [] v w e = absurd w
@@ -149,13 +149,13 @@ one_version (a ∷ b ∷ as') (c ∷ d ∷ bs) v w e =
     let t = one_version (b ∷ as') (d ∷ bs) v.1 w.1 tails in
     cc (o.0, t)
 
--- what a failed reading of a number says of the rest of a version
+-- if no number can be read, no version follows
 pub no_number : (rest tail : List ℕ) → ((n : ℕ) (after : List ℕ) → IsNumber n → rest ≡ decimal n ++ after → begins_with_digit after ≡ true) → IsVersion tail → rest ≡ version_text tail → ⊥
 no_number rest [] none v e = v
 no_number rest (n ∷ []) none v e = false≢true (none n [] v (e ∙ sym (append-nil (decimal n))))
 no_number rest (n ∷ m ∷ ns) none v e = false≢true (none n (46 ∷ version_text (m ∷ ns)) v.0 e)
 
--- behind a number of a version stands nothing, or a point
+-- in a version, only a point follows a number
 pub no_other : (n : ℕ) (after tail : List ℕ) → IsNumber n → begins_with_digit after ≡ false → after ≢ [] → ((more : List ℕ) → after ≢ 46 ∷ more) → IsVersion tail → decimal n ++ after ≡ version_text tail → ⊥
 no_other n after [] h d some ne v e = v
 no_other n after (m ∷ []) h d some ne v e = some (one_number n m after [] h v d refl (e ∙ sym (append-nil (decimal m)))).1
@@ -187,7 +187,7 @@ module _ (text : List ℕ) (ps : List ℕ) (rest : List ℕ) (read : (text ≡ p
 pub only_version : (text new : List ℕ) → IsVersion new → text ≡ version_text new → (qs : List ℕ) → IsVersion qs → text ≡ version_text qs → new ≡ qs
 only_version text new v e qs w f = one_version new qs v w (sym e ∙ f)
 
--- the digits at the front are no number
+-- leading digits that are no number
 pub not_number : (text digits rest : List ℕ) → text ≡ digits ++ rest → all_ascii_digits digits ≡ true → begins_with_digit rest ≡ false → ((0 < length digits) × (length digits ≤ 9) × (get_or digits 0 0 ≡ 48 → length digits ≡ 1) → ⊥) → (n : ℕ) (after : List ℕ) → IsNumber n → text ≡ decimal n ++ after → begins_with_digit after ≡ true
 not_number text digits rest e all end none n after h f = by (begins_with_digit after) refl
   where

@@ -1,4 +1,4 @@
--- What is known of the version in a range of one operator.
+-- The version in a range with one operator.
 use Rattle.std.proofs.Common.{◌≡◌, Bool, true, sym, ap, ◌∙◌}
 use Rattle.plan_types.specs.declared.version.Version.{Version}
 use Rattle.plan_types.specs.declared.range.Range.{Range}

@@ -1,4 +1,4 @@
--- What is put aside while a range is printed.
+-- The pending texts while a range is printed.
 use Rattle.std.proofs.Common.{◌≡◌, ℕ, ◌<◌, codes, List, [], ◌∷◌, ◌++◌, sym, ap, ◌∙◌, append_assoc, subst, arith}
 use Rattle.std.specs.List.{All}
 use Rattle.std.proofs.lemmas.List.{append-nil}
@@ -18,7 +18,7 @@ rests_push : (rests : List Rest) (rest : Rest) → rests_text (rests ++ rest ∷
 rests_push [] rest = sym (append-nil (rest_text rest))
 rests_push (r ∷ rs) rest = ap (λ t. t ++ rest_text r) (rests_push rs rest) ∙ append_assoc (rest_text rest) (rests_text rs) (rest_text r)
 
--- what is put aside last is written next
+-- the last pending text is written next
 pub put_aside : (text left : List ℕ) (rests new : List Rest) (rest : Rest) → new ≡ rests ++ rest ∷ [] → (text ++ left) ++ rests_text new ≡ (text ++ (left ++ rest_text rest)) ++ rests_text rests
 put_aside text left rests new rest e =
     ap (λ n. (text ++ left) ++ rests_text n) e
@@ -48,7 +48,7 @@ text_Both s l r place e = ap (λ x. text_in x place) (e ∙ sym (rolls-Both l r)
 pub text_Either : (s l r : Range) (place : RangePlace) → s ≡ Either l r → text_in s place ≡ as_whole place (text_in l Whole ++ (codes " || " ++ text_in r Term))
 text_Either s l r place e = ap (λ x. text_in x place) (e ∙ sym (rolls-Either l r)) ∙ ap (λ f. f place) (fold-roll-Range (RangePlace → List ℕ) text_step (layer.Either l r)) ∙ ap (as_whole place) (append_assoc (text_in l Whole) (codes " || ") (text_in r Term))
 
--- the left side is next, once the right side is put aside
+-- the left side is written next, after the right side is pushed
 pub then_left : (placed : List ℕ → List ℕ) (whole joined left text new : List ℕ) (rests mid new-rests : List Rest) (rest : Rest)
     → joined ≡ placed (left ++ rest_text rest) → (text ++ joined) ++ rests_text rests ≡ whole → Opens placed text rests new mid → new-rests ≡ mid ++ rest ∷ []
     → (new ++ left) ++ rests_text new-rests ≡ whole

@@ -1,4 +1,4 @@
--- Ranges as a kind of text: they hold numbers, with points between them.
+-- Ranges as a kind of text, with numbers and points.
 use Rattle.std.proofs.Common.{◌≡◌, ℕ, Bool, true, false, ◌&&◌, ◌||◌, Some, None, refl}
 use Rattle.std.specs.Prelude.{◌==◌, if◌then◌else◌}
 use Rattle.std.specs.Char.{is_ascii_digit}
@@ -10,7 +10,7 @@ use Rattle.plan_types.specs.declared.refusal.Cause.TheVariants.{BadVersion, BadR
 use Rattle.plan_types.specs.Format.{is_old}
 use Rattle.text_grammar.proofs.TextKind.{Digits, Kind}
 
--- what goes on a number
+-- the bytes that continue a number
 abbrev pub on_number : ℕ → Bool
 on_number b = is_ascii_digit b || b == 46
 

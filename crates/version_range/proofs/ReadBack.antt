@@ -1,4 +1,4 @@
--- What is printed of a range is a text of that range.
+-- The printed text of a range denotes that range.
 use Rattle.std.proofs.Common.{◌≡◌, ℕ, zero, suc, ◌+◌, ◌-◌, ◌≤◌, max, ◌==◌, cond, Bool, true, false, codes, List, [], ◌∷◌, ◌++◌, refl, sym, ap, ◌∙◌, subst, arith}
 use Rattle.std.specs.Fmt.{decimal}
 use Rattle.std.specs.Str.{all_ascii_digits}
@@ -22,18 +22,18 @@ use Rattle.version_range.specs.Print as print
 use Rattle.version_range.proofs.Printed.{text_Both, text_Either}
 use Rattle.version_range.proofs.Numbers.{decimal_digits, digit_front, version_from}
 
--- what stands at a place, where k more parentheses may be open
+-- the language at a place, with at most k more parentheses open
 abbrev At : Spec → ℕ → RangePlace → List ℕ → Range → Type 0
 At spec k places.Whole text r = Terms spec (Inside spec k) text r
 At spec k places.Term text r = Term spec (Inside spec k) text r
 At spec k places.Factor text r = Factor spec (Inside spec k) text r
 
--- one blank more before a chain
+-- one more blank before a chain
 lead : {A B : Type 0} {join : A → B → A} {Part : List ℕ → A → Type 0} {Next : List ℕ → B → Type 0} {text : List ℕ} {x : A} → Chain join (Led Part) Next text x → Chain join (Led Part) Next (32 ∷ text) x
 lead (one (led blanks b p)) = one (led (32 ∷ blanks) b p)
 lead (more c d) = more (lead c) d
 
--- how many parentheses are open behind a text
+-- the number of open parentheses after a text
 abbrev open_behind : ℕ → List ℕ → ℕ
 open_behind n [] = n
 open_behind n (b ∷ bs) = open_behind (cond (b == 40) (n + 1) (cond (b == 41) (n - 1) n)) bs
@@ -50,7 +50,7 @@ most_append : (xs ys : List ℕ) (n : ℕ) → most_open n (xs ++ ys) ≡ max (m
 most_append [] ys n = omega (arith, most_at_least ys n)
 most_append (x ∷ xs) ys n = omega (arith, most_append xs ys (cond (x == 40) (n + 1) (cond (x == 41) (n - 1) n)))
 
--- a text that leaves as many open
+-- a text with balanced parentheses
 abbrev IsBalanced : List ℕ → Type 0
 IsBalanced text = (n : ℕ) → open_behind n text ≡ n
 
@@ -94,7 +94,7 @@ module _ (spec : Spec) where
     balanced : (place : RangePlace) → IsBalanced (text_in r place)
     stands : (place : RangePlace) (n k : ℕ) → most_open n (text_in r place) ≤ n + k → At spec k place (text_in r place) r
 
-  -- a factor may stand at each place
+  -- a factor is allowed at each place
   everywhere : (place : RangePlace) (k : ℕ) (text : List ℕ) (r : Range) → Factor spec (Inside spec k) text r → At spec k place text r
   everywhere places.Whole k text r f = one (one (led [] refl f))
   everywhere places.Term k text r f = one (led [] refl f)

@@ -48,7 +48,7 @@ least_numbers (zero ∷ []) n = refl
 least_numbers (zero ∷ q ∷ ps) n = refl
 least_numbers (suc p ∷ ps) n = grind (arith, nat_tests)
 
--- nothing with numbers is below 0
+-- no version with numbers is below 0
 pub least : (z v : Version) → z.parts ≡ 0 ∷ [] → HasNumbers v → is_below v z ≡ false
 least z v e n = ap (λ ps. is_lt (order v.parts ps)) e ∙ least_numbers v.parts n
 
@@ -146,7 +146,7 @@ module _ (xs : List Version) (e : Version) (are : are_ends (xs ++ e ∷ []) ≡ 
   last_numbers : HasNumbers e
   last_numbers = has_numbers e (and_parts (is_below no_numbers e) true (all_above_append no_numbers xs (e ∷ []) above.0).1).0
 
-  -- an interval without a stop is last
+  -- the last interval has no end: no version is newer
   pub kept : odd_many xs ≡ false → (v : Version) → (IsTrue (inside (xs ++ e ∷ []) v) → IsRelaxedAbove (inside (xs ++ e ∷ [])) v) × (IsRelaxedAbove (inside (xs ++ e ∷ [])) v → IsTrue (inside (xs ++ e ∷ []) v))
   kept even v = (λ h. inl h, from)
     where
@@ -170,7 +170,7 @@ module _ (xs : List Version) (e : Version) (are : are_ends (xs ++ e ∷ []) ≡ 
   pub lifted_are : are_ends xs ≡ true
   lifted_are = rises_front (no_numbers ∷ xs) (e ∷ []) are
 
-  -- the last stop is taken off
+  -- the last interval loses its end
   pub lifted : odd_many xs ≡ true → (v : Version) → (IsTrue (inside xs v) → IsRelaxedAbove (inside (xs ++ e ∷ [])) v) × (IsRelaxedAbove (inside (xs ++ e ∷ [])) v → IsTrue (inside xs v))
   lifted odd v = at xs refl
     where
@@ -240,9 +240,9 @@ lifted_none v = (λ h. inl h, by)
     by (inl h) = h
     by (inr r) = r.0.2
 
--- ---- what the code does
+-- ---- the steps of the code
 
--- an even number of ends, of which the last is taken off
+-- an even number of ends, whose last is removed
 pub lifted_by : (ends new : List Version) (o : Option Version) → are_ends ends ≡ true → length ends % 2 ≡ 0 → ends ≡ new ++ option_to_list o → (IsSome o ↔ (0 < length ends)) → (are_ends new ≡ true) × Relaxes true false (inside ends) (inside new)
 lifted_by ends new None are even e s =
     let none : ends ≡ [] = nil_from_length ends (by (length ends) refl) in
@@ -276,7 +276,7 @@ kept_by (x ∷ xs) are odd =
     by ys p e false q = refl
     by ys p e true q = absurd (odd (omega (arith, (parity ys).0 q, ap length e, length-append ys (p ∷ []))))
 
--- the first end with its numbers made least
+-- the first end replaced by the least version
 pub lowered_by : (ends new : List Version) (z : Version) → are_ends ends ≡ true → ends ≢ [] → new ≡ set ends 0 z → z.parts ≡ 0 ∷ [] → (are_ends new ≡ true) × Relaxes false true (inside ends) (inside new)
 lowered_by [] new z are some e l = absurd (some refl)
 lowered_by (f ∷ rest) new z are some e l = (
@@ -290,7 +290,7 @@ first_numbers (x ∷ rest) f are some e = subst HasNumbers (sym e) (has_numbers 
 
 -- ---- relaxed twice
 
--- Newer and older are one thing, in an order and in its reverse.
+-- Newer and older are dual: one notion, for an order and for its reverse.
 abbrev Some_to : (Version → Version → Type 0) → (Version → Bool) → Version → Type 0
 Some_to L has v = (w : Version) × HasNumbers w × IsTrue (has w) × L w v
 

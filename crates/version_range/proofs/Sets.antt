@@ -1,4 +1,4 @@
--- How sets are read.
+-- Reading sets.
 use Rattle.std.proofs.Common.{◌≡◌, inl, inr, ℕ, Bool, true, false, List, [], ◌∷◌, ◌++◌, Option, Some, None, Result, Ok, Err, refl, sym, ap, ◌∙◌, subst, append_assoc, append-nil}
 use Rattle.std.specs.Prelude.{codes}
 use Rattle.std.specs.Char.{is_ascii_digit}
@@ -53,12 +53,12 @@ never_compared op test none text r (compared v h) = never_version test none text
 
 -- ---- the members of a set
 
--- what begins with a mark or a blank goes on no number
+-- a text that begins with a mark or a blank doesn't continue a number
 never_behind : {A : Type 0} (mark : ℕ) → on_number mark ≡ false → (L : List ℕ → A → Type 0) → Never on_number (Behind (mark ∷ []) L)
 never_behind mark other L text x (behind [] {text = t} all l) = (mark, t, refl, other)
 never_behind mark other L text x (behind (b ∷ bs) {text = t} all l) = (b, (bs ++ mark ∷ []) ++ t, refl, blank_off b (and_parts (is_blank b) (list_all is_blank bs) all).0)
 
--- a member, as it is read
+-- the reader of a member
 abbrev member_at : Spec → Operator → Reader Range
 member_at spec op text = compared_at op spec (skip_blanks text)
 

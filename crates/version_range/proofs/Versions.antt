@@ -1,4 +1,4 @@
--- How numbers, versions and what stands behind `==` are read, against their languages.
+-- The readers of numbers, versions and the operand of `==` are correct for their languages.
 use Rattle.std.proofs.Common.{◌≡◌, ◌≢◌, ℕ, ◌<◌, ◌≤◌, Bool, true, false, not, ◌&&◌, List, [], ◌∷◌, ◌++◌, length, take, drop, get_or, Option, Some, None, ◌⊎◌, inl, inr, Result, Ok, Err, refl, sym, ap, ◌∙◌, subst, append_assoc, append-nil, length-append, length-take, length-drop, arith}
 use Rattle.std.specs.Prelude.{◌==◌, nat_le, if◌then◌else◌, codes}
 use Rattle.std.specs.Fmt.{decimal}
@@ -137,9 +137,9 @@ number_reads spec text n rest is apart =
     ∙ number_yes spec (decimal n) rest all apart (is_number_from (decimal n) some few plain)
     ∙ ap (λ v. Ok (v, rest)) value
 
--- ---- where a number is stuck
+-- ---- faults of numbers
 
--- a number, where no star stands in its place
+-- a number, unless a star is in its place
 abbrev star_at : Bool → Spec → Option-Reader ℕ
 star_at star spec text = if star && begins_with 42 text then Ok None else number_at spec text >>= λ p. Ok (Some p)
 
@@ -171,7 +171,7 @@ some_front text d digit = by d.front refl
     by [] q = absurd (false≢true (sym d.end ∙ ap begins_with_digit (sym (d.whole ∙ ap (λ t. t ++ d.rest) q)) ∙ digit))
     by (b ∷ bs) q = omega (arith, ap length q)
 
--- digits behind which another makes no number
+-- digits that no further digits turn into a number
 digits_no : (spec : Spec) (ds text : List ℕ) → all_ascii_digits ds ≡ true → begins_with_digit text ≡ true → ((more : List ℕ) → 0 < length more → is_number (ds ++ more) ≡ false) → errs (number_at spec (ds ++ text)) ≡ true
 digits_no spec ds text all digit none =
     let d = split text in
@@ -201,7 +201,7 @@ digits_last (b ∷ c ∷ ds) all some = digits_last (c ∷ ds) (all_parts b (c �
 abbrev StarFault : Bool → Spec → List ℕ → Cause → Type 0
 StarFault star spec = Fault (range_kind spec) NumberText NumberText (star_at star spec) (star_at star spec)
 
--- digits that are a number, and one more
+-- a number, and a digit that it can't have
 fault_more : (star : Bool) (spec : Spec) (ds rest : List ℕ) → all_ascii_digits ds ≡ true → 0 < length ds → (n : ℕ) → NumberText ds n → begins_with_digit rest ≡ true
     → ((more : List ℕ) → 0 < length more → is_number (ds ++ more) ≡ false) → StarFault star spec (ds ++ rest) BadVersion
 fault_more star spec ds rest all some n is digit none =
@@ -227,13 +227,13 @@ fault_none star spec rest none free = by (is_old spec && begins_with 123 rest) r
     by false q = subst (StarFault star spec rest) (sym (cause_other spec BadVersion rest q))
         (record { front = []; rest = rest; whole = refl; more = 48 ∷ []; value = 0; goes_on = zero_text; why = digit_due (λ form. false≢true (sym q ∙ form)) refl 48 refl [] 0 zero_text dead })
 
--- the first nine digits of more
+-- nine digits, and further ones
 fault_nine : (star : Bool) (spec : Spec) (b c : ℕ) (fs es rest : List ℕ) → all_ascii_digits (b ∷ c ∷ fs) ≡ true → length fs ≡ 7 → b ≢ 48 → begins_with_digit (es ++ rest) ≡ true → StarFault star spec ((b ∷ c ∷ fs) ++ (es ++ rest)) BadVersion
 fault_nine star spec b c fs es rest all seven plain digit =
     let t = numeral_text (b ∷ c ∷ fs) all (omega arith) (omega (arith, seven)) (λ e. absurd (plain e)) in
     fault_more star spec (b ∷ c ∷ fs) (es ++ rest) all (omega arith) (number_after 0 (b ∷ c ∷ fs)) (t.1, t.0) digit (nine_more (b ∷ c ∷ fs) (omega (arith, seven)))
 
--- two digits or more that make no number
+-- two or more digits that are no number
 fault_digits : (star : Bool) (spec : Spec) (b c : ℕ) (bs rest : List ℕ) → all_ascii_digits (b ∷ c ∷ bs) ≡ true → is_number (b ∷ c ∷ bs) ≡ false → StarFault star spec ((b ∷ c ∷ bs) ++ rest) BadVersion
 fault_digits star spec b c bs rest all none = by (b == 48) refl
   where
@@ -295,7 +295,7 @@ number_fault spec text cause h =
     fault_up (range_kind spec) NumberText NumberText (star_at false spec) (star_at false spec) NumberText NumberText (number_at spec) (number_at spec) [] same same
     text cause (star_fault false spec text cause given) refl (λ again e. back (number_at spec _) e) (λ again e. back (number_at spec _) e)
 
--- ---- the numbers of a version, one after the other
+-- ---- the numbers of a version
 
 -- the first number, alone
 abbrev FirstText : List ℕ → List ℕ → Type 0
@@ -323,7 +323,7 @@ next_other star spec text h =
       | Some rest ↦ if star && begins_with 42 rest then Ok None else number_at spec rest >>= λ p. Ok (Some p)
     ]) (byte_gone 46 text h)
 
--- what each answer says
+-- the cases of an answer
 star_parts : (t : Bool) (r : Result (ℕ × List ℕ) Cause) (p : ℕ × List ℕ) → (let o : Result (Option (ℕ × List ℕ)) Cause = if t then Ok None else r >>= λ p. Ok (Some p) in o ≡ Ok (Some p)) → r ≡ Ok p
 star_parts true r p h = absurd (cc h)
 star_parts false (Ok q) p h = let same : q ≡ p = cc h in ap Ok same
@@ -433,7 +433,7 @@ module _ (star : Bool) (spec : Spec) where
   numbers_fault : (text : List ℕ) (cause : Cause) → all_numbers star spec text ≡ Err cause → Fault (range_kind spec) NumbersText NumbersText (all_numbers star spec) (all_numbers star spec) text cause
   numbers_fault = fault_all (range_kind spec) followed FirstText FirstText NextText NextText NotDigit (first_at spec) (first_at spec) (next_number star spec) (next_number star spec) (rules star spec) (rules star spec) (λ t x k. k) (λ t y k. k) next_fault (first_fault spec)
 
-  -- what was read of the numbers
+  -- the numbers that were read
   abbrev NumbersRead : List ℕ → List ℕ → List ℕ → Type 0
   NumbersRead = AllRead followed FirstText NextText NotDigit (first_at spec) (next_number star spec) (rules star spec)
 
@@ -456,7 +456,7 @@ module _ (star : Bool) (spec : Spec) where
 
 -- ---- the text of a version
 
--- one number more
+-- one more number
 version_more : (ns : List ℕ) (n : ℕ) → IsVersion ns → version_text (ns ++ n ∷ []) ≡ version_text ns ++ (46 ∷ decimal n)
 version_more [] n v = absurd v
 version_more (m ∷ ns) n v =
@@ -477,7 +477,7 @@ numbers_text (more {text = text} {next = next} {left = left} {right = right} c k
     let joined : next ≡ 46 ∷ decimal right = k.1 ∙ ap (λ t. 46 ∷ t) k.2.0 in
     (cc (r.0, joined, version_more left right r.1), is_more left right r.1 k.2.1)
 
--- more numbers, each behind a point
+-- more numbers, each after a point
 numbers_on : (text left ns : List ℕ) → NumbersText text left → AllByRecursion IsNumber ns → NumbersText (text ++ led_by_points ns) (left ++ ns)
 numbers_on text left [] c all = subst (λ t. NumbersText t (left ++ [])) (sym (append-nil text)) (subst (NumbersText text) (sym (append-nil left)) c)
 numbers_on text left (n ∷ ns) c all =
@@ -501,7 +501,7 @@ text_numbers (n ∷ ns) v =
 abbrev pub VersionText : List ℕ → Version → Type 0
 VersionText text v = (text ≡ version_text v.parts) × (is_version v.parts ≡ true)
 
--- what ends with a digit has neither a digit nor a point behind it
+-- a rest that doesn't continue a number begins with neither a digit nor a point
 apart_parts : (rest : List ℕ) → starts on_number rest ≡ false → (begins_with_digit rest ≡ false) × (begins_with 46 rest ≡ false)
 apart_parts [] h = (refl, refl)
 apart_parts (b ∷ bs) h = or_parts (is_ascii_digit b) (b == 46) h
@@ -605,7 +605,7 @@ version_fault spec text cause h =
     fault_up (range_kind spec) NumbersText NumbersText (all_numbers false spec) (all_numbers false spec) VersionText VersionText (version_at false spec) (version_at false spec) [] done done
     text cause f refl (λ again e. version_errs false spec (f.front ++ again) e) (λ again e. version_errs false spec (f.front ++ again) e)
 
--- ---- what stands behind `==`
+-- ---- the operand of `==`
 
 -- a version, or one and `.*`
 pub data EqualText : List ℕ → Range → Type 0 where
@@ -677,7 +677,7 @@ equal_reads spec text r rest (front v is) apart =
 pub equal_fault : (spec : Spec) (text : List ℕ) (cause : Cause) → equal_at spec text ≡ Err cause → Fault (range_kind spec) EqualText EqualText (equal_at spec) (equal_at spec) text cause
 equal_fault spec text cause h = by (version_at true spec text) refl
   where
-    -- behind the version nothing fails
+    -- after the version there is no fault
     ends : (v : Version) (left : List ℕ) → (begins_with 46 left ≡ false) ⊎ ((behind : List ℕ) × (true ≡ true) × (left ≡ 46 ∷ 42 ∷ behind)) → equal_end spec (v, left) ≡ Err cause → ⊥
     ends v left (inl other) e = absurd (cc (e, end_whole spec v left other))
     ends v left (inr p) e = absurd (cc (e, p.2, end_front spec v p.0))
@@ -698,7 +698,7 @@ equal_fault spec text cause h = by (version_at true spec text) refl
         fault_up (range_kind spec) NumbersText NumbersText (all_numbers true spec) (all_numbers true spec) EqualText EqualText (equal_at spec) (equal_at spec) [] done done
         text cause f refl (λ again e. up (f.front ++ again) e) (λ again e. up (f.front ++ again) e)
 
--- ---- a number that was looked for
+-- ---- results of `number_at`
 
 pub number_given : (spec : Spec) (text : List ℕ) (n : ℕ) (rest : List ℕ) → IsNumber n × (text ≡ decimal n ++ rest) × (begins_with_digit rest ≡ false) → number_at spec text ≡ Ok (n, rest)
 number_given spec text n rest h = ap (number_at spec) h.1 ∙ number_reads spec (decimal n) n rest (refl, h.0) h.2

@@ -1,4 +1,4 @@
--- A whole text: what it stands for, its first fault, and that it has one of both.
+-- A whole text denotes a range or has a first fault.
 use Rattle.std.proofs.Common.{◌≡◌, ◌≢◌, inl, inr, ℕ, suc, Bool, true, false, List, [], ◌∷◌, ◌++◌, codes, length, Some, None, Result, Ok, Err, refl, sym, ap, ◌∙◌, subst, append_assoc, append-nil, arith}
 use Rattle.std.specs.Prelude.{◌==◌, if◌then◌else◌}
 use Rattle.std.specs.Char.{is_ascii_digit}
@@ -26,11 +26,11 @@ use Rattle.version_range.proofs.Factors.{AfterRange, after_instead, factor_unbla
 use Rattle.text_grammar.proofs.TextKind.{starts}
 use Rattle.version_range.proofs.RangeKind.{on_number, decimals, range_kind}
 
--- what is read of a range is the text where only blanks are left
+-- the range of a whole text, if only blanks follow it
 abbrev pub to_end : Spec → Range × List ℕ → Result Range Cause
 to_end spec r = let rest = skip_blanks r.1 in if length rest == 0 then Ok r.0 else Err (cause_at spec BadRange rest)
 
--- a whole text, where so many parentheses may be open
+-- the reader of a whole text, with at most n parentheses open
 abbrev pub text_at : Spec → ℕ → List ℕ → Result Range Cause
 text_at spec n text = if length (skip_blanks text) == 0 then Ok Any else range_in (inside n spec) spec text >>= to_end spec
 
@@ -70,7 +70,7 @@ module _ (spec : Spec) where
     terms_not_blank text r (one f) h = term_not_blank text r f h
     terms_not_blank text r (more {text = front} {next = next} {left = left} c k) h = terms_not_blank front left c (blanks_parts front next h).0
 
-    -- how a text that isn't blanks alone is read
+    -- reading a text that isn't blanks only
     at_range : (text : List ℕ) → NotBlank text → text_at spec n text ≡ (range_in (inside n spec) spec text >>= to_end spec)
     at_range text some = rw (some_length (skip_blanks text) some) refl
 
@@ -93,7 +93,7 @@ module _ (spec : Spec) where
 
   -- ---- a fault of the range
 
-  -- behind blanks the fault is at no blank
+  -- a fault after blanks isn't at a blank
   stuck_behind_blanks : (n : ℕ) (text : List ℕ) (cause : Cause) (f : Fault (range_kind spec) (Terms spec (Inside spec n)) (Terms spec (Inside spec (suc n))) (range_in (inside n spec) spec) (range_in (inside (suc n) spec) spec) text cause)
       → Blanks f.front → starts is_blank f.rest ≡ false
   stuck_behind_blanks n text cause f are = by f.rest refl
@@ -142,7 +142,7 @@ module _ (spec : Spec) where
           by true q = behind_blanks q again like f.rest refl
           by false q = λ e. false≢true (sym q ∙ (blanks_parts f.front again (all_blanks (f.front ++ again) e)).0)
 
-  -- ---- something stands behind the range
+  -- ---- text after the range
 
   module _ (n : ℕ) (front behind : List ℕ) (r : Range) (c : Terms spec (Inside spec n) front r) (after : AfterRange front behind) (some : skip_blanks behind ≢ []) where
     wide-c : Terms spec (Inside spec (suc n)) front r
@@ -166,7 +166,7 @@ module _ (spec : Spec) where
     left_fault = misplaced (range_kind spec) (Stands spec n) (Stands spec (suc n)) (text_at spec n) (text_at spec (suc n)) front behind after.0.0
         [] r (range front (instead behind []) c (subst Blanks (sym (append-nil (cut behind).blanks)) (cut behind).all)) left_over
 
-  -- ---- a text and its answer
+  -- ---- results of the reader
 
   pub text_fault : (n : ℕ) (text : List ℕ) (cause : Cause) → text_at spec n text ≡ Err cause → TextFault n text cause
   text_fault n text cause h = by (length (skip_blanks text) == 0) refl

@@ -1,4 +1,4 @@
--- What the definitions give on small texts.
+-- The definitions on small texts.
 use Rattle.std.specs.Prelude.{◌≡◌, ℕ, Bool, ◌∷◌, [], true, false, refl, codes}
 use Rattle.std.specs.declared.cmp.Ordering.{Ordering}
 use Rattle.std.specs.declared.cmp.Ordering.TheVariants.{Less, Equal, Greater}
@@ -35,7 +35,7 @@ either_of_two =
     (behind [] refl (one (led [] refl (atom any)))))
     refl
 
--- behind ` -a` the text can go on, by `ny`
+-- ` -a` is viable: `ny` completes it
 a_word_begun : Viable V2_4 64 (codes " -a")
 a_word_begun = (codes "ny", Any, range (codes " -any") [] (one (one (led (codes " ") refl (atom any)))) refl)
 

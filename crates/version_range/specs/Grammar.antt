@@ -1,4 +1,4 @@
--- Which range a text stands for, and the first byte at which no reading goes on.
+-- The language of ranges, and the first faults of texts.
 use Rattle.std.specs.Prelude.{◌≡◌, ◌⊎◌, ℕ, zero, suc, Bool, true, false, ◌&&◌, not, List, [], ◌∷◌, ◌++◌, codes}
 use Rattle.std.specs.Char.{is_ascii_digit}
 use Rattle.plan_types.specs.declared.range.Range.{Range}
@@ -35,7 +35,7 @@ of_version AtMost v = ranges.AtMost v
 of_version Below v = ranges.Below v
 of_version Major v = ranges.Major v
 
--- a set may stand behind it
+-- whether a set may follow the operator
 abbrev pub has_sets : Operator → Spec → Bool
 has_sets Equal spec = not (is_old spec)
 has_sets AtLeast spec = false
@@ -44,11 +44,11 @@ has_sets AtMost spec = false
 has_sets Below spec = false
 has_sets Major spec = not (is_old spec)
 
--- a version, compared so
+-- a version after this operator
 pub data Compared (op : Operator) : List ℕ → Range → Type 0 where
   compared : (v : Version) → is_version v.parts ≡ true → Compared op (version_text v.parts) (of_version op v)
 
--- plain versions between commas, of which one has to hold
+-- the members of a set: versions separated by commas, joined by `||`
 abbrev pub Members : Operator → List ℕ → Range → Type 0
 Members op = Chain Either (Led (Compared op)) (Behind (codes ",") (Led (Compared op)))
 
@@ -73,12 +73,12 @@ Term spec Inside = parts.Term Both (Factor spec Inside)
 abbrev pub Terms : Spec → (List ℕ → Range → Type 0) → List ℕ → Range → Type 0
 Terms spec Inside = parts.Terms Both Either (Factor spec Inside)
 
--- what may stand in a parenthesis, where so many may be open in all
+-- the contents of parentheses, with at most so many open at once, these included
 unfoldable pub Inside : Spec → ℕ → List ℕ → Range → Type 0
 Inside spec zero text r = ⊥
 Inside spec (suc n) text r = Terms spec (Inside spec n) text r
 
--- The text stands for this range, with at most so many parentheses open at once. A text of blanks is any version.
+-- The text denotes this range, with at most so many parentheses open at once. A text of blanks is any version.
 pub data Stands (spec : Spec) (deepest : ℕ) : List ℕ → Range → Type 0 where
   empty : {text : List ℕ} → Blanks text → Stands spec deepest text Any
   range : (text after : List ℕ) {r : Range} → Terms spec (Inside spec deepest) text r → Blanks after → Stands spec deepest (text ++ after) r
@@ -93,27 +93,27 @@ ends_with_digit [] = false
 ends_with_digit (b ∷ []) = is_ascii_digit b
 ends_with_digit (b ∷ c ∷ bs) = ends_with_digit (c ∷ bs)
 
--- a set in a text without sets
+-- a set, in a cabal-version without sets
 abbrev pub IsNewForm : Spec → List ℕ → Type 0
 IsNewForm spec rest = (is_old spec && begins_with 123 rest) ≡ true
 
--- a number may begin here, or a digit follows one that it can't belong to
+-- a number may begin here, or a digit follows a number that it can't belong to
 abbrev pub IsNumberDue : Spec → ℕ → List ℕ → List ℕ → Type 0
 IsNumberDue spec deepest front rest =
     ((ends_with_digit front ≡ false) × ((digit : ℕ) × (is_ascii_digit digit ≡ true) × Viable spec deepest (front ++ digit ∷ [])))
     ⊎ ((ends_with_digit front ≡ true) × (begins_with_digit rest ≡ true))
 
--- a parenthesis that could be read if one more might be open
+-- a parenthesis that the grammar with one more open parenthesis reads
 abbrev pub OpensTooMany : Spec → ℕ → List ℕ → List ℕ → Type 0
 OpensTooMany spec deepest front rest = (begins_with 40 rest ≡ true) × Viable spec (suc deepest) (front ++ codes "(")
 
--- the first that holds
+-- the cause: the first of these that applies
 pub data CauseAt (spec : Spec) (deepest : ℕ) (front rest : List ℕ) : Cause → Type 0 where
   needs_version : IsNewForm spec rest → CauseAt spec deepest front rest NeedsVersion
   bad_version : (IsNewForm spec rest → ⊥) → IsNumberDue spec deepest front rest → CauseAt spec deepest front rest BadVersion
   too_deep : (IsNewForm spec rest → ⊥) → (IsNumberDue spec deepest front rest → ⊥) → OpensTooMany spec deepest front rest → CauseAt spec deepest front rest TooDeep
   bad_range : (IsNewForm spec rest → ⊥) → (IsNumberDue spec deepest front rest → ⊥) → (OpensTooMany spec deepest front rest → ⊥) → CauseAt spec deepest front rest BadRange
 
--- the text is read up to here, no reading goes on, and this is the cause
+-- a viable prefix at which the text is stuck, and the cause there
 abbrev pub FirstFault : Spec → ℕ → List ℕ → Cause → Type 0
 FirstFault spec deepest = first.FirstFault (Stands spec deepest) (CauseAt spec deepest)

@@ -13,19 +13,19 @@ use Rattle.version_range.specs.Version.{version_text}
 abbrev pub enclosed : List ℕ → List ℕ
 enclosed text = 40 ∷ (text ++ 41 ∷ [])
 
--- What `&&` joins is a term, and what `||` joins is a whole range. Each is a factor in parentheses.
+-- the text of `&&`, in parentheses as an operand of `&&`
 abbrev pub as_term : RangePlace → List ℕ → List ℕ
 as_term Whole text = text
 as_term Term text = text
 as_term Factor text = enclosed text
 
--- a whole range, in parentheses beside `||` or `&&`
+-- the text of `||`, in parentheses as an operand of `||` or `&&`
 abbrev pub as_whole : RangePlace → List ℕ → List ℕ
 as_whole Whole text = text
 as_whole Term text = enclosed text
 as_whole Factor text = enclosed text
 
--- one layer of a range, with the texts that its parts have in each place
+-- the text of one layer of a range, from those of its parts
 abbrev pub text_step : Range-F (RangePlace → List ℕ) → RangePlace → List ℕ
 text_step Any place = codes "-any"
 text_step Nothing place = codes "-none"
@@ -43,32 +43,32 @@ text_step (Either left right) place = as_whole place (left Whole ++ codes " || "
 abbrev pub text_in : Range → RangePlace → List ℕ
 text_in = fold-Range (RangePlace → List ℕ) text_step
 
--- Chains group from the left, so a right side of its parent's kind stands in parentheses.
+-- the text of a range; chains are left-associative, so a right operand with its parent's operator is in parentheses
 abbrev pub range_text : Range → List ℕ
 range_text range = text_in range Whole
 
--- what follows the left side of a text
+-- the text of a pending rest
 abbrev pub rest_text : Rest → List ℕ
 rest_text Close = codes ")"
 rest_text (And right) = codes " && " ++ text_in right.now Factor
 rest_text (Or right) = codes " || " ++ text_in right.now Term
 
--- the last comes first
+-- the texts of the pending rests, the last one first
 abbrev pub rests_text : List Rest → List ℕ
 rests_text [] = []
 rests_text (rest ∷ rests) = rests_text rests ++ rest_text rest
 
--- what is put aside is smaller than the range
+-- a pending operand is smaller than the range
 abbrev pub IsSmaller : Range → Rest → Type 0
 IsSmaller range Close = Unit {0}
 IsSmaller range (And right) = size-Range right.now < size-Range range
 IsSmaller range (Or right) = size-Range right.now < size-Range range
 
--- what is written next is put into place
+-- the next body is written at its place: with parentheses if they are needed
 abbrev pub Opens : (List ℕ → List ℕ) → List ℕ → List Rest → List ℕ → List Rest → Type 0
 Opens placed text rests new-text new-rests = (body : List ℕ) → (new-text ++ body) ++ rests_text new-rests ≡ (text ++ placed body) ++ rests_text rests
 
--- the most parentheses that are open at any place of a text before which so many are
+-- the most parentheses that are open at once in a text, if n are open before it
 abbrev pub most_open : ℕ → List ℕ → ℕ
 most_open n [] = n
 most_open n (b ∷ bs) = max n (most_open (cond (b == 40) (n + 1) (cond (b == 41) (n - 1) n)) bs)

@@ -1,4 +1,4 @@
--- How a range is read from left to right. What a text stands for and which fault is the first is in Grammar.
+-- The reader of ranges, from left to right. The language and its first faults are in Grammar.
 use Rattle.std.specs.Prelude.{◌+◌, ℕ, zero, suc, Bool, true, false, not, ◌&&◌, ◌==◌, nat_le, if◌then◌else◌, List, [], ◌∷◌, ◌++◌, length, take, drop, Option, Some, None, Result, Ok, Err}
 use Rattle.std.specs.Char.{is_ascii_digit}
 use Rattle.plan_types.specs.declared.range.Range.{Range}
@@ -16,11 +16,11 @@ use Rattle.version_range.specs.Version.{number_after}
 use Rattle.plan_types.specs.Format.{is_old}
 use Rattle.version_range.specs.Grammar.{of_version, has_sets}
 
--- the cause at the byte that comes first in what is left
+-- the cause at the first byte of the rest
 abbrev pub cause_at : Spec → Cause → List ℕ → Cause
 cause_at spec cause rest = if is_old spec && begins_with 123 rest then NeedsVersion else cause
 
--- how many digits are at the front
+-- the number of leading digits
 abbrev pub digits_in : List ℕ → ℕ
 digits_in [] = 0
 digits_in (b ∷ bs) = if is_ascii_digit b then digits_in bs + 1 else 0
@@ -31,7 +31,7 @@ is_number [] = false
 is_number (b ∷ []) = true
 is_number (b ∷ c ∷ bs) = not (b == 48) && nat_le (length (b ∷ c ∷ bs)) 9
 
--- the number at the front
+-- the number at the start of a text
 unfoldable pub number_at : Spec → List ℕ → Result (ℕ × List ℕ) Cause
 number_at spec text =
     if is_number (take (digits_in text) text) then Ok (number_after 0 (take (digits_in text) text), drop (digits_in text) text)
@@ -41,7 +41,7 @@ number_at spec text =
 abbrev pub followed : List ℕ → ℕ → List ℕ
 followed numbers number = numbers ++ number ∷ []
 
--- the number behind a point; where a star may end the version, none is behind `.*`
+-- the number after a point; if `star` is true, none at `.*`
 unfoldable pub next_number : Bool → Spec → List ℕ → Result (Option (ℕ × List ℕ)) Cause
 next_number star spec text =
     elim (byte_after 46 text) [
@@ -49,26 +49,26 @@ next_number star spec text =
       | Some more ↦ if star && begins_with 42 more then Ok None else number_at spec more >>= λ p. Ok (Some p)
     ]
 
--- the version at the front
+-- the version at the start of a text
 unfoldable pub version_at : Bool → Spec → List ℕ → Result (Version × List ℕ) Cause
 version_at star spec text = do
   first ← number_at spec text
   all ← chained followed (next_number star spec) (first.0 ∷ [], first.1)
   Ok (record { parts = all.0 }, all.1)
 
--- the cause where another byte is due, which is no digit
+-- the cause where the byte that is due is no digit
 abbrev pub missing : Spec → List ℕ → Cause
 missing spec = cause_at spec BadRange
 
--- a byte that must stand here
+-- a required byte
 abbrev pub byte_due : Spec → ℕ → List ℕ → Result (List ℕ) Cause
 byte_due spec = reading.byte_due (missing spec)
 
--- where a second byte makes another operator
+-- the longer operator if a `=` follows, else the shorter one
 abbrev pub either_at : Operator → Operator → List ℕ → Operator × List ℕ
 either_at long short text = elim (byte_after 61 text) [ None ↦ (short, text) | Some rest ↦ (long, rest) ]
 
--- the operator at the front
+-- the operator at the start of a text
 unfoldable pub operator_at : Spec → List ℕ → Result (Operator × List ℕ) Cause
 operator_at spec text =
     elim (byte_after 62 text) [
@@ -82,7 +82,7 @@ operator_at spec text =
       ]
     ]
 
--- a version that a set has behind a comma
+-- a member of a set after a comma
 unfoldable pub next_member : Operator → Spec → List ℕ → Result (Option (Range × List ℕ)) Cause
 next_member op spec text =
     elim (byte_after 44 (skip_blanks text)) [
@@ -90,7 +90,7 @@ next_member op spec text =
       | Some more ↦ version_at false spec (skip_blanks more) >>= λ p. Ok (Some (of_version op p.0, p.1))
     ]
 
--- a set, behind its opening brace
+-- a set, after its opening brace
 unfoldable pub set_at : Operator → Spec → List ℕ → Result (Range × List ℕ) Cause
 set_at op spec text = do
   first ← version_at false spec (skip_blanks text)
@@ -98,17 +98,17 @@ set_at op spec text = do
   rest ← byte_due spec 125 (skip_blanks all.1)
   Ok (all.0, rest)
 
--- a version, or its front and `.*`
+-- a version, or its prefix and `.*`
 unfoldable pub equal_at : Spec → List ℕ → Result (Range × List ℕ) Cause
 equal_at spec text = do
   v ← version_at true spec text
   elim (byte_after 46 v.1) [ None ↦ Ok (ranges.Equal v.0, v.1) | Some more ↦ byte_due spec 42 more >>= λ rest. Ok (ranges.Prefix v.0, rest) ]
 
--- the version behind an operator
+-- the version after an operator
 unfoldable pub compared_at : Operator → Spec → List ℕ → Result (Range × List ℕ) Cause
 compared_at op spec text = version_at false spec text >>= λ v. Ok (of_version op v.0, v.1)
 
--- what stands behind an operator
+-- the operand after an operator
 unfoldable pub operand_at : Operator → Spec → List ℕ → Result (Range × List ℕ) Cause
 operand_at op spec text =
     if has_sets op spec && begins_with 123 text then byte_due spec 123 text >>= set_at op spec
@@ -129,7 +129,7 @@ word_at spec text =
       | None ↦ byte_due spec 110 text >>= λ a. byte_due spec 111 a >>= λ b. byte_due spec 110 b >>= λ c. byte_due spec 101 c >>= λ rest. Ok (ranges.Nothing, rest)
     ]
 
--- What stands in a parenthesis is read by inside.
+-- a factor; `inside` reads the contents of parentheses
 unfoldable pub factor_at : (List ℕ → Result (Range × List ℕ) Cause) → Spec → List ℕ → Result (Range × List ℕ) Cause
 factor_at inside spec text =
     elim (byte_after 40 text) [
@@ -140,11 +140,11 @@ factor_at inside spec text =
       ]
     ]
 
--- what stands behind `&&` or `||`, where its first byte is there
+-- the rest after `&&` or `||`; none if its first byte is missing
 abbrev pub behind : Spec → ℕ → List ℕ → Result (Option (List ℕ)) Cause
 behind spec = reading.behind_twice (missing spec)
 
--- an operand behind a byte twice
+-- an operand after a doubled byte
 abbrev pub next_at : (List ℕ → Result (Range × List ℕ) Cause) → Spec → ℕ → List ℕ → Result (Option (Range × List ℕ)) Cause
 next_at operand spec = reading.next_at operand (missing spec)
 
@@ -156,12 +156,12 @@ term_at inside spec text = factor_at inside spec (skip_blanks text) >>= chained 
 unfoldable pub range_in : (List ℕ → Result (Range × List ℕ) Cause) → Spec → List ℕ → Result (Range × List ℕ) Cause
 range_in inside spec text = term_at inside spec text >>= chained ranges.Either (next_at (term_at inside spec) spec 124)
 
--- a range in a parenthesis, where so many may still be opened
+-- a range in parentheses, with at most so many open, this one included
 unfoldable pub inside : ℕ → Spec → List ℕ → Result (Range × List ℕ) Cause
 inside zero spec text = Err TooDeep
 inside (suc n) spec text = range_in (inside n spec) spec text
 
--- The whole text. At most 64 parentheses are open at any place.
+-- a whole text, with at most 64 parentheses open at once
 unfoldable pub range_of : Spec → List ℕ → Result Range Cause
 range_of spec text =
     if length (skip_blanks text) == 0 then Ok ranges.Any

@@ -7,7 +7,7 @@ use Rattle.plan_types.specs.declared.range.Range.{Range}
 use Rattle.plan_types.specs.declared.range.Range.TheOpen.{Range-F, Any, Nothing, Equal, Prefix, AtLeast, Above, AtMost, Below, Major, Both, Either}
 use Rattle.plan_types.specs.declared.range.Range.TheFolds.{fold-Range}
 
--- what fits nine digits
+-- a number of at most nine digits
 abbrev pub IsNumber : ℕ → Type 0
 IsNumber n = n < 10 ^ 9
 
@@ -33,18 +33,18 @@ abbrev pub begins_with_digit : List ℕ → Bool
 begins_with_digit [] = false
 begins_with_digit (b ∷ bs) = is_ascii_digit b
 
--- the number that these digits make behind those of n
+-- the value of the digits of n followed by these
 abbrev pub number_after : ℕ → List ℕ → ℕ
 number_after n [] = n
 number_after n (b ∷ bs) = number_after (10 * n + (b - 48)) bs
 
--- the same as a test
+-- the same, as a test
 abbrev pub is_version : List ℕ → Bool
 is_version [] = false
 is_version (n ∷ []) = nat_lt n (10 ^ 9)
 is_version (n ∷ m ∷ ns) = nat_lt n (10 ^ 9) && is_version (m ∷ ns)
 
--- one layer of a range whose parts were tested
+-- the test of one layer of a range, from those of its parts
 abbrev pub versions_step : Range-F Bool → Bool
 versions_step Any = true
 versions_step Nothing = true
@@ -58,11 +58,11 @@ versions_step (Major x) = is_version x.parts
 versions_step (Both left right) = left && right
 versions_step (Either left right) = left && right
 
--- each version that stands in the range can be read
+-- all versions in the range are well-formed
 abbrev pub has_versions : Range → Bool
 has_versions = fold-Range Bool versions_step
 
--- the version that a text is, or none where it is no version
+-- the version of a text, or none if the text is no version
 abbrev pub IsVersionOf : List ℕ → Option Version → Type 0
 IsVersionOf text None = (parts : List ℕ) → IsTrue (is_version parts) → text ≢ version_text parts
 IsVersionOf text (Some version) = IsTrue (is_version version.parts) × (text ≡ version_text version.parts)

@@ -1,4 +1,4 @@
-// A set of versions as sorted cuts: its least end, and each end at which it stops or goes on.
+// Sets of versions as sorted cuts.
 ghost use Rattle.std.specs.Prelude.{◌≡◌, ◌<◌, ◌↔◌, IsTrue, IfOk, MatchOption, true, false, length};
 ghost use Rattle.plan_types.specs.declared.version.Version.{Version};
 ghost use Rattle.plan_types.specs.Members.{members};
@@ -32,7 +32,7 @@ impl Model for Cuts {
 }
 
 impl Cuts {
-    /// Whether the version is a member: an odd number of ends isn't above it.
+    /// Whether the version is a member: the number of ends at or below it is odd.
     pub fn has(&self, v: &Version) -> bool
         ensures { result ≡ inside self.now v.now }
     {
@@ -88,14 +88,14 @@ impl Cuts {
         Ok(Cuts::from_ends(ends))
     }
 
-    /// Lets newer versions in: the last interval loses its end.
+    /// Admits newer versions: the last interval loses its end.
     pub fn relax_upper(&mut self)
         ensures { Relaxes true false (inside self.old) (inside self.new) }
     {
         without_stop(&mut self.ends);
     }
 
-    /// Lets older versions in: the first interval begins at the least version.
+    /// Admits older versions: the first interval begins at the least version.
     pub fn relax_lower(&mut self)
         ensures { Relaxes false true (inside self.old) (inside self.new) }
     {
@@ -103,7 +103,7 @@ impl Cuts {
     }
 }
 
-// An even number of ends has a last stop.
+// If the number of ends is even, the last interval has an end.
 fn without_stop(ends: &mut Vec<Version>)
     requires { are_ends ends.old.items ≡ true }
     ensures ends { are_ends ends.new.items ≡ true }
@@ -126,7 +126,7 @@ fn from_least(ends: &mut Vec<Version>)
     first.make_least();
 }
 
-// The members of a chain: its operands are taken from the right, and merged two and two.
+// The cuts of a chain. A loop takes the operands from the right, and then merges them pairwise.
 #[cycle(cuts)]
 fn chain(alloc: Global, left: &Range, right: &Range, joint: Joint) -> Result<Cuts, NoMemory>
     requires left { has_versions left.now ≡ true }
@@ -145,7 +145,7 @@ fn chain(alloc: Global, left: &Range, right: &Range, joint: Joint) -> Result<Cut
     combined(alloc, operands, joint)
 }
 
-// The two sides of a range that is joined so.
+// The two operands of a range, if its operator is this one.
 fn sides(range: &Range, joint: Joint) -> Option<(&Range, &Range)>
     ensures { MatchOption result (is_joined joint range.now ≡ false)
         (λ p. IsSplit joint range.now p.0.now p.1.now) }
@@ -171,7 +171,7 @@ fn sides(range: &Range, joint: Joint) -> Option<(&Range, &Range)>
     }
 }
 
-// The first two are merged and wait behind the others, until one is left.
+// Merges the first two and appends the result, until one is left.
 fn combined(alloc: Global, operands: List<Cuts>, joint: Joint) -> Result<Cuts, NoMemory>
     requires { 0 < length operands }
     ensures { IfOk result (λ c. (v : Version) → inside c v ≡ joined joint operands v) }

@@ -1,4 +1,4 @@
-// The cuts of the simplest ranges.
+// The cuts of ranges with one operator.
 ghost use Rattle.std.specs.Prelude.{◌≡◌, ◌<◌, ◌&&◌, ◌++◌, ◌∷◌, [], IfOk, true, not, nat_eq};
 ghost use Rattle.std.specs.List.{starts_with};
 ghost use Rattle.std.specs.Ordering.{is_eq, is_ge, is_gt, is_le, is_lt};
@@ -10,7 +10,7 @@ ghost use Rattle.version_range.specs.Cuts.{inside, are_ends, is_below, raised, H
 use plan_types::{List, NoMemory, Version};
 use std::alloc::Global;
 
-// The versions from one on.
+// The versions at or above `low`.
 fn from(alloc: Global, low: Version) -> Result<List<Version>, NoMemory>
     requires { HasNumbers low }
     ensures ends { IfOk result (λ ends. are_ends ends ≡ true) }
@@ -21,7 +21,7 @@ fn from(alloc: Global, low: Version) -> Result<List<Version>, NoMemory>
     Ok(ends)
 }
 
-// The versions from one up to another.
+// The versions at or above `low` and below `high`.
 fn between(alloc: Global, low: Version, high: Version) -> Result<List<Version>, NoMemory>
     requires numbers { HasNumbers low }
     requires order { is_below low high ≡ true }
@@ -88,7 +88,7 @@ fn pair(alloc: Global, a: u32, b: u32) -> Result<Version, NoMemory>
     Ok(Version { parts })
 }
 
-/// The ends of each operator's members.
+/// The ends of `-any`. The functions below give those of each operator.
 pub fn any(alloc: Global) -> Result<List<Version>, NoMemory>
     ensures ends { IfOk result (λ ends. are_ends ends ≡ true) }
     ensures members { IfOk result (λ ends. (v : Version) → HasNumbers v → inside ends v ≡ true) }

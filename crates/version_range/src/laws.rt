@@ -1,4 +1,4 @@
-// What holds of the texts of ranges, and of ranges that are relaxed.
+// Laws of the texts of ranges, and of relaxed ranges.
 ghost use Rattle.std.specs.Prelude.{◌≡◌, ◌≤◌, ◌||◌, ℕ, Bool, List, true, false};
 ghost use Rattle.plan_types.specs.declared.range.Range.{Range};
 ghost use Rattle.plan_types.specs.declared.range.Spec.{Spec};
@@ -9,33 +9,33 @@ ghost use Rattle.version_range.specs.Cuts.{HasNumbers, Relaxes};
 ghost use Rattle.version_range.specs.Print.{range_text, most_open};
 ghost use Rattle.version_range.specs.Grammar.{Stands, FirstFault};
 
-/// A text stands for one range at most.
+/// A text denotes at most one range.
 pub fn one_range()
     ensures { (spec : Spec) (text : List ℕ) (r s : Range) → Stands spec 64 text r
         → Stands spec 64 text s → r ≡ s }
 {}
 
-/// A text has one first fault at most.
+/// A text has at most one first fault.
 pub fn one_fault()
     ensures { (spec : Spec) (text : List ℕ) (c d : Cause) → FirstFault spec 64 text c
         → FirstFault spec 64 text d → c ≡ d }
 {}
 
-/// A text that stands for a range has no fault.
+/// A text that denotes a range has no fault.
 pub fn range_or_fault()
     ensures { (spec : Spec) (text : List ℕ) (r : Range) (cause : Cause) → Stands spec 64 text r
         → FirstFault spec 64 text cause → ⊥ }
 {}
 
-/// What is printed of a range is a text of that range, where its versions have the form and its text
-/// never has more than 64 parentheses open.
+/// The printed text of a range denotes that range, if its versions are well-formed and its text has at most
+/// 64 parentheses open at once.
 pub fn reads_back()
     ensures { (spec : Spec) (r : Range) → has_versions r ≡ true → most_open 0 (range_text r) ≤ 64
         → Stands spec 64 (range_text r) r }
 {}
 
-/// Relaxing twice lets in what either time does. So it is one whether newer versions are let in first and
-/// then older ones, or older ones first, and sets with the same members are relaxed alike.
+/// Relaxing twice is relaxing once in both directions, in either order. Sets with the same members have the same
+/// relaxed sets.
 pub fn relaxed_twice()
     ensures newer_first { (has once both : Version → Bool) → Relaxes true false has once
         → Relaxes false true once both → Relaxes true true has both }

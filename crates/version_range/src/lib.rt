@@ -1,7 +1,7 @@
-//! Versions and ranges of versions. In go texts; out come versions and ranges, or the first fault of the
-//! text, exactly as the grammar says, and what is printed reads back. A range becomes sorted cuts, in which
-//! a planner asks: they have the same members, and relaxing them moves one end. Numbers that stand alone, as
-//! limits do, are read here too.
+//! Versions and ranges of versions. The readers take a text and return its version, range or limit, or its first
+//! fault, exactly by the grammar. A printed range denotes itself, if its versions are well-formed and at most 64
+//! parentheses are open at once. `Cuts` are a range as sorted ends of half-open intervals, with the same members.
+//! Relaxing moves one end.
 #![tactic(auto)]
 
 mod bytes;

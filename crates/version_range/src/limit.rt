@@ -1,11 +1,11 @@
-// Limits, as they stand in a project or among the words of a run.
+// Limits of a search, in a project file or on the command line.
 ghost use Rattle.std.specs.Prelude.{◌≡◌};
 ghost use Rattle.version_range.specs.Number.{limit_of, signed_limit};
 
 use crate::number::{is_count, number_of};
 use plan_types::Limit;
 
-/// The limit that a text stands for, where it is a number; a negative one limits nothing.
+/// The limit of a text, if it is a number. A negative number means no limit.
 pub fn limit_of(text: &[u8]) -> Option<Limit>
     ensures { result ≡ limit_of text.now }
 {

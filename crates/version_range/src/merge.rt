@@ -1,4 +1,4 @@
-// The ends of two sets of cuts, in order.
+// The merge of two lists of ends.
 ghost use Rattle.std.specs.Prelude.{◌≡◌, [], IfOk, OnOk, IfSome, IfNone, true};
 ghost use Rattle.plan_types.specs.declared.version.Version.{Version};
 ghost use Rattle.version_range.specs.Cuts.{inside, are_ends, rises, join, flip, pushed, IsStep};
@@ -8,7 +8,7 @@ use std::alloc::Global;
 use std::cmp::Ordering;
 use std::collections::VecDeque;
 
-/// How the members of two sets make those of a third.
+/// How two sets are joined: intersection or union.
 #[derive(Clone, Copy)]
 pub enum Joint {
     Both,
@@ -26,14 +26,14 @@ impl Joint {
     }
 }
 
-// The least end of two lists, taken off each that has it.
+// The least end of two lists, and the lists that it is removed from.
 struct Least {
     end: Version,
     from_first: bool,
     from_second: bool,
 }
 
-/// The ends of what is in both sets, or in one of them. They are moved there.
+/// The ends of the intersection or union of two sets. The versions are moved, not copied.
 pub fn merged(
     alloc: Global,
     first: Vec<Version>,

@@ -5,7 +5,7 @@ ghost use Rattle.std.specs.Str.{all_ascii_digits};
 ghost use Rattle.version_range.specs.Version.{IsNumber, begins_with_digit, number_after};
 ghost use Rattle.version_range.specs.Number.{is_count};
 
-/// The number at the front, and what follows it. A number has one to nine digits and no leading zero
+/// The number at the start of a text, and the rest. A number has one to nine digits and no leading zero
 /// unless it is `0`, and no digit follows it.
 pub fn number_at(text: &[u8]) -> Option<(u32, &[u8])>
     ensures found { IfSome result (λ p. IsNumber p.0
@@ -23,7 +23,7 @@ pub fn number_at(text: &[u8]) -> Option<(u32, &[u8])>
     }
 }
 
-// How many digits are at the front.
+// The number of leading digits.
 fn digit_count(text: &[u8]) -> usize
     ensures within { result ≤ length text.now }
     ensures digits { all_ascii_digits (take result text.now) ≡ true }
@@ -48,7 +48,7 @@ fn is_number(digits: &[u8]) -> bool
     }
 }
 
-/// Whether a text is a number of at most nine digits, of which the first may be 0.
+/// Whether a text is one to nine digits. Leading zeros are allowed.
 pub fn is_count(text: &[u8]) -> bool
     ensures { result ≡ is_count text.now }
 {
@@ -72,7 +72,7 @@ fn are_digits(text: &[u8]) -> bool
     true
 }
 
-/// The number that these digits make.
+/// The value of these digits.
 pub fn number_of(digits: &[u8]) -> u32
     requires digits { all_ascii_digits digits.now ≡ true }
     requires short { length digits.now ≤ 9 }

@@ -1,10 +1,10 @@
-// The operators that stand before a version.
+// The operators before a version.
 ghost use Rattle.std.specs.Prelude.{◌≡◌};
 ghost use Rattle.version_range.specs.Grammar.{of_version, has_sets};
 
 use plan_types::{Range, Spec, Version};
 
-/// How a version is compared.
+/// A comparison with a version.
 #[derive(Clone, Copy)]
 pub enum Operator {
     Equal,
@@ -29,7 +29,7 @@ impl Operator {
         }
     }
 
-    /// Whether a set may stand behind it.
+    /// Whether a set may follow it.
     pub fn has_sets(self, spec: Spec) -> bool
         ensures { result ≡ has_sets self spec }
     {

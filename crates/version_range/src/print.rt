@@ -1,4 +1,4 @@
-// Ranges as texts.
+// Printing ranges.
 ghost use Rattle.std.specs.Prelude.{◌≡◌, ◌++◌, [], IfOk, OnOk, codes};
 ghost use Rattle.std.specs.List.{All};
 ghost use Rattle.plan_types.specs.declared.range.Range.{Range};
@@ -9,17 +9,17 @@ use crate::version::push_version;
 use plan_types::{NoMemory, Range, Text, Version};
 use std::alloc::Global;
 
-/// Where a range's text stands.
+/// The place of a range's text inside another.
 #[derive(Clone, Copy)]
 pub enum RangePlace {
     Whole,
-    /// Beside `||`.
+    /// An operand of `||`.
     Term,
-    /// Beside `&&`.
+    /// An operand of `&&`.
     Factor,
 }
 
-/// What follows a left side.
+/// A pending text after a left operand.
 #[derive(Clone, Copy)]
 pub enum Rest<'a> {
     Close,
@@ -27,7 +27,7 @@ pub enum Rest<'a> {
     Or(&'a Range),
 }
 
-/// The text of a range, with parentheses only where the grouping needs them.
+/// The text of a range, with parentheses only where they are needed.
 pub fn print_range(alloc: Global, r: &Range) -> Result<Text, NoMemory>
     ensures { IfOk result (λ text. text ≡ range_text r.now) }
 {
@@ -62,8 +62,8 @@ fn push_range(
     Ok(())
 }
 
-// The first factor, and the parentheses that open before it. The left side may be as deep as a file is
-// long, so what follows is put aside.
+// Writes the leftmost factor with its opening parentheses, and pushes what follows. A loop, as left operands may nest
+// as deep as a file is long.
 fn push_left<'a>(
     alloc: Global,
     text: &mut Text,

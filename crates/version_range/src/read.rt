@@ -1,4 +1,4 @@
-// A range is read from left to right; the first byte at which no reading goes on is the fault.
+// A range is read from left to right. The fault is at the first byte at which no reading continues.
 ghost use Rattle.std.specs.Prelude.{◌≡◌, ◌<◌, ◌≤◌, false, true, length, IfOk, IfErr, IfSome, MatchResult};
 ghost use Rattle.std.specs.Option.{option_map};
 ghost use Rattle.plan_types.specs.declared.range.Range.{Range};
@@ -91,7 +91,7 @@ fn compared_at(
     Ok((op.of_version(v), rest))
 }
 
-// A version, or its front and `.*`.
+// A version, or its prefix and `.*`.
 #[tactic(auto, unfolding(crate::specs::Read::equal_at))]
 fn equal_at(alloc: Global, spec: Spec, text: &[u8]) -> Result<(Range, &[u8]), TextFault>
     ensures gives { Gives (λ p. (p.0, p.1.now)) result (equal_at spec text.now) }
@@ -158,7 +158,7 @@ fn both(alloc: Global, left: Range, right: Range) -> Result<Range, NoMemory>
     Ok(Range::Both(Boxed::new(alloc, left)?, Boxed::new(alloc, right)?))
 }
 
-// Behind the opening brace.
+// A set, after its opening brace.
 #[tactic(auto, unfolding(crate::specs::Read::set_at))]
 fn set_at(alloc: Global, op: Operator, spec: Spec, text: &[u8]) -> Result<(Range, &[u8]), TextFault>
     ensures gives { Gives (λ p. (p.0, p.1.now)) result (set_at op spec text.now) }
@@ -243,7 +243,7 @@ fn word_at(spec: Spec, text: &[u8]) -> Result<(Range, &[u8]), TextFault>
     Ok((Range::Nothing, rest))
 }
 
-// What stands behind `&&` or `||`, where its first byte is there.
+// The rest after `&&` or `||`; none if its first byte is missing.
 fn behind(spec: Spec, text: &[u8], byte: u8) -> Result<Option<&[u8]>, TextFault>
     ensures gives { Gives (option_map (λ rest. rest.now)) result (behind spec byte text.now) }
     ensures within { IfOk result (λ found. IfSome found (λ rest. length rest.now < length text.now)) }
@@ -254,7 +254,7 @@ fn behind(spec: Spec, text: &[u8], byte: u8) -> Result<Option<&[u8]>, TextFault>
     }
 }
 
-// In a parenthesis, where so many may still be opened.
+// The contents of parentheses, with `room` for this and further ones.
 #[cycle(reading)]
 #[tactic(auto, unfolding(crate::specs::Read::inside))]
 fn inside(alloc: Global, spec: Spec, room: u32, text: &[u8]) -> Result<(Range, &[u8]), TextFault>
@@ -382,24 +382,24 @@ fn range_in(alloc: Global, spec: Spec, room: u32, text: &[u8]) -> Result<(Range,
     terms_after(alloc, spec, room, first, rest)
 }
 
-/// Reads a range: terms joined by `||`, each of factors joined by `&&`, both grouped from the left. A
-/// text of blanks alone is any version. The fault is that of the first byte at which no reading goes on.
+/// Reads a range: terms joined by `||`, each of factors joined by `&&`, both left-associative. A text of blanks
+/// only is any version. The fault is at the first byte at which no reading continues.
 pub fn read_range(alloc: Global, text: &[u8], spec: Spec) -> Result<Range, TextFault>
     ensures range { IfOk result (λ r. Stands spec 64 text.now r) }
     ensures versions { IfOk result (λ r. has_versions r ≡ true) }
     ensures fault { IfErr result (Refuses (FirstFault spec 64 text.now)) }
-    // A text that stands for a range isn't refused, but for want of memory.
+    // Complete for ranges: a text that denotes a range gives it, or out of memory.
     ensures exactly_ranges { (r : Range) → Stands spec 64 text.now r →
         MatchResult result (λ found. found ≡ r) (Refuses (λ _. ⊥)) }
-    // A text that has a fault gives no range, and no other fault.
+    // Complete for faults: a text with a fault gives it, or out of memory.
     ensures exactly_faults { (cause : Cause) → FirstFault spec 64 text.now cause →
         MatchResult result (λ _. ⊥) (Refuses (λ why. why ≡ cause)) }
 {
     whole(alloc, text, spec)
 }
 
-/// Reads the range at the front of a text in which more follows, and gives what follows. The range isn't
-/// empty, and blanks may stand before it.
+/// Reads a range at the start of a text, and returns the rest. The range isn't empty, and blanks may come
+/// before it.
 pub fn range_at_front(alloc: Global, text: &[u8], spec: Spec) -> Result<(Range, &[u8]), TextFault>
     ensures gives { Gives (λ p. (p.0, p.1.now)) result (range_in (inside 64 spec) spec text.now) }
     ensures within { IfOk result (λ p. length p.1.now < length text.now) }

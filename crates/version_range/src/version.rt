@@ -1,4 +1,4 @@
-// Versions, from their texts and as texts.
+// Reading and printing versions.
 ghost use Rattle.std.specs.Prelude.{◌≡◌, ◌≢◌, ℕ, ◌++◌, List, IsTrue, IfOk, IfErr, OnOk};
 ghost use Rattle.std.specs.Fmt.{decimal};
 ghost use Rattle.plan_types.specs.declared.refusal.Cause.TheVariants.{BadVersion};
@@ -11,7 +11,7 @@ use std::alloc::Global;
 use text_grammar::byte_after;
 
 /// Reads a version: numbers joined by points, each of one to nine digits and with no leading zero
-/// unless it is `0`. Nothing may stand around it.
+/// unless it is `0`. The whole text is the version.
 pub fn read_version(alloc: Global, text: &[u8]) -> Result<Version, TextFault>
     ensures found { IfOk result (λ v. IsTrue (is_version v.parts) × (text.now ≡ version_text v.parts)) }
     ensures only { IfOk result (λ v. (ps : List ℕ) → IsTrue (is_version ps) → text.now ≡ version_text ps
@@ -34,7 +34,7 @@ pub fn read_version(alloc: Global, text: &[u8]) -> Result<Version, TextFault>
     Err(TextFault::Bad(Cause::BadVersion))
 }
 
-/// The version that a text is, where it is one.
+/// The version of a text, if it is one.
 pub fn version_of(alloc: Global, text: &[u8]) -> Result<Option<Version>, NoMemory>
     ensures { IfOk result (IsVersionOf text.now) }
 {
@@ -45,7 +45,7 @@ pub fn version_of(alloc: Global, text: &[u8]) -> Result<Option<Version>, NoMemor
     }
 }
 
-/// The numbers in decimal, joined by points.
+/// The text of a version: its numbers in decimal, joined by points.
 pub fn print_version(alloc: Global, v: &Version) -> Result<Text, NoMemory>
     ensures { IfOk result (λ text. text ≡ version_text v.now.parts) }
 {

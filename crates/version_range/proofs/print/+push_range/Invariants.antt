@@ -7,7 +7,7 @@ use Rattle.version_range.proofs.print.+push_range.Given as goal
 abbrev pub decreases-push_range : goal.decreases-push_range
 decreases-push_range l = size-Range l.range.now
 
--- what was put aside makes the whole
+-- the text so far and the pending texts make the whole
 abbrev pub invariant-loop-rest : goal.invariant-loop-rest
 invariant-loop-rest l = record {
   text : l.text ++ rests_text l.rests.items ≡ l.fn.text ++ text_in l.range l.fn.place;

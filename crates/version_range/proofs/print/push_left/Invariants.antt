@@ -4,7 +4,7 @@ use Rattle.plan_types.specs.declared.range.Range.{size-Range}
 use Rattle.version_range.specs.Print.{text_in, rests_text, IsSmaller}
 use Rattle.version_range.proofs.print.push_left.Given as goal
 
--- what is left, and then what was put aside, makes the whole
+-- the text so far, the rest and the pending texts make the whole
 abbrev pub invariant-loop-left : goal.invariant-loop-left
 invariant-loop-left l = record {
   text : (l.text ++ text_in l.left l.at) ++ rests_text l.rests.items ≡ l.fn.text ++ text_in l.range l.fn.place;

@@ -29,7 +29,7 @@ decreases-terms_after l = 8 * l.room + 6
 abbrev pub decreases-range_in : goal.decreases-range_in
 decreases-range_in l = 8 * l.room + 7
 
--- the factors so far go on to the whole
+-- reading on after the factors so far gives the whole
 abbrev pub invariant-factors_after-loop-right : goal.invariant-factors_after-loop-right
 invariant-factors_after-loop-right l =
     let next = next_at (λ t. factor_at (inside l.fn.room l.fn.spec) l.fn.spec (skip_blanks t)) l.fn.spec 38 in
@@ -41,7 +41,7 @@ invariant-factors_after-loop-right l =
 abbrev pub decreases-factors_after-loop-right : goal.decreases-factors_after-loop-right
 decreases-factors_after-loop-right l = length l.rest
 
--- the terms so far go on to the whole
+-- reading on after the terms so far gives the whole
 abbrev pub invariant-terms_after-loop-right : goal.invariant-terms_after-loop-right
 invariant-terms_after-loop-right l =
     let next = next_at (term_at (inside l.fn.room l.fn.spec) l.fn.spec) l.fn.spec 124 in

@@ -4,7 +4,7 @@ use Rattle.text_grammar.specs.Reading.{chain}
 use Rattle.text_grammar.proofs.Chains.{Goes}
 use Rattle.version_range.proofs.read.numbers_after.Given as goal
 
--- the numbers so far go on to the whole
+-- reading on after the numbers so far gives the whole
 abbrev pub invariant-loop-number : goal.invariant-loop-number
 invariant-loop-number l = record {
   goes : Goes followed (next_number l.fn.star l.fn.spec) l.parts l.rest (chain followed (next_number l.fn.star l.fn.spec) (length l.text + 1) l.fn.parts l.text);
