@@ -1,4 +1,4 @@
--- Paths in which each flag is set once.
+-- Paths with each setting once.
 use Rattle.std.proofs.Common.{◌≡◌, ℕ, Bool, true, false, not, ◌&&◌, cond, Option, Some, None, List, [], ◌∷◌, ◌++◌, refl, sym, ap, ◌∙◌, append-nil, arith}
 use Rattle.std.specs.Prelude.{filter}
 use Rattle.std.proofs.Math.Bool.{beq, and-false}
@@ -31,7 +31,7 @@ all_false (u ∷ path) rest t s e = ap (λ b. agree t u && b) (all_false path re
 abbrev pub unlike : FlagSet → List FlagSet → List FlagSet
 unlike t = filter (λ u. not (same_text t.name u.name))
 
--- a name that is the same as one of two is told apart from the other
+-- a name equal to one of two different names differs from the other
 apart : (a b c : List ℕ) → same_text a b ≡ false → same_text a c ≡ true → same_text b c ≡ false
 apart a b c other e = by (same_text b c) refl
   where
@@ -133,7 +133,7 @@ pub consistent_push : (path : Path) (s : FlagSet) → is_consistent (path ++ s �
 consistent_push [] s = refl
 consistent_push (t ∷ path) s = let more = consistent_push path s in let all = list_all-append (agree t) path (s ∷ []) in grind (arith, more, all)
 
--- ---- what the table knows
+-- ---- the settings in the map
 
 pub known_new : (old new : List ℕ → Option Bool) (key : List ℕ) (path : Path) (s : FlagSet) → key ≡ s.name → ((q : List ℕ) → new q ≡ cond (is_eq (slice_cmp nat_cmp key q)) (Some s.on) (old q)) → ((q : List ℕ) → old q ≡ flag_in path q) → flag_in path s.name ≡ None
     → (q : List ℕ) → new q ≡ flag_in (path ++ s ∷ []) q

@@ -1,4 +1,4 @@
--- Numbers of paths, up to the greatest number.
+-- Numbers of paths, capped at 2^64 - 1.
 use Rattle.std.proofs.Common.{◌≡◌, ℕ, ◌+◌, ◌*◌, ◌-◌, ◌^◌, ◌≤◌, ◌⊎◌, inl, inr, suc, min, List, [], ◌∷◌, ◌++◌, map, length, length-append, refl, sym, ap, add_comm, ◌∙◌, true, false, arith, Bool}
 use Rattle.std.proofs.Math.Nat.{suc-mul}
 use Rattle.plan_types.specs.declared.condition.Cond.{Cond}
@@ -16,7 +16,7 @@ capped_at m x y z (inl le) k = let e : min x m ≡ x = omega arith in rw e refl
 capped_at m x y z (inr ge) (inl none) = rw none (omega arith)
 capped_at m x y z (inr ge) (inr some) = let e : min x m ≡ m = omega arith in rw e (over m x y z ge some)
 
--- what is capped before it is multiplied is capped after it all the same
+-- capping a factor first doesn't change the capped result
 capped_factor : (x y z : ℕ) → capped (capped x * y + z) ≡ capped (x * y + z)
 capped_factor x y z = capped_at (2 ^ 64 - 1) x y z (grind arith) (grind arith)
 
@@ -43,7 +43,7 @@ regrouped_again a b r s lt lf = omega arith
 parts : (a b r s lt lf : ℕ) → s * (b * lt) + (a * lt * r + b * lf) ≡ a * (lt * r) + b * (lf + lt * s)
 parts a b r s lt lf = omega arith
 
--- the left side's numbers count so often in those of the whole
+-- the weights of the left side's numbers in those of the whole
 pub weighed_all : (a b lt lf rt rf x : ℕ) → x ≡ capped (a * capped rt + b * capped rf) → capped (x * lt + b * lf) ≡ capped (a * (lt * rt) + b * (lf + lt * rf))
 weighed_all a b lt lf rt rf x e =
     ap (λ n. capped (n * lt + b * lf)) e
@@ -66,7 +66,7 @@ length_followed (path ∷ first) second =
     let more = length_followed first second in
     omega (arith, here, each, more, suc-mul (length first) (length second))
 
--- the numbers of a whole that joins two sides, by those of the sides
+-- the numbers of a joined condition, from those of its two sides
 abbrev pub Joins : ℕ → ℕ → ℕ → ℕ → ℕ → ℕ → Type 0
 Joins whole-yes whole-no left-yes left-no right-yes right-no = (whole-yes ≡ left-yes * right-yes) × (whole-no ≡ left-no + left-yes * right-no)
 
@@ -90,7 +90,7 @@ module _ (env : Env) where
         yes ∙ length-append (paths_of env l true) (followed (paths_of env l false) (paths_of env r true)) ∙ ap (λ n. number l true + n) (length_followed (paths_of env l false) (paths_of env r true)),
       )
 
--- one number of the whole, once the right side's numbers weigh on the left side's
+-- one number of the whole, from the weighted numbers of the left side
 pub weighed_join : (a b s-yes s-no l-yes l-no r-yes r-no whole x y-yes y-no : ℕ) → Joins s-yes s-no l-yes l-no r-yes r-no
     → x ≡ capped (a * y-yes + b * y-no) → y-yes ≡ capped r-yes → y-no ≡ capped r-no
     → capped (a * s-yes + b * s-no) ≡ whole → capped (x * l-yes + b * l-no) ≡ whole

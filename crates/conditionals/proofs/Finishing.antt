@@ -1,4 +1,4 @@
--- How the lists of a left side become those of the whole.
+-- From the lists of a left side to those of the whole.
 use Rattle.std.proofs.Common.{◌≡◌, ℕ, ◌<◌, ◌^◌, ◌-◌, min, length, Bool, true, false, ◌&&◌, ◌||◌, nat_lt, List, [], ◌∷◌, ◌++◌, refl, sym, ap, ◌∙◌, subst, arith, Bor, Some}
 use Rattle.std.specs.List.{All}
 use Rattle.std.proofs.lemmas.List.Elements.{All-push, All-pop}
@@ -17,11 +17,11 @@ finish_push : (env : Env) (steps : List Step) (step : Step) (lists : Lists) → 
 finish_push env [] step lists = refl
 finish_push env (s ∷ steps) step lists = ap (step_up env s) (finish_push env steps step lists)
 
--- a step is put aside, and the left side is next
+-- the invariant holds after a step is pushed
 pub put_aside : (env : Env) (steps new : List Step) (step : Step) (left part whole : Lists) → new ≡ steps ++ step ∷ [] → left ≡ step_up env step part → finish env steps left ≡ whole → finish env new part ≡ whole
 put_aside env steps new step left part whole n is h = ap (λ s. finish env s part) n ∙ finish_push env steps step part ∙ ap (finish env steps) (sym is) ∙ h
 
--- the last step is taken
+-- the invariant holds after the last step is popped and done
 pub taken_up : (env : Env) (steps left : List Step) (seen step : Step) (part new whole : Lists) → steps ≡ left ++ seen ∷ [] → seen ≡ step → new ≡ step_up env step part → finish env steps part ≡ whole → finish env left new ≡ whole
 taken_up env steps left seen step part new whole e s n h = ap (finish env left) (n ∙ ap (λ t. step_up env t part) (sym s)) ∙ sym (finish_push env left seen part) ∙ ap (λ l. finish env l part) (sym e) ∙ h
 
@@ -32,13 +32,13 @@ followed-nil : (first : List Path) → followed first [] ≡ []
 followed-nil [] = refl
 followed-nil (path ∷ first) = followed-nil first
 
--- where a list is joined to one with paths it is needed
+-- a list that is joined with a non-empty one is needed
 followed_needed : (is_needed some : Bool) (first second : List Path) → (some ≡ false → second ≡ []) → (some ≡ true → is_needed ≡ true) → followed (needed is_needed first) second ≡ followed first second
 followed_needed true some first second none is = refl
 followed_needed false true first second none is = absurd (cc (is refl))
 followed_needed false false first second none is = sym (ap (followed first) (none refl) ∙ followed-nil first)
 
--- the numbers tell which lists have paths
+-- a list of paths with the number 0 is empty
 pub no_paths : (n : ℕ) (paths : List Path) → n ≡ min (length paths) (2 ^ 64 - 1) → nat_lt 0 n ≡ false → paths ≡ []
 no_paths n [] e h = refl
 no_paths n (path ∷ paths) e h = absurd (by n (omega (arith, e)) h)
@@ -98,14 +98,14 @@ module _ (left-yes left-no right-yes right-no : List Path) (some-yes some-no : B
     no = needed_same ns (followed left-no right-no) _ (λ n. sym (followed_needed _ some-no left-no right-no none-no (λ s. last_chosen (ys && some-yes) ns some-no n s))) i;
   }
 
--- what isn't asked of the right side isn't joined
+-- the paths of the right side that aren't asked for aren't joined
 pub asked_and : (need : Need) (left right : Lists) → join_and need left (record { yes = needed (asked need left.yes).yes right.yes; no = needed (asked need left.yes).no right.no }) ≡ join_and need left right
 asked_and need left right = λ i. record { yes = asked_yes need [] left.yes right.yes i; no = asked_no need left.no left.yes right.no i }
 
 pub asked_or : (need : Need) (left right : Lists) → join_or need left (record { yes = needed (asked need left.no).yes right.yes; no = needed (asked need left.no).no right.no }) ≡ join_or need left right
 asked_or need left right = λ i. record { yes = asked_yes need left.yes left.no right.yes i; no = asked_no need [] left.no right.no i }
 
--- what is needed of `!`, of `&&` and of `||`, by what is needed of the left side
+-- the needed lists of `!`, `&&` and `||`, from those of the left side
 pub leads_not : (env : Env) (s inner : Cond) (need : Need) → s ≡ Not inner → lists_of env s need ≡ step_up env step.Not (lists_of env inner (record { yes = need.no; no = need.yes }))
 leads_not env s inner need e = λ i. record { yes = needed need.yes (paths_Not env s inner e i true); no = needed need.no (paths_Not env s inner e i false) }
 
@@ -125,7 +125,7 @@ leads_or env s l r need part yes-number no-number e ys ns p =
     ∙ joins_or (paths_of env l true) (paths_of env l false) (paths_of env r.now true) (paths_of env r.now false) (nat_lt 0 yes-number) (nat_lt 0 no-number) (no_paths yes-number _ ys) (no_paths no-number _ ns) need.yes need.no
     ∙ ap (λ n. join_or need (lists_of env l n) (all_lists env r.now)) (sym p)
 
--- what was put aside is smaller than the whole
+-- a pending operand is smaller than the whole
 pub waits_below : (cond : Cond) (steps left : List Step) (seen step : Step) → steps ≡ left ++ seen ∷ [] → seen ≡ step → All (IsSmaller cond) steps → All (IsSmaller cond) left × IsSmaller cond step
 waits_below cond steps left seen step e s all =
     let parts = All-pop (IsSmaller cond) steps left (Some seen) e all in

@@ -1,4 +1,4 @@
--- How many of the paths of a condition hold.
+-- The number of a condition's paths that hold.
 use Rattle.std.proofs.Common.{◌≡◌, ℕ, zero, suc, ◌+◌, ◌*◌, ◌≤◌, Bool, true, false, not, ◌&&◌, ◌||◌, cond, Option, Some, None, List, [], ◌∷◌, ◌++◌, map, refl, sym, ap, ◌∙◌, subst, zero-add, arith}
 use Rattle.std.specs.Prelude.{slice_get}
 use Rattle.std.specs.List.{list_all, list_any, count_by, cons_option}
@@ -230,7 +230,7 @@ module _ (flags : Flags) where
           ∙ ap (λ b. one b + number paths) (sym (not_holds path e))
           ∙ sym (number_cons path paths)
 
--- ---- what the number says
+-- ---- consequences of the number
 
 module _ {X : Type 0} (test : X → Bool) where
   any_from : (xs : List X) (b : Bool) → count_by test xs ≡ one b → list_any test xs ≡ b

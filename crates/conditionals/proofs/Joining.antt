@@ -1,4 +1,4 @@
--- Paths that are followed by others, cleaned before they are joined.
+-- Paths that are cleaned before they are joined.
 use Rattle.std.proofs.Common.{◌≡◌, Bool, true, false, ◌&&◌, cond, None, Some, List, [], ◌∷◌, ◌++◌, map, refl, sym, ap, ◌∙◌}
 use Rattle.std.specs.List.{list_all, cons_option}
 use Rattle.std.proofs.lemmas.List.Elements.{filter_map-append}
@@ -62,7 +62,7 @@ module _ (front back : Path) where
 abbrev after : Path → List Path → List Path
 after path second = map (λ next. path ++ next) second
 
--- what clean paths begin with, where it is known whether the first is consistent
+-- clean paths, by whether the first path is consistent
 clean_head : (path : Path) (paths : List Path) (b : Bool) → is_consistent path ≡ b → clean_paths (path ∷ paths) ≡ cons_option (cond b (Some (kept_once path)) None) (clean_paths paths)
 clean_head path paths b e = ap (λ c. cons_option (cond c (Some (kept_once path)) None) (clean_paths paths)) e
 

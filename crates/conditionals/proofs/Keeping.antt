@@ -1,4 +1,4 @@
--- What is left of a path where each setting is kept once.
+-- Paths without repeated settings.
 use Rattle.std.proofs.Common.{◌≡◌, Bool, true, false, not, ◌&&◌, cond, List, [], ◌∷◌, ◌++◌, refl, sym, ap, ◌∙◌, append-nil}
 use Rattle.std.specs.Prelude.{filter}
 use Rattle.std.specs.List.{list_all}
@@ -39,7 +39,7 @@ filter_front p xs ys = filter-append p (filter p xs) ys ∙ ap (λ l. l ++ filte
 abbrev other : FlagSet → FlagSet → Bool
 other s t = not (same_text s.name t.name)
 
--- ---- a part whose settings are already kept once
+-- ---- a part without repeated settings
 
 unlike_kept : (s : FlagSet) (path : Path) → unlike s (kept_once path) ≡ kept_once (unlike s path)
 unlike_kept s [] = refl
@@ -67,7 +67,7 @@ pub back_kept : (front back : Path) → kept_once (front ++ kept_once back) ≡ 
 back_kept [] back = ap kept_once (sym (append-nil (kept_once back))) ∙ front_kept back [] ∙ ap kept_once (append-nil back)
 back_kept (s ∷ front) back = ap (λ l. s ∷ unlike s l) (back_kept front back)
 
--- ---- what holds of all settings
+-- ---- tests of all settings
 
 filtered_all : (p q : FlagSet → Bool) (path : Path) → list_all p path ≡ true → list_all p (filter q path) ≡ true
 filtered_all p q [] all = refl
@@ -118,7 +118,7 @@ module _ (p : FlagSet → Bool) where
   all_kept [] e = refl
   all_kept (s ∷ path) e = dropped s (kept_once path) (kept_all (agree s) path (and_parts _ _ e).0) ∙ ap (λ b. p s && b) (all_kept path (and_parts _ _ e).1)
 
--- ---- that no flag is set both ways
+-- ---- consistency
 
 filtered_consistent : (q : FlagSet → Bool) (path : Path) → is_consistent path ≡ true → is_consistent (filter q path) ≡ true
 filtered_consistent q [] e = refl

@@ -1,4 +1,4 @@
--- The layers of a condition: its value and its paths, by those of its parts.
+-- The value and the paths of one layer of a condition, from those of its parts.
 use Rattle.std.proofs.Common.{◌≡◌, Bool, not, List, ◌<◌, sym, ap, ◌∙◌, arith}
 use Rattle.plan_types.specs.declared.condition.Cond.{Cond, size-Cond}
 use Rattle.plan_types.specs.declared.condition.Cond.TheViews.{sized-Not, sized-And, sized-Or}

@@ -1,4 +1,4 @@
--- The numbers of a table's conditions, by those of the conditions before each.
+-- The numbers of a table's conditions, from those of earlier rows.
 use Rattle.std.proofs.Common.{◌≡◌, ℕ, ◌+◌, ◌*◌, zero, suc, Bool, true, false, List, [], ◌∷◌, ◌++◌, map, get_or, length, refl, sym, ap, ◌∙◌}
 use Rattle.std.proofs.lemmas.List.{map-append}
 use Rattle.plan_types.specs.Conditions.{numbered, cond_of}
@@ -56,6 +56,6 @@ module _ (env : Env) where
   of-row conds (Negated i) = ap numbers_of_not (at conds i) ∙ of-not (numbered conds i)
   of-row conds (Both i j) = (λ k. numbers_of_and (at conds i k) (at conds j k)) ∙ of-and (numbered conds i) (numbered conds j)
 
-  -- so the numbers that were counted are followed by those of the rest
+  -- the numbers so far and that of the next row are those of the longer table
   pub row-more : (conds : List Cond) (row : Row) → all conds ++ numbers_of_row env (all conds) row ∷ [] ≡ all (conds ++ cond_of conds row ∷ [])
   row-more conds row = ap (λ n. all conds ++ n ∷ []) (of-row conds row) ∙ sym (map-append (numbers_of env) conds (cond_of conds row ∷ []))

@@ -1,10 +1,10 @@
--- How many paths conditions have.
+-- The numbers of paths of conditions.
 use Rattle.std.specs.Prelude.{◌-◌, ◌^◌, true, false, min, length}
 use Rattle.plan_types.specs.declared.condition.Cond.{Cond}
 use Rattle.plan_types.specs.declared.condition.Env.{Env}
 use Rattle.conditionals.specs.Paths.{paths_of}
 use Rattle.conditionals.specs.declared.count.Numbers.{Numbers}
 
--- how many paths a condition has, wanted true and wanted false, or the greatest number if there are more
+-- the numbers of a condition's paths for true and for false, each at most 2^64 - 1
 abbrev pub numbers_of : Env → Cond → Numbers
 numbers_of env cond = record { yes = min (length (paths_of env cond true)) (2 ^ 64 - 1); no = min (length (paths_of env cond false)) (2 ^ 64 - 1) }

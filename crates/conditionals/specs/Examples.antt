@@ -1,4 +1,4 @@
--- What the definitions give on small conditions.
+-- The definitions on small conditions.
 use Rattle.std.specs.Prelude.{◌≡◌, Bool, true, false, [], ◌∷◌, refl, codes, length}
 use Rattle.std.proofs.Common.{sym, ap, ◌∙◌}
 use Rattle.plan_types.specs.declared.condition.Cond.{Cond}
@@ -20,7 +20,7 @@ ruleset by_kind = (paths-Flag, paths-Not, paths-And, paths-Or)
 abbrev linux : Env
 linux = record { os = codes "linux"; arch = codes "x86_64"; compiler = codes "ghc"; compiler_version = record { parts = 9 ∷ 4 ∷ 7 ∷ [] } }
 
--- the names of an environment may stand in any case, and a system by any of its names
+-- the names of an environment may be in any case, and a system may have any of its names
 abbrev shouted : Env
 shouted = record { os = codes "MinGW32"; arch = codes "X86_64"; compiler = codes "GHC"; compiler_version = record { parts = 9 ∷ 4 ∷ 7 ∷ [] } }
 
@@ -51,7 +51,7 @@ c_off = sets (codes "c") false
 nothing_known : value linux (flag_in []) a ≡ Unknown
 nothing_known = rw value-Flag refl
 
--- the left side is asked first
+-- the left side comes first
 unknown_and_no : value linux (flag_in []) (And a Never) ≡ Unknown
 unknown_and_no = rw value-And (rw value-Flag refl)
 
@@ -101,6 +101,6 @@ both_ways_left_out = simp by_kind
 set_once : clean_paths (paths_of linux (And (And a b) a) true) ≡ (a_on ∷ b_on ∷ []) ∷ []
 set_once = simp by_kind
 
--- a flag of which nothing is known isn't set as the path does
+-- a path doesn't hold where one of its flags is unknown
 not_known : holds (flag_in (a_on ∷ [])) (a_on ∷ b_on ∷ []) ≡ false
 not_known = refl

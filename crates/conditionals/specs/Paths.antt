@@ -1,4 +1,4 @@
--- The paths of a condition: lists of settings, of which one holds exactly where the condition has the wanted value.
+-- The paths of a condition: some path holds iff the condition has the wanted value.
 use Rattle.std.specs.Prelude.{ℕ, Bool, true, false, not, ◌&&◌, Option, None, Some, List, [], ◌∷◌, ◌++◌, map, filter, if◌then◌else◌}
 use Rattle.std.specs.List.{list_all, filter_map}
 use Rattle.plan_types.specs.declared.condition.Cond.{Cond}
@@ -12,18 +12,18 @@ use Rattle.conditionals.specs.Environment.{is_system, is_processor, is_compiler}
 use Rattle.conditionals.specs.Value.{Flags}
 use Rattle.plan_types.specs.Bytes.{same_text}
 
--- a path: the flags to set, in order
+-- a path: a list of settings of flags
 abbrev pub Path : Type 0
 Path = List FlagSet
 
--- one empty path where this is wanted, else none
+-- one empty path if the two values are equal, else no path
 abbrev pub fixed : Bool → Bool → List Path
 fixed true true = [] ∷ []
 fixed true false = []
 fixed false true = []
 fixed false false = [] ∷ []
 
--- a flag that is set so
+-- a setting of a flag
 abbrev pub sets : List ℕ → Bool → FlagSet
 sets name on = record { name = name; on = on }
 
@@ -32,7 +32,7 @@ abbrev pub followed : List Path → List Path → List Path
 followed [] second = []
 followed (path ∷ first) second = map (λ next. path ++ next) second ++ followed first second
 
--- one layer of a condition, with the paths of its parts, wanted true or false, in their place
+-- the paths of one layer of a condition, from those of its parts
 abbrev pub paths_step : Env → Cond-F (Bool → List Path) → Bool → List Path
 paths_step env Always want = fixed true want
 paths_step env Never want = fixed false want
@@ -46,16 +46,16 @@ paths_step env (And left right) false = left false ++ followed (left true) (righ
 paths_step env (Or left right) true = left true ++ followed (left false) (right true)
 paths_step env (Or left right) false = followed (left false) (right false)
 
--- all paths of a condition, wanted true or false
+-- all paths of a condition for true or false, contradictory ones included
 abbrev pub paths_of : Env → Cond → Bool → List Path
 paths_of env = fold-Cond (Bool → List Path) (paths_step env)
 
--- whether two values are the same
+-- whether two booleans are equal
 abbrev pub is_same : Bool → Bool → Bool
 is_same true on = on
 is_same false on = not on
 
--- they aren't of one flag, or say the same of it
+-- two settings agree: they are of different flags, or equal
 abbrev pub agree : FlagSet → FlagSet → Bool
 agree s t = if same_text s.name t.name then is_same s.on t.on else true
 
@@ -64,29 +64,29 @@ abbrev pub is_consistent : Path → Bool
 is_consistent [] = true
 is_consistent (s ∷ path) = list_all (agree s) path && is_consistent path
 
--- a flag that is set again is kept at its first place
+-- a path without repeated settings; the first of each is kept
 abbrev pub kept_once : Path → Path
 kept_once [] = []
 kept_once (s ∷ path) = s ∷ filter (λ t. not (same_text s.name t.name)) (kept_once path)
 
--- a path with each setting once; none where it sets a flag both ways
+-- a path with each setting once; none if it is contradictory
 abbrev pub clean_path : Path → Option Path
 clean_path path = if is_consistent path then Some (kept_once path) else None
 
--- without the paths that set a flag both ways, and each setting once
+-- the paths without contradictory ones, with each setting once
 abbrev pub clean_paths : List Path → List Path
 clean_paths = filter_map clean_path
 
--- whether it is known that a flag is set so
+-- whether a flag is known to have this setting
 abbrev pub says : Option Bool → Bool → Bool
 says None on = false
 says (Some is) on = is_same is on
 
--- what is known of the flags sets each as the path does
+-- whether a path holds: all its settings agree with a partial assignment, which sets all its flags
 abbrev pub holds : Flags → Path → Bool
 holds flags = list_all (λ s. says (flags s.name) s.on)
 
--- the value is Yes where true is wanted, No where false is
+-- whether a value is the wanted one: Yes for true, No for false
 abbrev pub is_wanted : Bool → Tri → Bool
 is_wanted true Yes = true
 is_wanted true No = false

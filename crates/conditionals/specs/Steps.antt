@@ -1,4 +1,4 @@
--- How the paths of a condition are put together.
+-- The steps from the paths of a left side to those of the whole.
 use Rattle.std.specs.Prelude.{◌<◌, Bool, true, false, ◌&&◌, ◌||◌, List, [], ◌∷◌, ◌++◌}
 use Rattle.plan_types.specs.declared.condition.Cond.{Cond, size-Cond}
 use Rattle.plan_types.specs.declared.condition.Env.{Env}
@@ -8,12 +8,12 @@ use Rattle.conditionals.specs.declared.path.Step.{Step}
 use Rattle.conditionals.specs.declared.path.Step.TheVariants.{Not, And, Or}
 use Rattle.conditionals.specs.Paths.{Path, followed, paths_of}
 
--- the paths, where they are needed
+-- the paths if they are needed, else none
 abbrev pub needed : Bool → List Path → List Path
 needed true paths = paths
 needed false paths = []
 
--- the lists of a condition that are needed; the others are empty
+-- the needed lists of a condition; the others are empty
 abbrev pub lists_of : Env → Cond → Need → Lists
 lists_of env cond need = record { yes = needed need.yes (paths_of env cond true); no = needed need.no (paths_of env cond false) }
 
@@ -21,11 +21,11 @@ lists_of env cond need = record { yes = needed need.yes (paths_of env cond true)
 abbrev pub swap_lists : Lists → Lists
 swap_lists lists = record { yes = lists.no; no = lists.yes }
 
--- the lists of a condition that joins two sides by `&&`
+-- the lists of `&&`
 abbrev pub join_and : Need → Lists → Lists → Lists
 join_and need left right = record { yes = needed need.yes (followed left.yes right.yes); no = needed need.no (left.no ++ followed left.yes right.no) }
 
--- the lists of a condition that joins two sides by `||`
+-- the lists of `||`
 abbrev pub join_or : Need → Lists → Lists → Lists
 join_or need left right = record { yes = needed need.yes (left.yes ++ followed left.no right.yes); no = needed need.no (followed left.no right.no) }
 
@@ -33,32 +33,32 @@ join_or need left right = record { yes = needed need.yes (left.yes ++ followed l
 abbrev pub all_lists : Env → Cond → Lists
 all_lists env cond = record { yes = paths_of env cond true; no = paths_of env cond false }
 
--- the lists that follow those of the left side
+-- the lists after a step, from those of the left side
 abbrev pub step_up : Env → Step → Lists → Lists
 step_up env Not lists = swap_lists lists
 step_up env (And right need) lists = join_and need lists (all_lists env right.now)
 step_up env (Or right need) lists = join_or need lists (all_lists env right.now)
 
--- the last step comes first
+-- the lists after all pending steps; the last step comes first
 abbrev pub finish : Env → List Step → Lists → Lists
 finish env [] lists = lists
 finish env (step ∷ steps) lists = step_up env step (finish env steps lists)
 
--- what is put aside is smaller than the condition
+-- a pending operand is smaller than the condition
 abbrev pub IsSmaller : Cond → Step → Type 0
 IsSmaller cond Not = Unit {0}
 IsSmaller cond (And right need) = size-Cond right.now < size-Cond cond
 IsSmaller cond (Or right need) = size-Cond right.now < size-Cond cond
 
--- What is needed of the left side of `&&`, where it is known whether the right side has paths.
+-- which paths of the left side of `&&` are needed, given whether the right side has paths
 abbrev pub left_of_and : Need → Bool → Bool → Need
 left_of_and need some-yes some-no = record { yes = (need.yes && some-yes) || (need.no && some-no); no = need.no }
 
--- what is needed of the left side of `||`
+-- which paths of the left side of `||` are needed
 abbrev pub left_of_or : Need → Bool → Bool → Need
 left_of_or need some-yes some-no = record { yes = need.yes; no = (need.yes && some-yes) || (need.no && some-no) }
 
--- What is needed of the right side: nothing where no path of the left side goes on.
+-- which paths of the right side are needed; none if it is joined to no path
 abbrev pub asked : Need → List Path → Need
 asked need [] = record { yes = false; no = false }
 asked need (path ∷ paths) = need

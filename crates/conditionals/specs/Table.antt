@@ -1,4 +1,4 @@
--- How many paths the conditions of a table have, each counted from those before it.
+-- The numbers of paths of the conditions in a table, from those of earlier rows.
 use Rattle.std.specs.Prelude.{ℕ, ◌+◌, ◌*◌, ◌-◌, ◌^◌, min, List, get_or}
 use Rattle.plan_types.specs.declared.condition.Env.{Env}
 use Rattle.plan_types.specs.declared.conditions.Row.{Row}
@@ -6,7 +6,7 @@ use Rattle.plan_types.specs.declared.conditions.Row.TheVariants.{Own, Negated, B
 use Rattle.conditionals.specs.Count.{numbers_of}
 use Rattle.conditionals.specs.declared.count.Numbers.{Numbers}
 
--- the numbers at this place; those of `true` where there are none
+-- the numbers at this place; those of `true` if there are none
 abbrev pub numbers_at : List Numbers → ℕ → Numbers
 numbers_at before i = get_or before i (record { yes = 1; no = 0 })
 
@@ -21,7 +21,7 @@ numbers_of_and left right = record {
   no = min (left.no + min (left.yes * right.no) (2 ^ 64 - 1)) (2 ^ 64 - 1);
 }
 
--- the numbers of a row behind conditions with these numbers
+-- the numbers of a row, after rows with these numbers
 abbrev pub numbers_of_row : Env → List Numbers → Row → Numbers
 numbers_of_row env before (Own cond) = numbers_of env cond
 numbers_of_row env before (Negated i) = numbers_of_not (numbers_at before i)

@@ -1,4 +1,4 @@
-// Paths without those that set a flag both ways, and with each setting once.
+// Contradictory paths are left out, and repeated settings are removed.
 ghost use Rattle.std.specs.Prelude.{◌≡◌, IfOk};
 ghost use Rattle.conditionals.specs.Paths.{clean_path, clean_paths};
 
@@ -6,7 +6,7 @@ use plan_types::{FlagSet, List, NoMemory, Text};
 use std::alloc::Global;
 use std::collections::BTreeMap;
 
-/// The paths that set no flag both ways, each setting once.
+/// The paths without contradictory ones (a flag on and off), with each setting once.
 pub fn clean(alloc: Global, paths: List<List<FlagSet>>) -> Result<List<List<FlagSet>>, NoMemory>
     ensures { IfOk result (λ kept. kept ≡ clean_paths paths) }
 {

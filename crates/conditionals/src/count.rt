@@ -1,25 +1,25 @@
-// How many paths a condition has.
+// The number of paths of a condition.
 ghost use Rattle.std.specs.Prelude.{◌≡◌, ◌+◌, ◌*◌, ◌^◌, ◌-◌, min, length, true, false};
 ghost use Rattle.conditionals.specs.Paths.{paths_of, fixed};
 
 use crate::environment::{is_compiler, is_processor, is_system};
 use plan_types::{Cond, Env};
 
-/// How many paths of a condition there are, or factors of these numbers.
+/// The numbers of a condition's paths, or factors of such numbers.
 #[derive(Clone, Copy, Debug)]
 pub struct Numbers {
-    /// Of those on which it is Yes, or the greatest number if there are more.
+    /// The number of paths on which it is Yes, at most 2^64 - 1.
     pub yes: u64,
-    /// The same of those on which it is No.
+    /// The number of paths on which it is No, at most 2^64 - 1.
     pub no: u64,
 }
 
-/// How many paths of a condition there are. Both numbers at once: those of a right side count towards both of the whole.
+/// The numbers of a condition's paths. Both are computed at once, as those of a right side count towards both.
 pub fn numbers_of(cond: &Cond, env: &Env) -> Numbers
     ensures yes { result.yes ≡ min (length (paths_of env.now cond.now true)) (2 ^ 64 - 1) }
     ensures no { result.no ≡ min (length (paths_of env.now cond.now false)) (2 ^ 64 - 1) }
 {
-    // How often each path of the rest of the left side counts.
+    // The weights of the left side's paths in the numbers of the whole, for Yes and for No.
     let mut for_yes = Numbers { yes: 1, no: 0 };
     let mut for_no = Numbers { yes: 0, no: 1 };
     let mut left = cond;
@@ -54,7 +54,7 @@ pub fn numbers_of(cond: &Cond, env: &Env) -> Numbers
     }
 }
 
-/// How many paths of a condition there are on which it has this value, or the greatest number if there are more.
+/// The number of paths on which a condition has this value, at most 2^64 - 1.
 pub fn count_paths(cond: &Cond, env: &Env, want: bool) -> u64
     ensures { result ≡ min (length (paths_of env.now cond.now want)) (2 ^ 64 - 1) }
 {

@@ -1,4 +1,4 @@
-// What a condition asks of an environment.
+// Tests of the environment.
 ghost use Rattle.std.specs.Prelude.{◌≡◌, IfOk};
 ghost use Rattle.std.specs.Str.{str_to_ascii_lowercase, str_eq_ignore_ascii_case};
 ghost use Rattle.conditionals.specs.Environment.{system_of, system_named, is_system, is_processor, is_compiler};
@@ -6,7 +6,7 @@ ghost use Rattle.conditionals.specs.Environment.{system_of, system_named, is_sys
 use plan_types::{Env, NoMemory, Range, Text};
 use std::alloc::Global;
 
-/// Whether the environment's system has this name, or another of its names.
+/// Whether the environment's system has this name, or an alias of it.
 pub fn is_system(env: &Env, name: &Text) -> bool
     ensures { result ≡ is_system env.now name.now }
 {
@@ -15,21 +15,21 @@ pub fn is_system(env: &Env, name: &Text) -> bool
     are_alike(asked, own)
 }
 
-/// Whether its processor has this name.
+/// Whether the environment's processor has this name.
 pub fn is_processor(env: &Env, name: &Text) -> bool
     ensures { result ≡ is_processor env.now name.now }
 {
     are_alike(name.as_str(), env.arch.as_str())
 }
 
-/// Whether its compiler has this name, and a version in the range.
+/// Whether the environment's compiler has this name, and a version in the range.
 pub fn is_compiler(env: &Env, name: &Text, range: &Range) -> bool
     ensures { result ≡ is_compiler env.now name.now range.now }
 {
     are_alike(name.as_str(), env.compiler.as_str()) && range.has(&env.compiler_version)
 }
 
-/// The name by which an operating system is compared.
+/// The usual name of an operating system, by which systems are compared.
 pub fn system_of(alloc: Global, name: Text) -> Result<Text, NoMemory>
     ensures { IfOk result (λ text. text ≡ system_of name) }
 {
@@ -42,7 +42,7 @@ pub fn system_of(alloc: Global, name: Text) -> Result<Text, NoMemory>
     Ok(name)
 }
 
-// The system that a name stands for, in any case.
+// The usual name of the system with this name, in any case.
 fn system_named(name: &str) -> &str
     ensures { str_to_ascii_lowercase result.now ≡ system_named name.now }
 {

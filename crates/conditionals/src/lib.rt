@@ -1,5 +1,7 @@
-//! The value of conditions, asked from left to right, and their paths: lists of flags to set, of which one
-//! holds exactly where the condition has the wanted value, whatever is set.
+//! Conditions over flags and an environment. `eval` returns Yes, No or Unknown under a partial assignment of flags,
+//! from left to right. `paths` returns the paths of a condition: lists of settings of flags. Under each partial
+//! assignment, some path holds iff the condition has the wanted value, and no two paths hold together. The counts of
+//! paths come without the paths.
 #![tactic(auto)]
 
 mod clean;

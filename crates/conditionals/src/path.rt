@@ -10,10 +10,10 @@ use crate::environment::{is_compiler, is_processor, is_system};
 use plan_types::{Cond, Env, FlagSet, List, NoMemory, Text};
 use std::alloc::Global;
 
-/// The paths of a condition that has more are not asked for.
+/// The limit on the paths of a condition. Callers don't ask for the paths of one with more.
 pub const MOST_PATHS: u64 = 256;
 
-/// The paths of a condition, wanted true and wanted false.
+/// The paths of a condition for true and for false.
 #[derive(Drop)]
 pub struct Lists {
     pub yes: List<List<FlagSet>>,
@@ -27,7 +27,7 @@ pub struct Need {
     pub no: bool,
 }
 
-/// How the left side's paths become those of the whole: what is joined to it, and what is needed then.
+/// A pending step from the paths of a left side to those of the whole: the right side, and which paths are needed.
 #[derive(Clone, Copy)]
 pub enum Step<'a> {
     Not,
@@ -35,8 +35,8 @@ pub enum Step<'a> {
     Or(&'a Cond, Need),
 }
 
-/// The paths of a condition, wanted true or false. A path that sets a flag both ways is left out, and a
-/// setting stands in a path once.
+/// The paths of a condition for true or false. Contradictory paths (a flag on and off) are left out, and each path has
+/// a setting only once.
 pub fn paths(
     alloc: Global,
     cond: &Cond,
@@ -58,8 +58,8 @@ pub fn paths(
     }
 }
 
-/// Each path of the first followed by each of the second. A path that sets a flag both ways is left out, and
-/// a setting stands in a path once.
+/// Each path of the first followed by each of the second. Contradictory paths are left out, and each path has a
+/// setting only once.
 pub fn joined_paths(
     alloc: Global,
     first: &List<List<FlagSet>>,
@@ -92,8 +92,8 @@ fn build(alloc: Global, cond: &Cond, env: &Env, need: Need) -> Result<Lists, NoM
     Ok(lists)
 }
 
-// The lists of the first test. The left side may be as deep as a file is long, so the steps that follow
-// are put aside. A list that is joined to none isn't needed: it may be longer than any that is.
+// The lists of the leftmost test. A loop pushes the steps, as left operands may nest as deep as a file is long. A list
+// that is joined only with empty ones isn't built: it may be longer than any that is needed.
 fn first<'a>(
     alloc: Global,
     steps: &mut Vec<Step<'a>>,
@@ -257,8 +257,8 @@ fn or(alloc: Global, left: Lists, right: Lists, need: Need) -> Result<Lists, NoM
     Ok(Lists { yes, no })
 }
 
-// Each path of the first followed by each of the second. A path is copied only where it is followed by
-// more than one: the paths of a long chain grow at their ends.
+// Each path of the first followed by each of the second. A path is moved for its last continuation and copied for the
+// others, so the paths of a long chain grow in place.
 fn followed(
     alloc: Global,
     first: List<List<FlagSet>>,
@@ -292,7 +292,7 @@ fn push_followed(
     }
 }
 
-// These paths, and then each of the first followed by each of the second.
+// The paths, and then each of the first followed by each of the second.
 fn joined(
     alloc: Global,
     paths: List<List<FlagSet>>,

@@ -1,4 +1,4 @@
-// How many paths the conditions of a table have.
+// The numbers of paths of the conditions in a table.
 ghost use Rattle.std.specs.Prelude.{◌≡◌, map, IfOk};
 ghost use Rattle.conditionals.specs.Count.{numbers_of};
 ghost use Rattle.conditionals.specs.Table.{numbers_at, numbers_of_and, numbers_of_row};
@@ -7,7 +7,7 @@ use crate::count::{Numbers, numbers_of, swapped};
 use plan_types::{Conditions, Env, NoMemory, Row};
 use std::alloc::Global;
 
-/// How many paths each condition of a table has, counted from those before it.
+/// The numbers of paths of each condition in a table, from those of earlier rows.
 pub fn count_all(alloc: Global, conds: &Conditions, env: &Env) -> Result<Vec<Numbers>, NoMemory>
     ensures { IfOk result (λ all. all.items ≡ map (numbers_of env.now) conds.now) }
 {

@@ -1,25 +1,25 @@
-// The value of a condition while some flags are set.
+// The value of a condition under a partial assignment of flags.
 ghost use Rattle.std.specs.Prelude.{◌≡◌, true};
 ghost use Rattle.conditionals.specs.Value.{value, tri_of, flag_in, flag_value, answer, each_once};
 
 use crate::environment::{is_compiler, is_processor, is_system};
 use plan_types::{Cond, Env, FlagSet, List, Text};
 
-/// The value of a condition while some flags are set.
+/// The value of a condition under a partial assignment of flags.
 #[derive(Clone, Copy, Debug, PartialEq, Eq)]
 pub enum Tri {
     Yes,
     No,
-    /// It asks a flag that isn't set.
+    /// It depends on a flag that isn't set.
     Unknown,
 }
 
-/// The value of a condition, asked from left to right.
+/// The value of a condition, evaluated from left to right.
 pub fn eval(cond: &Cond, env: &Env, flags: &List<FlagSet>) -> Tri
     requires { each_once flags.now ≡ true }
     ensures { result ≡ value env.now (flag_in flags.now) cond.now }
 {
-    // Where the rest of the left side is Unknown, the whole is.
+    // The whole, if the rest of the left side is Yes or No. If that is Unknown, so is the whole.
     let mut if_yes = Tri::Yes;
     let mut if_no = Tri::No;
     let mut left = cond;

@@ -7,7 +7,7 @@ use Rattle.conditionals.specs.Value.{flag_in}
 use Rattle.conditionals.specs.Paths.{is_consistent, kept_once}
 use Rattle.conditionals.proofs.clean.clean_path.Given as goal
 
--- the table knows what the path set so far
+-- the map has the settings of the path so far
 abbrev pub invariant-loop-setting : goal.invariant-loop-setting
 invariant-loop-setting l = record {
   all : l.yielded ++ into_iter_items l.setting-iterator ≡ l.fn.path;

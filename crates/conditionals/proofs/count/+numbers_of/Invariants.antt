@@ -7,7 +7,7 @@ use Rattle.conditionals.proofs.count.+numbers_of.Given as goal
 abbrev pub decreases-numbers_of : goal.decreases-numbers_of
 decreases-numbers_of l = size-Cond l.cond.now
 
--- the numbers of what is left, so often as each counts, are those of the whole
+-- the weighted numbers of the rest are those of the whole
 abbrev pub invariant-loop-left : goal.invariant-loop-left
 invariant-loop-left l = record {
   yes : capped (l.for_yes.yes * length (paths_of l.env l.left true) + l.for_yes.no * length (paths_of l.env l.left false)) ≡ capped (length (paths_of l.env l.cond true));

@@ -7,7 +7,7 @@ use Rattle.conditionals.proofs.path.+build.Given as goal
 abbrev pub decreases-build : goal.decreases-build
 decreases-build l = size-Cond l.cond.now
 
--- the lists, and the steps that follow, make those of the whole
+-- the lists so far and the pending steps make those of the whole
 abbrev pub invariant-loop-step : goal.invariant-loop-step
 invariant-loop-step l = record {
   lists : finish l.env l.steps.items l.lists ≡ lists_of l.env l.cond l.fn.need;
