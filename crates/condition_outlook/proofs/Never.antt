@@ -1,4 +1,4 @@
--- Where no setting of flags makes a condition Yes, it has no path that sets each flag one way.
+-- A condition that is never Yes has no clean path.
 use Rattle.std.proofs.Common.{◌≡◌, Bool, true, false, ◌&&◌, ◌||◌, cond, Some, None, List, [], ◌∷◌, ◌⊎◌, inl, inr, refl, sym, ap, ◌∙◌}
 use Rattle.std.specs.List.{list_all, list_any, cons_option}
 use Rattle.std.specs.Cmp.Lexicographic.{bytes_decides}
@@ -14,7 +14,7 @@ use Rattle.conditionals.specs.declared.value.Tri.TheVariants.{Yes, No, Unknown}
 use Rattle.conditionals.proofs.Holding.{some_path_holds}
 use Rattle.conditionals.proofs.Keeping.{all_kept}
 
--- ---- a path that sets each flag one way holds where flags are set as it does
+-- ---- a consistent path holds under its own settings
 
 said-again : (on : Bool) → is_same on on ≡ true
 said-again true = refl
@@ -34,7 +34,7 @@ as-it-says (t ∷ path) e =
     let own : says (flag_in (t ∷ path) t.name) t.on ≡ true = ap (λ b. says (cond b (Some t.on) (flag_in path t.name)) t.on) ((bytes_decides t.name t.name).1 refl) ∙ said-again t.on in
     (λ i. own i && further t path path (and_parts _ _ e).0 (as-it-says path (and_parts _ _ e).1) i)
 
--- ---- where one of them is left, it holds
+-- ---- a clean path holds under some flags
 
 abbrev SomeHolds : List Path → Type 0
 SomeHolds paths = (flags : Flags) × (list_any (holds flags) paths ≡ true)
@@ -58,7 +58,7 @@ is-yes Yes e = refl
 is-yes No e = absurd (cc e)
 is-yes Unknown e = absurd (cc e)
 
--- so where no setting of flags makes a condition Yes, none is left
+-- a condition that is never Yes has no clean path
 pub no-path-left : (env : Env) (asked : Cond) → ((flags : Flags) → value env flags asked ≡ Yes → ⊥) → clean_paths (paths_of env asked true) ≡ []
 no-path-left env asked never = by (none-or-some (paths_of env asked true))
   where

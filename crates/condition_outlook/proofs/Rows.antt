@@ -1,4 +1,4 @@
--- What is known of conditions, by their places and their parts.
+-- Facts about conditions, by their places and their subconditions.
 use Rattle.std.proofs.Common.{◌≡◌, ℕ, zero, suc, ◌<◌, true, get_or, map, List, [], ◌∷◌, ◌++◌, append_assoc, append-nil, length, refl, sym, ap, ◌∙◌, subst, arith}
 use Rattle.std.specs.List.{list_any}
 use Rattle.plan_types.specs.Conditions.{cond_of, conds_behind, numbered}
@@ -33,7 +33,7 @@ known-at env (c ∷ conds) [] i known all within is = absurd all
 known-at env (c ∷ conds) (first ∷ items) zero known all within is = subst (IsKnown env c) (sym is) all.0
 known-at env (c ∷ conds) (first ∷ items) (suc i) known all within is = known-at env conds items i known all.1 (omega (arith, within)) is
 
--- more conditions behind them change nothing
+-- later conditions change nothing
 pub numbered-front : (env : Env) (conds more : List Cond) (items : List Known) (i : ℕ) → AreKnown env conds items → i < length items → numbered (conds ++ more) i ≡ numbered conds i
 numbered-front env [] more [] i all within = absurd (omega (arith, within))
 numbered-front env [] more (first ∷ items) i all within = absurd all
@@ -47,7 +47,7 @@ numbered-next env [] more (first ∷ items) cond all = absurd all
 numbered-next env (c ∷ conds) more [] cond all = absurd all
 numbered-next env (c ∷ conds) more (first ∷ items) cond all = numbered-next env conds more items cond all.1
 
--- the next one is among those that are counted
+-- the next condition has its numbers
 pub within-next : (env : Env) (conds more : List Cond) (items : List Known) (cond : Cond) → AreKnown env conds items → length items < length (map (numbers_of env) (conds ++ cond ∷ more))
 within-next env [] more [] cond all = omega arith
 within-next env [] more (first ∷ items) cond all = absurd all
@@ -60,14 +60,14 @@ counted-next env [] more (first ∷ items) cond numbers all is = absurd all
 counted-next env (c ∷ conds) more [] cond numbers all is = absurd all
 counted-next env (c ∷ conds) more (first ∷ items) cond numbers all is = counted-next env conds more items cond numbers all.1 is
 
--- the conditions of a table begin with those of its first rows
+-- the conditions of the first rows are a prefix of the table
 behind-front : (before : List Cond) (rows : List Row) → (more : List Cond) × (conds_behind before rows ≡ before ++ more)
 behind-front before [] = ([], sym (append-nil before))
 behind-front before (row ∷ rows) =
     let rest = behind-front (before ++ cond_of before row ∷ []) rows in
     (cond_of before row ∷ rest.0, rest.1 ∙ append_assoc before (cond_of before row ∷ []) rest.0)
 
--- ---- by their parts
+-- ---- by their subconditions
 
 module _ (env : Env) (flags : Flags) where
   value-And : (front last : Cond) → value env flags (And front last) ≡ and_then (value env flags front) (value env flags last)
@@ -83,11 +83,11 @@ module _ (env : Env) (flags : Flags) where
   pub parts-yes : (front last : Cond) → value env flags (And front last) ≡ Yes → (value env flags front ≡ Yes) × (value env flags last ≡ Yes)
   parts-yes front last e = both-yes (value env flags front) (value env flags last) (sym (value-And front last) ∙ e)
 
-  -- where a condition is Yes, one of its paths holds
+  -- if a condition is Yes, some path holds
   pub one-holds : (cond : Cond) → value env flags cond ≡ Yes → list_any (holds flags) (clean_paths (paths_of env cond true)) ≡ true
   one-holds cond e = some_path_holds env flags cond true ∙ ap (is_wanted true) e
 
--- those that were looked at, and the rest
+-- the conditions so far, the next one, and the rest
 pub next-row : (before : List Cond) (row : Row) (rows : List Row) (conds : List Cond) → conds_behind before (row ∷ rows) ≡ conds → (more : List Cond) × (conds ≡ before ++ cond_of before row ∷ more)
 next-row before row rows conds e =
     let rest = behind-front (before ++ cond_of before row ∷ []) rows in

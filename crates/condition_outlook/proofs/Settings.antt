@@ -1,4 +1,4 @@
--- Settings, one by one.
+-- Lemmas on settings.
 use Rattle.std.proofs.Common.{◌≡◌, ℕ, zero, suc, Bool, true, false, ◌&&◌, ◌||◌, cond, Option, Some, None, List, [], ◌∷◌, ◌++◌, ◌<◌, length, refl, sym, ap, ◌∙◌, subst, arith}
 use Rattle.std.specs.BTreeMap.{BTreeMap, insert_entry}
 use Rattle.std.specs.Map.{lookup}
@@ -33,7 +33,7 @@ says-so : (known : Option Bool) (on : Bool) → known ≡ Some on → says known
 says-so known true e = ap (λ k. says k true) e
 says-so known false e = ap (λ k. says k false) e
 
--- two settings of a flag say the same
+-- a flag has only one setting
 pub one-setting : (known : Option Bool) (is on : Bool) → known ≡ Some is → known ≡ Some on → is ≡ on
 one-setting known is on e f = same_Some is on (sym e ∙ f)
 
@@ -81,7 +81,7 @@ entry-put flags (entry ∷ entries) name on all is = by (slice_cmp nat_cmp name 
     by Equal e rest = (ap flags (sym (same-is name entry.0 (sym (is_eq-slice_cmp name entry.0) ∙ ap is_eq e))) ∙ is, all.1)
     by Greater e rest = (all.0, rest)
 
--- ---- some paths of which one holds
+-- ---- paths, one of which holds
 
 pub some-there : (flags : Flags) (paths : List Path) (is : Bool) → list_any (holds flags) paths ≡ true → is ≡ (length paths == 0) → IsFalse is
 some-there flags [] is some e = absurd (cc some)

@@ -1,4 +1,4 @@
--- What is found out of conditions, each from those that it is put together of.
+-- Facts about conditions, from those about their subconditions.
 use Rattle.std.specs.Prelude.{◌≡◌, Bool, true, false, List, [], ◌∷◌, Option, Some, None, IfSome, IsFalse, slice_get}
 use Rattle.std.specs.List.{list_any}
 use Rattle.plan_types.specs.declared.condition.Cond.{Cond}
@@ -11,29 +11,29 @@ use Rattle.conditionals.specs.declared.value.Tri.TheVariants.{Yes}
 use Rattle.condition_outlook.specs.Settled.{AreSet}
 use Rattle.condition_outlook.specs.declared.known.Known.{Known}
 
--- whether a row has tests of its own
+-- whether a row is a condition of its own
 abbrev pub has_tests : Row → Bool
 has_tests (Own cond) = true
 has_tests (Negated inner) = false
 has_tests (Both front last) = false
 
--- whether there is a row here that has
+-- whether this is a row, and a condition of its own
 abbrev pub has_tests_at : Option Row → Bool
 has_tests_at None = false
 has_tests_at (Some row) = has_tests row
 
--- whether a row has tests of its own, or is `!` of a row that has
+-- whether a row is a condition of its own, or `!` of such a row
 abbrev pub is_own : List Row → Row → Bool
 is_own rows (Own cond) = true
 is_own rows (Negated inner) = has_tests_at (slice_get rows inner)
 is_own rows (Both front last) = false
 
--- flags are set as is known
+-- the facts allow these flags: `never` is false, and the flags have the settings
 pub record IsMet (flags : Flags) (known : Known) : Type 0 where
   pub never : IsFalse known.never
   pub settled : AreSet flags known.settled
 
--- they are set so wherever the condition is Yes
+-- the facts about a condition are right: they allow all flags under which it is Yes
 abbrev pub IsKnown : Env → Cond → Known → Type 0
 IsKnown env cond known = (flags : Flags) → value env flags cond ≡ Yes → IsMet flags known
 
@@ -43,10 +43,10 @@ AreKnown env [] (known ∷ all) = ⊥
 AreKnown env (cond ∷ conds) [] = ⊥
 AreKnown env (cond ∷ conds) (known ∷ all) = IsKnown env cond known × AreKnown env conds all
 
--- one of some paths holds, where they are known
+-- some path holds, if the paths are known
 abbrev pub OneHolds : Flags → Option (List Path) → Type 0
 OneHolds flags found = IfSome found (λ paths. list_any (holds flags) paths ≡ true)
 
--- one of them holds wherever the condition is Yes
+-- some path holds whenever the condition is Yes, if the paths are known
 abbrev pub ArePathsOf : Env → Cond → Option (List Path) → Type 0
 ArePathsOf env cond found = (flags : Flags) → value env flags cond ≡ Yes → OneHolds flags found

@@ -1,4 +1,4 @@
--- What is known of conditions before their paths are followed.
+-- The outlooks of conditions, before their paths are built.
 use Rattle.std.specs.Prelude.{◌≡◌, ℕ, List, [], ◌∷◌, Some, IsFalse, slice_get}
 use Rattle.plan_types.specs.declared.condition.Cond.{Cond}
 use Rattle.plan_types.specs.declared.condition.Env.{Env}
@@ -7,7 +7,7 @@ use Rattle.conditionals.specs.Value.{Flags, value}
 use Rattle.conditionals.specs.declared.value.Tri.TheVariants.{Yes}
 use Rattle.condition_outlook.specs.declared.outlook.Outlook.{Outlook}
 
--- what is known of a condition: how many paths it has, and that it isn't Yes where it is said never to be, whatever is known of flags
+-- an outlook is right: it has the number of paths, and a condition that is Yes under some flags has no `never`
 pub record IsOutlook (env : Env) (cond : Cond) (outlook : Outlook) : Type 0 where
   pub number : outlook.number ≡ (numbers_of env cond).yes
   pub never : (flags : Flags) → value env flags cond ≡ Yes → IsFalse outlook.never
@@ -18,6 +18,6 @@ AreOutlooks env [] (outlook ∷ outlooks) = ⊥
 AreOutlooks env (cond ∷ conds) [] = ⊥
 AreOutlooks env (cond ∷ conds) (outlook ∷ outlooks) = IsOutlook env cond outlook × AreOutlooks env conds outlooks
 
--- that of a condition stands at its place
+-- the outlook of a condition is at this place
 abbrev pub IsOutlookAt : Env → Cond → List Outlook → ℕ → Type 0
 IsOutlookAt env cond outlooks place = (outlook : Outlook) × (slice_get outlooks place ≡ Some outlook) × IsOutlook env cond outlook

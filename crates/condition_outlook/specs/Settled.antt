@@ -1,4 +1,4 @@
--- What is known of the flags where a condition is Yes.
+-- Settings that flags have whenever a condition is Yes.
 use Rattle.std.specs.Prelude.{◌≡◌, ℕ, Bool, true, List, [], ◌∷◌, Some}
 use Rattle.std.specs.BTreeMap.{BTreeMap}
 use Rattle.std.specs.List.{AllByRecursion}
@@ -6,11 +6,11 @@ use Rattle.conditionals.specs.Paths.{holds}
 use Rattle.conditionals.specs.Value.{Flags}
 use Rattle.condition_outlook.specs.declared.settled.Settled.{Settled}
 
--- flags are set so
+-- flags have these settings
 abbrev pub AreEntries : Flags → List (List ℕ × Bool) → Type 0
 AreEntries flags = AllByRecursion (λ entry. flags entry.0 ≡ Some entry.1)
 
--- flags are set as a map says
+-- flags have the settings of a map
 abbrev pub IsSaid : Flags → BTreeMap (List ℕ) Bool → Type 0
 IsSaid flags said = AreEntries flags said.entries
 
@@ -18,7 +18,7 @@ abbrev pub AreSaid : Flags → List (BTreeMap (List ℕ) Bool) → Type 0
 AreSaid flags [] = Unit {0}
 AreSaid flags (said ∷ maps) = IsSaid flags said × AreSaid flags maps
 
--- flags are set so
+-- flags have these settings
 pub record AreSet (flags : Flags) (settled : Settled) : Type 0 where
   pub shared : AreSaid flags settled.shared
   pub recent : holds flags settled.recent ≡ true

@@ -1,4 +1,4 @@
-// What is known of a condition, from its paths or from the conditions that it is put together of.
+// Facts about a condition, from its paths or from its subconditions.
 ghost use Rattle.std.specs.Prelude.{◌≡◌, ◌++◌, ◌∷◌, List, map, true, IfOk, IsTrue};
 ghost use Rattle.std.specs.List.{list_any};
 ghost use Rattle.plan_types.specs.Conditions.{cond_of, numbered};
@@ -14,12 +14,12 @@ use conditionals::{MOST_PATHS, Numbers, paths};
 use plan_types::{Conditions, Env, FlagSet, List, NoMemory, Row};
 use std::alloc::Global;
 
-/// What is known of a condition.
+/// Facts about a condition.
 #[derive(Drop)]
 pub struct Known {
-    /// No setting of flags makes it Yes. Where this is false, some setting may.
+    /// The condition is never Yes. False if this isn't known.
     pub never: bool,
-    /// What flags are set to where it is Yes.
+    /// Settings that flags have whenever the condition is Yes.
     settled: Settled,
 }
 
@@ -34,7 +34,7 @@ impl Known {
     }
 }
 
-/// What is known of the condition of a row, from what is known of those before it.
+/// Facts about the condition of a row, from those about earlier rows.
 pub fn known_of(
     alloc: Global,
     conds: &Conditions,
@@ -62,7 +62,7 @@ pub fn known_of(
     }
 }
 
-// Whether a row is of its own tests, or of `!` of such ones.
+// Whether a row is a condition of its own, or `!` of such a row.
 fn is_own(rows: &[Row], row: &Row) -> bool
     ensures { result ≡ is_own rows.now row.now }
 {
@@ -78,7 +78,7 @@ fn is_own(rows: &[Row], row: &Row) -> bool
     }
 }
 
-// What is known of a condition that has these paths, where they are known.
+// Facts about a condition with these paths; none if the paths aren't known.
 fn own(alloc: Global, paths: &Option<List<List<FlagSet>>>) -> Result<Known, NoMemory>
     ensures { IfOk result (λ known. (flags : Flags) → OneHolds flags paths.now → IsMet flags known) }
 {
@@ -101,7 +101,7 @@ fn by_paths(alloc: Global, paths: &[List<FlagSet>]) -> Result<Known, NoMemory>
     })
 }
 
-// What is known of `&&` of two conditions, of which the second has these paths, where they are known.
+// Facts about `&&` of two conditions; the paths are those of the second, if they are known.
 fn both(
     alloc: Global,
     first: &Known,
@@ -119,7 +119,8 @@ fn both(
     })
 }
 
-// What is known on both sides, or as much of it as is copied at no great cost, and whether nothing in it is told otherwise.
+// The settings of both sides, and whether they agree. If both sides are long, only the latest settings of the first are
+// used, at most 64.
 fn joined(alloc: Global, first: &Settled, second: &Settled) -> Result<(Settled, bool), NoMemory>
     ensures { IfOk result (λ both. (flags : Flags) → AreSet flags first.now → AreSet flags second.now → AreSet flags both.0 × IsTrue both.1) }
 {
@@ -138,7 +139,7 @@ fn added(alloc: Global, long: &Settled, short: &Settled) -> Result<(Settled, boo
     Ok((settled, fits))
 }
 
-// Whether what is known allows one of the paths, where they are known.
+// Whether some path doesn't contradict the settings; true if the paths aren't known.
 fn allows_one(settled: &Settled, paths: &Option<List<List<FlagSet>>>) -> bool
     ensures { (flags : Flags) → AreSet flags settled.now → OneHolds flags paths.now → IsTrue result }
 {
@@ -159,8 +160,8 @@ fn allows_some(settled: &Settled, paths: &[List<FlagSet>]) -> bool
     false
 }
 
-// The paths of a row of its own tests, where there aren't too many. Those of a longer condition would be followed once more for
-// each row that it stands in.
+// The paths of a row that `is_own`, if there are at most 256. The paths of a longer condition would be built again for
+// each row that contains it.
 fn own_paths(
     alloc: Global,
     conds: &Conditions,

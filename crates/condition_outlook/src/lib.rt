@@ -1,5 +1,7 @@
-//! What is known of the conditions of a table before their paths are followed: that no setting of flags makes one Yes, as where the
-//! tests of a chain ask a flag both ways. Each is looked at once, from what is known of those that it is put together of.
+//! A cheap look at a table of conditions, before their paths are built. `outlooks` returns, for each condition, the
+//! number of its paths (at most 2^64 - 1), and whether it is known to be never Yes, as for a flag that is both on and
+//! off. A `never` is always right; a condition without it may still be never Yes. Each row is visited once, and uses
+//! the facts about earlier rows.
 #![tactic(auto)]
 
 mod known;

@@ -1,4 +1,4 @@
-// What is known of the conditions of a table.
+// The outlooks of the conditions in a table.
 ghost use Rattle.std.specs.Prelude.{IfOk};
 ghost use Rattle.condition_outlook.specs.Outlook.{AreOutlooks};
 
@@ -7,16 +7,16 @@ use conditionals::count_all;
 use plan_types::{Conditions, Env, NoMemory};
 use std::alloc::Global;
 
-/// What is known of a condition before its paths are followed.
+/// The outlook of a condition, before its paths are built.
 #[derive(Clone, Copy, Debug)]
 pub struct Outlook {
-    /// How many paths it has, wanted true, or the greatest number if there are more.
+    /// The number of its paths for true, at most 2^64 - 1.
     pub number: u64,
-    /// No setting of flags makes it Yes. Where this is false, some setting may.
+    /// The condition is never Yes. False if this isn't known.
     pub never: bool,
 }
 
-/// What is known of each condition of a table, row by row.
+/// The outlook of each condition in a table, row by row.
 pub fn outlooks(alloc: Global, conds: &Conditions, env: &Env) -> Result<Vec<Outlook>, NoMemory>
     ensures { IfOk result (λ all. AreOutlooks env.now conds.now all.items) }
 {

@@ -1,4 +1,4 @@
-// What flags are set to.
+// The settings of flags that a condition requires.
 ghost use Rattle.std.specs.Prelude.{◌≡◌, ◌↔◌, ◌∷◌, [], true, Some, IfOk, OnOk, IfSome, IsTrue};
 ghost use Rattle.conditionals.specs.Paths.{holds};
 ghost use Rattle.conditionals.specs.Value.{Flags};
@@ -8,18 +8,18 @@ use plan_types::{FlagSet, List, NoMemory, Shared, Text};
 use std::alloc::Global;
 use std::collections::BTreeMap;
 
-/// So many settings at most are copied with what is known.
+/// The most settings that a copy duplicates. The others are shared.
 const MOST_RECENT: usize = 64;
 
-/// What flags are set to, of which a copy holds most in common with what it was copied from.
+/// Settings of flags. A copy shares most of them with its original.
 pub struct Settled {
-    /// What was learnt first.
+    /// The earlier settings, in shared maps.
     shared: List<Shared<BTreeMap<Text, bool>>>,
-    /// What was learnt last.
+    /// The latest settings, at most 64.
     recent: List<FlagSet>,
 }
 
-// Written out, so that it is proved once and not at each exit of each function that owns one.
+// Explicit, so that it is proved once: a derived one is expanded at each exit.
 impl Drop for Settled {
     fn drop(self) {
         let Settled {
@@ -30,7 +30,7 @@ impl Drop for Settled {
 }
 
 impl Settled {
-    /// Nothing is known.
+    /// No settings.
     pub fn new(alloc: Global) -> Settled
         ensures { (flags : Flags) → AreSet flags result }
     {
@@ -49,21 +49,21 @@ impl Settled {
         })
     }
 
-    /// Whether a copy of it copies all that is known.
+    /// Whether no settings are in shared maps, so that `recent` has them all.
     pub fn is_short(&self) -> bool
         ensures { IsTrue result ↔ (self.now.shared ≡ []) }
     {
         self.shared.is_empty()
     }
 
-    /// What was learnt last: all, where it is short.
+    /// The latest settings; all of them if `is_short`.
     pub fn recent(&self) -> &[FlagSet]
         ensures { result.now ≡ self.now.recent }
     {
         self.recent.as_slice()
     }
 
-    /// What a flag is set to, where that is known.
+    /// The setting of a flag, if it has one.
     pub fn get(&self, name: &Text) -> Option<bool>
         ensures { IfSome result (λ on. (flags : Flags) → AreSet flags self.now → flags name.now ≡ Some on) }
     {
@@ -73,7 +73,7 @@ impl Settled {
         }
     }
 
-    /// Whether these settings say nothing else than what is known.
+    /// Whether these settings contradict none of the known ones.
     pub fn allows(&self, settings: &[FlagSet]) -> bool
         ensures { (flags : Flags) → AreSet flags self.now → holds flags settings.now ≡ true → IsTrue result }
     {
@@ -87,7 +87,7 @@ impl Settled {
         true
     }
 
-    /// Learns settings. False where one of them says otherwise than what is known.
+    /// Adds settings. Returns false at the first that contradicts a known one.
     pub fn learn(&mut self, alloc: Global, settings: &[FlagSet]) -> Result<bool, NoMemory>
         ensures learnt { OnOk result ((flags : Flags) → AreSet flags self.old → holds flags settings.now ≡ true → AreSet flags self.new) }
         ensures fits { IfOk result (λ fits. (flags : Flags) → AreSet flags self.old → holds flags settings.now ≡ true → IsTrue fits) }
@@ -114,8 +114,8 @@ impl Settled {
         self.recent.push(copied(setting)?)
     }
 
-    // Puts what was learnt last into a map that copies hold in common. It takes in those before it that are no larger, so that each
-    // map is larger than the one behind it, and there are few.
+    // Moves the latest settings into a shared map, and merges the smaller maps into this one. So each map is larger
+    // than the next, and there are few maps.
     fn share(&mut self, alloc: Global) -> Result<(), NoMemory>
         ensures { OnOk result ((flags : Flags) → AreSet flags self.old → AreSet flags self.new) }
     {

@@ -5,6 +5,6 @@ use Rattle.conditionals.specs.Value.{Flags}
 use Rattle.condition_outlook.specs.Settled.{AreSet}
 use Rattle.condition_outlook.proofs.known.allows_some.Given as goal
 
--- one that holds is none of those that were seen
+-- a path that holds is among the remaining ones
 abbrev pub invariant-loop-path : goal.invariant-loop-path
 invariant-loop-path l = (flags : Flags) → AreSet flags l.settled → list_any (holds flags) l.paths ≡ true → list_any (holds flags) (drop l.path-index l.paths) ≡ true

@@ -5,6 +5,6 @@ use Rattle.condition_outlook.specs.Known.{AreKnown}
 use Rattle.condition_outlook.specs.Outlook.{AreOutlooks}
 use Rattle.condition_outlook.proofs.outlook.outlooks.Given as goal
 
--- what is known of the conditions that were looked at, and those of the rows behind them
+-- the facts about the conditions so far, and the conditions of the remaining rows
 abbrev pub invariant-loop-row : goal.invariant-loop-row
 invariant-loop-row l = (looked : List Cond) × AreKnown l.env looked l.before.items × AreOutlooks l.env looked l.all.items × (conds_behind looked (drop l.row-index l.rows) ≡ conds_of l.rows)

@@ -3,7 +3,7 @@ use Rattle.conditionals.specs.Value.{Flags}
 use Rattle.condition_outlook.specs.Settled.{AreSet, IsSaid}
 use Rattle.condition_outlook.proofs.settled.Settled.share.Given as goal
 
--- what is known is in the maps that are left, or in the new one
+-- flags have the settings of the remaining maps and of the new one
 abbrev pub invariant-loop-last : goal.invariant-loop-last
 invariant-loop-last l = (flags : Flags) → AreSet flags l.fn.self → AreSet flags l.self × IsSaid flags l.map
 
