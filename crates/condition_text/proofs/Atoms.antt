@@ -1,4 +1,4 @@
--- Words and tests, as they are read.
+-- Reading words and tests.
 use Rattle.std.proofs.Common.{◌≡◌, ◌⊎◌, inl, inr, ℕ, ◌+◌, Bool, true, false, ◌&&◌, List, [], ◌∷◌, ◌++◌, codes, Ok, refl, sym, ap, ◌∙◌, subst, append_assoc, append-nil, arith}
 use Rattle.std.specs.Prelude.{◌==◌, nat_lt}
 use Rattle.std.specs.Char.{to_ascii_lowercase}
@@ -48,7 +48,7 @@ letter_byte l b h = by (nat_lt b 65) refl (nat_lt b 91) refl (eqb-true (to_ascii
         other : nat_lt b 65 ≡ false → nat_lt b 91 ≡ false → to_ascii_lowercase b ≡ b
         other q k = rw q (rw k refl)
 
--- a test that neither case of a letter passes
+-- a test that both cases of a letter fail
 solid : (test : ℕ → Bool) (l u : ℕ) → u + 32 ≡ l → test l ≡ false → test u ≡ false → (b : ℕ) → is_letter l b ≡ true → test b ≡ false
 solid test l u e lower upper b h = by (letter_byte l b h)
   where
@@ -197,7 +197,7 @@ module _ (T : List ℕ → Range → Type 0) where
       let p = tested (codes "impl") (λ x. Impl x.0 x.1) (InCompiler T) t c w in
       subst (Atom T t) (sym p.2) (compiler (map_word (codes "impl") (InCompiler T) (Compiled T) (λ x. x) (to_compiled T) t p.0 p.1))
 
-  -- the other way
+  -- the converse
   cut_first : {A : Type 0} (letter : ℕ) (letters : List ℕ) (K : List ℕ → A → Type 0) (text : List ℕ) (x : A) → Worded (letter ∷ letters) K text x → (b : ℕ) × (t : List ℕ) × (text ≡ b ∷ t) × (is_letter letter b ≡ true) × Worded letters K t x
   cut_first letter letters K text x (worded [] e k) = absurd (cc e)
   cut_first letter letters K text x (worded (b ∷ front) {text = t} e k) = (b, front ++ t, refl, eq-eqb (to_ascii_lowercase b) letter (cc e), worded front (cc e) k)
@@ -229,7 +229,7 @@ module _ (T : List ℕ → Range → Type 0) where
   to_words text c (compiler {c = x} w) =
       there (there (there (there (test_word (codes "impl") (λ y. Impl y.0 y.1) (λ y. Impl y.0 y.1) (InCompiler T) (Compiled T) (λ t y k. (y, of_compiled T t y k, refl)) text x w))))
 
-  -- ---- how atoms begin
+  -- ---- the first bytes of atoms
 
   module _ (test : ℕ → Bool) (t-no : (b : ℕ) → is_letter 116 b ≡ true → test b ≡ false) (f-no : (b : ℕ) → is_letter 102 b ≡ true → test b ≡ false) (o-no : (b : ℕ) → is_letter 111 b ≡ true → test b ≡ false)
       (a-no : (b : ℕ) → is_letter 97 b ≡ true → test b ≡ false) (i-no : (b : ℕ) → is_letter 105 b ≡ true → test b ≡ false) where
@@ -240,7 +240,7 @@ module _ (T : List ℕ → Range → Type 0) where
     pub never_atom : spaces.Never test (Atom T)
     never_atom text c a = words_apart text c (to_words text c a)
 
-  -- a test that no letter of these passes, in either case
+  -- a test that the first letters of atoms fail, in both cases
   pub no_atom : (test : ℕ → Bool) → test 116 ≡ false → test 84 ≡ false → test 102 ≡ false → test 70 ≡ false → test 111 ≡ false → test 79 ≡ false → test 97 ≡ false → test 65 ≡ false → test 105 ≡ false → test 73 ≡ false → spaces.Never test (Atom T)
   no_atom test t1 t2 f1 f2 o1 o2 a1 a2 i1 i2 = never_atom test (solid test 116 84 refl t1 t2) (solid test 102 70 refl f1 f2) (solid test 111 79 refl o1 o2) (solid test 97 65 refl a1 a2) (solid test 105 73 refl i1 i2)
 

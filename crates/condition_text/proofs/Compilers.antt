@@ -1,4 +1,4 @@
--- A compiler and its versions in parentheses, as they are read.
+-- Reading a compiler and its versions in parentheses.
 use Rattle.std.proofs.Common.{◌≡◌, ℕ, suc, Bool, true, false, List, [], ◌∷◌, ◌++◌, codes, Result, Ok, Err, refl, sym, ap, ◌∙◌, subst, append_assoc, append-nil, arith}
 use Rattle.std.specs.List.{list_all}
 use Rattle.std.specs.Str.{str_to_ascii_lowercase}
@@ -25,7 +25,7 @@ use Rattle.condition_text.proofs.Tails.{terms_start}
 use Rattle.condition_text.proofs.CondTails.{wide_tail, tail_pair}
 use Rattle.condition_text.proofs.Names.{Run, run, run_reads, run_read, name_fault}
 
--- ---- what stands behind a compiler's name begins with no byte of a name
+-- ---- the rest after a compiler's name begins with no name byte
 
 blank_apart : (b : ℕ) → is_blank b ≡ true → is_letter_or_digit b ≡ false
 blank_apart b h = grind (arith, nat_tests)
@@ -49,7 +49,7 @@ wider_apart spec n text r (broken (b ∷ front) old v) =
     let same : b ≡ f.0 = cc f.2 in
     (b, front ++ codes "{", refl, ap is_letter_or_digit same ∙ f.3)
 
--- ---- the name, and what stands behind it
+-- ---- the name and the range
 
 pub data Named (Tail : List ℕ → Range → Type 0) : List ℕ → List ℕ × Range → Type 0 where
   named : (name : List ℕ) {text : List ℕ} {r : Range} → is_compiler_name name ≡ true → Tail text r → Named Tail (name ++ text) (str_to_ascii_lowercase name, r)

@@ -1,4 +1,4 @@
--- The range of a test, as a condition reads it; and as the wider grammar does, in which a `{` may end it.
+-- Reading the range of a test, in the grammar of conditions and in the wider one, where a `{` may end it.
 use Rattle.std.proofs.Common.{◌≡◌, ◌≢◌, ℕ, suc, Bool, true, false, ◌&&◌, List, [], ◌∷◌, ◌++◌, codes, Some, None, Result, Ok, Err, refl, sym, ap, ◌∙◌, subst, append_assoc, append-nil}
 use Rattle.std.specs.Prelude.{◌==◌, if◌then◌else◌}
 use Rattle.std.specs.List.{list_all}
@@ -58,7 +58,7 @@ brace_behind (b ∷ front) others h =
         plain_not q = rw q refl
     by false q k rest = rw q rest
 
--- what is left of a text that ends with a byte ends with it
+-- a non-empty rest of a text has the last byte of the text
 pub record Ended (front more text : List ℕ) (c : ℕ) : Type 0 where
   pub middle : List ℕ
   pub more_is : more ≡ middle ++ c ∷ []
@@ -97,7 +97,7 @@ module _ (spec : Spec) where
   abbrev TailFault : ℕ → List ℕ → Cause → Type 0
   TailFault m = Fault (range_kind spec) (Versions spec m) (Versions spec (suc m)) (tail_at spec m) (tail_at spec (suc m))
 
-  -- what can be completed isn't read past the place where it is stuck
+  -- a text that continues past the stuck place isn't in the language
   not_past : (m : ℕ) (text : List ℕ) (cause : Cause) (f : TailFault m text cause) (b : ℕ) (others between more : List ℕ) (r : Range) → f.rest ≡ b ∷ others → Versions spec m (f.front ++ (b ∷ (between ++ more))) r → ⊥
   not_past m text cause f b others between more r e v =
       why_dead (range_kind spec) (Versions spec m) (Versions spec (suc m)) (tail_at spec m) (tail_at spec (suc m)) f.front f.rest f.why (b ∷ (between ++ more)) (ap head_of (sym e))
@@ -131,7 +131,7 @@ module _ (spec : Spec) where
         by got (same e q) = whole_read got.front [] p.0 got.is (e ∙ sym (append-nil got.front))
         by got (longer b between e q) = whole_read got.front (b ∷ between) p.0 got.is e
 
-    -- there it is stuck
+    -- the reader is stuck at the `{`
     module _ (old : is_old spec ≡ true) (others : List ℕ) (cause : Cause) (f : TailFault m (front ++ 123 ∷ others) cause) where
       stuck_here : f.rest ≡ 123 ∷ others
       stuck_here = by (order f.front f.rest front (123 ∷ others) (sym f.whole))
@@ -216,7 +216,7 @@ module _ (spec : Spec) where
     newer_of (behind_digit form last other dead) e = absurd (cc e)
     newer_of (no_digit form last none dead) e = absurd (cc e)
 
-    -- what the readers answer
+    -- the results of the readers
     breaks_of : {A : Type 0} (o : Result A Cause) → breaks o ≡ true → o ≡ Err NeedsVersion
     breaks_of {A = A} (Ok x) h = absurd (false≢true h)
     breaks_of {A = A} (Err cause) h = by cause h
@@ -271,7 +271,7 @@ module _ (spec : Spec) where
               apart = apart (f.front ++ codes "{") rest;
             }
 
-    -- ---- where they are stuck
+    -- ---- faults
 
     narrow_dead : (front rest : List ℕ) → Dead (tail_at spec (suc n)) front rest → Dead (cond_tail spec n) front rest
     narrow_dead front rest dead again head = by (tail_at spec n (front ++ again)) refl
@@ -286,7 +286,7 @@ module _ (spec : Spec) where
     told_errs (Ok x) h = h
     told_errs (Err cause) h = refl
 
-    -- where it isn't at a `{`, the wider reader is stuck too
+    -- if the byte isn't a `{`, the wider reader is stuck too
     wide_dead : (front rest more : List ℕ) (x : Range) → Versions spec n (front ++ more) x → (IsNewer (range_kind spec) rest → ⊥) → Dead (tail_at spec (suc n)) front rest → Dead (wide_tail spec n) front rest
     wide_dead front rest more x goes form dead again head = by (tail_at spec (suc n) (front ++ again)) refl (breaks (tail_at spec n (front ++ again))) refl
       where

@@ -1,4 +1,4 @@
--- Factors, and conditions made of them, as they are read.
+-- Reading factors and conditions.
 use Rattle.std.proofs.Common.{◌≡◌, inl, inr, ℕ, zero, suc, Bool, true, false, List, [], ◌∷◌, ◌++◌, codes, Option, Some, None, Result, Ok, Err, refl, sym, ap, ◌∙◌, subst, append_assoc, append-nil}
 use Rattle.std.specs.Prelude.{◌==◌}
 use Rattle.plan_types.specs.declared.refusal.Cause.{Cause}
@@ -24,7 +24,7 @@ use Rattle.condition_text.proofs.CondKind.{no_bytes, cond_kind, ends_none, apart
 use Rattle.condition_text.proofs.CondTails.{wide_tail}
 use Rattle.condition_text.proofs.Atoms.{no_atom, atom_pair}
 
--- ---- a factor, over what is opened in it
+-- ---- a factor, by the reader of its inner factors
 
 module _ (P : Reader Range) (Q : Reader Cond) (spec : Spec) where
   at_paren : (rest : List ℕ) → factor_at P Q (40 ∷ rest) ≡ closing (miss (cond_kind spec)) 41 (terms_at And Or (miss (cond_kind spec)) Q) rest
@@ -127,7 +127,7 @@ module _ (T : List ℕ → Range → Type 0) where
   pub factor_unblank : (m : ℕ) → Never is_blank (Factor T (Opened T m))
   factor_unblank m = never_factor T (Opened T m) is_blank refl refl (no_blank_atom T)
 
--- `true` stands everywhere
+-- `true` is a factor at every depth
 true_opened : (T : List ℕ → Range → Type 0) (m : ℕ) → Opened T (suc m) (codes "true") Always
 unfolding Opened
 true_opened T m = atom (always refl)
@@ -197,13 +197,13 @@ module _ (spec : Spec) (n : ℕ) where
       by (inr other) (inl p) = subst (λ t. FactorFault m t cause) (sym p.1) (bangs p.0 cause (sym (at_bang P (opened_at P m) spec p.0) ∙ sym (ap (F m) p.1) ∙ h))
       by (inr other) (inr none) = atom_fails m text cause other none (sym (at_atom P (opened_at P m) spec text other none) ∙ h)
 
-  -- ---- one more than may be opened
+  -- ---- one parenthesis or `!` too many
 
   still_deep : (b : ℕ) (rest : List ℕ) → ((again : List ℕ) → errs (F zero (b ∷ again)) ≡ true) → Dead (F zero) [] (b ∷ rest)
   still_deep b rest fails [] head = absurd (cc head)
   still_deep b rest fails (c ∷ again) head = let at : c ≡ b = cc head in subst (λ x. errs (F zero (x ∷ again)) ≡ true) (sym at) (fails again)
 
-  -- nothing opened at depth zero is read
+  -- without room no factor is read
   deep : (text : List ℕ) → opened_at P zero text ≡ Err TooDeep
   unfolding opened_at
   deep text = refl
@@ -242,7 +242,7 @@ module _ (spec : Spec) (n : ℕ) where
             (still_deep 33 text (λ again. ap errs (at_bang P (opened_at P zero) spec again ∙ ap (valued Not) (deep (skip_blanks again)))));
       })
 
-  -- ---- what is opened fails
+  -- ---- faults of inner factors
 
   abbrev OpenedFault : ℕ → List ℕ → Cause → Type 0
   OpenedFault m = Fault (cond_kind spec) (Opened V m) (Opened V' (suc m)) (opened_at P m) (opened_at P' (suc m))
@@ -308,7 +308,7 @@ module _ (spec : Spec) (n : ℕ) where
   unfolding Opened opened_at
   below m fault = fault
 
-  -- with at most m open, a factor is stuck where its parts are
+  -- the faults of a factor with at most m open are those of its parts
   pub factors_fault : (m : ℕ) (text : List ℕ) (cause : Cause) → F m text ≡ Err cause → FactorFault m text cause
   factors_fault zero text cause h = factor_fault zero paren_zero bang_zero text cause h
   factors_fault (suc m) text cause h = factor_fault (suc m) (paren_more m (below m (factors_fault m))) (bang_more m (below m (factors_fault m))) text cause h

@@ -1,4 +1,4 @@
--- Names in parentheses, as they are read.
+-- Reading names in parentheses.
 use Rattle.std.proofs.Common.{◌≡◌, inl, inr, ℕ, suc, ◌+◌, ◌<◌, Bool, true, false, ◌&&◌, List, [], ◌∷◌, ◌++◌, Result, Ok, Err, refl, sym, ap, ◌∙◌, subst, length, take, drop, arith, length-append}
 use Rattle.std.specs.List.{list_all, prefix_len}
 use Rattle.std.specs.Str.{IsAscii}
@@ -190,7 +190,7 @@ module _ (first part : ℕ → Bool) where
         ([] ++ ((sample ∷ []) ++ ([] ++ 41 ∷ []))) (sample ∷ []) (led [] refl (closed (sample ∷ []) [] (run sample [] sampled refl) refl)) in
         pair_led (cond_kind spec) (Passing is_open (Led (Closed 41 (Run first part)))) (Passing is_open (Led (Closed 41 (Run first part)))) _ _ opens (never_open (Led (Closed 41 (Run first part)))) (never_open (Led (Closed 41 (Run first part))))
 
--- ---- what a name takes
+-- ---- the extent of a name
 
 module _ (first part : ℕ → Bool) where
   pub run_shorter : (text x rest : List ℕ) → name_at first part text ≡ Ok (x, rest) → length rest < length text

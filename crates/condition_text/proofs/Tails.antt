@@ -1,4 +1,4 @@
--- A range up to the parenthesis that ends a test, as it is read.
+-- Reading a range and the parenthesis that ends a test.
 use Rattle.std.proofs.Common.{◌≡◌, inl, inr, ℕ, suc, Bool, true, false, ◌&&◌, ◌||◌, List, [], ◌∷◌, ◌++◌, codes, Option, Some, None, Ok, Err, refl, sym, ap, ◌∙◌, subst, append_assoc, append-nil}
 use Rattle.std.specs.Prelude.{◌==◌}
 use Rattle.std.specs.List.{list_all}
@@ -33,11 +33,11 @@ module _ (spec : Spec) (n : ℕ) where
   pub at_ranges : (text : List ℕ) → begins_with 41 (skip_blanks text) ≡ false → tail_at spec n text ≡ ranges spec n text
   at_ranges text other = ap (λ (o : Option (List ℕ)). elim o [ Some left ↦ Ok (Any, left) | None ↦ ranges spec n text ]) (byte_gone 41 (skip_blanks text) other)
 
--- a blank, or what ends the test
+-- a blank, or the `)` that ends the test
 abbrev ends : ℕ → Bool
 ends b = is_blank b || b == 41
 
--- a range begins behind blanks with another byte
+-- blanks, and then a byte that fails the test
 pub record Starts (test : ℕ → Bool) (text : List ℕ) : Type 0 where
   pub blanks : List ℕ
   pub byte : ℕ
@@ -115,7 +115,7 @@ module _ (spec : Spec) (n : ℕ) where
           let got = closed_read (range_kind spec) 41 refl refl (Terms spec (Inside spec n)) AfterRange (range_in (inside n spec) spec) (range_rules spec n).read text r rest (sym (at_ranges spec n text other) ∙ h) in
           record { front = got.front; whole = got.whole; is = from_closed got.is; apart = got.apart }
 
--- ---- what decides stands in the front
+-- ---- a prefix that isn't blank decides
 
 over : (b : ℕ) (others : List ℕ) → is_blank b ≡ true → skip_blanks (b ∷ others) ≡ skip_blanks others
 over b others k = rw k refl
@@ -133,13 +133,13 @@ held_step b xs ys behind h = by (is_blank b) refl
 rest_blank : (b : ℕ) (front : List ℕ) → is_blank b ≡ true → list_all is_blank (b ∷ front) ≡ false → list_all is_blank front ≡ false
 rest_blank b front k q = ap (λ t. t && list_all is_blank front) (sym k) ∙ q
 
--- some byte of the front isn't blank
+-- if the prefix isn't blank, the rest doesn't matter
 held : (rest again front : List ℕ) → list_all is_blank front ≡ false → begins_with 41 (skip_blanks (front ++ rest)) ≡ false → begins_with 41 (skip_blanks (front ++ again)) ≡ false
 held rest again [] q h = absurd (true≢false q)
 held rest again (b ∷ front) q h =
     held_step b (front ++ rest) (front ++ again) (λ k. held rest again front (rest_blank b front k q) (ap (begins_with 41) (sym (over b (front ++ rest) k)) ∙ h)) h
 
--- ---- where it is stuck
+-- ---- faults
 
 module _ (spec : Spec) (n : ℕ) where
   abbrev RangesFault : List ℕ → Cause → Type 0
@@ -150,7 +150,7 @@ module _ (spec : Spec) (n : ℕ) where
       (Terms spec (Inside spec (suc n))) AfterRange (range_in (inside (suc n) spec) spec) (λ t r c. wider_terms spec (Inside spec n) (Inside spec (suc n)) (wider_inside spec n) t r c)
       (λ t rest e. e.0.0) after_instead (range_rules spec (suc n)).reads (range_fault spec n)
 
-  -- behind blanks it is stuck at no blank
+  -- after blanks it isn't stuck at a blank
   any_range : (m : ℕ) (front : List ℕ) (b : ℕ) → Blanks front → is_blank b ≡ true → errs (ranges spec m (front ++ (b ∷ codes "-any)"))) ≡ false
   any_range m front b are blank =
       let blanks : Blanks (front ++ b ∷ []) = blanks_push front b are blank in

@@ -1,4 +1,4 @@
--- A whole text: what it stands for, its first fault, and that it has one of both.
+-- A whole text denotes a condition or has a first fault, never both.
 use Rattle.std.proofs.Common.{◌≡◌, ◌≢◌, inl, inr, ℕ, suc, Bool, true, false, ◌&&◌, List, [], ◌∷◌, ◌++◌, length, Some, None, Result, Ok, Err, refl, sym, ap, ◌∙◌, subst, append-nil}
 use Rattle.std.specs.Prelude.{◌==◌, if◌then◌else◌}
 use Rattle.std.specs.Result.{IfOk, IfErr, MatchResult}
@@ -38,7 +38,7 @@ ended_ok p e = rw e refl
 ended_err : (p : Cond × List ℕ) → (length (skip_blanks p.1) == 0) ≡ false → ended p ≡ Err BadCond
 ended_err p e = rw e refl
 
--- ---- one reader against its language
+-- ---- a reader is correct for its language
 
 module _ (spec : Spec) (T : List ℕ → Range → Type 0) (m : ℕ) (P : Reader Cond) (rules : Rules (Terms And Or (Factor T (Opened T m))) (AfterTerms (cond_kind spec) refl refl refl) P) where
   after_end : (front after : List ℕ) → Blanks after → AfterTerms (cond_kind spec) refl refl refl front after
@@ -111,7 +111,7 @@ module _ (spec : Spec) (n : ℕ) where
       (λ t c l. ([], c, reads t [] l refl)) (λ t c l. ([], c, reads t [] l refl)) text cause f refl
       (λ again like e. errs_then (P (f.front ++ again)) ended e) (λ again like e. errs_then (P' (f.front ++ again)) ended e)
 
-  -- ---- something stands behind it
+  -- ---- text after the condition
 
   module _ (front behind : List ℕ) (c : Cond) (l : C front c) (after : AfterTerms (cond_kind spec) refl refl refl front behind) (some : skip_blanks behind ≢ []) where
     still_some : (again : List ℕ) → Instead no_bytes front behind again → again ≢ []
@@ -202,7 +202,7 @@ module _ (spec : Spec) (n : ℕ) where
       let f = text_fault text cause h in
       record { front = f.front; rest = f.rest; whole = f.whole; goes_on = (f.more, f.value, f.goes_on); stops = stuck f.front f.rest f.why; is = cause_of f.front f.rest f.why }
 
-  -- ---- one of both
+  -- ---- uniqueness
 
   pub one_condition : (text : List ℕ) (c d : Cond) → Stands spec n text c → Stands spec n text d → c ≡ d
   one_condition text c d a b = let p = finds text c a in let q = finds text d b in cc
@@ -210,7 +210,7 @@ module _ (spec : Spec) (n : ℕ) where
   pub condition_or_fault : (text : List ℕ) (c : Cond) (cause : Cause) → Stands spec n text c → FirstFault spec n text cause → ⊥
   condition_or_fault = exactly.value_or_fault (Stands spec n) (CauseAt spec n)
 
-  -- the byte decides
+  -- the byte decides the cause
   one_wider : (front rest rest' : List ℕ) (c d : Cause) → rest ≡ rest' → WiderAt spec n front rest c → WiderAt spec n front rest' d → c ≡ d
   one_wider front rest rest' c d e (too_deep b r h v) (too_deep b' r' h' v') = refl
   one_wider front rest rest' c d e (too_deep b r h v) (needs_version r' v') = let at : b ≡ 123 = cc e in absurd (false≢true (ap is_opener (sym at) ∙ h))
@@ -226,7 +226,7 @@ module _ (spec : Spec) (n : ℕ) where
   pub one_fault : (text : List ℕ) (c d : Cause) → FirstFault spec n text c → FirstFault spec n text d → c ≡ d
   one_fault = exactly.one_fault (Stands spec n) (CauseAt spec n) one_cause
 
--- ---- what a call answered
+-- ---- results of calls
 
 module _ (spec : Spec) (text : List ℕ) where
   of_is : cond_of spec text ≡ whole_at (cond_tail spec 64) 64 text

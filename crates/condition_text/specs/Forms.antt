@@ -5,13 +5,13 @@ use Rattle.condition_text.specs.declared.name.Form.{Form}
 use Rattle.condition_text.specs.declared.name.Form.TheVariants.{Flag, Part, Compiler}
 use Rattle.condition_text.specs.Reading.{begins_flag}
 
--- the first byte of a name passes this, and so does every byte pass that of its parts
+-- the test of the first byte of a name, besides the test of all its bytes
 abbrev pub first_of : Form → ℕ → Bool
 first_of Flag = begins_flag
 first_of Part = is_component_byte
 first_of Compiler = is_letter_or_digit
 
--- whether a byte may stand in a name of this form
+-- whether a byte is allowed in a name of this form
 abbrev pub part_of : Form → ℕ → Bool
 part_of Flag = is_component_byte
 part_of Part = is_component_byte

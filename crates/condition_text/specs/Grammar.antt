@@ -1,4 +1,4 @@
--- Which condition a text stands for, and the first byte at which no reading goes on.
+-- The language of conditions, and the first faults of texts.
 use Rattle.std.specs.Prelude.{◌≡◌, ℕ, zero, suc, Bool, true, false, ◌||◌, ◌==◌, List, [], ◌∷◌, ◌++◌, codes}
 use Rattle.std.specs.List.{list_all}
 use Rattle.std.specs.Str.{str_to_ascii_lowercase}
@@ -22,25 +22,25 @@ abbrev pub is_compiler_name : List ℕ → Bool
 is_compiler_name [] = false
 is_compiler_name (b ∷ bs) = list_all is_letter_or_digit (b ∷ bs)
 
--- a name of this form, which is kept in lower case
+-- a name of this form, with its lower case as the value
 pub data Name (form : List ℕ → Bool) : List ℕ → List ℕ → Type 0 where
   name : (text : List ℕ) → form text ≡ true → Name form text (str_to_ascii_lowercase text)
 
--- what has this, in parentheses, with blanks around
+-- a part in parentheses, with blanks around
 pub data Enclosed {A : Type 0} (Part : List ℕ → A → Type 0) : List ℕ → A → Type 0 where
   enclosed : (before inner after : List ℕ) {text : List ℕ} {x : A} → Blanks before → Blanks inner → Part text x → Blanks after →
       Enclosed Part (before ++ codes "(" ++ inner ++ text ++ after ++ codes ")") x
 
--- a range up to the `)` that ends a test, where so many parentheses may be open in the range
+-- a range and the `)` that ends a test, with at most so many parentheses open at once in the range
 pub data Versions (spec : Spec) (deepest : ℕ) : List ℕ → Range → Type 0 where
   versions : (text : List ℕ) {r : Range} → ranges.Stands spec deepest text r → Versions spec deepest (text ++ codes ")") r
 
--- a compiler and its versions, of which Tail tells
+-- a compiler in parentheses; `Tail` is the language of its range and `)`
 pub data Compiled (Tail : List ℕ → Range → Type 0) : List ℕ → List ℕ × Range → Type 0 where
   compiled : (before inner name : List ℕ) {text : List ℕ} {r : Range} → Blanks before → Blanks inner → is_compiler_name name ≡ true → Tail text r →
       Compiled Tail (before ++ codes "(" ++ inner ++ name ++ text) (str_to_ascii_lowercase name, r)
 
--- a factor in which nothing is opened
+-- an atom: a factor without `!` and parentheses around it
 pub data Atom (Tail : List ℕ → Range → Type 0) : List ℕ → Cond → Type 0 where
   always : {text : List ℕ} → str_to_ascii_lowercase text ≡ codes "true" → Atom Tail text Always
   never : {text : List ℕ} → str_to_ascii_lowercase text ≡ codes "false" → Atom Tail text Never
@@ -49,46 +49,46 @@ pub data Atom (Tail : List ℕ → Range → Type 0) : List ℕ → Cond → Typ
   arch : {text x : List ℕ} → Worded (codes "arch") (Enclosed (Name is_component_name)) text x → Atom Tail text (Arch x)
   compiler : {text : List ℕ} {c : List ℕ × Range} → Worded (codes "impl") (Compiled Tail) text c → Atom Tail text (Impl c.0 c.1)
 
--- an atom, `!` and a factor, or a condition in parentheses; what is opened is made of these
+-- a factor: an atom, `!` and a factor, or a condition in parentheses; `Opened` is the language of inner factors
 pub data Factor (Tail : List ℕ → Range → Type 0) (Opened : List ℕ → Cond → Type 0) : List ℕ → Cond → Type 0 where
   atom : {text : List ℕ} {c : Cond} → Atom Tail text c → Factor Tail Opened text c
   negated : (blanks : List ℕ) {text : List ℕ} {c : Cond} → Blanks blanks → Opened text c → Factor Tail Opened (codes "!" ++ blanks ++ text) (Not c)
   opened : (text after : List ℕ) {c : Cond} → Terms And Or Opened text c → Blanks after → Factor Tail Opened (codes "(" ++ text ++ after ++ codes ")") c
 
--- what may be opened by a parenthesis or a `!`, where so many may be open in all
+-- a factor inside a `(` or `!`, with at most so many open at once, this one included
 unfoldable pub Opened : (List ℕ → Range → Type 0) → ℕ → List ℕ → Cond → Type 0
 Opened Tail zero text c = ⊥
 Opened Tail (suc n) text c = Factor Tail (Opened Tail n) text c
 
--- The text stands for this condition, with at most so many parentheses and `!` open at once.
+-- The text denotes this condition, with at most so many parentheses and `!` open at once.
 pub data Reads (Tail : List ℕ → Range → Type 0) (deepest : ℕ) : List ℕ → Cond → Type 0 where
   reads : (text after : List ℕ) {c : Cond} → Terms And Or (Factor Tail (Opened Tail deepest)) text c → Blanks after → Reads Tail deepest (text ++ after) c
 
--- the same number may be open in a range
+-- the same, with as many parentheses open at once in a range
 abbrev pub Stands : Spec → ℕ → List ℕ → Cond → Type 0
 Stands spec deepest = Reads (Versions spec deepest) deepest
 
--- In a wider grammar one more may be open, and in 2.4 a `{` may end a test at any place of its range.
+-- A test's range in the wider grammar: one more may be open, and in 2.4 a `{` may end the test inside its range.
 pub data WiderVersions (spec : Spec) (deepest : ℕ) : List ℕ → Range → Type 0 where
   deeper : {text : List ℕ} {r : Range} → Versions spec (suc deepest) text r → WiderVersions spec deepest text r
   broken : (front : List ℕ) → is_old spec ≡ true → ranges.Viable spec deepest front → WiderVersions spec deepest (front ++ codes "{") Any
 
--- the text stands for this condition in the wider grammar
+-- the text denotes this condition in the wider grammar
 abbrev pub Wider : Spec → ℕ → List ℕ → Cond → Type 0
 Wider spec deepest = Reads (WiderVersions spec deepest) (suc deepest)
 
--- the byte opens something that the wider grammar alone reads
+-- only the wider grammar continues at this byte
 pub data WiderAt (spec : Spec) (deepest : ℕ) (front : List ℕ) : List ℕ → Cause → Type 0 where
   -- one parenthesis or `!` too many
   too_deep : (b : ℕ) (rest : List ℕ) → (b == 40 || b == 33) ≡ true → first.Viable (Wider spec deepest) (front ++ b ∷ []) → WiderAt spec deepest front (b ∷ rest) TooDeep
   -- a set in 2.4
   needs_version : (rest : List ℕ) → first.Viable (Wider spec deepest) (front ++ codes "{") → WiderAt spec deepest front (123 ∷ rest) NeedsVersion
 
--- the cause at the byte behind the front, at which no reading goes on
+-- the cause after a viable prefix at which the text is stuck
 pub data CauseAt (spec : Spec) (deepest : ℕ) (front rest : List ℕ) : Cause → Type 0 where
   wider : {cause : Cause} → WiderAt spec deepest front rest cause → CauseAt spec deepest front rest cause
   bad_cond : ((cause : Cause) → WiderAt spec deepest front rest cause → ⊥) → CauseAt spec deepest front rest BadCond
 
--- the text is read up to here, no reading goes on, and this is the cause
+-- a viable prefix at which the text is stuck, and the cause there
 abbrev pub FirstFault : Spec → ℕ → List ℕ → Cause → Type 0
 FirstFault spec deepest = first.FirstFault (Stands spec deepest) (CauseAt spec deepest)

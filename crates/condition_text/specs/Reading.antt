@@ -1,4 +1,4 @@
--- How a condition is read from left to right. What a text stands for and which fault is the first is in Grammar.
+-- The reader of conditions, from left to right. The language and its first faults are in Grammar.
 use Rattle.std.specs.Prelude.{ℕ, zero, suc, Bool, ◌&&◌, ◌==◌, not, if◌then◌else◌, List, [], ◌∷◌, codes, length, Some, None, Result, Ok, Err}
 use Rattle.std.specs.Str.{str_to_ascii_lowercase}
 use Rattle.plan_types.specs.Name.{is_letter_or_digit, is_component_byte}
@@ -13,25 +13,25 @@ use Rattle.text_grammar.specs.Reading.{◌>>=◌, skip_blanks, byte_after, byte_
 use Rattle.version_range.specs.Read.{range_in, inside, missing}
 use Rattle.conditionals.specs.Environment.{system_of}
 
--- where another byte is due
+-- the cause where another byte is due
 abbrev pub bad : List ℕ → Cause
 bad rest = BadCond
 
--- the bytes at the front that pass, and what follows them
+-- the longest prefix of bytes that pass, and the rest
 abbrev pub split : (ℕ → Bool) → List ℕ → List ℕ × List ℕ
 split test [] = ([], [])
 split test (b ∷ bs) = if test b then (b ∷ (split test bs).0, (split test bs).1) else ([], b ∷ bs)
 
--- a name: a first byte, and the longest run of bytes that may stand in it
+-- a name: the longest run of name bytes, with a test of the first one
 unfoldable pub name_at : (ℕ → Bool) → (ℕ → Bool) → List ℕ → Result (List ℕ × List ℕ) Cause
 name_at first part [] = Err BadCond
 name_at first part (b ∷ bs) = if first b && part b then Ok (split part (b ∷ bs)) else Err BadCond
 
--- blanks and a `)` behind what is read
+-- blanks and a required `)` after a read
 abbrev pub closed : {A : Type 0} → A × List ℕ → Result (A × List ℕ) Cause
 closed r = byte_due bad 41 (skip_blanks r.1) >>= λ rest. Ok (r.0, rest)
 
--- blanks, a `(`, blanks, and what stands in the parenthesis
+-- blanks, a `(`, blanks, and then `read`
 abbrev pub argument : {A : Type 0} → (List ℕ → Result (A × List ℕ) Cause) → List ℕ → Result (A × List ℕ) Cause
 argument read text = elim (byte_after 40 (skip_blanks text)) [ None ↦ Err BadCond | Some rest ↦ read (skip_blanks rest) ]
 
@@ -43,7 +43,7 @@ named_at first part = argument (λ text. name_at first part text >>= closed)
 abbrev pub begins_flag : ℕ → Bool
 begins_flag b = not (b == 45)
 
--- what is refused of a range is refused of a condition
+-- the cause of a fault in a range, as one of a condition
 abbrev pub cond_cause : Cause → Cause
 cond_cause NeedsVersion = NeedsVersion
 cond_cause TooDeep = TooDeep
@@ -79,12 +79,12 @@ cond_cause DuplicateUnit = BadCond
 cond_cause TooMany = BadCond
 cond_cause BadEvent = BadCond
 
--- what reading a range gives, as what reading a condition gives
+-- a read of a range, with the causes of a condition
 abbrev pub told : {A : Type 0} → Result A Cause → Result A Cause
 told (Ok x) = Ok x
 told (Err cause) = Err (cond_cause cause)
 
--- an empty text, or a range; and then the parenthesis that ends the test
+-- an optional range, and the parenthesis that ends the test
 abbrev pub tail_at : Spec → ℕ → List ℕ → Result (Range × List ℕ) Cause
 tail_at spec n text =
     elim (byte_after 41 (skip_blanks text)) [
@@ -100,23 +100,23 @@ cond_tail spec n text = told (tail_at spec n text)
 abbrev pub compiler_at : (List ℕ → Result (Range × List ℕ) Cause) → List ℕ → Result ((List ℕ × Range) × List ℕ) Cause
 compiler_at tail text = name_at is_letter_or_digit is_letter_or_digit text >>= λ p. tail p.1 >>= λ q. Ok ((str_to_ascii_lowercase p.0, q.0), q.1)
 
--- behind `flag`: the name of a flag
+-- the test of a flag, after `flag`
 abbrev pub flag_at : List ℕ → Result (Cond × List ℕ) Cause
 flag_at text = valued (λ x. Flag (str_to_ascii_lowercase x)) (named_at begins_flag is_component_byte text)
 
--- behind `os`: the name of a system
+-- the test of a system, after `os`
 abbrev pub os_at : List ℕ → Result (Cond × List ℕ) Cause
 os_at text = valued (λ x. Os (system_of (str_to_ascii_lowercase x))) (named_at is_component_byte is_component_byte text)
 
--- behind `arch`: the name of a processor
+-- the test of a processor, after `arch`
 abbrev pub arch_at : List ℕ → Result (Cond × List ℕ) Cause
 arch_at text = valued (λ x. Arch (str_to_ascii_lowercase x)) (named_at is_component_byte is_component_byte text)
 
--- behind `impl`: a compiler and its versions
+-- the test of a compiler and its versions, after `impl`
 abbrev pub impl_at : (List ℕ → Result (Range × List ℕ) Cause) → List ℕ → Result (Cond × List ℕ) Cause
 impl_at tail text = valued (λ c. Impl c.0 c.1) (argument (compiler_at tail) text)
 
--- the letters of a word, and what stands behind it
+-- a required word, and then `read`
 abbrev pub word_at : List ℕ → (List ℕ → Result (Cond × List ℕ) Cause) → List ℕ → Result (Cond × List ℕ) Cause
 word_at word read text = word_due bad word text >>= read
 
@@ -124,23 +124,23 @@ word_at word read text = word_due bad word text >>= read
 abbrev pub from_a : (List ℕ → Result (Range × List ℕ) Cause) → List ℕ → Result (Cond × List ℕ) Cause
 from_a tail text = elim (letter_after 97 text) [ None ↦ word_at (codes "impl") (impl_at tail) text | Some rest ↦ word_at (codes "rch") arch_at rest ]
 
--- `os`, or what may stand behind it in this choice
+-- `os`, or one of the later choices
 abbrev pub from_o : (List ℕ → Result (Range × List ℕ) Cause) → List ℕ → Result (Cond × List ℕ) Cause
 from_o tail text = elim (letter_after 111 text) [ None ↦ from_a tail text | Some rest ↦ word_at (codes "s") os_at rest ]
 
--- behind the first letter of `false` or `flag`
+-- `false` or `flag`, after its first letter
 abbrev pub after_f : List ℕ → Result (Cond × List ℕ) Cause
 after_f text = elim (letter_after 97 text) [ None ↦ word_at (codes "lag") flag_at text | Some rest ↦ word_at (codes "lse") (λ t. Ok (Never, t)) rest ]
 
--- `false` or `flag`, or what may stand behind them in this choice
+-- `false` or `flag`, or one of the later choices
 abbrev pub from_f : (List ℕ → Result (Range × List ℕ) Cause) → List ℕ → Result (Cond × List ℕ) Cause
 from_f tail text = elim (letter_after 102 text) [ None ↦ from_o tail text | Some rest ↦ after_f rest ]
 
--- a factor in which nothing is opened
+-- an atom: a factor without `!` and parentheses around it
 unfoldable pub atom_at : (List ℕ → Result (Range × List ℕ) Cause) → List ℕ → Result (Cond × List ℕ) Cause
 atom_at tail text = elim (letter_after 116 text) [ None ↦ from_f tail text | Some rest ↦ word_at (codes "rue") (λ t. Ok (Always, t)) rest ]
 
--- `!` and a factor, or a condition in parentheses, of which opened reads what they are made of; else an atom
+-- a factor: `!` and a factor, a condition in parentheses, or an atom; `opened` reads the inner factors
 unfoldable pub factor_at : (List ℕ → Result (Range × List ℕ) Cause) → (List ℕ → Result (Cond × List ℕ) Cause) → List ℕ → Result (Cond × List ℕ) Cause
 factor_at tail opened text =
     elim (byte_after 40 text) [
@@ -148,7 +148,7 @@ factor_at tail opened text =
       | None ↦ elim (byte_after 33 text) [ Some rest ↦ valued Not (opened (skip_blanks rest)) | None ↦ atom_at tail text ]
     ]
 
--- where so many may still be opened
+-- a factor with so much room; each `(` and `!` around a factor takes one
 unfoldable pub opened_at : (List ℕ → Result (Range × List ℕ) Cause) → ℕ → List ℕ → Result (Cond × List ℕ) Cause
 opened_at tail zero text = Err TooDeep
 opened_at tail (suc n) text = factor_at tail (opened_at tail n) text
@@ -157,7 +157,7 @@ opened_at tail (suc n) text = factor_at tail (opened_at tail n) text
 abbrev pub condition_at : (List ℕ → Result (Range × List ℕ) Cause) → ℕ → List ℕ → Result (Cond × List ℕ) Cause
 condition_at tail n = terms_at And Or bad (factor_at tail (opened_at tail n))
 
--- what is read is the text where only blanks are left
+-- the condition, if only blanks follow it
 abbrev pub ended : Cond × List ℕ → Result Cond Cause
 ended r = if length (skip_blanks r.1) == 0 then Ok r.0 else Err BadCond
 

@@ -1,5 +1,5 @@
-//! Texts of conditions. In go texts; out come conditions, or the first fault of a text, exactly as the
-//! grammar says.
+//! Texts of conditions. `read_cond` takes a text and returns its condition, or its first fault, exactly by the grammar.
+//! A text denotes at most one condition, has at most one first fault, and never both.
 #![tactic(auto)]
 
 mod laws;

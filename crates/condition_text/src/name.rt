@@ -1,4 +1,4 @@
-// Names of flags, systems and compilers, as they stand in a condition.
+// Names of flags, systems, processors and compilers in a condition.
 ghost use Rattle.std.specs.Prelude.{◌≡◌, ◌≤◌, ◌<◌, length, IfOk};
 ghost use Rattle.std.specs.List.{prefix_len};
 ghost use Rattle.std.specs.Str.{IsAscii, str_to_ascii_lowercase};
@@ -10,7 +10,7 @@ use plan_types::{Cause, NoMemory, Text, TextFault};
 use std::alloc::Global;
 use text_grammar::{byte_after, skip_blanks};
 
-/// What a name is made of: that of a flag, of a system, or of a compiler.
+/// The form of a name: of a flag, of a system or processor, or of a compiler.
 #[derive(Clone, Copy)]
 pub enum Form {
     Flag,
@@ -53,7 +53,7 @@ fn run_len(form: Form, text: &[u8]) -> usize
     text.iter().take_while(|byte| form.has(**byte)).count()
 }
 
-// The longest run of bytes of a name, and what follows it.
+// The longest run of name bytes, and the rest.
 fn split(form: Form, text: &[u8]) -> (&[u8], &[u8])
     ensures { (result.0.now, result.1.now) ≡ split (part_of form) text.now }
 {
@@ -66,7 +66,7 @@ pub fn bad_cond() -> TextFault
     TextFault::Bad(Cause::BadCond)
 }
 
-/// The name at the front, and what follows it.
+/// The name at the start of a text, and the rest.
 pub fn name_at(form: Form, text: &[u8]) -> Result<(&[u8], &[u8]), TextFault>
     ensures gives { Gives (λ p. (p.0.now, p.1.now)) result (name_at (first_of form) (part_of form) text.now) }
     ensures within { IfOk result (λ p. length p.1.now < length text.now) }
@@ -85,7 +85,7 @@ fn front_name(form: Form, text: &[u8]) -> Result<(&[u8], &[u8]), TextFault>
     }
 }
 
-/// What follows blanks and a closing parenthesis, which must stand here.
+/// The rest after blanks and a required closing parenthesis.
 pub fn closed(text: &[u8]) -> Result<&[u8], TextFault>
     ensures gives { Gives (λ rest. rest.now) result (byte_due bad 41 (skip_blanks text.now)) }
     ensures within { IfOk result (λ rest. length rest.now < length text.now) }
@@ -96,7 +96,7 @@ pub fn closed(text: &[u8]) -> Result<&[u8], TextFault>
     }
 }
 
-/// A name in parentheses, and what follows it.
+/// A name in parentheses, and the rest.
 pub fn named_at(form: Form, text: &[u8]) -> Result<(&[u8], &[u8]), TextFault>
     ensures gives { Gives (λ p. (p.0.now, p.1.now)) result (named_at (first_of form) (part_of form) text.now) }
     ensures within { IfOk result (λ p. length p.1.now < length text.now) }
@@ -112,7 +112,7 @@ pub fn named_at(form: Form, text: &[u8]) -> Result<(&[u8], &[u8]), TextFault>
     }
 }
 
-/// A copy in lower case.
+/// A copy of the name, in lower case.
 pub fn lowered(alloc: Global, name: &[u8]) -> Result<Text, NoMemory>
     requires { IsAscii name.now }
     ensures { IfOk result (λ text. text ≡ str_to_ascii_lowercase name.now) }

@@ -1,4 +1,4 @@
-// A condition is read from left to right; the first byte at which no reading goes on is the fault.
+// A condition is read from left to right. The fault is at the first byte at which no reading continues.
 ghost use Rattle.std.specs.Prelude.{◌≡◌, ◌<◌, ◌≤◌, length, IfOk, IfErr, IfSome, MatchResult};
 ghost use Rattle.std.specs.Option.{option_map};
 ghost use Rattle.plan_types.specs.Refusal.{Refuses};
@@ -32,7 +32,7 @@ fn negated(alloc: Global, inner: Cond) -> Result<Cond, NoMemory>
     Ok(Cond::Not(Shared::new(alloc, inner)?))
 }
 
-// What follows a byte that must stand here.
+// The rest after a required byte.
 fn twin(text: &[u8], byte: u8) -> Result<&[u8], TextFault>
     ensures gives { Gives (λ rest. rest.now) result (byte_due bad byte text.now) }
     ensures within { IfOk result (λ rest. length rest.now < length text.now) }
@@ -43,7 +43,7 @@ fn twin(text: &[u8], byte: u8) -> Result<&[u8], TextFault>
     }
 }
 
-// What stands behind `&&` or `||`, where its first byte is there.
+// The rest after `&&` or `||`; none if its first byte is missing.
 fn behind(text: &[u8], byte: u8) -> Result<Option<&[u8]>, TextFault>
     ensures gives { Gives (option_map (λ rest. rest.now)) result (behind_twice bad byte text.now) }
     ensures within { IfOk result (λ found. IfSome found (λ rest. length rest.now < length text.now)) }
@@ -54,7 +54,7 @@ fn behind(text: &[u8], byte: u8) -> Result<Option<&[u8]>, TextFault>
     }
 }
 
-// What is opened where so many may still be.
+// A factor, if any room is left. Each `(` and `!` around a factor takes one of `room`.
 #[cycle(reading)]
 #[tactic(auto, unfolding(crate::specs::Reading::opened_at))]
 fn opened(alloc: Global, spec: Spec, room: u32, text: &[u8]) -> Result<(Cond, &[u8]), TextFault>
@@ -184,15 +184,15 @@ fn terms_at(alloc: Global, spec: Spec, room: u32, text: &[u8]) -> Result<(Cond, 
     terms_after(alloc, spec, room, first, rest)
 }
 
-/// Reads a condition: terms joined by `||`, each of factors joined by `&&`, both grouped from the left. The
-/// fault is that of the first byte at which no reading goes on.
+/// Reads a condition: terms joined by `||`, each of factors joined by `&&`, both left-associative. The fault is
+/// at the first byte at which no reading continues.
 pub fn read_cond(alloc: Global, text: &[u8], spec: Spec) -> Result<Cond, TextFault>
     ensures condition { IfOk result (λ c. Stands spec 64 text.now c) }
     ensures fault { IfErr result (Refuses (FirstFault spec 64 text.now)) }
-    // A text that stands for a condition isn't refused, but for want of memory.
+    // Complete for conditions: a text that denotes a condition gives it, or out of memory.
     ensures exactly_conditions { (c : Cond) → Stands spec 64 text.now c →
         MatchResult result (λ found. found ≡ c) (Refuses (λ _. ⊥)) }
-    // A text that has a fault gives no condition, and no other fault.
+    // Complete for faults: a text with a fault gives it, or out of memory.
     ensures exactly_faults { (cause : Cause) → FirstFault spec 64 text.now cause →
         MatchResult result (λ _. ⊥) (Refuses (λ why. why ≡ cause)) }
 {

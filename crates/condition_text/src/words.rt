@@ -13,7 +13,7 @@ use std::alloc::Global;
 use text_grammar::{byte_after, skip_blanks};
 use version_range::{byte_due, range_at_front};
 
-// What follows a letter in either case, where it is the first; it is given in lower case.
+// The rest of the text, if its first byte is this lower-case letter, in any case.
 fn letter_after(text: &[u8], letter: u8) -> Option<&[u8]>
     ensures value { option_copied result ≡ letter_after letter text.now }
     ensures within { IfSome result (λ rest. length rest.now < length text.now) }
@@ -24,7 +24,7 @@ fn letter_after(text: &[u8], letter: u8) -> Option<&[u8]>
     }
 }
 
-// What follows the letters of a word.
+// The rest after a required word, in any case.
 fn word_due<'a>(text: &'a [u8], word: &[u8]) -> Result<&'a [u8], TextFault>
     ensures gives { Gives (λ rest. rest.now) result (word_due bad word.now text.now) }
     ensures within { IfOk result (λ rest. length rest.now ≤ length text.now) }
@@ -41,7 +41,7 @@ fn word_due<'a>(text: &'a [u8], word: &[u8]) -> Result<&'a [u8], TextFault>
     Ok(rest)
 }
 
-// What is refused of a range is refused of a condition.
+// The cause of a fault in a range, as one of a condition.
 fn cond_cause(cause: Cause) -> Cause
     ensures { result ≡ cond_cause cause }
 {
@@ -82,7 +82,7 @@ fn cond_cause(cause: Cause) -> Cause
     }
 }
 
-// A range, or none, and the parenthesis that ends the test.
+// An optional range, and the parenthesis that ends the test.
 fn tail_at(alloc: Global, spec: Spec, text: &[u8]) -> Result<(Range, &[u8]), TextFault>
     ensures gives { Gives (λ p. (p.0, p.1.now)) result (tail_at spec 64 text.now) }
     ensures within { IfOk result (λ p. length p.1.now < length text.now) }
@@ -177,7 +177,7 @@ fn from_o(alloc: Global, spec: Spec, text: &[u8]) -> Result<(Cond, &[u8]), TextF
     }
 }
 
-// Behind the first letter of `false` or `flag`.
+// `false` or `flag`, after its first letter.
 fn after_f(alloc: Global, text: &[u8]) -> Result<(Cond, &[u8]), TextFault>
     ensures gives { Gives (λ p. (p.0, p.1.now)) result (after_f text.now) }
     ensures within { IfOk result (λ p. length p.1.now < length text.now) }
@@ -201,7 +201,7 @@ fn from_f(alloc: Global, spec: Spec, text: &[u8]) -> Result<(Cond, &[u8]), TextF
     }
 }
 
-/// A word or a test, and what follows it.
+/// A word or a test, and the rest.
 #[tactic(auto, unfolding(crate::specs::Reading::atom_at))]
 pub fn atom_at(alloc: Global, spec: Spec, text: &[u8]) -> Result<(Cond, &[u8]), TextFault>
     ensures gives { Gives (λ p. (p.0, p.1.now)) result (atom_at (cond_tail spec 64) text.now) }

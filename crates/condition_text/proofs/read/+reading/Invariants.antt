@@ -29,7 +29,7 @@ decreases-terms_at l = 8 * l.room + 6
 abbrev pub decreases-factor_at : goal.decreases-factor_at
 decreases-factor_at l = 8 * l.room + 7
 
--- the factors so far go on to the whole
+-- reading on after the factors so far gives the whole
 abbrev pub invariant-factors_after-loop-right : goal.invariant-factors_after-loop-right
 invariant-factors_after-loop-right l =
     let next = next_at (λ t. opened_at (cond_tail l.fn.spec 64) l.fn.room (skip_blanks t)) bad 38 in
@@ -41,7 +41,7 @@ invariant-factors_after-loop-right l =
 abbrev pub decreases-factors_after-loop-right : goal.decreases-factors_after-loop-right
 decreases-factors_after-loop-right l = length l.rest
 
--- the terms so far go on to the whole
+-- reading on after the terms so far gives the whole
 abbrev pub invariant-terms_after-loop-right : goal.invariant-terms_after-loop-right
 invariant-terms_after-loop-right l =
     let next = next_at (term_at And bad (opened_at (cond_tail l.fn.spec 64) l.fn.room)) bad 124 in
