@@ -1,4 +1,4 @@
--- How a text is cut at its commas.
+-- Cutting a text at its commas.
 use Rattle.std.proofs.Common.{◌≡◌, ℕ, ◌+◌, ◌<◌, ◌≤◌, Bool, true, false, not, ◌&&◌, List, [], ◌∷◌, ◌++◌, length, map, Bor, take, get_or, refl, sym, ap, ◌∙◌, subst, append_assoc, arith}
 use Rattle.std.specs.Prelude.{◌==◌}
 use Rattle.std.proofs.lemmas.Bool.{and_from, true≢false, eqb-true}
@@ -20,7 +20,7 @@ inside_push depth (x ∷ xs) b =
     ap (λ t. not (x == 44 && depth == 0) && t) (inside_push (depth_behind depth x) xs b)
     ∙ sym (and_assoc (not (x == 44 && depth == 0)) (commas_inside (depth_behind depth x) xs) (not (b == 44 && left_open (depth_behind depth x) xs == 0)))
 
--- a blank last one of several
+-- a blank last piece of several
 pub blank_last : (piece : List ℕ) (pieces : List (List ℕ)) (end : List ℕ) → are_blanks end ≡ true → without_last (piece ∷ (pieces ++ end ∷ [])) ≡ piece ∷ pieces
 blank_last piece [] end h = rw h refl
 blank_last piece (next ∷ []) end h = ap (λ t. piece ∷ t) (blank_last next [] end h)
@@ -32,7 +32,7 @@ other_last (piece ∷ []) end h = rw h refl
 other_last (piece ∷ next ∷ []) end h = ap (λ t. piece ∷ t) (other_last (next ∷ []) end h)
 other_last (piece ∷ next ∷ more ∷ pieces) end h = ap (λ t. piece ∷ t) (other_last (next ∷ more ∷ pieces) end h)
 
--- one more byte, which splits nothing
+-- one more byte, which is no separator
 pub one_more : (text : List ℕ) (at depth next : ℕ) → at < length text → depth ≡ left_open 0 (take at text) → commas_inside 0 (take at text) ≡ true
     → (get_or text at 0 == 44 && depth == 0) ≡ false → next ≡ depth_behind depth (get_or text at 0)
     → (next ≡ left_open 0 (take (at + 1) text)) × (commas_inside 0 (take (at + 1) text) ≡ true)
@@ -48,7 +48,7 @@ one_more text at depth next h is inside not_end e =
 pub joined_to : (text piece rest : List ℕ) (pieces : List (List ℕ)) → text ≡ piece ++ 44 ∷ rest → commas_inside 0 piece ≡ true → left_open 0 piece ≡ 0 → Pieces rest pieces → Pieces text (piece ∷ pieces)
 joined_to text piece rest pieces e inside closed p = subst (λ t. Pieces t (piece ∷ pieces)) (sym e) (joined inside closed p)
 
--- the last of a list, by its index
+-- the last item of a list, by its index
 pub with_last : {X : Type 0} (xs : List X) (n : ℕ) (d : X) → n + 1 ≡ length xs → xs ≡ take n xs ++ get_or xs n d ∷ []
 with_last xs n d e = sym (take_all (n + 1) xs (omega arith)) ∙ take_more xs n d (omega arith)
 
@@ -72,7 +72,7 @@ last_text parts n d e = ap texts (with_last parts n d e) ∙ map-append (λ part
 pub push_text : (parts : List (Bor (List ℕ))) (part : Bor (List ℕ)) (more : List (List ℕ)) → texts parts ++ (part.now ∷ more) ≡ texts (parts ++ part ∷ []) ++ more
 push_text parts part more = sym (append_assoc (texts parts) (part.now ∷ []) more) ∙ ap (λ t. t ++ more) (sym (map-append (λ part. part.now) parts (part ∷ [])))
 
--- one of the parts, to stand where any would do
+-- some part, where a default value is needed
 pub some_borrow : (parts : List (Bor (List ℕ))) → 1 ≤ length parts → Bor (List ℕ)
 some_borrow [] h = absurd (omega (arith, h))
 some_borrow (part ∷ parts) h = part

@@ -1,4 +1,4 @@
--- A text has one reading at most, one first fault at most, and never both, where this holds of its entries.
+-- A text has at most one reading, at most one first fault, and never both, if this is so for each entry.
 use Rattle.std.proofs.Common.{◌≡◌, ℕ, true, false, not, ◌&&◌, List, [], ◌∷◌, ◌++◌, Result, Ok, Err, refl, sym, ap, ◌∙◌, subst}
 use Rattle.std.specs.Prelude.{◌==◌, IfOk, IfErr, MatchResult}
 use Rattle.std.proofs.lemmas.Bool.{and_parts, true≢false}
@@ -9,7 +9,7 @@ use Rattle.plan_types.specs.Refusal.{Refuses}
 use Rattle.entry_text.specs.Entries.{depth_behind, left_open, commas_inside, Pieces, last, joined, entries, Each, none, more, First, here, later, Lists, Faulty}
 use Rattle.common_laws.specs.Small.{tail_same, head_same}
 
--- ---- a text has its pieces
+-- ---- the pieces of a text are unique
 
 comma_splits : (depth : ℕ) (rest : List ℕ) → depth ≡ 0 → commas_inside depth (44 ∷ rest) ≡ true → ⊥
 comma_splits depth rest e h =
@@ -44,7 +44,7 @@ same_pieces s t ps qs e (joined {piece = a} {text = s'} {pieces = ps'} h k p) (j
 pub one_cut : (text : List ℕ) (ps qs : List (List ℕ)) → Pieces text ps → Pieces text qs → ps ≡ qs
 one_cut text ps qs p q = same_pieces text text ps qs refl p q
 
--- ---- its entries, each with one reading or one fault
+-- ---- entries with at most one reading or fault each
 
 pub record Settled {A : Type 0} (Part : List ℕ → A → Type 0) (Fault : List ℕ → Cause → Type 0) : Type 0 where
   pub one : (part : List ℕ) (x y : A) → Part part x → Part part y → x ≡ y
@@ -89,7 +89,7 @@ pub reading_or_fault : {A : Type 0} (Part : List ℕ → A → Type 0) (Fault : 
 reading_or_fault Part Fault apart text xs c r s =
     each_or_first Part Fault apart (entries s.pieces) xs c (subst (λ ps. Each Part (entries ps) xs) (one_cut text r.pieces s.pieces r.cut s.cut) r.each) s.first
 
--- ---- so a call that answers with a reading or a fault answers exactly
+-- ---- a sound call is complete
 
 pub only_reading : {A : Type 0} (Reads : A → Type 0) (Fails : Cause → Type 0) → ((x y : A) → Reads x → Reads y → x ≡ y) → ((x : A) (c : Cause) → Reads x → Fails c → ⊥)
     → (result : Result A TextFault) → IfOk result Reads → IfErr result (Refuses Fails)

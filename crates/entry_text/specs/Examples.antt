@@ -1,4 +1,4 @@
--- What the definitions give on small texts.
+-- The definitions on small texts.
 use Rattle.std.specs.Prelude.{◌≡◌, [], ◌∷◌, true, refl, codes}
 use Rattle.entry_text.specs.Entries.{commas_inside, left_open, Pieces, last, joined, entries}
 use Rattle.entry_text.specs.Words.{name_of, behind_name, words}

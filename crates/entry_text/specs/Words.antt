@@ -4,11 +4,11 @@ use Rattle.std.specs.List.{prefix_len, slice_split}
 use Rattle.plan_types.specs.Bytes.{is_blank}
 use Rattle.plan_types.specs.Name.{is_letter_or_digit}
 
--- the longest run of such bytes at the front
+-- the longest prefix of bytes that pass
 abbrev pub run : (ℕ → Bool) → List ℕ → List ℕ
 run of text = take (prefix_len of text) text
 
--- what is behind it
+-- the rest after that prefix
 abbrev pub behind : (ℕ → Bool) → List ℕ → List ℕ
 behind of text = drop (prefix_len of text) text
 
@@ -16,11 +16,11 @@ behind of text = drop (prefix_len of text) text
 abbrev pub is_name_byte : ℕ → Bool
 is_name_byte b = is_letter_or_digit b || b == 45
 
--- the name that follows the blanks at the front
+-- the name after leading blanks
 abbrev pub name_of : List ℕ → List ℕ
 name_of text = run is_name_byte (behind is_blank text)
 
--- what is behind that name
+-- the rest after that name
 abbrev pub behind_name : List ℕ → List ℕ
 behind_name text = behind is_name_byte (behind is_blank text)
 
@@ -28,10 +28,10 @@ behind_name text = behind is_name_byte (behind is_blank text)
 abbrev pub is_in_braces : ℕ → Bool
 is_in_braces b = not (b == 125)
 
--- whether there is a byte
+-- whether a part isn't empty
 abbrev pub is_word : List ℕ → Bool
 is_word part = not (length part == 0)
 
--- what stands between blanks
+-- the words between blanks
 abbrev pub words : List ℕ → List (List ℕ)
 words text = filter is_word (slice_split is_blank text)

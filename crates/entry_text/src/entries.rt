@@ -1,4 +1,4 @@
-// A text is cut into pieces at its commas, and of these the entries are read one by one.
+// A text is cut into pieces at its commas. The entries among them are read one by one.
 ghost use Rattle.std.specs.Prelude.{◌≡◌, ◌+◌, ◌≤◌, ◌==◌, ◌&&◌, ◌∷◌, ◌++◌, ◌<◌, [], ℕ, List, true, map, length, take, slice_index, IfOk, IfErr, IfSome, IfNone};
 ghost use Rattle.plan_types.specs.declared.refusal.Cause.{Cause};
 ghost use Rattle.plan_types.specs.Refusal.{Refuses};
@@ -9,7 +9,7 @@ use plan_types::{List, NoMemory, TextFault};
 use std::alloc::Global;
 use text_grammar::byte_after;
 
-/// What the parts of a text stand for: those of one kind.
+/// A reader of parts of one kind, with their language and their faults.
 pub trait Row {
     type Item: Drop;
 
@@ -49,7 +49,7 @@ pub fn read_each<R: Row>(
     Ok(found)
 }
 
-// One comma may lead and one may trail.
+// One leading and one trailing comma are allowed.
 fn entries<'a, 'b>(pieces: &'b [&'a [u8]]) -> &'b [&'a [u8]]
     ensures { map (λ piece. piece.now) result.now ≡ entries (map (λ piece. piece.now) pieces.now) }
 {
@@ -83,14 +83,14 @@ fn without_lone<'a, 'b>(pieces: &'b [&'a [u8]]) -> &'b [&'a [u8]]
     }
 }
 
-/// Whether there are blanks alone.
+/// Whether a text is blanks only.
 pub fn are_blanks(text: &[u8]) -> bool
     ensures { result ≡ are_blanks text.now }
 {
     text.iter().all(|byte| is_blank(*byte))
 }
 
-/// Cuts a text at its commas, but for those inside braces.
+/// Cuts a text at its commas, except those inside braces.
 pub fn pieces<'a>(alloc: Global, text: &'a [u8]) -> Result<Vec<&'a [u8]>, NoMemory>
     ensures { IfOk result (λ pieces. Pieces text.now (map (λ piece. piece.now) pieces.items)) }
 {
@@ -104,7 +104,7 @@ pub fn pieces<'a>(alloc: Global, text: &'a [u8]) -> Result<Vec<&'a [u8]>, NoMemo
     Ok(pieces)
 }
 
-// The first piece, and what follows its comma.
+// The first piece, and the rest after its comma.
 fn cut(text: &[u8]) -> Option<(&[u8], &[u8])>
     ensures some { IfSome result (λ p. (text.now ≡ p.0.now ++ 44 ∷ p.1.now)
         × (commas_inside 0 p.0.now ≡ true) × (left_open 0 p.0.now ≡ 0)) }
@@ -133,14 +133,14 @@ fn piece_end(text: &[u8]) -> Option<usize>
     None
 }
 
-// Whether a byte stands between two pieces, where so many braces are open.
+// Whether a byte separates two pieces, at this depth of braces.
 fn splits(depth: usize, byte: u8) -> bool
     ensures { result ≡ (byte == 44 && depth == 0) }
 {
     byte == b',' && depth == 0
 }
 
-// How many braces are open behind a byte.
+// The number of open braces after a byte.
 fn depth_behind(depth: usize, byte: u8) -> usize
     requires { depth < usize.MAX }
     ensures value { result ≡ depth_behind depth byte }

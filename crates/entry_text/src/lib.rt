@@ -1,5 +1,6 @@
-//! How the text of a list is cut into entries, and an entry into names and words. What an entry stands for
-//! is told by whoever reads it: a row of a kind.
+//! Texts of comma-separated entries. `read_entries` takes a text and a `Row`, which reads one entry. It returns the
+//! values of all entries, or the fault of the first bad one. Commas in braces don't separate, and one leading and
+//! one trailing comma are allowed. The other functions take names and words from an entry.
 #![tactic(auto)]
 
 mod entries;

@@ -1,4 +1,4 @@
-// The runs of bytes of which an entry is made.
+// Runs of bytes in an entry.
 ghost use Rattle.std.specs.Prelude.{◌≡◌, ◌≤◌, length, true, IfOk};
 ghost use Rattle.std.specs.List.{prefix_len};
 ghost use Rattle.plan_types.specs.Bytes.{is_blank};
@@ -8,7 +8,7 @@ ghost use Rattle.entry_text.specs.Words.{run, behind, is_name_byte, is_in_braces
 use plan_types::{NoMemory, Text};
 use std::alloc::Global;
 
-/// The name that follows the blanks, and what is behind it.
+/// The name after leading blanks, and the rest.
 pub fn name_at(text: &[u8]) -> (&[u8], &[u8])
     ensures name { result.0.now ≡ name_of text.now }
     ensures rest { result.1.now ≡ behind_name text.now }
@@ -16,7 +16,7 @@ pub fn name_at(text: &[u8]) -> (&[u8], &[u8])
     name_run(unblank(text))
 }
 
-/// Without the blanks at the front.
+/// The text without its leading blanks.
 pub fn unblank(text: &[u8]) -> &[u8]
     ensures { result.now ≡ behind is_blank text.now }
 {
@@ -24,7 +24,7 @@ pub fn unblank(text: &[u8]) -> &[u8]
     rest
 }
 
-/// The name at the front, and what is behind it.
+/// The name at the start of a text, and the rest.
 pub fn name_run(text: &[u8]) -> (&[u8], &[u8])
     ensures front { result.0.now ≡ run is_name_byte text.now }
     ensures rest { result.1.now ≡ behind is_name_byte text.now }
@@ -32,7 +32,7 @@ pub fn name_run(text: &[u8]) -> (&[u8], &[u8])
     text.split_at(name_len(text))
 }
 
-/// The name of a library or an executable, and what is behind it.
+/// The name of a library or an executable, and the rest.
 pub fn component_run(text: &[u8]) -> (&[u8], &[u8])
     ensures front { result.0.now ≡ run is_component_byte text.now }
     ensures rest { result.1.now ≡ behind is_component_byte text.now }
@@ -40,7 +40,7 @@ pub fn component_run(text: &[u8]) -> (&[u8], &[u8])
     text.split_at(component_len(text))
 }
 
-/// What stands before a closing brace, and what begins with it.
+/// The text before a closing brace, and the rest from the brace on.
 pub fn braces_run(text: &[u8]) -> (&[u8], &[u8])
     ensures front { result.0.now ≡ run is_in_braces text.now }
     ensures rest { result.1.now ≡ behind is_in_braces text.now }
@@ -91,7 +91,7 @@ fn is_name_byte(byte: u8) -> bool
     byte.is_ascii_alphanumeric() || byte == b'-'
 }
 
-/// Whether the byte may stand in the name of a library, an executable or a flag.
+/// Whether the byte is allowed in the name of a library, an executable or a flag.
 pub fn is_component_byte(byte: u8) -> bool
     ensures { result ≡ is_component_byte byte }
 {

@@ -8,7 +8,7 @@ use crate::name::is_blank;
 use plan_types::NoMemory;
 use std::alloc::{AllocError, Global};
 
-/// What stands between the blanks of a text.
+/// The words of a text, separated by blanks.
 pub fn words(alloc: Global, text: &[u8]) -> Result<Vec<&[u8]>, NoMemory>
     ensures { IfOk result (λ found. map (λ word. word.now) found.items ≡ words text.now) }
 {

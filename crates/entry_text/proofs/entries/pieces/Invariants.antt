@@ -2,7 +2,7 @@ use Rattle.std.proofs.Common.{ℕ, List, ◌++◌, length, map}
 use Rattle.entry_text.specs.Entries.{Pieces}
 use Rattle.entry_text.proofs.entries.pieces.Given as goal
 
--- the pieces so far, and any of the rest, are those of the text
+-- the pieces so far, followed by those of the rest, are those of the text
 abbrev pub invariant-loop-piece : goal.invariant-loop-piece
 invariant-loop-piece l = (more : List (List ℕ)) → Pieces l.rest more → Pieces l.text (map (λ piece. piece.now) l.pieces.items ++ more)
 

@@ -4,7 +4,7 @@ use Rattle.entry_text.specs.Entries.{Each, First}
 use Rattle.entry_text.proofs.Cuts.{texts}
 use Rattle.entry_text.proofs.entries.read_each.Given as goal
 
--- what is found so far goes on to the whole
+-- the values so far, followed by those of the remaining parts, are those of all parts
 abbrev pub invariant-loop-part : goal.invariant-loop-part
 invariant-loop-part g l = record {
   reads : (more : List g.row.R-Item.Denot) → Each (g.R.Row.stands l.row) (texts (drop l.part-index l.parts)) more → Each (g.R.Row.stands l.row) (texts l.parts) (l.found ++ more);
