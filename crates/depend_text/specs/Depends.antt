@@ -1,4 +1,4 @@
--- What an entry of a description's dependencies stands for, and its fault.
+-- The language of entries of dependencies, and their faults.
 use Rattle.std.specs.Prelude.{◌≡◌, ℕ, Bool, true, false, ◌||◌, ◌==◌, if◌then◌else◌, List, [], ◌∷◌}
 use Rattle.plan_types.specs.Bytes.{is_blank, Blanks, begins_with, same_text}
 use Rattle.plan_types.specs.Format.{is_old}
@@ -16,7 +16,7 @@ use Rattle.version_range.specs.Grammar.{Stands, FirstFault}
 use Rattle.entry_text.specs.Entries.{Pieces, Each, Lists, Faulty}
 use Rattle.entry_text.specs.Words.{run, behind, is_in_braces, name_of, behind_name}
 
--- a library that is named as its own package is the main one
+-- the library with this name; the name of its package means the main one
 abbrev pub library : List ℕ → List ℕ → LibName
 library «package» name = if same_text name «package» then lib_name.Main else lib_name.Named name
 
@@ -26,28 +26,28 @@ pub record Library («package» piece : List ℕ) (found : LibName) : Type 0 whe
   pub only : Blanks (behind is_component_byte (behind is_blank piece))
   pub is : found ≡ library «package» (run is_component_byte (behind is_blank piece))
 
--- behind a colon a library, or several between braces, and then the text of the range
+-- after a colon: one library, or several in braces, and then the text of the range
 pub data NamedLibraries («package» part : List ℕ) (libs : List LibName) (range_text : List ℕ) : Type 0 where
   one : is_component_name (run is_component_byte part) ≡ true → libs ≡ library «package» (run is_component_byte part) ∷ []
       → range_text ≡ behind is_component_byte part → NamedLibraries «package» part libs range_text
   several : (list : List ℕ) (pieces : List (List ℕ)) → part ≡ 123 ∷ list → behind is_in_braces list ≡ 125 ∷ range_text
       → Pieces (run is_in_braces list) pieces → Each (Library «package») pieces libs → NamedLibraries «package» part libs range_text
 
--- What stands behind the name of a package: its libraries, and the text of the range. Libraries are named from 3.0 on.
+-- after a package's name: its libraries, and the text of the range; libraries can be named from 3.0 on
 pub data Libraries (spec : Spec) («package» text : List ℕ) (libs : List LibName) (range_text : List ℕ) : Type 0 where
   main : begins_with 58 text ≡ false → libs ≡ lib_name.Main ∷ [] → range_text ≡ text → Libraries spec «package» text libs range_text
   named : (part : List ℕ) → is_old spec ≡ false → text ≡ 58 ∷ part → NamedLibraries «package» part libs range_text → Libraries spec «package» text libs range_text
 
--- a library or a list of them would begin here
+-- whether a library or a list of libraries begins here
 abbrev pub begins_library : List ℕ → Bool
 begins_library [] = false
 begins_library (b ∷ bs) = b == 123 || is_component_byte b
 
--- what is wrong with libraries where none may be named
+-- the cause for named libraries before 3.0
 abbrev pub old_cause : List ℕ → Cause
 old_cause part = if begins_library part then NeedsVersion else BadDepend
 
--- what is wrong with the libraries behind a package
+-- a fault in the libraries after a package's name
 pub data LibrariesFault (spec : Spec) («package» text : List ℕ) (cause : Cause) : Type 0 where
   old : (part : List ℕ) → is_old spec ≡ true → text ≡ 58 ∷ part → cause ≡ old_cause part → LibrariesFault spec «package» text cause
   broken : (part : List ℕ) → is_old spec ≡ false → text ≡ 58 ∷ part → cause ≡ BadDepend
@@ -63,14 +63,14 @@ pub record LibraryEntry (spec : Spec) (kind : DepKind) (line : ℕ) (text : List
   pub versions : Stands spec 64 range_text range
   pub is : found ≡ record { line = line; kind = kind; «package» = name_of text; libs = libs; exe = []; range = range; internal = false }
 
--- The name comes before the part behind it, and that before the range.
+-- the fault of an entry: that of its name, else of its libraries, else of its range
 pub data LibraryFault (spec : Spec) (text : List ℕ) (cause : Cause) : Type 0 where
   name : is_package_name (name_of text) ≡ false → cause ≡ BadName → LibraryFault spec text cause
   part : is_package_name (name_of text) ≡ true → LibrariesFault spec (name_of text) (behind_name text) cause → LibraryFault spec text cause
   range : (libs : List LibName) (range_text : List ℕ) → is_package_name (name_of text) ≡ true → Libraries spec (name_of text) (behind_name text) libs range_text
       → FirstFault spec 64 range_text cause → LibraryFault spec text cause
 
--- directly behind the name of a package, an executable, and then the text of the range
+-- directly after a package's name: an executable, and then the text of the range
 pub record Executable (text exe range_text : List ℕ) : Type 0 where
   pub part : List ℕ
   pub colon : text ≡ 58 ∷ part
@@ -88,14 +88,14 @@ pub record ToolEntry (spec : Spec) (line : ℕ) (text : List ℕ) (found : Dep) 
   pub versions : Stands spec 64 range_text range
   pub is : found ≡ record { line = line; kind = Tool; «package» = name_of text; libs = []; exe = exe; range = range; internal = false }
 
--- what is wrong with an entry of tools
+-- the fault of an entry of tools: that of its name, else of its executable, else of its range
 pub data ToolFault (spec : Spec) (text : List ℕ) (cause : Cause) : Type 0 where
   name : is_package_name (name_of text) ≡ false → cause ≡ BadName → ToolFault spec text cause
   part : is_package_name (name_of text) ≡ true → ((exe range_text : List ℕ) → Executable (behind_name text) exe range_text → ⊥) → cause ≡ BadDepend → ToolFault spec text cause
   range : (exe range_text : List ℕ) → is_package_name (name_of text) ≡ true → Executable (behind_name text) exe range_text
       → FirstFault spec 64 range_text cause → ToolFault spec text cause
 
--- what `build-depends` and `setup-depends` stand for
+-- the dependencies of `build-depends` and `setup-depends`
 abbrev pub Depends : Spec → DepKind → ℕ → List ℕ → List Dep → Type 0
 Depends spec kind line = Lists (LibraryEntry spec kind line)
 
@@ -103,7 +103,7 @@ Depends spec kind line = Lists (LibraryEntry spec kind line)
 abbrev pub DependsFault : Spec → DepKind → ℕ → List ℕ → Cause → Type 0
 DependsFault spec kind line = Faulty (LibraryEntry spec kind line) (LibraryFault spec)
 
--- what `build-tool-depends` stands for
+-- the dependencies of `build-tool-depends`
 abbrev pub Tools : Spec → ℕ → List ℕ → List Dep → Type 0
 Tools spec line = Lists (ToolEntry spec line)
 

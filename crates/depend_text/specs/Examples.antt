@@ -1,4 +1,4 @@
--- What the definitions give on small texts.
+-- The definitions on small texts.
 use Rattle.std.specs.Prelude.{◌≡◌, refl, codes}
 use Rattle.plan_types.specs.declared.dependency.LibName.TheVariants.{Main, Named}
 use Rattle.plan_types.specs.declared.refusal.Cause.TheVariants.{BadDepend, NeedsVersion}

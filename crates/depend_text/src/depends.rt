@@ -21,10 +21,10 @@ pub fn read_depends(
 ) -> Result<List<Dep>, TextFault>
     ensures entries { IfOk result (Depends spec kind line text.now) }
     ensures fault { IfErr result (Refuses (DependsFault spec kind line text.now)) }
-    // A text that stands for entries is answered with these, unless memory is wanting.
+    // Complete for entries: a text that denotes entries gives them, or out of memory.
     ensures exactly_entries { (deps : List Dep) → Depends spec kind line text.now deps →
         MatchResult result (λ found. found ≡ deps) (Refuses (λ _. ⊥)) }
-    // A text that has a fault is answered with it.
+    // Complete for faults: a text with a fault gives it, or out of memory.
     ensures exactly_faults { (cause : Cause) → DependsFault spec kind line text.now cause →
         MatchResult result (λ _. ⊥) (Refuses (λ why. why ≡ cause)) }
 {

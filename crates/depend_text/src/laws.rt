@@ -1,4 +1,4 @@
-// What holds of the texts of dependencies.
+// Laws of the texts of dependencies.
 ghost use Rattle.std.specs.Prelude.{◌≡◌, ℕ, List};
 ghost use Rattle.plan_types.specs.declared.dependency.Dep.{Dep};
 ghost use Rattle.plan_types.specs.declared.dependency.DepKind.{DepKind};
@@ -6,7 +6,7 @@ ghost use Rattle.plan_types.specs.declared.range.Spec.{Spec};
 ghost use Rattle.plan_types.specs.declared.refusal.Cause.{Cause};
 ghost use Rattle.depend_text.specs.Depends.{Depends, DependsFault, Tools, ToolsFault};
 
-/// A text stands for one list of entries at most.
+/// A text denotes at most one list of entries.
 pub fn one_reading()
     ensures depends { (spec : Spec) (kind : DepKind) (line : ℕ) (text : List ℕ) (a b : List Dep)
         → Depends spec kind line text a → Depends spec kind line text b → a ≡ b }
@@ -14,7 +14,7 @@ pub fn one_reading()
         → Tools spec line text b → a ≡ b }
 {}
 
-/// A text has one fault at most.
+/// A text has at most one fault.
 pub fn one_fault()
     ensures depends { (spec : Spec) (kind : DepKind) (line : ℕ) (text : List ℕ) (c d : Cause)
         → DependsFault spec kind line text c → DependsFault spec kind line text d → c ≡ d }
@@ -22,7 +22,7 @@ pub fn one_fault()
         → ToolsFault spec line text d → c ≡ d }
 {}
 
-/// A text that stands for entries has no fault.
+/// A text that denotes entries has no fault.
 pub fn reading_or_fault()
     ensures depends { (spec : Spec) (kind : DepKind) (line : ℕ) (text : List ℕ) (a : List Dep) (c : Cause)
         → Depends spec kind line text a → DependsFault spec kind line text c → ⊥ }

@@ -1,5 +1,6 @@
-//! Texts of dependencies on libraries and on executables. In go texts; out come dependencies, or the fault
-//! of the first entry with one, exactly as the definitions of the entries say.
+//! Texts of dependencies on libraries and on executables. The readers take the text of a field and return its
+//! dependencies, or the fault of the first bad entry, exactly by the definitions of the entries. A text has at most one
+//! reading, at most one fault, and never both.
 #![tactic(auto)]
 
 mod depends;

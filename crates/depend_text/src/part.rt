@@ -1,4 +1,4 @@
-// What may stand between the name of a package and its range.
+// The libraries or the executable between a package's name and its range.
 ghost use Rattle.std.specs.Prelude.{◌≡◌, ◌∷◌, [], ℕ, List, IfOk, IfErr, true, false};
 ghost use Rattle.plan_types.specs.Refusal.{Refuses};
 ghost use Rattle.plan_types.specs.Name.{is_component_byte, is_component_name};
@@ -16,7 +16,7 @@ use plan_types::{Cause, LibName, List, NoMemory, Spec, Text, TextFault, is_compo
 use std::alloc::Global;
 use text_grammar::byte_after;
 
-/// The libraries of a package that are named behind it, and the text of the range.
+/// The libraries named after a package, and the text of the range.
 pub fn libraries<'a>(
     alloc: Global,
     spec: Spec,
@@ -36,7 +36,7 @@ pub fn libraries<'a>(
     named_libraries(alloc, package, part)
 }
 
-// What is wrong with libraries in a text that can't have any.
+// The cause for named libraries before 3.0.
 fn old_cause(part: &[u8]) -> Cause
     ensures { result ≡ old_cause part.now }
 {
@@ -91,7 +91,7 @@ fn one_library<'a>(
     Ok((libs, rest))
 }
 
-// Behind the opening brace.
+// A list of libraries, after its opening brace.
 fn listed_libraries<'a>(
     alloc: Global,
     package: &[u8],
@@ -115,7 +115,7 @@ fn listed_libraries<'a>(
     }
 }
 
-// What stands between the braces.
+// The libraries between the braces.
 fn libraries_in(alloc: Global, package: &[u8], inside: &[u8]) -> Result<List<LibName>, TextFault>
     ensures found { IfOk result (λ libs. (pieces : List (List ℕ)) × Pieces inside.now pieces
         × Each (Library «package».now) pieces libs) }
@@ -177,7 +177,7 @@ fn single(alloc: Global, lib: LibName) -> Result<List<LibName>, NoMemory>
     Ok(libs)
 }
 
-/// The executable that is named behind a package, and the text of the range.
+/// The executable named after a package, and the text of the range.
 pub fn executable<'a>(alloc: Global, text: &'a [u8]) -> Result<(Text, &'a [u8]), TextFault>
     ensures found { IfOk result (λ p. Executable text.now p.0 p.1.now) }
     ensures fault { IfErr result (Refuses (λ cause. (cause ≡ BadDepend)
