@@ -8,7 +8,7 @@ use Rattle.std.proofs.lemmas.List.Folds.{list_all-append}
 use Rattle.constraint_text.specs.Relaxes.{is_no_dash}
 use Rattle.common_laws.specs.Small.{tail_same, head_same}
 
--- where the last one is among the first bytes
+-- the index of the last `-` among the first n bytes
 abbrev pub LastDash : List ℕ → ℕ → Option ℕ → Type 0
 LastDash text n found = MatchOption found (list_all is_no_dash (take n text) ≡ true) (λ at. (at < n) × (get_or text at 0 ≡ 45) × (list_all is_no_dash (drop (at + 1) (take n text)) ≡ true))
 

@@ -1,4 +1,4 @@
--- An entry of a project's constraints has one reading.
+-- An entry of a project's constraints has at most one reading.
 use Rattle.std.proofs.Common.{◌≡◌, ℕ, true, false, List, ◌∷◌, ◌++◌, Option, Some, None, refl, sym, ap, ◌∙◌, subst}
 use Rattle.std.specs.Prelude.{codes, map}
 use Rattle.std.specs.Char.{to_ascii_lowercase}

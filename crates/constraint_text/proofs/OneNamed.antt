@@ -1,4 +1,4 @@
--- An entry of a project's named ranges has one reading.
+-- An entry of a project's named ranges has at most one reading.
 use Rattle.std.proofs.Common.{◌≡◌, ℕ, List, sym, ◌∙◌}
 use Rattle.plan_types.specs.declared.dependency.Named.{Named}
 use Rattle.plan_types.specs.declared.range.Spec.TheVariants.{V3_0}
@@ -8,7 +8,7 @@ use Rattle.constraint_text.specs.Named.{NamedEntry}
 use Rattle.entry_text.proofs.Only.{Settled}
 use Rattle.constraint_text.specs.Faults.{BadAsNone}
 
--- an entry of a project that stands for nothing has the one fault that there is
+-- in a project, `BadConstraint` is the only fault of a part, and excludes a reading
 pub project_settled : {A : Type 0} (Part : List ℕ → A → Type 0) → ((part : List ℕ) (x y : A) → Part part x → Part part y → x ≡ y) → Settled Part (BadAsNone Part)
 project_settled Part one = record {
   one = one;

@@ -1,4 +1,4 @@
--- An entry of a project's relaxings has one reading.
+-- An entry of a project's relaxings has at most one reading.
 use Rattle.std.proofs.Common.{◌≡◌, ℕ, Bool, true, false, List, [], ◌∷◌, ◌++◌, Option, Some, None, refl, sym, ap, ◌∙◌, subst}
 use Rattle.std.specs.Prelude.{codes}
 use Rattle.std.proofs.lemmas.Bool.{true≢false, false≢true}
@@ -105,7 +105,7 @@ one_entry text x y e f = one_relaxed f.word x y (subst (λ w. RelaxedBy w x) (on
 pub relax_settled : Settled RelaxEntry (BadAsNone RelaxEntry)
 relax_settled = project_settled RelaxEntry one_entry
 
--- ---- what the calls answer
+-- ---- results of calls
 
 pub bad_release : (text name digits : List ℕ) → text ≡ name ++ 45 ∷ digits → list_all is_no_dash digits ≡ true
     → (is_package_name name ≡ false) ⊎ ((ps : List ℕ) → is_version ps ≡ true → digits ≡ version_text ps → ⊥)

@@ -1,4 +1,4 @@
--- What the calls of projects answer is what the definitions of the entries say.
+-- The results of calls agree with the definitions of entries.
 use Rattle.std.proofs.Common.{◌≡◌, ℕ, true, List, sym, ◌∙◌, subst}
 use Rattle.plan_types.specs.Name.{is_package_name}
 use Rattle.plan_types.specs.declared.dependency.Named.{Named}

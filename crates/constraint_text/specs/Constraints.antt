@@ -1,4 +1,4 @@
--- What an entry of a project's constraints stands for.
+-- The language of entries of a project's constraints.
 use Rattle.std.specs.Prelude.{◌≡◌, ℕ, true, false, if◌then◌else◌, List, [], ◌∷◌, ◌++◌, map, codes, Option, Some, None}
 use Rattle.std.specs.Char.{to_ascii_lowercase}
 use Rattle.plan_types.specs.Bytes.{begins_with, same_text}
@@ -17,11 +17,11 @@ use Rattle.entry_text.specs.Entries.{Each, Lists, Faulty}
 use Rattle.entry_text.specs.Words.{run, behind, is_name_byte, name_of, behind_name, words}
 use Rattle.constraint_text.specs.Faults.{BadAsNone}
 
--- the words that are a scope where a point follows directly
+-- the scope of a word before a point
 abbrev pub scope_of : List ℕ → Option Scope
 scope_of name = if same_text name (codes "any") then Some scopes.Any else if same_text name (codes "setup") then Some scopes.Setup else None
 
--- The scope, the name of the package, and what is behind it. At top level neither a point nor a colon follows the name.
+-- The scope, the name of the package, and the rest. At top level neither a point nor a colon follows the name.
 pub data Target (text : List ℕ) (scope : Scope) («package» rest : List ℕ) : Type 0 where
   top : begins_with 46 (behind_name text) ≡ false → begins_with 58 (behind_name text) ≡ false → scope ≡ scopes.Top
       → «package» ≡ name_of text → rest ≡ behind_name text → Target text scope «package» rest
@@ -30,7 +30,7 @@ pub data Target (text : List ℕ) (scope : Scope) («package» rest : List ℕ) 
   setup_of : (more : List ℕ) → behind_name text ≡ codes ":setup." ++ more → is_package_name (name_of text) ≡ true → scope ≡ scopes.SetupOf (name_of text)
       → «package» ≡ run is_name_byte more → rest ≡ behind is_name_byte more → Target text scope «package» rest
 
--- what one word asks
+-- the requirement of one word
 abbrev pub asked_by : List ℕ → Option What
 asked_by part =
     if same_text part (codes "installed") then Some what.Installed
@@ -39,12 +39,12 @@ asked_by part =
     else if same_text part (codes "bench") then Some what.Benches
     else None
 
--- a flag, on or off; its name is kept in lower case
+-- a flag, on or off; its name is put in lower case
 pub data Flag (word : List ℕ) (flag : FlagSet) : Type 0 where
   on : (name : List ℕ) → word ≡ codes "+" ++ name → is_flag_name name ≡ true → flag ≡ record { name = map to_ascii_lowercase name; on = true } → Flag word flag
   off : (name : List ℕ) → word ≡ codes "-" ++ name → is_flag_name name ≡ true → flag ≡ record { name = map to_ascii_lowercase name; on = false } → Flag word flag
 
--- what one word alone asks
+-- the requirement of a single word
 abbrev pub asked_alone : List (List ℕ) → Option What
 asked_alone [] = None
 asked_alone (part ∷ []) = asked_by part
@@ -55,19 +55,20 @@ pub data Asked (parts : List (List ℕ)) (found : What) : Type 0 where
   alone : asked_alone parts ≡ Some found → Asked parts found
   flags : (set : List FlagSet) → Each Flag parts set → found ≡ what.Flags set → Asked parts found
 
--- What is a range is nothing else: blanks are any version, and `-any` and `-none` alone are no flags.
+-- The requirement of a text: a range if the text is one, else a word or flags. So blanks are any version, and `-any`
+-- and `-none` alone are no flags.
 pub data Asks (text : List ℕ) (found : What) : Type 0 where
   range : (r : Range) → Stands V3_0 64 text r → found ≡ what.Range r → Asks text found
   other : ((r : Range) → Stands V3_0 64 text r → ⊥) → Asked (words text) found → Asks text found
 
--- a package in a scope, and what is asked of it
+-- a package in a scope, and its requirement
 pub record ConstraintEntry (text : List ℕ) (found : Constraint) : Type 0 where
   pub rest : List ℕ
   pub target : Target text found.scope found.«package» rest
   pub form : is_package_name found.«package» ≡ true
   pub asks : Asks rest found.what
 
--- what `constraints` stands for
+-- the constraints of `constraints`
 abbrev pub Constraints : List ℕ → List Constraint → Type 0
 Constraints = Lists ConstraintEntry
 

@@ -1,4 +1,4 @@
--- What the definitions give on small texts.
+-- The definitions on small texts.
 use Rattle.std.specs.Prelude.{◌≡◌, true, refl, codes, Some, None}
 use Rattle.plan_types.specs.declared.constraint.Scope.TheVariants.{Setup}
 use Rattle.plan_types.specs.declared.constraint.What.TheVariants.{Tests}

@@ -1,4 +1,4 @@
--- What an entry of a project's named ranges stands for.
+-- The language of entries of a project's named ranges.
 use Rattle.std.specs.Prelude.{◌≡◌, ℕ, true, List}
 use Rattle.plan_types.specs.Name.{is_package_name}
 use Rattle.plan_types.specs.declared.dependency.Named.{Named}
@@ -15,7 +15,7 @@ pub record NamedEntry (text : List ℕ) (found : Named) : Type 0 where
   pub name : found.name ≡ name_of text
   pub range : Stands V3_0 64 (behind_name text) found.range
 
--- what `extra-packages` and `preferences` stand for
+-- the named ranges of `extra-packages` and `preferences`
 abbrev pub NamedRanges : List ℕ → List Named → Type 0
 NamedRanges = Lists NamedEntry
 

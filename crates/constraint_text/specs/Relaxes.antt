@@ -1,4 +1,4 @@
--- What an entry of a project's relaxings stands for.
+-- The language of entries of a project's relaxings.
 use Rattle.std.specs.Prelude.{◌≡◌, ℕ, Bool, true, false, not, ◌||◌, ◌==◌, if◌then◌else◌, List, [], ◌∷◌, ◌++◌, map, codes, Option, Some, None}
 use Rattle.std.specs.Char.{to_ascii_lowercase}
 use Rattle.std.specs.List.{list_all, filter_map}
@@ -14,7 +14,7 @@ use Rattle.entry_text.specs.Words.{run, behind, words}
 use Rattle.plan_types.specs.Bytes.{same_text}
 use Rattle.constraint_text.specs.Faults.{BadAsNone}
 
--- whether an entry of this one word relaxes all dependencies or none; in any case
+-- whether a word relaxes all dependencies (true) or none (false); letters are in any case
 abbrev pub relaxing_word : List ℕ → Option Bool
 relaxing_word word =
     let lower = map to_ascii_lowercase word in
@@ -53,7 +53,7 @@ pub data Dependency (word : List ℕ) (found : Relax) : Type 0 where
   all : behind is_no_colon word ≡ codes ":*" → is_package_name (run is_no_colon word) ≡ true
       → found ≡ record { owner = owners.Package (run is_no_colon word); dep = None } → Dependency word found
 
--- what one word relaxes
+-- the relaxing of one word
 pub data RelaxedBy (word : List ℕ) (found : Option Relax) : Type 0 where
   everything : relaxing_word word ≡ Some true → found ≡ Some (record { owner = owners.Any; dep = None }) → RelaxedBy word found
   nothing : relaxing_word word ≡ Some false → found ≡ None → RelaxedBy word found
@@ -65,7 +65,7 @@ pub record RelaxEntry (text : List ℕ) (found : Option Relax) : Type 0 where
   pub alone : words text ≡ word ∷ []
   pub relaxed : RelaxedBy word found
 
--- what `allow-newer` and `allow-older` stand for
+-- the relaxings of `allow-newer` and `allow-older`
 pub record Relaxes (text : List ℕ) (found : List Relax) : Type 0 where
   pub each : List (Option Relax)
   pub entries : Lists RelaxEntry text each

@@ -63,7 +63,7 @@ impl Row for ConstraintRow {
     }
 }
 
-// The scope, the name of the package, and what is behind it.
+// The scope, the name of the package, and the rest.
 fn target<'a>(alloc: Global, text: &'a [u8]) -> Result<(Scope, &'a [u8], &'a [u8]), TextFault>
     ensures found { IfOk result (λ p. Target text.now p.0 p.1.now p.2.now) }
     ensures fault { IfErr result (Refuses (λ cause. (cause ≡ BadConstraint)
@@ -128,7 +128,7 @@ fn behind_setup(text: &[u8]) -> Option<&[u8]>
     text.strip_prefix(b":setup.".as_slice())
 }
 
-// What is no range is a word or flags.
+// A range; if the text is none, a word or flags.
 fn what(alloc: Global, text: &[u8]) -> Result<What, TextFault>
     ensures found { IfOk result (Asks text.now) }
     ensures fault { IfErr result (Refuses (BadAsNone Asks text.now)) }

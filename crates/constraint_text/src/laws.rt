@@ -1,4 +1,4 @@
-// What holds of the texts of constraints, named ranges and relaxings.
+// Laws of the texts of constraints, named ranges and relaxings.
 ghost use Rattle.std.specs.Prelude.{◌≡◌, ℕ, List};
 ghost use Rattle.plan_types.specs.declared.constraint.Constraint.{Constraint};
 ghost use Rattle.plan_types.specs.declared.dependency.Named.{Named};
@@ -8,7 +8,7 @@ ghost use Rattle.constraint_text.specs.Named.{NamedRanges, NamedFault};
 ghost use Rattle.constraint_text.specs.Constraints.{Constraints, ConstraintsFault};
 ghost use Rattle.constraint_text.specs.Relaxes.{Relaxes, RelaxFault};
 
-/// A text stands for one list of entries at most.
+/// A text denotes at most one list of entries.
 pub fn one_reading()
     ensures named { (text : List ℕ) (a b : List Named) → NamedRanges text a → NamedRanges text b → a ≡ b }
     ensures constraints { (text : List ℕ) (a b : List Constraint) → Constraints text a
@@ -16,7 +16,7 @@ pub fn one_reading()
     ensures relaxes { (text : List ℕ) (a b : List Relax) → Relaxes text a → Relaxes text b → a ≡ b }
 {}
 
-/// A text has one fault at most.
+/// A text has at most one fault.
 pub fn one_fault()
     ensures named { (text : List ℕ) (c d : Cause) → NamedFault text c → NamedFault text d → c ≡ d }
     ensures constraints { (text : List ℕ) (c d : Cause) → ConstraintsFault text c
@@ -24,7 +24,7 @@ pub fn one_fault()
     ensures relaxes { (text : List ℕ) (c d : Cause) → RelaxFault text c → RelaxFault text d → c ≡ d }
 {}
 
-/// A text that stands for entries has no fault.
+/// A text that denotes entries has no fault.
 pub fn reading_or_fault()
     ensures named { (text : List ℕ) (a : List Named) (c : Cause) → NamedRanges text a → NamedFault text c → ⊥ }
     ensures constraints { (text : List ℕ) (a : List Constraint) (c : Cause) → Constraints text a

@@ -1,5 +1,6 @@
-//! Texts of a project's constraints, named ranges and relaxings. In go texts; out comes what they stand for,
-//! or the fault of the first entry with one, exactly as the definitions of the entries say.
+//! Texts of a project's constraints, named ranges and relaxings. The readers take the text of a field and return its
+//! entries, or `BadConstraint` for a bad entry, exactly by the definitions of the entries. A text has at most one
+//! reading, at most one fault, and never both.
 #![tactic(auto)]
 
 mod constraints;

@@ -26,7 +26,7 @@ pub fn read_named(alloc: Global, text: &[u8]) -> Result<List<Named>, TextFault>
     read_entries(alloc, &NamedRow, text)
 }
 
-/// Reads a range of a project, whose faults all have one cause.
+/// Reads a range in a project. Each fault is `BadConstraint`.
 pub fn project_range(alloc: Global, text: &[u8]) -> Result<Range, TextFault>
     ensures found { IfOk result (Stands V3_0 64 text.now) }
     ensures fault { IfErr result (Refuses (BadAsNone (Stands V3_0 64) text.now)) }

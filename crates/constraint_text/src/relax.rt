@@ -1,4 +1,4 @@
-// What a project relaxes.
+// The relaxings of a project.
 ghost use Rattle.std.specs.Prelude.{◌≡◌, ◌≢◌, ◌∷◌, ◌++◌, ◌+◌, ◌<◌, ◌≤◌, [], ℕ, List, map, codes, length, drop, slice_index, true, false, IfOk, IfErr, IfSome, IfNone, MatchResult, Option};
 ghost use Rattle.std.specs.List.{filter_map, list_all, prefix_len};
 ghost use Rattle.plan_types.specs.declared.dependency.Relax.{Relax};
@@ -36,7 +36,7 @@ pub fn read_relax(alloc: Global, text: &[u8]) -> Result<List<Relax>, TextFault>
     Ok(found)
 }
 
-// Without the entries that relax nothing.
+// The relaxings without the entries that relax nothing.
 fn present(alloc: Global, each: List<Option<Relax>>) -> Result<List<Relax>, NoMemory>
     ensures { IfOk result (λ found. found ≡ filter_map (λ relax. relax) each) }
 {
@@ -130,7 +130,7 @@ fn dependency(alloc: Global, word: &[u8]) -> Result<Relax, TextFault>
     }
 }
 
-// What stands behind a package of which all dependencies are relaxed.
+// Whether this text after a package's name relaxes all its dependencies.
 fn is_all(text: &[u8]) -> bool
     ensures { result ≡ same_text text.now (codes ":*") }
 {
@@ -186,7 +186,7 @@ fn one_of(alloc: Global, front: &[u8], name: &[u8]) -> Result<Relax, TextFault>
     })
 }
 
-// What stands before a colon, and what begins with it.
+// The text before a colon, and the rest from the colon on.
 fn owner_run(word: &[u8]) -> (&[u8], &[u8])
     ensures front { result.0.now ≡ run is_no_colon word.now }
     ensures rest { result.1.now ≡ behind is_no_colon word.now }
@@ -251,7 +251,7 @@ fn project_version(alloc: Global, digits: &[u8]) -> Result<Version, TextFault>
     }
 }
 
-// What stands before the last `-`, and what behind it.
+// The text before the last `-`, and the text after it.
 fn cut_at_dash(text: &[u8]) -> Option<(&[u8], &[u8])>
     ensures some { IfSome result (λ p. (text.now ≡ p.0.now ++ 45 ∷ p.1.now)
         × (list_all is_no_dash p.1.now ≡ true)) }
@@ -263,7 +263,7 @@ fn cut_at_dash(text: &[u8]) -> Option<(&[u8], &[u8])>
     Some((name, digits))
 }
 
-// Where the last `-` is.
+// The index of the last `-`.
 fn last_dash(text: &[u8]) -> Option<usize>
     ensures some { IfSome result (λ at. (at < length text.now) × (slice_index text.now at ≡ 45)
         × (list_all is_no_dash (drop (at + 1) text.now) ≡ true)) }
