@@ -1,4 +1,4 @@
--- A text is one record at most.
+-- A text is at most one record.
 use Rattle.std.proofs.Common.{◌≡◌, inl, inr, ℕ, List, [], ◌∷◌, Option, Result, Err, refl, sym, subst, ap, ◌∙◌}
 use Rattle.plan_types.specs.declared.index.UnitRecord.{UnitRecord}
 use Rattle.cabal_lexer.proofs.Exact as lexer

@@ -1,4 +1,4 @@
--- What fields tell together, one field further.
+-- The contents of fields, after one more field.
 use Rattle.std.proofs.Common.{◌≡◌, ℕ, Bool, true, false, ◌||◌, cond, List, [], ◌∷◌, ◌++◌, Option, Some, refl, sym, ap, ◌∙◌}
 use Rattle.std.specs.Prelude.{flat_map}
 use Rattle.std.specs.List.{list_any}
@@ -54,7 +54,7 @@ depends_push fields x =
     let of = λ (field : Field). depends_of field.said in
     flat_map-append of fields (x ∷ []) ∙ ap (λ more. flat_map of fields ++ more) (append-nil (depends_of x.said)) ∙ after_said x.said (flat_map of fields)
 
--- these told, and then this field
+-- the contents with one more field
 abbrev pub pushed : Contents → ℕ → Said → Contents
 pushed t line said =
     record {

@@ -1,4 +1,4 @@
--- The name and the version of a record have their forms.
+-- The name and the version of a record are well-formed.
 use Rattle.std.proofs.Common.{◌≡◌, inr, ℕ, Bool, true, false, cond, List, [], ◌∷◌, Option, Some, None, Result, Ok, Err, refl, sym, subst, ap, ◌∙◌}
 use Rattle.std.specs.Prelude.{IfSome, IfOk, IfErr, MatchResult}
 use Rattle.plan_types.specs.Refusal.{RefusesAt}
@@ -107,7 +107,7 @@ module _ (bytes : List ℕ) (items : List Element) (all : Contents) (tree : IsTr
   is : (r : Result (Option UnitRecord) ℕ) → outcome all ≡ r → IsRecord bytes r
   is r e = inr (items, tell.0, tree, tell.1, sym e ∙ ap outcome tell.2)
 
-  -- what `outcome` answers for all that is told
+  -- the result of `outcome` for all contents
   abbrev pub Answer : Result (Option UnitRecord) Fault → Type 0
   Answer r = MatchResult r (λ found. outcome all ≡ Ok found) (RefusesAt (λ line cause. (cause ≡ BadRecord) × (outcome all ≡ Err line)))
 

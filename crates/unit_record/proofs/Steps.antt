@@ -1,4 +1,4 @@
--- What the fields beside the sections say, one element further.
+-- The contents of fields outside sections, after one more element.
 use Rattle.std.proofs.Common.{◌≡◌, ◌<◌, ◌≤◌, ℕ, ◌+◌, List, [], ◌∷◌, ◌++◌, length, take, get_or, refl, sym, subst, ap, ◌∙◌}
 use Rattle.std.proofs.lemmas.Grind.{flat_map-append}
 use Rattle.std.proofs.lemmas.List.{append-nil, take_more, take_all}
@@ -17,11 +17,11 @@ say_both [] more (f ∷ fs) others h k = absurd h
 say_both (t ∷ ts) more [] others h k = absurd h
 say_both (t ∷ ts) more (f ∷ fs) others h k = (h.0, h.1, say_both ts more fs others h.2 k)
 
--- some fields say this together
+-- the contents of these fields
 abbrev pub Tell : List TopField → Contents → Type 0
 Tell tops all = (fields : List Field) × Say tops fields × (all ≡ contents fields)
 
--- from what is told before these fields to what is told behind them
+-- from the contents before these fields to those after them
 abbrev pub Goes : List TopField → Contents → Contents → Type 0
 Goes tops old new = (before : List Field) → old ≡ contents before → (found : List Field) × Say tops found × (new ≡ contents (before ++ found))
 

@@ -25,14 +25,14 @@ two_words = refl
 beside_the_sections : top_fields (Field 1 (codes "id") (codes "a" ∷ codes "b" ∷ []) ∷ Section 2 (codes "s") [] (Field 3 (codes "id") [] ∷ []) ∷ []) ≡ record { line = 1; name = codes "id"; text = codes "a b" } ∷ []
 beside_the_sections i = of_field 1 (codes "id") (codes "a" ∷ codes "b" ∷ []) i ++ (of_section 2 (codes "s") [] (Field 3 (codes "id") [] ∷ []) i ++ [])
 
--- the last id holds, and several lists of needs add up
+-- the last id counts, and several lists of needs add up
 unit : outcome (contents (record { line = 1; said = said.Id (Some (codes "a")) } ∷ record { line = 2; said = said.Depends (codes "x" ∷ []) }
     ∷ record { line = 3; said = said.Name (Some (codes "n")) } ∷ record { line = 4; said = said.Depends (codes "y" ∷ []) }
     ∷ record { line = 5; said = said.Id (Some (codes "b")) } ∷ record { line = 6; said = said.Version (Some (record { parts = 1 ∷ [] })) } ∷ []))
     ≡ Ok (Some (record { name = codes "n"; version = record { parts = 1 ∷ [] }; id = codes "b"; depends = codes "x" ∷ codes "y" ∷ [] }))
 unit = refl
 
--- a bad id is a fault also where a good one follows, and comes before a missing name
+-- a bad id is a fault even if a good one follows, and comes before a missing name
 bad_id : outcome (contents (record { line = 1; said = said.Id None } ∷ record { line = 2; said = said.Id (Some (codes "a")) } ∷ record { line = 3; said = said.Version None } ∷ [])) ≡ Err 1
 bad_id = refl
 

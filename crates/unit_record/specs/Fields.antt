@@ -1,4 +1,4 @@
--- What the fields of a record say.
+-- The fields of a record, and their values.
 use Rattle.std.specs.Prelude.{◌≡◌, ℕ, if◌then◌else◌, List, [], ◌∷◌, codes, flat_map, Option, Some, None}
 use Rattle.plan_types.specs.Bytes.{joined_text, same_text}
 use Rattle.plan_types.specs.declared.element.Element.{Element, Element-F, fold-Element}
@@ -13,18 +13,18 @@ use Rattle.unit_record.specs.declared.field.FieldWord.TheVariants as fields
 use Rattle.unit_record.specs.declared.field.Said.{Said}
 use Rattle.unit_record.specs.declared.field.Said.TheVariants as said
 
--- a field beside the sections, with its values joined by one space
+-- a field outside sections, with its values joined by single spaces
 pub record TopField : Type 0 where
   pub line : ℕ
   pub name : List ℕ
   pub text : List ℕ
 
--- the fields beside the sections, in one layer of an element
+-- the fields outside sections, in one layer of an element
 abbrev pub top_layer : Element-F (List TopField) → List TopField
 top_layer (element.Field line name values) = record { line = line; name = name; text = joined_text values } ∷ []
 top_layer (element.Section line name args items) = []
 
--- the fields of an element that stand beside the sections
+-- the fields of an element outside sections
 abbrev pub fields_of : Element → List TopField
 fields_of = fold-Element (List TopField) top_layer
 
@@ -32,7 +32,7 @@ fields_of = fold-Element (List TopField) top_layer
 abbrev pub top_fields : List Element → List TopField
 top_fields items = flat_map fields_of items
 
--- which field a name is
+-- the field with this name
 abbrev pub field_word : List ℕ → FieldWord
 field_word name =
     if same_text name (codes "name") then fields.Name
@@ -42,11 +42,11 @@ field_word name =
     else if same_text name (codes "lib-name") then fields.LibName
     else fields.Unread
 
--- the id of a unit, where a text is one
+-- the text, if it is the id of a unit
 abbrev pub unit_id : List ℕ → Option (List ℕ)
 unit_id text = if is_unit_id text then Some text else None
 
--- what a field with this text says
+-- the value of a field with this text
 abbrev pub FieldSays : FieldWord → List ℕ → Said → Type 0
 FieldSays fields.Name text found = found ≡ said.Name (package_name text)
 FieldSays fields.Version text found = (version : Option Version) × IsVersionOf text version × (found ≡ said.Version version)
@@ -55,12 +55,12 @@ FieldSays fields.Depends text found = found ≡ said.Depends (words BlanksAndCom
 FieldSays fields.LibName text found = found ≡ said.LibName
 FieldSays fields.Unread text found = found ≡ said.Unread
 
--- a field, with what it says
+-- a field with its line and value
 pub record Field : Type 0 where
   pub line : ℕ
   pub said : Said
 
--- the fields say this, one by one
+-- the lines and values of the fields, one by one
 abbrev pub Say : List TopField → List Field → Type 0
 Say [] [] = Unit {0}
 Say [] (field ∷ fields) = ⊥

@@ -21,7 +21,7 @@ is_lib_name (Depends ids) = false
 is_lib_name LibName = true
 is_lib_name Unread = false
 
--- the name that a field says
+-- the name in a field
 abbrev pub name_of : Said → Option (List ℕ)
 name_of (Name name) = name
 name_of (VersionOf version) = None
@@ -30,7 +30,7 @@ name_of (Depends ids) = None
 name_of LibName = None
 name_of Unread = None
 
--- the version that a field says
+-- the version in a field
 abbrev pub version_of : Said → Option Version
 version_of (Name name) = None
 version_of (VersionOf version) = version
@@ -39,7 +39,7 @@ version_of (Depends ids) = None
 version_of LibName = None
 version_of Unread = None
 
--- the id that a field says
+-- the id in a field
 abbrev pub id_of : Said → Option (List ℕ)
 id_of (Name name) = None
 id_of (VersionOf version) = None
@@ -48,7 +48,7 @@ id_of (Depends ids) = None
 id_of LibName = None
 id_of Unread = None
 
--- the units that a field says are needed
+-- the ids of the needed units in a field
 abbrev pub depends_of : Said → List (List ℕ)
 depends_of (Name name) = []
 depends_of (VersionOf version) = []
@@ -62,7 +62,7 @@ abbrev pub is_missing : {A : Type 0} → Option A → Bool
 is_missing None = true
 is_missing (Some a) = false
 
--- whether a value isn't of its form
+-- whether a value isn't well-formed
 abbrev pub is_bad : Said → Bool
 is_bad (Name name) = is_missing name
 is_bad (VersionOf version) = is_missing version
@@ -76,7 +76,7 @@ abbrev pub first_bad : List Field → Option ℕ
 first_bad [] = None
 first_bad (field ∷ fields) = if is_bad field.said then Some field.line else first_bad fields
 
--- what fields say together
+-- the contents of all fields; the last name, version and id count, and the needs add up
 abbrev pub contents : List Field → Contents
 contents fields =
     record {
@@ -92,23 +92,23 @@ contents fields =
 abbrev pub Adds : ℕ → Said → Contents → Contents → Type 0
 Adds line said old new = (fields : List Field) → old ≡ contents fields → new ≡ contents (fields ++ record { line = line; said = said } ∷ [])
 
--- a record, where nothing is missing
+-- the record if nothing is missing, else a fault at line 0
 abbrev pub complete : Option (List ℕ) → Option Version → Option (List ℕ) → List (List ℕ) → Result (Option UnitRecord) ℕ
 complete (Some name) (Some version) (Some id) depends = Ok (Some (record { name = name; version = version; id = id; depends = depends }))
 complete (Some name) (Some version) None depends = Err 0
 complete (Some name) None id depends = Err 0
 complete None version id depends = Err 0
 
--- a record, where no value is bad
+-- the outcome if no value is bad, else a fault at the line of the bad one
 abbrev pub sound : Option ℕ → Result (Option UnitRecord) ℕ → Result (Option UnitRecord) ℕ
 sound None found = found
 sound (Some line) found = Err line
 
--- The record of a sublibrary is left out, whatever else stands in it.
+-- the outcome of a record; that of a sublibrary is left out, whatever else it has
 abbrev pub outcome : Contents → Result (Option UnitRecord) ℕ
 outcome contents = if contents.left_out then Ok None else sound contents.bad (complete contents.name contents.version contents.id contents.depends)
 
--- The bytes are this record, or none, or can't be read at a line: that of the fault of the layout, where there is no tree.
+-- The outcome of the bytes: a record, none, or a fault at a line. If the layout has a fault, it is at that line.
 abbrev pub IsRecord : List ℕ → Result (Option UnitRecord) ℕ → Type 0
 IsRecord bytes found =
     ((line : ℕ) × (cause : Cause) × IsFault bytes line cause × (found ≡ Err line))

@@ -8,7 +8,7 @@ use Rattle.text_grammar.specs.declared.word.Between.TheVariants.{BlanksAndCommas
 abbrev pub is_separator : ℕ → Bool
 is_separator = is_between BlanksAndCommas
 
--- whether a text may be the id of a unit: it is one word
+-- whether a text is the id of a unit: a single word
 abbrev pub is_unit_id : List ℕ → Bool
 is_unit_id [] = false
 is_unit_id (b ∷ bs) = list_all (λ b. not (is_separator b)) (b ∷ bs)

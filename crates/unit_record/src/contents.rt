@@ -1,4 +1,4 @@
-// What the fields of a record tell together.
+// The contents of a record, from all its fields.
 ghost use Rattle.std.specs.Prelude.{◌≡◌, [], Some, Ok, Err, OnOk, MatchResult};
 ghost use Rattle.std.specs.Option.{option_or};
 ghost use Rattle.plan_types.specs.declared.refusal.Cause.TheVariants.{BadRecord};
@@ -10,7 +10,7 @@ use crate::field::Said;
 use plan_types::{Cause, Fault, List, NoMemory, Text, UnitRecord, Version};
 use std::alloc::Global;
 
-/// What the fields of a record say together.
+/// The contents of a record, from its fields so far.
 #[derive(Debug)]
 pub struct Contents {
     /// The unit is a sublibrary.
@@ -23,7 +23,7 @@ pub struct Contents {
     pub depends: List<Text>,
 }
 
-// Written out, so that it is proved once and not at each exit of each function that owns one.
+// Explicit, so that it is proved once: a derived one is expanded at each exit.
 impl Drop for Contents {
     fn drop(self) {
         let Contents {
@@ -38,7 +38,7 @@ impl Drop for Contents {
 }
 
 impl Contents {
-    /// Those of no field.
+    /// The contents of no fields.
     pub fn new(alloc: Global) -> Contents
         ensures { result ≡ contents [] }
     {
@@ -52,7 +52,7 @@ impl Contents {
         }
     }
 
-    /// Takes a further field.
+    /// Adds a field.
     pub fn take(&mut self, line: u32, said: Said) -> Result<(), NoMemory>
         ensures { OnOk result (Adds line said self.old self.new) }
     {
@@ -70,7 +70,7 @@ impl Contents {
         Ok(())
     }
 
-    // Of several bad values the first counts.
+    // The first of several bad values counts.
     fn bad_at(&mut self, line: u32)
         ensures { self.new ≡ record self.old { bad = option_or self.old.bad (Some line) } }
     {
@@ -79,7 +79,7 @@ impl Contents {
         }
     }
 
-    /// The record, where these are all its fields.
+    /// The record of these contents; none for a sublibrary.
     pub fn outcome(self) -> Result<Option<UnitRecord>, Fault>
         ensures { MatchResult result (λ found. outcome self ≡ Ok found)
             (RefusesAt (λ line cause. (cause ≡ BadRecord) × (outcome self ≡ Err line))) }

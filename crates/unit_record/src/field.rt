@@ -1,4 +1,4 @@
-// A field of a record, and what it says.
+// A field of a record, and its value.
 ghost use Rattle.std.specs.Prelude.{◌≡◌, IfOk};
 ghost use Rattle.plan_types.specs.Bytes.{joined_text};
 ghost use Rattle.unit_record.specs.Fields.{FieldSays, field_word, unit_id};
@@ -9,7 +9,7 @@ use std::alloc::Global;
 use text_grammar::{Between, package_name, words};
 use version_range::version_of;
 
-/// Fields that are read.
+/// The fields of a record, by name.
 #[derive(Clone, Copy, Debug, PartialEq, Eq)]
 pub enum FieldWord {
     Name,
@@ -20,10 +20,10 @@ pub enum FieldWord {
     Unread,
 }
 
-/// What a field says.
+/// The value of a field.
 #[derive(Debug, Drop)]
 pub enum Said {
-    /// None where its value isn't of its form. The same holds for the next two.
+    /// None if the value isn't well-formed. The same for the next two.
     Name(Option<Text>),
     Version(Option<Version>),
     Id(Option<Text>),
@@ -46,14 +46,14 @@ fn field_word(name: &str) -> FieldWord
     }
 }
 
-/// What a field of this name and these values says.
+/// The content of a field with this name and these values.
 pub fn said_by(alloc: Global, name: &Text, values: &List<Text>) -> Result<Said, NoMemory>
     ensures { IfOk result (FieldSays (field_word name.now) (joined_text values.now)) }
 {
     said_as(alloc, field_word(name.as_str()), values)
 }
 
-// The values of a field that is unread aren't joined.
+// An unread field isn't joined.
 fn said_as(alloc: Global, word: FieldWord, values: &List<Text>) -> Result<Said, NoMemory>
     ensures { IfOk result (FieldSays word (joined_text values.now)) }
 {

@@ -1,5 +1,5 @@
-//! The record of an installed unit. In go its bytes; out come its package, its version, its id and the ids of the units
-//! that it needs, or nothing where it is that of a sublibrary, or the line at which it can't be read.
+//! Records of installed units. `read_record` takes the bytes of a record. It returns the unit's package, version, id
+//! and the ids of the units that it needs; nothing for a sublibrary; or `BadRecord` with a line. The outcome is unique.
 #![tactic(auto)]
 
 mod contents;

@@ -1,4 +1,4 @@
-// A record, read from its bytes.
+// Reading a record from its bytes.
 ghost use Rattle.std.specs.Prelude.{◌≡◌, ◌≤◌, ◌++◌, [], ◌∷◌, ℕ, List, true, Ok, Err, length, IfOk, IfErr, IfSome, OnOk};
 ghost use Rattle.plan_types.specs.declared.refusal.Cause.{Cause};
 ghost use Rattle.plan_types.specs.declared.refusal.Cause.TheVariants.{BadRecord};
@@ -15,8 +15,7 @@ use cabal_lexer::read_elements;
 use plan_types::{Cause, Element, Fault, List, NoMemory, UnitRecord};
 use std::alloc::Global;
 
-/// The record that a text is, or nothing where it is that of a sublibrary. The fault is `BadRecord`; its line is 0 where a
-/// field is missing.
+/// The record in a text; none for a sublibrary. The fault is always `BadRecord`. Its line is 0 if a field is missing.
 pub fn read_record(alloc: Global, bytes: &[u8]) -> Result<Option<UnitRecord>, Fault>
     requires { length bytes.now ≤ 1048576 }
     ensures record { IfOk result (λ found. IsRecord bytes.now (Ok found)) }
@@ -46,7 +45,7 @@ fn tree_of(alloc: Global, bytes: &[u8]) -> Result<List<Element>, Fault>
     }
 }
 
-// What the fields beside the sections tell together.
+// The contents of the fields outside sections.
 fn contents_of(alloc: Global, items: &[Element]) -> Result<Contents, NoMemory>
     ensures { IfOk result (λ found. (fields : List Field) × Say (top_fields items.now) fields
         × (found ≡ contents fields)) }

@@ -1,4 +1,4 @@
-// The id of a unit, which is one word.
+// The ids of units, which are single words.
 ghost use Rattle.std.specs.Prelude.{◌≡◌, not};
 ghost use Rattle.std.specs.List.{list_all};
 ghost use Rattle.unit_record.specs.Words.{is_separator, is_unit_id};
