@@ -1,4 +1,4 @@
--- An entry of named ranges or of constraints stands for one, or for nothing.
+-- An entry of named ranges or of constraints denotes one, or nothing.
 use Rattle.std.proofs.Common.{◌≡◌, ◌⊎◌, inl, inr, ℕ, Bool, true, false, List, ◌∷◌, ◌++◌, drop, Option, Some, None, refl, sym, ap, ◌∙◌}
 use Rattle.std.specs.Prelude.{codes, if◌then◌else◌, map}
 use Rattle.std.specs.Char.{to_ascii_lowercase}
@@ -80,7 +80,7 @@ module _ (text : List ℕ) where
   target_decided : HasTarget text
   target_decided = target_by (begun 46 (behind_name text)) (begun 58 (behind_name text))
 
--- ---- what is asked
+-- ---- the requirement
 
 module _ (word : List ℕ) where
   no_flag : (byte : ℕ) (name : List ℕ) → word ≡ byte ∷ name → is_flag_name name ≡ false → (flag : FlagSet) → Flag word flag → ⊥
@@ -129,7 +129,7 @@ asks_decided text = by (range_decided text) (asked_decided (words text))
 
 -- ---- a constraint
 
--- the name of the package, by what is behind the name in front
+-- the name of the package, by the text after the first name
 abbrev package_in : List ℕ → List ℕ → List ℕ
 package_in name text =
     if begins_with 46 text then run is_name_byte (drop 1 text)

@@ -1,4 +1,4 @@
--- What is decided: there is a value that a relation takes, or there is none.
+-- Decidable properties: some value has it, or none does.
 use Rattle.std.proofs.Common.{◌≡◌, ◌⊎◌, inl, inr, ℕ, Bool, true, false, List, [], ◌∷◌, ◌++◌, refl, sym, ◌∙◌}
 use Rattle.std.specs.Prelude.{◌==◌}
 use Rattle.std.proofs.lemmas.Bool.{eqb-true, eq-eqb, false≢true}
@@ -12,12 +12,12 @@ use Rattle.text_answers.specs.Answered.{Answered}
 abbrev pub Decided : {A : Type 0} → (A → Type 0) → Type 0
 Decided {A} P = ((x : A) × P x) ⊎ ((x : A) → P x → ⊥)
 
--- what stands for nothing has the one fault that there is
+-- a part that denotes nothing has the fault `BadConstraint`
 pub bad_as_none : {A : Type 0} (Part : List ℕ → A → Type 0) (part : List ℕ) → Decided (Part part) → Answered (Part part) (BadAsNone Part part)
 bad_as_none Part part (inl found) = inl found
 bad_as_none Part part (inr never) = inr (BadConstraint, record { is = refl; stands_for_none = never })
 
--- whether two texts are the same
+-- two texts are equal, or aren't
 pub same_or_other : (xs ys : List ℕ) → (xs ≡ ys) ⊎ (xs ≡ ys → ⊥)
 same_or_other xs ys = by (same_text xs ys) refl
   where
@@ -25,7 +25,7 @@ same_or_other xs ys = by (same_text xs ys) refl
     by true q = inl ((bytes_eq-Decides xs ys).0 q)
     by false q = inr (λ e. false≢true (sym q ∙ (bytes_eq-Decides xs ys).1 e))
 
--- whether a text begins so, and how it goes on
+-- whether a text begins with this prefix, and its rest
 pub front_decided : (front text : List ℕ) → Decided (λ (rest : List ℕ). text ≡ front ++ rest)
 front_decided [] text = inl (text, refl)
 front_decided (x ∷ front) [] = inr (λ rest e. absurd (cc e))

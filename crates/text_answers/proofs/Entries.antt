@@ -1,4 +1,4 @@
--- Each text has pieces, and they have an answer where each part has one.
+-- Each text has pieces. A text has a value or a fault if each of its parts does.
 use Rattle.std.proofs.Common.{◌≡◌, inl, inr, ℕ, Bool, true, false, not, ◌&&◌, List, [], ◌∷◌, ◌++◌, refl, sym, ap, ◌∙◌, subst, append_assoc, append-nil}
 use Rattle.std.specs.Prelude.{◌==◌}
 use Rattle.std.proofs.lemmas.Bool.{and_parts, eqb-true}
@@ -11,7 +11,7 @@ use Rattle.text_answers.proofs.Decided.{Decided}
 abbrev HasPieces : List ℕ → Type 0
 HasPieces text = (pieces : List (List ℕ)) × Pieces text pieces
 
--- at a comma outside braces a piece ends, and at any other byte it goes on
+-- a comma outside braces ends a piece, and any other byte continues it
 piece_by : (piece rest : List ℕ) (b : ℕ) → commas_inside 0 piece ≡ true → (t : Bool) → (b == 44 && left_open 0 piece == 0) ≡ t
     → HasPieces rest → (commas_inside 0 (piece ++ b ∷ []) ≡ true → HasPieces ((piece ++ b ∷ []) ++ rest)) → HasPieces (piece ++ b ∷ rest)
 piece_by piece rest b h true q others longer =
@@ -23,7 +23,7 @@ piece_by piece rest b h false q others longer =
     subst HasPieces (append_assoc piece (b ∷ []) rest)
     (longer (inside_push 0 piece b ∙ ap (λ t. t && not (b == 44 && left_open 0 piece == 0)) h ∙ ap not q))
 
--- the piece that has begun, and what follows
+-- the pieces, from a piece that has begun
 pieces_from : (piece rest : List ℕ) → commas_inside 0 piece ≡ true → HasPieces (piece ++ rest)
 pieces_from piece [] h = (piece ∷ [], subst (λ t. Pieces t (piece ∷ [])) (sym (append-nil piece)) (last h))
 pieces_from piece (b ∷ rest) h =

@@ -1,4 +1,4 @@
--- Versions, ranges and conditions: what is read from left to right ends in a value or at a fault.
+-- Versions, ranges and conditions: reading from left to right ends with a value or at a fault.
 use Rattle.std.proofs.Common.{◌≡◌, inl, inr, ℕ, true, false, List, [], ◌∷◌, Option, Some, None, Result, Ok, Err, refl, sym, ap, ◌∙◌, append-nil}
 use Rattle.plan_types.specs.declared.condition.Cond.{Cond}
 use Rattle.plan_types.specs.declared.range.Range.{Range}
@@ -19,7 +19,7 @@ use Rattle.condition_text.proofs.Whole as condition
 use Rattle.text_answers.specs.Answered.{Answered}
 use Rattle.text_answers.proofs.Decided.{Decided}
 
--- a version with nothing behind it, or none
+-- a version that is the whole text, or none
 pub version_or_none : (text : List ℕ) → (found : Option Version) × IsVersionOf text found
 version_or_none text = by (version_at false V3_0 text) refl
   where

@@ -1,4 +1,4 @@
--- An entry of relaxings stands for one, or for nothing.
+-- An entry of relaxings denotes one, or nothing.
 use Rattle.std.proofs.Common.{◌≡◌, ◌⊎◌, inl, inr, ℕ, Bool, true, false, not, List, [], ◌∷◌, ◌++◌, Option, Some, None, refl, sym, ap, ◌∙◌, subst}
 use Rattle.std.specs.Prelude.{◌==◌, codes}
 use Rattle.std.specs.List.{filter_map, list_all}
@@ -144,7 +144,7 @@ entry_decided text = by (words text) refl
     by (word ∷ []) q = one_word word q (relaxed_decided word)
     by (word ∷ next ∷ parts) q = inr (λ x entry. absurd (cc (q, entry.alone)))
 
--- without the entries that relax nothing
+-- each text denotes relaxings, without the entries that relax nothing, or has a fault
 pub some_relaxes : (text : List ℕ) → Answered (Relaxes text) (RelaxFault text)
 some_relaxes text =
     elim (some_reading RelaxEntry (BadAsNone RelaxEntry) (λ part. bad_as_none RelaxEntry part (entry_decided part)) text) [

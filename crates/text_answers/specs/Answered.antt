@@ -1,7 +1,7 @@
--- What it is to have an answer.
+-- Texts with a value or a fault.
 use Rattle.std.specs.Prelude.{◌⊎◌}
 use Rattle.plan_types.specs.declared.refusal.Cause.{Cause}
 
--- there is a value that stands, or a cause that fails
+-- some value has the first property, or some cause has the second
 abbrev pub Answered : {A : Type 0} → (A → Type 0) → (Cause → Type 0) → Type 0
 Answered {A} Stands Fails = ((x : A) × Stands x) ⊎ ((cause : Cause) × Fails cause)

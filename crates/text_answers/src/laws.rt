@@ -1,4 +1,4 @@
-// Every text has an answer.
+// Every text has a value or a fault.
 ghost use Rattle.std.specs.Prelude.{ℕ, List, Option};
 ghost use Rattle.plan_types.specs.declared.dependency.DepKind.{DepKind};
 ghost use Rattle.plan_types.specs.declared.range.Spec.{Spec};
@@ -12,24 +12,24 @@ ghost use Rattle.constraint_text.specs.Constraints.{Constraints, ConstraintsFaul
 ghost use Rattle.constraint_text.specs.Relaxes.{Relaxes, RelaxFault};
 ghost use Rattle.text_answers.specs.Answered.{Answered};
 
-/// Each text is a version, or is none.
+/// Each text is a version, or isn't one.
 pub fn version_or_none()
     ensures { (text : List ℕ) → (found : Option Version) × IsVersionOf text found }
 {}
 
-/// Each text stands for a range, or has a first fault.
+/// Each text denotes a range, or has a first fault.
 pub fn some_range()
     ensures { (spec : Spec) (text : List ℕ)
         → Answered (ranges.Stands spec 64 text) (ranges.FirstFault spec 64 text) }
 {}
 
-/// Each text stands for a condition, or has a first fault.
+/// Each text denotes a condition, or has a first fault.
 pub fn some_condition()
     ensures { (spec : Spec) (text : List ℕ)
         → Answered (conditions.Stands spec 64 text) (conditions.FirstFault spec 64 text) }
 {}
 
-/// Each text stands for dependencies, or has the fault of an entry.
+/// Each text denotes dependencies, or has the fault of an entry.
 pub fn some_dependencies()
     ensures depends { (spec : Spec) (kind : DepKind) (line : ℕ) (text : List ℕ)
         → Answered (Depends spec kind line text) (DependsFault spec kind line text) }
@@ -37,7 +37,7 @@ pub fn some_dependencies()
         → Answered (Tools spec line text) (ToolsFault spec line text) }
 {}
 
-/// Each text stands for named ranges, for constraints and for relaxings, or has the fault of an entry.
+/// Each text denotes named ranges, or has the fault of an entry. The same for constraints and relaxings.
 pub fn some_constraints()
     ensures named { (text : List ℕ) → Answered (NamedRanges text) (NamedFault text) }
     ensures constraints { (text : List ℕ) → Answered (Constraints text) (ConstraintsFault text) }

@@ -1,6 +1,5 @@
-//! Every text has an answer: it stands for a value, or it has a fault. The laws beside the readers say that it has
-//! one of them at most; these say that it has one, so that no text is left of which nothing is told. There is no
-//! code here.
+//! Every text has an outcome: it denotes a value or has a fault. The laws of the readers' crates show that it has at
+//! most one outcome. The laws here show that it has at least one. There is no code here.
 #![tactic(auto)]
 
 mod laws;
