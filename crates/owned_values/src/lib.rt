@@ -1,5 +1,6 @@
-//! Lists, texts, boxes and shared values whose allocations can fail. Out of memory is a result, never an abort. A contract
-//! sees a `Text` as its list of bytes, a `List` as its list of items, and a `Boxed` or a `Shared` as the value inside.
+//! Lists, texts, boxes and shared values whose allocations can fail. Out of memory is an error value, never an abort.
+//! A contract sees a `Text` as its list of bytes, a `List` as its list of items, and a `Boxed` or a `Shared` as the
+//! value inside.
 #![tactic(auto)]
 
 mod boxed;

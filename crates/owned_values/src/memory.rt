@@ -1,7 +1,7 @@
 // Out of memory.
 use std::alloc::{AllocError, AllocFailed};
 
-/// Out of memory. The arguments of the failed call are unchanged.
+/// Out of memory. A list or text that the failed call was to change is unchanged.
 #[derive(Clone, Copy, Debug, PartialEq, Eq)]
 pub struct NoMemory;
 
