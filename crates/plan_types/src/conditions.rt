@@ -9,7 +9,7 @@ use std::marker::Model;
 /// A condition in a table, built from conditions of earlier rows by their numbers.
 #[derive(Debug, Drop)]
 pub enum Row {
-    /// A condition of its own.
+    /// A condition that isn't built from earlier rows.
     Own(Guard),
     /// `!` of an earlier one.
     Negated(usize),

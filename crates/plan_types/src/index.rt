@@ -119,7 +119,7 @@ pub struct Package {
 impl Package {
     ghost use Rattle.plan_types.specs.Packages.{entries_of};
 
-    /// The instances of the package at a place in goal order; none behind the last package.
+    /// The instances of the package at a place in goal order; none after the last package.
     pub fn entries_at(packages: &[Package], place: u64) -> &[Entry]
         ensures { result.now ≡ entries_of packages.now place }
     {

@@ -1,5 +1,5 @@
-//! The planner's data types: versions and ranges, conditions, descriptions, projects, indexes and refusals. Nothing is
-//! read or planned here. The contracts define names, the members of a range, and conditions by number in a table.
+//! The planner's data types: versions and ranges, conditions, descriptions, projects, indexes and refusals. The few
+//! functions make equal copies, test names, decide the members of a range, and keep tables of shared conditions.
 #![tactic(auto)]
 
 mod condition;

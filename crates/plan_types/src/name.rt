@@ -17,7 +17,7 @@ pub fn is_component_name(text: &[u8]) -> bool
     !text.is_empty() && has_component_bytes(text)
 }
 
-/// Whether a text is a flag's name: that of a component, but for a `-` in front.
+/// Whether a text is a flag's name: a component's name that doesn't begin with `-`.
 pub fn is_flag_name(text: &[u8]) -> bool
     ensures { result ≡ is_flag_name text.now }
 {

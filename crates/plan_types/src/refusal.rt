@@ -44,9 +44,9 @@ pub enum Cause {
     UnknownStanza,
     /// A condition names a flag that isn't declared.
     UnknownFlag,
-    /// An import behind something else, or in a branch before cabal-version 3.0.
+    /// An import after something else, or in a branch before cabal-version 3.0.
     ImportNotFirst,
-    /// `elif` or `else` not directly behind `if` or `elif`.
+    /// `elif` or `else` not directly after `if` or `elif`.
     ElseWithoutIf,
     /// A dependency is on a component that the package itself doesn't have.
     UnknownComponent,
