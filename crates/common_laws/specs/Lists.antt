@@ -138,7 +138,7 @@ once-head x xs h k = h 0 (suc k.0) x (omega arith) (omega (arith, k.1)) (sym k.2
 pub once-tail : {X : Type 0} (x : X) (xs : List X) → AllPairs (λ a b. a ≢ b) (x ∷ xs) → AllPairs (λ a b. a ≢ b) xs
 once-tail x xs h i j d l k = h (suc i) (suc j) d (omega (arith, l)) (omega (arith, k))
 
--- in a list without repetition, an item before `a` is in the prefix that ends at `a`
+-- in a list without repetition, an item that precedes `a` is in the part in front of `a`
 pub earlier-in-front : {X : Type 0} (a b : X) (front rest before between after : List X)
     → AllPairs (λ x y. x ≢ y) (front ++ a ∷ rest) → front ++ a ∷ rest ≡ before ++ (b ∷ between ++ (a ∷ after)) → Contains front b
 earlier-in-front a b [] rest [] between after once e =
