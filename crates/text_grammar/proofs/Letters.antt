@@ -55,7 +55,7 @@ first test (b ∷ bs) = by (test b) refl
     by true q = passes b bs refl q
     by false q = fails q
 
--- ---- a required or an optional byte
+-- ---- a required byte, and a choice by the first byte
 
 pub data Passing {A : Type 0} (test : ℕ → Bool) (K : List ℕ → A → Type 0) : List ℕ → A → Type 0 where
   passing : (b : ℕ) {text : List ℕ} {x : A} → test b ≡ true → K text x → Passing test K (b ∷ text) x
@@ -109,7 +109,7 @@ module _ {A : Type 0} (digits : Digits) (test : ℕ → Bool) (other : (b : ℕ)
         pub reads_due : Reads digits (Passing test K) (pass_due missing test R)
         reads_due = record { read = due_read; reads = λ text x rest l a. due_reads l rest a }
 
-      -- an optional byte
+      -- a choice by the first byte
       module _ (M : List ℕ → A → Type 0) (T : Reader A) (m : Reads digits M T) (never : Never test M) where
         choose_reads : {text : List ℕ} {x : A} → Fork test K M text x → (rest : List ℕ) → Apart digits text rest → pass_choose test R T (text ++ rest) ≡ Ok (x, rest)
         choose_reads {x = x} (here b {text = text} h l) rest a = choose_here T b h (text ++ rest) ∙ k.reads text x rest l (apart_within digits (b ∷ []) text rest (other b h) a)
@@ -174,7 +174,7 @@ module _ {A : Type 0} (kind : Kind) (test : ℕ → Bool) (other : (b : ℕ) →
         wider : (text : List ℕ) (x : A) → Passing test K text x → Passing test K' text x
         wider text x (passing b {text = t} p l) = passing b p (k.wider t x l)
 
-  -- an optional byte
+  -- a choice by the first byte
   module _ (M M' : List ℕ → A → Type 0) (T T' : Reader A) (m : Pair kind M M' T T') (never : Never test M) (never' : Never test M') where
     abbrev C : Reader A
     C = pass_choose test R T

@@ -92,7 +92,7 @@ module _ {A : Type 0} (kind : Kind) (byte : ℕ) (other : kind.digits.digit byte
     pub good_due : Good kind (After byte K) (due (miss kind) byte R)
     good_due = record { read = due_read; reads = λ text x rest l a. due_reads l rest a; fault = missed_fault }
 
-  -- an optional byte
+  -- a choice by the first byte
   module _ (M : List ℕ → A → Type 0) (T : Reader A) (m : Good kind M T) (never : Never is_byte M) where
     choose_here : (rest : List ℕ) → choose byte R T (byte ∷ rest) ≡ R rest
     choose_here rest = ap (λ (o : Option (List ℕ)). elim o [ Some more ↦ R more | None ↦ T (byte ∷ rest) ]) (byte_here byte rest)

@@ -6,7 +6,7 @@ use Rattle.plan_types.specs.declared.refusal.Cause.{Cause}
 abbrev pub Viable : {A : Type 0} → (List ℕ → A → Type 0) → List ℕ → Type 0
 Viable {A} Stands front = (more : List ℕ) × (x : A) × Stands (front ++ more) x
 
--- no reading continues by the first byte of the rest; at the end of the text, the prefix isn't in the language
+-- no completion begins with the first byte of the rest; at the end of the text, the prefix isn't in the language
 abbrev pub Stuck : {A : Type 0} → (List ℕ → A → Type 0) → List ℕ → List ℕ → Type 0
 Stuck {A} Stands front [] = (x : A) → Stands front x → ⊥
 Stuck Stands front (b ∷ rest) = Viable Stands (front ++ b ∷ []) → ⊥
