@@ -123,7 +123,7 @@ Steps needs s t = GoesOn needs s t (to_do needs s)
 abbrev pub Follows : List (List ℕ) → Search → Search → Type 0
 Follows needs s t = GoesOn needs s t (to_do needs s + 1)
 
--- whether a node is known to lie on a cycle
+-- whether a node is settled and lies on a cycle
 abbrev pub is_on_cycle : State → Bool
 is_on_cycle Unseen = false
 is_on_cycle (OnPath i) = false

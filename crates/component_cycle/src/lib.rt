@@ -1,5 +1,5 @@
-//! Finds a cycle in a graph. The input is, for each node, the list of the nodes that it needs. The result is the least
-//! node on a cycle, or none if there is no cycle. The time is linear in nodes and edges.
+//! Cycles of a graph. The input is, for each node, the list of the nodes that it needs. The result is the least node
+//! on a cycle, or none if there is no cycle. The time is linear in nodes and edges.
 #![tactic(auto)]
 
 mod first;
