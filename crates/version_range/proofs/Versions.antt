@@ -171,7 +171,7 @@ some_front text d digit = by d.front refl
     by [] q = absurd (false≢true (sym d.end ∙ ap begins_with_digit (sym (d.whole ∙ ap (λ t. t ++ d.rest) q)) ∙ digit))
     by (b ∷ bs) q = omega (arith, ap length q)
 
--- digits that no further digits turn into a number
+-- digits that no further digits complete to a number
 digits_no : (spec : Spec) (ds text : List ℕ) → all_ascii_digits ds ≡ true → begins_with_digit text ≡ true → ((more : List ℕ) → 0 < length more → is_number (ds ++ more) ≡ false) → errs (number_at spec (ds ++ text)) ≡ true
 digits_no spec ds text all digit none =
     let d = split text in

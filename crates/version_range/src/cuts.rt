@@ -50,7 +50,7 @@ impl Cuts {
         self.ends.is_empty()
     }
 
-    /// The members of a range.
+    /// The cuts of a range, with the same members.
     #[cycle(cuts)]
     pub fn of(alloc: Global, range: &Range) -> Result<Cuts, NoMemory>
         requires { has_versions range.now ≡ true }

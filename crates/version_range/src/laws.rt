@@ -34,8 +34,8 @@ pub fn reads_back()
         → Stands spec 64 (range_text r) r }
 {}
 
-/// Relaxing twice is relaxing once in both directions, in either order. Sets with the same members have the same
-/// relaxed sets.
+/// Relaxing twice is relaxing once in the directions of both, in either order. A set with the same members is the set
+/// relaxed in no direction.
 pub fn relaxed_twice()
     ensures newer_first { (has once both : Version → Bool) → Relaxes true false has once
         → Relaxes false true once both → Relaxes true true has both }
