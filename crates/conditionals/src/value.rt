@@ -19,7 +19,7 @@ pub fn eval(cond: &Cond, env: &Env, flags: &List<FlagSet>) -> Tri
     requires { each_once flags.now ≡ true }
     ensures { result ≡ value env.now (flag_in flags.now) cond.now }
 {
-    // The whole, if the rest of the left side is Yes or No. If that is Unknown, so is the whole.
+    // The value of the whole if the rest of the left side is Yes, and if it is No. If it is Unknown, so is the whole.
     let mut if_yes = Tri::Yes;
     let mut if_no = Tri::No;
     let mut left = cond;
