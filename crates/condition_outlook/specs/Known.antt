@@ -11,18 +11,18 @@ use Rattle.conditionals.specs.declared.value.Tri.TheVariants.{Yes}
 use Rattle.condition_outlook.specs.Settled.{AreSet}
 use Rattle.condition_outlook.specs.declared.known.Known.{Known}
 
--- whether a row is a condition of its own
+-- whether a row is `Own`
 abbrev pub has_tests : Row → Bool
 has_tests (Own cond) = true
 has_tests (Negated inner) = false
 has_tests (Both front last) = false
 
--- whether this is a row, and a condition of its own
+-- whether this is a row, and it is `Own`
 abbrev pub has_tests_at : Option Row → Bool
 has_tests_at None = false
 has_tests_at (Some row) = has_tests row
 
--- whether a row is a condition of its own, or `!` of such a row
+-- whether a row is `Own`, or `!` of an `Own` row
 abbrev pub is_own : List Row → Row → Bool
 is_own rows (Own cond) = true
 is_own rows (Negated inner) = has_tests_at (slice_get rows inner)

@@ -62,7 +62,7 @@ pub fn known_of(
     }
 }
 
-// Whether a row is a condition of its own, or `!` of such a row.
+// Whether a row is `Own`, or `!` of an `Own` row.
 fn is_own(rows: &[Row], row: &Row) -> bool
     ensures { result ≡ is_own rows.now row.now }
 {
