@@ -12,7 +12,7 @@ use Rattle.unit_record.specs.declared.field.Said.{Said}
 use Rattle.unit_record.specs.declared.field.Said.TheVariants.{Name, Version as VersionOf, Id, Depends, LibName, Unread}
 use Rattle.unit_record.specs.declared.contents.Contents.{Contents}
 
--- whether a field says that the unit is a sublibrary
+-- whether a field marks the unit as a sublibrary
 abbrev pub is_lib_name : Said → Bool
 is_lib_name (Name name) = false
 is_lib_name (VersionOf version) = false
