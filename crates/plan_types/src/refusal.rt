@@ -16,11 +16,11 @@ pub enum Cause {
     StrayBrace,
     /// A brace that is never closed.
     UnclosedBrace,
-    /// A name is missing, or isn't of its form.
+    /// A name is missing, or isn't well-formed.
     BadName,
     /// More than 64 constructs are open at once.
     TooDeep,
-    /// A version isn't of its form.
+    /// A version isn't well-formed.
     BadVersion,
     /// A range of versions can't be read.
     BadRange,
@@ -30,11 +30,11 @@ pub enum Cause {
     BadCond,
     /// A dependency can't be read.
     BadDepend,
-    /// A text of a project about packages can't be read.
+    /// A constraint, named range or relaxing of a project can't be read.
     BadConstraint,
     /// A description doesn't begin with its cabal-version, or lacks its name or its version.
     MissingField,
-    /// A description is of another cabal-version than those that are read.
+    /// A description has a cabal-version that isn't supported.
     WrongCabalVersion,
     /// A value or a section that isn't allowed here.
     BadField,
