@@ -59,7 +59,7 @@ is_same false on = not on
 abbrev pub agree : FlagSet → FlagSet → Bool
 agree s t = if same_text s.name t.name then is_same s.on t.on else true
 
--- no flag is set both ways
+-- whether a path is consistent: no flag is both on and off
 abbrev pub is_consistent : Path → Bool
 is_consistent [] = true
 is_consistent (s ∷ path) = list_all (agree s) path && is_consistent path
