@@ -47,7 +47,7 @@ to_end_err spec p e = rw e refl
 blank_is_any : (spec : Spec) (n : ℕ) (text : List ℕ) → (length (skip_blanks text) == 0) ≡ true → text_at spec n text ≡ Ok Any
 blank_is_any spec n text e = rw e refl
 
--- a text that isn't blanks alone
+-- a text that isn't blanks only
 abbrev NotBlank : List ℕ → Type 0
 NotBlank text = skip_blanks text ≢ []
 

@@ -140,7 +140,7 @@ IsRelaxed newer older has v = IsTrue (has v) ⊎ (IsTrue newer × IsNewer has v)
 abbrev pub Relaxes : Bool → Bool → (Version → Bool) → (Version → Bool) → Type 0
 Relaxes newer older has relaxed = (v : Version) → HasNumbers v → IsTrue (relaxed v) ↔ IsRelaxed newer older has v
 
--- the least list of numbers above all that begin with these
+-- the least list of numbers above all lists with this prefix
 abbrev pub raised : List ℕ → List ℕ
 raised [] = []
 raised (n ∷ []) = (n + 1) ∷ []

@@ -83,7 +83,7 @@ pub data Stands (spec : Spec) (deepest : ℕ) : List ℕ → Range → Type 0 wh
   empty : {text : List ℕ} → Blanks text → Stands spec deepest text Any
   range : (text after : List ℕ) {r : Range} → Terms spec (Inside spec deepest) text r → Blanks after → Stands spec deepest (text ++ after) r
 
--- some bytes complete the text
+-- a viable prefix: some bytes complete it to a text of a range
 abbrev pub Viable : Spec → ℕ → List ℕ → Type 0
 Viable spec deepest = first.Viable (Stands spec deepest)
 
