@@ -1,4 +1,4 @@
--- An entry of a description has one reading or one fault.
+-- An entry of dependencies has at most one reading, at most one fault, and never both.
 use Rattle.std.proofs.Common.{◌≡◌, ℕ, true, false, List, [], ◌∷◌, sym, ap, ◌∙◌, subst}
 use Rattle.std.proofs.lemmas.Bool.{true≢false, false≢true}
 use Rattle.plan_types.specs.Bytes.{begins_with}
