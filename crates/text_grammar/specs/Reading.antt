@@ -1,4 +1,4 @@
--- Readers: functions that read a text from left to right. Public contracts use `Parts` and `FirstFault` instead.
+-- Readers: functions that read a text from left to right. Languages and first faults are defined without them.
 use Rattle.std.specs.Prelude.{◌≡◌, ◌+◌, ℕ, zero, suc, Bool, ◌==◌, ◌||◌, if◌then◌else◌, List, [], ◌∷◌, length, Option, Some, None, Result, Ok, Err}
 use Rattle.std.specs.Char.{to_ascii_lowercase}
 use Rattle.plan_types.specs.declared.refusal.Cause.{Cause}
