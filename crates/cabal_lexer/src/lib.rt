@@ -1,6 +1,7 @@
 //! The layout of Cabal files. `read_elements` takes the bytes of a file and returns its tree of fields and sections, by
 //! lines, indents and braces, or its first fault. The tree is unique, and so is the fault; no file has both.
-//! `print_elements` returns the canonical text of a tree, which parses as the same tree, except for line numbers.
+//! `print_elements` returns the canonical text of a tree. The text parses as the same tree, except for line numbers,
+//! unless a value or args end with a carriage return.
 #![tactic(auto)]
 
 mod elements;
