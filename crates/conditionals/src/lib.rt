@@ -1,7 +1,7 @@
 //! Conditions over flags and an environment. `eval` returns Yes, No or Unknown under a partial assignment of flags,
 //! from left to right. `paths` returns the paths of a condition: lists of settings of flags. Under each partial
-//! assignment, some path holds iff the condition has the wanted value, and no two paths hold together. The counts of
-//! paths come without the paths.
+//! assignment, some path holds iff the condition has the wanted value, and no two paths hold together. `numbers_of`
+//! counts paths without building them.
 #![tactic(auto)]
 
 mod clean;
