@@ -1,4 +1,4 @@
--- What is to be planned is ready, and what a step answers is the answer of the whole.
+-- A task is ready, and `Answers` is monotone.
 use Rattle.std.proofs.Common.{◌≡◌, ℕ, List, [], ◌∷◌, Option, Result, Ok, Err, refl, sym, ap, subst, ◌∙◌}
 use Rattle.std.specs.Prelude.{◌&&◌}
 use Rattle.std.specs.List.{AllByRecursion}
@@ -58,7 +58,7 @@ module _ (env : Env) (project : Project) (index : Index) where
 abbrev pub task_with : Options → Project → Option Bytes → Limit → Index → Task
 task_with options project freeze limit index = record { settings = record { env = options.env; project = project; limit = limit }; index = index; freeze = freeze }
 
--- whatever the limit and the freeze file
+-- a task is ready with any limit and freeze file
 pub ready-with : (options : Options) (project : Project) (freeze : Option Bytes) (index : Index) → IsSound options.env index → AreThere project.extra index → AreMarked project.extra index
     → (limit : Limit) (made : Index) → made ≡ warned project index → IsReady (task_with options project freeze limit made)
 ready-with options project freeze index sound there marked limit made is =
@@ -66,7 +66,7 @@ ready-with options project freeze index sound there marked limit made is =
     record { sound = sound-warned options.env project index sound; there = there; marked = marked } in
     subst (λ (i : Index). IsReady (task_with options project freeze limit i)) (sym is) ready
 
--- what is answered of one relation is answered of a wider one
+-- `Answers` is monotone in its relation
 
 pub answered : {A : Type 0} (P Q : Result A Refusal → Type 0) → ((outcome : Result A Refusal) → P outcome → Q outcome) → (result : Result A Halt) → Answers P result → Answers Q result
 answered P Q wider (Ok a) h = wider (Ok a) h

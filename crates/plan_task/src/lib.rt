@@ -1,6 +1,6 @@
-//! What is to be planned of a folder. In go the options of the words and a folder; out come the index of its packages and the
-//! settings of a plan, or the first refusal. Whether or not the folder tells its files, the index is sound, and each package
-//! that the project asks for besides is there and marked.
+//! Reads what to plan: in go the options of the words and a folder, out comes a task or the first refusal.
+//! A task has the index of the folder's packages and the settings of a plan. Over any folder, observable or not,
+//! the index is sound. Each extra package of the project is in the index, and exactly these are marked.
 #![tactic(auto)]
 
 mod task;

@@ -1,4 +1,4 @@
-// What is to be planned: the packages of a folder, and what for.
+// A task: the index of a folder's packages, and the settings of a plan.
 ghost use Rattle.std.specs.Prelude.{◌≡◌, ◌++◌, IfOk, IfSome, IsErrOf, Ok, true};
 ghost use Rattle.std.specs.List.{list_all};
 ghost use Rattle.flatten.specs.Sound.{IsSound};
@@ -16,7 +16,7 @@ use plan_types::{Halt, Index, List, NoMemory, Project, Settings, Text, Warning};
 use project_config::{FolderProject, read_folder_project};
 use std::alloc::Global;
 
-/// Packages, and what a plan of them is made for.
+/// What to plan: the index of a folder's packages, and the settings of a plan.
 #[derive(Debug, Drop)]
 pub struct Task {
     pub settings: Settings,
@@ -25,7 +25,7 @@ pub struct Task {
     pub freeze: Option<Text>,
 }
 
-/// What is to be planned of a folder with these options, or the first refusal.
+/// The task of a folder with these options, or the first refusal.
 pub fn read_task<F: Folder>(alloc: Global, options: Options, folder: &mut F) -> Result<Task, Halt>
     ensures told { IfSome (F.tells folder.old) (λ files. Answers (IsTask options files) result) }
     ensures freeze { IfSome (F.tells folder.old) (λ files. IfOk result (λ task. task.freeze ≡ freeze_bytes files)) }
@@ -36,7 +36,7 @@ pub fn read_task<F: Folder>(alloc: Global, options: Options, folder: &mut F) -> 
     task_in(alloc, options, found, folder)
 }
 
-// The packages of a project whose files were read.
+// The task of a project whose files were read.
 fn task_in<F: Folder>(
     alloc: Global,
     options: Options,
@@ -87,7 +87,7 @@ fn task_of(
     })
 }
 
-// The warnings of project files stand in front of those of local files.
+// Warnings of project files come before those of local files.
 fn warned(alloc: Global, project: &Project, index: Index) -> Result<Index, NoMemory>
     ensures { IfOk result (λ made. made ≡ warned project.now index) }
 {
