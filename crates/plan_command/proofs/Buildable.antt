@@ -1,4 +1,4 @@
--- Of a plan that is printed, what a node needs is told before it.
+-- In a printed plan, each identifier that a node needs is printed before the node.
 use Rattle.std.proofs.Common.{◌≡◌, Bool, Option, Some, None, refl, sym, ap, ◌∙◌}
 use Rattle.choice_problem.specs.Trail.{value_in}
 use Rattle.choice_problem.specs.declared.outcome.Outcome.{Outcome}

@@ -1,4 +1,4 @@
--- Words and a folder's files have one output.
+-- Words and files determine the output.
 use Rattle.std.proofs.Common.{◌≡◌, ℕ, Bool, false, List, Result, Ok, Err, Option, Some, None, sym, ap, subst, ◌∙◌}
 use Rattle.plan_types.specs.declared.condition.Env.{Env}
 use Rattle.plan_types.specs.declared.dependency.Named.{Named}

@@ -1,4 +1,4 @@
--- What an output is and means, and what is printed of it.
+-- Outputs and their meanings; `Prints` is monotone.
 use Rattle.std.proofs.Common.{◌≡◌, ℕ, Bool, false, List, Ok, Err, Option, refl, sym, ap, subst}
 use Rattle.plan_types.specs.declared.refusal.Refusal.{Refusal}
 use Rattle.qualified_goals.specs.Names.{NameTable}
@@ -25,13 +25,13 @@ use Rattle.plan_command.specs.Meaning.{Means, MeansReplay, MeansTask, MeansWith,
 use Rattle.plan_command.specs.Form.{frozen_form}
 use Rattle.plan_command.specs.Run.{IsOutputOfFreeze, IsOutputOfPlan, IsOutputOfReplay, IsOutputOfSome, IsOutputOfTask, Prints, of_refusal, of_task}
 
--- an output in one of some forms is one in a wider choice of them
+-- `IsOutputOfSome` is monotone in the forms
 pub some-wider : (picking : Picking) (minimize : Bool) (P Q : Form → Type 0) → ((form : Form) → P form → Q form) → (output : Output)
     → IsOutputOfSome picking minimize P output → IsOutputOfSome picking minimize Q output
 some-wider picking minimize P Q wider output (of_refusal refusal is) = of_refusal refusal is
 some-wider picking minimize P Q wider output (of_task form of task ready is) = of_task form (wider form of) task ready is
 
--- the output of what a folder comes to is that of the options over its files, and means what it says of them
+-- the output of a folder's task or refusal is that of the options over its files, and so is its meaning
 module _ (options : Options) (files : Files) where
   module _ (form : Form) where
     pub planned-output : (task : Task) (output : Output) → IsTask options files (Ok task) → IsOutputOfTask (picking_of options) options.minimize form task output
@@ -64,7 +64,7 @@ module _ (options : Options) (files : Files) where
     refused-means picking minimize refusal output made is =
         subst (Means picking minimize form options files) (sym is) (record { refusal = refusal; made = made; text_is = refl })
 
-  -- the same of a plan that is frozen
+  -- the same for `freeze`
   pub frozen-output : (task : Task) (output : Output) → IsTask options files (Ok task) → IsOutputOfTask Least false (frozen_form files) task output
       → IsOutputOfFreeze options files output
   unfolding IsOutputOfFreeze
@@ -74,7 +74,7 @@ module _ (options : Options) (files : Files) where
   unfolding IsOutputOfFreeze
   unfrozen-output refusal output made is = (Err refusal, made, is)
 
-  -- the same of a build of the plan
+  -- the same for `replay`
   module _ (path : Bytes) (slots : ℕ) where
     module _ (task : Task) (made : IsTask options files (Ok task)) where
       pub built-output : (events : List JobEvent) (output : Output) → AreEventsAt path files (Ok events) → IsOutputOfTask Least false (Replay slots events) task output
@@ -102,7 +102,7 @@ module _ (options : Options) (files : Files) where
         of_files (ap (λ (o : Output). o.status) is)
         (record { refusal = refusal; made = made; text_is = ap (λ (o : Output). o.text) is })
 
--- what is printed by one relation is printed by a wider one
+-- `Prints` is monotone in its relation
 pub prints-wider : (P Q : Output → Type 0) → ((o : Output) → P o → Q o) → (old new : Option Bytes) (result : Status) → Prints P old new result → Prints Q old new result
 prints-wider P Q wider old new status.ReadFault h = h
 prints-wider P Q wider old new status.NoMemory h = h
@@ -113,6 +113,6 @@ prints-wider P Q wider old new status.GaveUp h = (h.0, wider h.0 h.1, h.2, h.3)
 prints-wider P Q wider old new status.Refused h = (h.0, wider h.0 h.1, h.2, h.3)
 prints-wider P Q wider old new status.Usage h = (h.0, wider h.0 h.1, h.2, h.3)
 
--- so is one output of which the relation is known
+-- a known output satisfies the relation
 pub prints-this : (P : Output → Type 0) (output : Output) → P output → (old new : Option Bytes) (result : Status) → Prints (λ printed. printed ≡ output) old new result → Prints P old new result
 prints-this P output h old new result prints = prints-wider (λ printed. printed ≡ output) P (λ o e. subst P (sym e) h) old new result prints

@@ -23,7 +23,7 @@ use Rattle.plan_json.specs.Texts.{plan_json, conflict_json, gave_up_json, not_sh
 use Rattle.plan_command.specs.declared.form.Form.{Form}
 use Rattle.plan_command.specs.declared.form.Form.TheVariants.{Lines, Json, Summary, Freeze, Replay}
 
--- the form that options ask for
+-- the form that the options choose
 abbrev pub form_of : Options → Form
 form_of options = if options.json then Json else Lines
 
@@ -35,23 +35,23 @@ summary_of number trail nodes counts text = summary_text number (length trail) (
 abbrev pub is_ended : Bytes → Bool
 is_ended text = length text == 0 || ends_with nat_eq text (10 ∷ [])
 
--- a text with a line end behind its last line
+-- a text whose last line ends with a line feed
 abbrev pub ended : Bytes → Bytes
 ended text = if is_ended text then text else text ++ 10 ∷ []
 
--- what a freeze file said, and then the constraints of a trail
+-- the old freeze file, and then the constraints of a trail
 abbrev pub frozen_text : Bytes → Index → NameTable → List Choice → Bytes
 frozen_text before index names trail = ended before ++ freeze_text (frozen index.packages names trail)
 
--- what a freeze file says; nothing where there is none
+-- the text of the old freeze file, empty if it is missing
 abbrev pub said_before : Option Bytes → Bytes
 said_before file = unwrap_or file []
 
--- the form of constraints behind what the freeze file of a folder says
+-- the form of constraints behind the freeze file of a folder
 abbrev pub frozen_form : Files → Form
 frozen_form files = Freeze (said_before (freeze_bytes files))
 
--- a plan
+-- the text of a plan in a form
 abbrev pub IsPlanText : Form → Index → NameTable → List Choice → List PlanNode → Counts → Bytes → Type 0
 IsPlanText Lines index names trail nodes counts text = text ≡ plan_text index names trail nodes counts
 IsPlanText Json index names trail nodes counts text = text ≡ plan_json index names trail nodes counts
@@ -59,7 +59,7 @@ IsPlanText (Summary number) index names trail nodes counts text = text ≡ summa
 IsPlanText (Freeze before) index names trail nodes counts text = text ≡ frozen_text before index names trail
 IsPlanText (Replay slots events) index names trail nodes counts text = IsReplay nodes slots events text
 
--- what is no plan is printed as JSON where that is asked for, and else in lines
+-- whether outcomes without a plan are printed as JSON, else in lines
 abbrev pub is_json : Form → Bool
 is_json Lines = false
 is_json Json = true
@@ -67,21 +67,21 @@ is_json (Summary number) = false
 is_json (Freeze before) = false
 is_json (Replay slots events) = false
 
--- the set of a conflict, as JSON or in lines
+-- a conflict set, as JSON or in lines
 abbrev pub whole_text_in : Bool → Index → NameTable → List Var → Counts → Bytes
 whole_text_in json index names set counts = if json then conflict_json index names set counts else conflict_text index names set counts
 
--- a part of it from which nothing can be dropped
+-- a minimal subset of a conflict set
 abbrev pub shrunk_text_in : Bool → Index → NameTable → List Var → List (List Choice) → Counts → Bytes
 shrunk_text_in json index names set maps counts =
     if json then shrunk_json index names set maps counts else shrunk_text index names set maps counts
 
--- that so many exhausted points were too few to find one
+-- that shrinking stopped after so many exhausted points
 abbrev pub not_shrunk_text_in : Bool → Index → NameTable → List Var → ℕ → Counts → Bytes
 not_shrunk_text_in json index names set spent counts =
     if json then not_shrunk_json index names set spent counts else not_shrunk_text index names set spent counts
 
--- a conflict, with what is told of it besides its set
+-- a conflict in a form, with its blame
 abbrev pub conflict_text_in : Form → Index → NameTable → List Var → Blame → Counts → Bytes
 conflict_text_in form index names set Unasked counts = whole_text_in (is_json form) index names set counts
 conflict_text_in form index names set (Shrunk shrunk) counts = shrunk_text_in (is_json form) index names shrunk.set shrunk.maps counts

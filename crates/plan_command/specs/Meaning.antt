@@ -29,8 +29,8 @@ use Rattle.plan_command.specs.declared.form.Form.TheVariants.{Summary, Replay}
 use Rattle.plan_command.specs.Form.{IsPlanText, conflict_text_in, frozen_form, gave_up_text_in}
 use Rattle.plan_command.specs.Output.{ArePlanned, IsOutputOfOutcome, refused}
 
--- What is printed of a whole valid assignment of the problem that the files make and of the nodes of its plan, with some counts: of the
--- first of all of them, unless conflicts are counted.
+-- The text of a plan, with some counts. Its trail is that of the first complete, valid assignment, or of some valid
+-- one where conflicts are counted.
 pub record PlansValid (picking : Picking) (form : Form) (options : Options) (files : Files) (text : Bytes) : Type 0 where
   pub task : Task
   pub made : IsTask options files (Ok task)
@@ -43,12 +43,12 @@ pub record PlansValid (picking : Picking) (form : Form) (options : Options) (fil
   pub counts : Counts
   pub text_is : IsPlanText form task.index names trail nodes counts text
 
--- what is printed of the first of all whole valid assignments
+-- the text of the plan of the first complete, valid assignment
 abbrev pub PlansFirst : Form → Options → Files → Bytes → Type 0
 PlansFirst form options files text = PlansValid Least form options files text
 
--- The problem that the files make has no whole valid assignment, and these variables admit none by themselves. They are printed, or,
--- where that is asked for, a part of them from which nothing can be dropped; or that it took too long to find one.
+-- The problem of the files has no complete, valid assignment, and these variables admit none. The text prints them
+-- or, with `minimize`, a minimal subset of them, or that shrinking took too long.
 pub record HasNone (minimize : Bool) (form : Form) (options : Options) (files : Files) (text : Bytes) : Type 0 where
   pub task : Task
   pub made : IsTask options files (Ok task)
@@ -60,7 +60,7 @@ pub record HasNone (minimize : Bool) (form : Form) (options : Options) (files : 
   pub blamed : IsBlamed minimize task.index task.settings names set blame
   pub text_is : text ≡ conflict_text_in form task.index names set blame counts
 
--- A search over the problem that the files make meets its limit, so there is one.
+-- A search over the problem of the files reaches its limit, so there is a limit.
 pub record GivesUp (picking : Picking) (form : Form) (options : Options) (files : Files) (text : Bytes) : Type 0 where
   pub task : Task
   pub made : IsTask options files (Ok task)
@@ -69,13 +69,13 @@ pub record GivesUp (picking : Picking) (form : Form) (options : Options) (files 
   pub counts : Counts
   pub text_is : text ≡ gave_up_text_in form task.index counts
 
--- The files are refused, and this is the line of the first refusal.
+-- The files are refused, and the text is the line of the first refusal.
 pub record IsRefused (options : Options) (files : Files) (text : Bytes) : Type 0 where
   pub refusal : Refusal
   pub made : IsTask options files (Err refusal)
   pub text_is : text ≡ refusal_text refusal
 
--- what a text in this form that a plan was asked for means, by its status
+-- what the text of a plan command means, by its status
 abbrev pub MeansWith : Status → Picking → Bool → Form → Options → Files → Bytes → Type 0
 MeansWith status.Planned picking minimize form options files text = PlansValid picking form options files text
 MeansWith status.NoPlan picking minimize form options files text = HasNone minimize form options files text
@@ -86,15 +86,15 @@ MeansWith status.ReadFault picking minimize form options files text = ⊥
 MeansWith status.WriteFault picking minimize form options files text = ⊥
 MeansWith status.NoMemory picking minimize form options files text = ⊥
 
--- what an output in this form means for which these options asked, over these files
+-- what the output of a plan command means, in this form, with these options, over these files
 abbrev pub Means : Picking → Bool → Form → Options → Files → Output → Type 0
 Means picking minimize form options files output = MeansWith output.status picking minimize form options files output.text
 
--- what an output means for which the command `generate` asked
+-- what the output of `generate` means
 abbrev pub MeansGenerated : ℕ → Limit → Output → Type 0
 MeansGenerated number limit output = Means Least false (Summary number) (default_options limit) (generated number) output
 
--- what an output means for which the command `freeze` asked: what that of a plan means, printed as constraints
+-- what the output of `freeze` means: the same as that of a plan, printed as constraints
 abbrev pub MeansFreeze : Options → Files → Output → Type 0
 MeansFreeze options files output = Means Least false (frozen_form files) options files output
 
@@ -104,7 +104,7 @@ pub record MeansTask (picking : Picking) (minimize : Bool) (form : Form) (task :
   pub means : MeansFinding picking minimize task.index task.settings finding
   pub output_is : IsOutputOfOutcome form task.settings.env task.index finding.names finding.blame finding.outcome output
 
--- there is something to be planned, and the events are refused
+-- there is a task, and its events are refused
 pub record RefusesEvents (options : Options) (path : Bytes) (files : Files) (output : Output) : Type 0 where
   pub task : Task
   pub made : IsTask options files (Ok task)
@@ -112,12 +112,12 @@ pub record RefusesEvents (options : Options) (path : Bytes) (files : Files) (out
   pub events : AreEventsAt path files (Err refusal)
   pub output_is : output ≡ refused refusal
 
--- what an output means for which the command `replay` asked
+-- what the output of `replay` means
 pub data MeansReplay (options : Options) (path : Bytes) (slots : ℕ) (files : Files) (output : Output) : Type 0 where
-  -- what that of a plan means, printed as what a build does at the events of the file
+  -- the same as that of a plan, printed as the replay of its build at the events of the file
   at_events : (events : List JobEvent) → AreEventsAt path files (Ok events) → Means Least false (Replay slots events) options files output
       → MeansReplay options path slots files output
-  -- that the events are refused
+  -- the events are refused
   of_events : RefusesEvents options path files output → MeansReplay options path slots files output
-  -- that the files of the plan are refused, so that no events are read
+  -- the files of the plan are refused, so no events are read
   of_files : output.status ≡ status.Refused → IsRefused options files output.text → MeansReplay options path slots files output

@@ -1,4 +1,4 @@
--- What a run prints of what it found.
+-- The output of a refusal, a plan and a finding.
 use Rattle.std.specs.Prelude.{◌≡◌, List, [], ◌∷◌, ◌++◌, codes}
 use Rattle.plan_types.specs.declared.condition.Env.{Env}
 use Rattle.plan_types.specs.declared.index.Index.{Index}
@@ -25,7 +25,7 @@ use Rattle.plan_command.specs.declared.status.Status.TheVariants as status
 abbrev pub refused : Refusal → Output
 refused refusal = record { status = status.Refused; text = refusal_text refusal }
 
--- the nodes of the plan that a trail makes
+-- the nodes of a trail's plan
 abbrev pub ArePlanned : Env → Index → NameTable → List Choice → List PlanNode → Type 0
 ArePlanned env index names trail nodes = IsPlan (selection_from index names env (value_in trail)) nodes
 
@@ -34,7 +34,7 @@ pub record IsPlanned (form : Form) (index : Index) (names : NameTable) (trail : 
   pub status_is : output.status ≡ status.Planned
   pub text_is : IsPlanText form index names trail nodes counts output.text
 
--- the output of what a search found, with what is told of a failure
+-- the output of an outcome, with the blame of a failure
 abbrev pub IsOutputOfOutcome : Form → Env → Index → NameTable → Blame → Outcome → Output → Type 0
 IsOutputOfOutcome form env index names blame (outcome.Found trail counts) output =
     (nodes : List PlanNode) × ArePlanned env index names trail nodes × IsPlanned form index names trail nodes counts output
@@ -51,7 +51,7 @@ usage_text = codes "usage: cabal-plan plan or generate, with options" ++ 10 ∷ 
 abbrev pub usage : Output
 usage = record { status = status.Usage; text = usage_text }
 
--- a status of an output that is made, not that of a run that failed
+-- the status of an output, not that of a run that failed
 abbrev pub IsMade : Status → Type 0
 IsMade status.Planned = Unit {0}
 IsMade status.NoPlan = Unit {0}
@@ -62,7 +62,7 @@ IsMade status.ReadFault = ⊥
 IsMade status.WriteFault = ⊥
 IsMade status.NoMemory = ⊥
 
--- what a run ends with for words without a reading: the usage line was written, or couldn't be
+-- the end of a run whose words have no reading: the usage line was written, or its write failed
 abbrev pub IsUsage : Status → Type 0
 IsUsage status.Usage = Unit {0}
 IsUsage status.WriteFault = Unit {0}

@@ -1,4 +1,4 @@
--- The output of words over a folder, and what a run leaves in the sink.
+-- The output of words over a folder, and the sink after a run.
 use Rattle.std.specs.Prelude.{◌≡◌, ◌≢◌, ℕ, Bool, false, Result, Ok, Err, Option, Some, None, List}
 use Rattle.plan_types.specs.declared.limit.Limit.{Limit}
 use Rattle.plan_types.specs.declared.refusal.Refusal.{Refusal}
@@ -33,46 +33,46 @@ use Rattle.plan_command.specs.Output.{ArePlanned, IsOutputOfOutcome, IsPlanned, 
 
 -- ---- the output of words over a folder
 
--- what a search over a task finds, as it is printed
+-- the output of a search over a task
 pub record IsOutputOfTask (picking : Picking) (minimize : Bool) (form : Form) (task : Task) (output : Output) : Type 0 where
   pub finding : Finding
   pub found : IsFindingOf picking minimize task.index task.settings finding
   pub output_is : IsOutputOfOutcome form task.settings.env task.index finding.names finding.blame finding.outcome output
 
--- the output of a task, or of the refusal that came instead
+-- the output of a task, or of a refusal
 abbrev pub IsOutputOfRead : Picking → Bool → Form → Result Task Refusal → Output → Type 0
 IsOutputOfRead picking minimize form (Ok task) output = IsOutputOfTask picking minimize form task output
 IsOutputOfRead picking minimize form (Err refusal) output = output ≡ refused refusal
 
--- what is printed of a plan of these files, in this form
+-- the output of a plan of these files, in this form
 unfoldable pub IsOutputOfPlan : Form → Options → Files → Output → Type 0
 IsOutputOfPlan form options files output = (task : Result Task Refusal) × IsTask options files task × IsOutputOfRead (picking_of options) options.minimize form task output
 
--- what is printed for the command `generate`: of a plan of the folder that the number makes, with the options where words give
--- none but for the limit, the summary
+-- The output of `generate`: the summary of a plan of the folder made of the number, with the default options and
+-- this limit.
 abbrev pub IsOutputOfGenerate : ℕ → Limit → Output → Type 0
 IsOutputOfGenerate number limit output = IsOutputOfPlan (Summary number) (default_options limit) (generated number) output
 
--- what is printed for the command `freeze`: what the freeze file said, and then the constraints of a plan
+-- the output of `freeze`: the old freeze file, and then the constraints of a plan
 unfoldable pub IsOutputOfFreeze : Options → Files → Output → Type 0
 IsOutputOfFreeze options files output = (task : Result Task Refusal) × IsTask options files task × IsOutputOfRead Least false (frozen_form files) task output
 
--- what is printed of a task at these events, or of the refusal that came instead
+-- the output of a task at these events, or of a refusal
 abbrev pub IsOutputAtEvents : ℕ → Task → Result (List JobEvent) Refusal → Output → Type 0
 IsOutputAtEvents slots task (Ok events) output = IsOutputOfTask Least false (at_events slots events) task output
 IsOutputAtEvents slots task (Err refusal) output = output ≡ refused refusal
 
--- the events are read where there is a task
+-- the output of a task at the events of a file, which are read only if there is a task
 abbrev pub IsOutputAtTask : Bytes → ℕ → Files → Result Task Refusal → Output → Type 0
 IsOutputAtTask path slots files (Ok task) output =
     (events : Result (List JobEvent) Refusal) × AreEventsAt path files events × IsOutputAtEvents slots task events output
 IsOutputAtTask path slots files (Err refusal) output = output ≡ refused refusal
 
--- what is printed for the command `replay`: what a build of the plan with so many slots does at the events of a file
+-- the output of `replay`: a build of the plan with so many slots, at the events of a file
 unfoldable pub IsOutputOfReplay : Options → Bytes → ℕ → Files → Output → Type 0
 IsOutputOfReplay options path slots files output = (task : Result Task Refusal) × IsTask options files task × IsOutputAtTask path slots files task output
 
--- the output of a command, or for words without a reading
+-- the output of a command, or the usage line for words without a reading
 abbrev pub IsOutputOfCommand : Option Command → Files → Output → Type 0
 IsOutputOfCommand None files output = output ≡ usage
 IsOutputOfCommand (Some (Plan options)) files output = IsOutputOfPlan (form_of options) options files output
@@ -80,12 +80,12 @@ IsOutputOfCommand (Some (Generate number limit)) files output = IsOutputOfGenera
 IsOutputOfCommand (Some (Freeze options)) files output = IsOutputOfFreeze options files output
 IsOutputOfCommand (Some (Replay options events slots)) files output = IsOutputOfReplay options events slots files output
 
--- what is printed for words over a folder
+-- the output of words over a folder
 abbrev pub IsOutputOf : List Bytes → Files → Output → Type 0
 IsOutputOf words files output = IsOutputOfCommand (reading words) files output
 
--- The files that are read for a command: those that the folder tells, or any where none is read, as for words without a reading
--- and for a folder that is made of a number.
+-- The files read for a command: those of an observable folder. Where no file is read, these are any files: for
+-- `generate`, and for words without a reading.
 abbrev pub Reads : Option Command → Option Files → Files → Type 0
 Reads None tells files = Unit {0}
 Reads (Some (Plan options)) tells files = tells ≡ Some files
@@ -93,41 +93,42 @@ Reads (Some (Generate number limit)) tells files = Unit {0}
 Reads (Some (Freeze options)) tells files = tells ≡ Some files
 Reads (Some (Replay options events slots)) tells files = tells ≡ Some files
 
--- ---- what a command may print, over any folder
+-- ---- outputs of a command, over any folder
 
--- the form in which it prints a plan: for `freeze` behind some text, and for `replay` at some events
+-- the form in which a command prints a plan: for `freeze` behind some text, for `replay` at some events
 abbrev pub IsFormOf : Command → Form → Type 0
 IsFormOf (Plan options) form = form ≡ form_of options
 IsFormOf (Generate number limit) form = form ≡ Summary number
 IsFormOf (Freeze options) form = (before : Bytes) × (form ≡ as_constraints before)
 IsFormOf (Replay options path slots) form = (events : List JobEvent) × (form ≡ at_events slots events)
 
--- how its search picks its variables
+-- how a command's search picks its variables
 abbrev pub picking_for : Command → Picking
 picking_for (Plan options) = picking_of options
 picking_for (Generate number limit) = Least
 picking_for (Freeze options) = Least
 picking_for (Replay options path slots) = Least
 
--- whether its conflict set is made smaller
+-- whether a command shrinks its conflict set
 abbrev pub minimizes : Command → Bool
 minimizes (Plan options) = options.minimize
 minimizes (Generate number limit) = false
 minimizes (Freeze options) = false
 minimizes (Replay options path slots) = false
 
--- a refusal, or the output of some task that is ready, in one of these forms
+-- the output of a refusal, or of some ready task, in one of these forms
 pub data IsOutputOfSome (picking : Picking) (minimize : Bool) (IsForm : Form → Type 0) (output : Output) : Type 0 where
   of_refusal : (refusal : Refusal) → output ≡ refused refusal → IsOutputOfSome picking minimize IsForm output
   of_task : (form : Form) → IsForm form → (task : Task) → IsReady task → IsOutputOfTask picking minimize form task output
       → IsOutputOfSome picking minimize IsForm output
 
--- what a command may print, or the usage line for words without a reading
+-- an output that a command may have, or the usage line for words without a reading
 abbrev pub MayPrint : Option Command → Output → Type 0
 MayPrint None output = output ≡ usage
 MayPrint (Some command) output = IsOutputOfSome (picking_for command) (minimizes command) (IsFormOf command) output
 
--- the output of the plan that a search over some task finds, in which each identifier that a node needs is told before it
+-- The output of the plan that a search over some ready task finds. Each identifier that a node needs is printed
+-- before the node.
 pub record IsInOrder (picking : Picking) (minimize : Bool) (IsForm : Form → Type 0) (output : Output) : Type 0 where
   pub form : Form
   pub of_command : IsForm form
@@ -143,7 +144,7 @@ pub record IsInOrder (picking : Picking) (minimize : Bool) (IsForm : Form → Ty
   pub planned : IsPlanned form task.index finding.names trail nodes counts output
   pub told_before : AreToldBefore nodes
 
--- an output of a command with a plan in order
+-- a printed plan is in order, and the usage line is no plan
 abbrev pub OutputInOrder : Command → Type 0
 OutputInOrder command = (output : Output) × IsInOrder (picking_for command) (minimizes command) (IsFormOf command) output
 
@@ -152,10 +153,10 @@ abbrev pub BuildsInOrder : Option Command → Output → Type 0
 BuildsInOrder None output = output.status ≢ status.Planned
 BuildsInOrder (Some command) output = output.status ≡ status.Planned → IsInOrder (picking_for command) (minimizes command) (IsFormOf command) output
 
--- ---- what is left in the sink
+-- ---- the sink after a run
 
--- What a run leaves in the sink: nothing after a failed read or for want of memory, a prefix of an output's
--- text after a failed write, and else the whole text, with the output's status.
+-- The bytes that a run adds to the sink: none after a failed read or out of memory, a prefix of an output's text
+-- after a failed write, else the whole text, with the output's status.
 abbrev pub Prints : (Output → Type 0) → Option Bytes → Option Bytes → Status → Type 0
 Prints IsOutput old new status.ReadFault = new ≡ old
 Prints IsOutput old new status.NoMemory = new ≡ old

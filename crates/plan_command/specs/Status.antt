@@ -1,4 +1,4 @@
--- The number with which the program ends, by how its run ended.
+-- The exit status of a run.
 use Rattle.std.specs.Prelude.{ℕ}
 use Rattle.plan_command.specs.declared.status.Status.{Status}
 use Rattle.plan_command.specs.declared.status.Status.TheVariants.{Planned, NoPlan, GaveUp, Refused, ReadFault, WriteFault, NoMemory, Usage}

@@ -1,4 +1,4 @@
-// The top call: the words are read, and what the command gives is written.
+// The top call: reads the words, runs their command, and writes its output.
 ghost use Rattle.std.specs.Prelude.{◌≡◌, ◌≢◌, ◌≤◌, ℕ, IfOk, IsErrOf, Some, None, true, false};
 ghost use Rattle.outside_folder.specs.Calls.{Leaves};
 ghost use Rattle.outside_folder.specs.Faults.{Rose};
@@ -26,55 +26,54 @@ use outside_folder::{Folder, Sink, Trouble, write_all};
 use plan_types::Text;
 use std::alloc::Global;
 
-/// What is printed where the words have no reading.
+/// The line for words without a reading.
 const USAGE: &str = "usage: cabal-plan plan or generate, with options\n";
 
-/// Does what the words ask for over a folder, and writes the plan or what a build of it does, the conflict where there is none, that the search gave
-/// up, the refusal, or the usage line for words without a reading.
+/// Runs the command of the words over a folder, and writes its output: a plan or the replay of its build, a conflict,
+/// that the search met its limit, a refusal, or the usage line for words without a reading.
 pub fn run<F: Folder, S: Sink>(alloc: Global, words: &[Text], folder: &mut F, out: &mut S) -> Status
-    // Where the words ask for a plan and the folder tells its files: the plan is that of the first of all whole valid
-    // assignments of the problem that they make, there is no plan exactly where there is no such assignment, and without a
-    // limit the search never gives up.
+    // For `plan` over an observable folder: the plan is that of the first complete, valid assignment. There is no
+    // plan exactly where no such assignment exists. Without a limit the search never gives up.
     ensures headline { (options : PlanOptions) (files : Files)
         → reading words.now ≡ Some (Plan options) → options.count_conflicts ≡ false → F.tells folder.old ≡ Some files
         → Prints (Means Least options.minimize (form_of options) options files) (S.bytes out.old) (S.bytes out.new) result }
 
-    // Where they ask that conflicts are counted besides: the plan is that of some whole valid assignment, and all else as above.
+    // The same with counted conflicts, but the plan is that of some complete, valid assignment.
     ensures counting { (options : PlanOptions) (files : Files)
         → reading words.now ≡ Some (Plan options) → options.count_conflicts ≡ true → F.tells folder.old ≡ Some files
         → Prints (Means MostMet options.minimize (form_of options) options files) (S.bytes out.old) (S.bytes out.new) result }
 
-    // Where they ask that a plan is frozen: it is that of the first of all whole valid assignments, as the constraints of its choices
-    // behind what the freeze file says. `frozen_plan` has laws that say what these leave: with them nothing more is valid than
-    // before, what was the first still is, and a search without a limit over the same index finds the same choices.
+    // For `freeze`: the old freeze file, and then the constraints of the choices of the first complete, valid
+    // assignment. Laws of `frozen_plan` show what these leave: nothing becomes valid that wasn't, the first
+    // assignment stays first, and a search without a limit over the same index finds the same choices.
     ensures frozen { (options : PlanOptions) (files : Files)
         → reading words.now ≡ Some (Freeze options) → F.tells folder.old ≡ Some files
         → Prints (MeansFreeze options files) (S.bytes out.old) (S.bytes out.new) result }
 
-    // Where they ask for a build: it is that of the plan of the first of all whole valid assignments, at the events of the file.
+    // For `replay`: a build of the plan of the first complete, valid assignment, at the events of the file.
     ensures replayed { (options : PlanOptions) (events : Bytes) (slots : ℕ) (files : Files)
         → reading words.now ≡ Some (Replay options events slots) → F.tells folder.old ≡ Some files
         → Prints (MeansReplay options events slots files) (S.bytes out.old) (S.bytes out.new) result }
 
-    // What is printed is that of the words and of the files that are read for them, whether or not a count rose.
+    // The output is that of the words and the files read for them, whether or not a count of faults rose.
     ensures told { (files : Files) → Reads (reading words.now) (F.tells folder.old) files
         → Prints (IsOutputOf words.now files) (S.bytes out.old) (S.bytes out.new) result }
 
-    // Over any folder one text is written, a prefix of it, or nothing: the line of a refusal, or in the command's own form what a
-    // search over some task finds that is ready to be planned.
+    // Over any folder, the run writes one text, a prefix of it, or nothing. The text is the line of a refusal, or
+    // the finding of a search over some ready task, in the command's own form.
     ensures one_text { Prints (MayPrint (reading words.now)) (S.bytes out.old) (S.bytes out.new) result }
 
-    // In any plan, with a limit or without, each identifier that a node needs is told before it.
+    // In any plan, with a limit or without, each identifier that a node needs is printed before the node.
     ensures in_order { Prints (BuildsInOrder (reading words.now)) (S.bytes out.old) (S.bytes out.new) result }
 
-    // A folder that is made of a number is planned, and not the one that was handed in, of which nothing is asked.
+    // `generate` plans the folder made of its number. It makes no call on the given folder.
     ensures generated { (number : ℕ) (limit : TheLimit) → reading words.now ≡ Some (Generate number limit)
         → Prints (MeansGenerated number limit) (S.bytes out.old) (S.bytes out.new) result }
     ensures unasked { (number : ℕ) (limit : TheLimit) → reading words.now ≡ Some (Generate number limit)
         → (folder.new ≡ folder.old) × (result ≢ Status.ReadFault) }
 
-    // No failure is hidden: the count of the folder rose only where the status is that of a failed read, and that of the sink only
-    // where it is that of a failed write.
+    // No failure is hidden: the folder's count of faults rises only with the status `ReadFault`, and the sink's only
+    // with `WriteFault`.
     ensures folder { Leaves F.tells F.faults folder.old folder.new (result ≡ Status.ReadFault) }
     ensures sink { S.faults out.old ≤ S.faults out.new }
     ensures sink_still { result ≢ Status.WriteFault → S.faults out.new ≡ S.faults out.old }
@@ -89,7 +88,7 @@ pub fn run<F: Folder, S: Sink>(alloc: Global, words: &[Text], folder: &mut F, ou
     }
 }
 
-/// Writes the usage line, which is the answer to words without a reading, also to such as aren't text.
+/// Writes the usage line, for words without a reading and for words that aren't UTF-8.
 pub fn print_usage<S: Sink>(out: &mut S) -> Status
     ensures prints { Prints (λ output. output ≡ usage) (S.bytes out.old) (S.bytes out.new) result }
     ensures sink { S.faults out.old ≤ S.faults out.new }
@@ -174,7 +173,7 @@ fn output_of<F: Folder>(alloc: Global, command: Command, folder: &mut F) -> Resu
     }
 }
 
-// Writes an output, and gives its status where all of it was written.
+// Writes an output, and returns its status if the whole text was written.
 fn print<S: Sink>(output: &Output, out: &mut S) -> Status
     requires { IsMade output.now.status }
     ensures prints { Prints (λ printed. printed ≡ output.now) (S.bytes out.old) (S.bytes out.new) result }

@@ -25,19 +25,19 @@ use std::alloc::Global;
 /// The form in which an answer is printed.
 #[derive(Debug, Drop)]
 pub(crate) enum Form {
-    /// A line for each part.
+    /// One line for each part.
     Lines,
     /// One object of JSON.
     Json,
-    /// A plan by its counts and its digest, and all else in lines, for a folder that was made of this number.
+    /// A plan by its counts and digest, for the folder made of this number; other outcomes in lines.
     Summary(u32),
-    /// A plan by the constraints of its choices, behind what the freeze file said, and all else in lines.
+    /// A plan by the constraints of its choices, behind the old freeze file; other outcomes in lines.
     Freeze(Text),
-    /// A plan by what a build of it does at these events, and all else in lines.
+    /// A plan by the replay of its build at these events; other outcomes in lines.
     Replay { slots: u32, events: List<JobEvent> },
 }
 
-/// The form that options ask for.
+/// The form that the options choose.
 pub(crate) fn form_of(options: &Options) -> Form
     ensures { result ≡ form_of options.now }
 {
@@ -91,7 +91,7 @@ fn summary_of(
     text_of_summary(alloc, number, choices, nodes, counts, digest.as_str())
 }
 
-// What is no plan is printed in lines where JSON isn't asked for.
+// Outcomes without a plan are printed in lines in every form but JSON.
 fn is_json(form: &Form) -> bool
     ensures { result ≡ is_json form.now }
 {

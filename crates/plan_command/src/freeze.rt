@@ -1,4 +1,4 @@
-// The command `freeze`: a plan as the constraints of its choices, behind what the freeze file says.
+// The command `freeze`: a plan as the constraints of its choices, behind the old freeze file.
 ghost use Rattle.std.specs.Prelude.{◌≡◌, ◌≢◌, IfOk, IsErrOf, Some};
 ghost use Rattle.choice_problem.specs.Trail.{AreNew};
 ghost use Rattle.outside_folder.specs.Calls.{Leaves};
@@ -56,7 +56,7 @@ fn said_before(alloc: Global, file: &Option<Text>) -> Result<Text, NoMemory>
     }
 }
 
-/// What a freeze file said, and then the constraints of a trail.
+/// The old freeze file, and then the constraints of a trail.
 pub(crate) fn frozen_text(
     alloc: Global,
     before: &Text,
@@ -74,7 +74,7 @@ pub(crate) fn frozen_text(
     Ok(text)
 }
 
-// A text with a line end behind its last line.
+// A text whose last line ends with a line feed.
 fn ended(text: &Text) -> Result<Text, NoMemory>
     ensures { IfOk result (λ copied. copied ≡ ended text.now) }
 {

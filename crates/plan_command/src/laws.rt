@@ -1,4 +1,4 @@
-// Words and a folder's files have one answer.
+// Words and files determine the output.
 ghost use Rattle.std.specs.Prelude.{◌≡◌, List};
 ghost use Rattle.outside_folder.specs.Files.{Bytes, Files};
 ghost use Rattle.plan_command.specs.declared.output.Output.{Output};
@@ -11,7 +11,7 @@ use plan_search::one_finding;
 use project_config::one_folder_project;
 use replay_text::one_replay;
 
-/// Words and a folder's files have one answer: one status and one text.
+/// Words and files determine the output: its status and its text.
 pub fn one_answer()
     ensures { (words : List Bytes) (files : Files) (a b : Output) → IsOutputOf words files a → IsOutputOf words files b → a ≡ b }
 {

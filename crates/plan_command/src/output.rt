@@ -1,4 +1,4 @@
-// What is printed of what was found. The text is made whole before anything is written.
+// The output of a run. Its whole text is made before the first write.
 ghost use Rattle.std.specs.Prelude.{◌≡◌, ◌≢◌, List, IfOk, IsErrOf};
 ghost use Rattle.plan_types.specs.declared.refusal.Refusal.{Refusal as TheRefusal};
 ghost use Rattle.flatten.specs.Sound.{IsSound};
@@ -18,14 +18,14 @@ use plan_search::Finding;
 use plan_types::{Env, Halt, Index, NoMemory, Refusal, Text};
 use std::alloc::Global;
 
-/// What a run is to print, and the status that it ends with.
+/// The text that a run prints, and the status that it ends with.
 #[derive(Debug, Drop)]
 pub(crate) struct Output {
     pub status: Status,
     pub text: Text,
 }
 
-// The output of a step that ended before its answer.
+// The output of a step that halted, if it was refused.
 pub(crate) fn halted(alloc: Global, halt: Halt) -> Result<Output, Trouble>
     ensures refused { IfOk result (λ output. (refusal : TheRefusal) × (halt ≡ Halt.Refused refusal) × (output ≡ refused refusal)) }
     ensures made { IfOk result (λ output. IsMade output.status) }

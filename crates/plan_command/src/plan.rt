@@ -1,4 +1,4 @@
-// What a search finds for the packages of a folder, in a form in which it is printed.
+// The output of a search over a folder's packages, in a given form.
 ghost use Rattle.std.specs.Prelude.{◌≡◌, ◌≢◌, IfOk, IsErrOf, Some};
 ghost use Rattle.outside_folder.specs.Calls.{Leaves};
 ghost use Rattle.outside_folder.specs.Files.{Files};
@@ -41,7 +41,7 @@ pub(crate) fn output_of_plan<F: Folder>(
     }
 }
 
-// How a search picks its variables that options ask for.
+// How the search picks its variables, by the options.
 fn picking_of(options: &Options) -> Picking
     ensures { result ≡ picking_of options.now }
 {

@@ -1,4 +1,4 @@
-// The command `replay`: what a build of the plan does at the events of a file.
+// The command `replay`: a build of the plan at the events of a file.
 ghost use Rattle.std.specs.Prelude.{◌≡◌, ◌≢◌, IfOk, IsErrOf, Some};
 ghost use Rattle.outside_folder.specs.Calls.{Leaves};
 ghost use Rattle.outside_folder.specs.Files.{Files};

@@ -1,4 +1,4 @@
-// How a run ends, and the number of it.
+// How a run ends, and its exit status.
 ghost use Rattle.std.specs.Prelude.{◌≡◌};
 ghost use Rattle.plan_command.specs.Status.{number_of_status};
 
@@ -7,11 +7,11 @@ ghost use Rattle.plan_command.specs.Status.{number_of_status};
 pub enum Status {
     /// A plan was printed.
     Planned,
-    /// There is no plan; the choices that can't be met together were printed.
+    /// There is no plan; a conflict set was printed.
     NoPlan,
-    /// The search met its limit, which was printed.
+    /// The search reached its limit; that was printed.
     GaveUp,
-    /// The input was refused; the line that says why was printed.
+    /// The input was refused; the refusal's line was printed.
     Refused,
     /// A file or folder could not be read.
     ReadFault,
@@ -22,7 +22,7 @@ pub enum Status {
     Usage,
 }
 
-/// The number with which the program ends.
+/// The program's exit status.
 pub fn code_of(status: Status) -> u8
     ensures { result ≡ number_of_status status }
 {
