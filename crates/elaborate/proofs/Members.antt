@@ -1,4 +1,4 @@
--- Which nodes are told, and that each is told once.
+-- The members of `told_in`; each node is in it once.
 use Rattle.std.proofs.Common.{◌≡◌, ◌≢◌, ◌<◌, ℕ, zero, suc, List, [], ◌∷◌, length, get_or, Option, Some, None, sym, ap, ◌∙◌, subst, ⊎_elim, arith}
 use Rattle.std.specs.Prelude.{AllPairs, Contains}
 use Rattle.std.proofs.lemmas.Option.{none-some}
@@ -11,7 +11,7 @@ use Rattle.elaborate.specs.declared.told.Told.{Told}
 use Rattle.elaborate.specs.Plan.{nodes_of}
 use Rattle.elaborate.specs.Telling.{told_in, told_one}
 
--- a node that is told stands at a place, and its line beside it
+-- a node and its line have the same place
 pub record IsBeside (nodes : List Node) (lines : List (Option PlanNode)) (t : Told) : Type 0 where
   pub place : ℕ
   pub within : place < length nodes

@@ -1,4 +1,4 @@
--- What a line needs is told before it.
+-- What a line needs is printed before it.
 use Rattle.std.proofs.Common.{◌≡◌, ◌<◌, ⊎_elim, ℕ, Bool, true, false, cond, List, [], ◌∷◌, ◌++◌, map, fold, length, get_or, Option, Some, None, refl, sym, ap, ◌∙◌, subst, append_assoc, append-nil}
 use Rattle.std.specs.Prelude.{All, Contains, filter}
 use Rattle.std.specs.BTreeSet as ordered
@@ -50,11 +50,11 @@ ordered-from texts seen (text ∷ more) h k =
     (All-insert_key (slice_cmp nat_cmp) text (Contains texts) seen h (All-contains (Contains texts) (text ∷ more) text k (contains-head text more)))
     (λ i d lt. All-contains (Contains texts) (text ∷ more) (get_or more i d) k (contains-tail text more (get_or more i d) (Contains-get_or more i d lt)))
 
--- what stands in order was there
+-- `in_order` adds no text
 was-there : (texts : List (List ℕ)) (text : List ℕ) → Contains (in_order texts) text → Contains texts text
 was-there texts text c = All-contains (Contains texts) (in_order texts) text (ordered-from texts [] texts (All-nil (Contains texts)) (All-contains_itself texts)) c
 
--- ---- a line tells what its node needs
+-- ---- a line has what its node needs
 
 some-same : {X : Type 0} (x y : X) → Some x ≡ Some y → x ≡ y
 some-same x y e = cc e
@@ -85,7 +85,7 @@ of-kind is_meant f needs id c =
     let from = contains-map (λ (n : Need). (f n.node).id) kept id (was-there (map (λ (n : Need). (f n.node).id) kept) id c) in
     record { need = from.0; among = (contains-filter (λ (n : Need). is_meant n.kind) needs from.0 from.1).0; same = from.2 }
 
--- what a node needs that has this identifier
+-- a need of a node whose line has this identifier
 record Asks (selection : Selection) (node : Node) (id : List ℕ) : Type 0 where
   need : Need
   among : Contains (needs_of selection node) need
@@ -136,7 +136,7 @@ module _ (selection : Selection) (all : List Told) (ranked : AreRanked selection
 
 -- ---- each line once
 
--- of those that were looked at a line is kept, and each that stands before it is told in front
+-- a kept line, and each line before it has an equal one in front
 pub record IsFirst (seen front : List PlanNode) (line : PlanNode) : Type 0 where
   before : List PlanNode
   after : List PlanNode
@@ -205,7 +205,7 @@ once-kept lines = all-kept [] [] lines (record {
 
 -- ---- a plan
 
--- where a list of images is split, the list is
+-- a split of the images splits the list
 record IsSplit {X Y : Type 0} (f : X → Y) (xs : List X) (front : List Y) (y : Y) : Type 0 where
   before : List X
   after : List X

@@ -1,4 +1,4 @@
--- The order of told nodes is one.
+-- `told_cmp` is a total order.
 use Rattle.std.proofs.Common.{◌≡◌, subst, rules, is_lt}
 use Rattle.std.specs.Cmp.{IsStrictWeakOrder, IsTotalOrder}
 use Rattle.std.specs.Cmp.Lexicographic.{nat_list_cmp_total}
@@ -10,7 +10,7 @@ use Rattle.plan_components.specs.contracts.node.NodeOrd.TheImpl.Laws.{total-law}
 use Rattle.elaborate.specs.declared.told.Told.{Told}
 use Rattle.elaborate.specs.Told.{node_cmp, told_cmp}
 
--- the derived order of nodes is that by cases
+-- the derived order of nodes is `node_cmp`
 derived : (m n : Node) → cmp-value.it m n ≡ node_cmp m n
 derived m n = search rules
 

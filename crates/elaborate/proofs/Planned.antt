@@ -1,4 +1,4 @@
--- The told nodes that are sorted are those of the plan, and their graph is what each needs.
+-- The sorted nodes are those of the plan that have lines, and their graph is that of the definition.
 use Rattle.std.proofs.Common.{◌≡◌, ◌≢◌, ◌<◌, ℕ, true, List, [], ◌∷◌, map, length, Option, refl, sym, ap, ◌∙◌, subst}
 use Rattle.std.specs.Prelude.{All, AllPairs, Contains, Decides}
 use Rattle.std.specs.Bool.{one_answer}
@@ -38,12 +38,12 @@ decides m n = (node-is m n, λ e. subst (λ k. same_node m k ≡ true) e (node-s
 flips : (m n : Node) → same_node m n ≡ same_node n m
 flips m n = one_answer {P = m ≡ n} (same_node m n) (same_node n m) (decides m n) ((λ h. sym ((decides n m).0 h)), (λ e. (decides n m).1 (sym e)))
 
--- nodes that differ do so in any order
+-- a permutation keeps nodes distinct
 still_once : (ms ns : List Node) → IsPermutation ms ns → AllPairs (λ a b. a ≢ b) ms → AllPairs (λ a b. a ≢ b) ns
 still_once ms ns moved once =
     AllPairs-from_IsDistinct decides ns (IsDistinct-IsPermutation same_node flips ms ns moved (IsDistinct-from_AllPairs decides ms once))
 
--- what is needed by a node with a line has one
+-- each need of a node with a line has a line
 need_line : (selection : Selection) (node : Node) (line : PlanNode) → HasLine selection node line
     → (need : Need) → Contains (needs_of selection node) need → (l : PlanNode) × HasLine selection need.node l
 need_line selection node line (told n l line_at each is) need c = (line_at need.node, each need c)
@@ -81,7 +81,7 @@ module _ (selection : Selection) (reached : Reached) (are : AreReached selection
         (told_at keys lines t (place_of keys t.node) at.within at.is ((have.each (place_of keys t.node) t.line at.within).1 (subst (λ n. HasLine selection n t.line) (sym at.is) line)));
   }
 
-  -- what a told node needs is told
+  -- the needs of these nodes are among them
   need_told : (t : Told) → Contains all t → (need : Need) → Contains (needs_of selection t.node) need → Contains (nodes_of all) need.node
   need_told t c need k =
       let line = need_line selection t.node t.line (ranked.lines t c) need k in
@@ -120,10 +120,10 @@ module _ (selection : Selection) (reached : Reached) (are : AreReached selection
   pub is_graph : IsGraph (graph_of selection all)
   is_graph = all-where (All (λ v. v < length (graph_of selection all))) (graph_of selection all) (λ row c. all-where (λ v. v < length (graph_of selection all)) row (within row c))
 
-  -- so the graph that is made is that of the definition
+  -- the graph made by ranks is that of the definition
   pub made_graph : (ranks : List ℕ) (graph : List (List ℕ)) → ranks ≡ ranks_after keys all → graph ≡ map (ranked_row reached ranks) all → graph ≡ graph_of selection all
   made_graph ranks graph ranks_are graph_are = graph_are ∙ ap (λ r. map (ranked_row reached r) all) ranks_are ∙ graph_is
 
-  -- and the places of a build order of it are places of told nodes
+  -- a build order has places of these nodes only
   pub places_within : (places : List ℕ) → IsBuildOrder (graph_of selection all) places → All (λ place. place < length all) places
   places_within places build = subst (λ n. All (λ place. place < n) places) graph_count (all_within (graph_of selection all) places build)

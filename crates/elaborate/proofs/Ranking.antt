@@ -1,4 +1,4 @@
--- Behind all told nodes the table has the place of each.
+-- After the loop the table has the rank of each node.
 use Rattle.std.proofs.Common.{◌≡◌, ◌≢◌, ◌<◌, ℕ, suc, ◌+◌, true, false, cond, not, set, List, [], ◌∷◌, length, get_or, replicate, refl, sym, ap, ◌∙◌, subst, arith, ⊎_elim}
 use Rattle.std.specs.Prelude.{AllPairs, Contains}
 use Rattle.std.proofs.lemmas.Bool.{false≢true, lt-ltb}
@@ -13,7 +13,7 @@ use Rattle.elaborate.specs.Plan.{nodes_of}
 use Rattle.elaborate.specs.Ranks.{ranks_after, ranks_from, with_rank}
 
 module _ (nodes : List Node) where
-  -- two nodes have two places
+  -- `place_of` is injective
   apart : (m n : Node) → Contains nodes m → Contains nodes n → m ≢ n → place_of nodes n ≢ place_of nodes m
   apart m n have_m have_n differ e = differ (sym (at_place nodes m have_m).is ∙ ap (node_at nodes) (sym e) ∙ (at_place nodes n have_n).is)
 
@@ -47,7 +47,7 @@ module _ (nodes : List Node) where
   others : (t : Told) (all : List Told) → AreAmong (t ∷ all) → AreAmong all
   others t all among m c = among m (contains-tail t.node (nodes_of all) m c)
 
-  -- a node that isn't told keeps what it has
+  -- a node that isn't among these keeps its rank
   kept : (all : List Told) (ranks : List ℕ) (place : ℕ) (n : Node) → length ranks ≡ length nodes → AreAmong all → Contains nodes n
       → (Contains (nodes_of all) n → ⊥) → get_or (ranks_from nodes ranks place all) (place_of nodes n) 0 ≡ get_or ranks (place_of nodes n) 0
   kept [] ranks place n count among have out = refl
@@ -78,7 +78,7 @@ module _ (nodes : List Node) where
             ∙ shifted
       ] refl
 
-  -- the place of a told node
+  -- the rank of a node
   pub rank_is : (all : List Told) (n : Node) → AreAmong all → AllPairs (λ a b. a ≢ b) (nodes_of all) → Contains (nodes_of all) n
       → get_or (ranks_after nodes all) (place_of nodes n) 0 ≡ place_of (nodes_of all) n
   rank_is all n among once c =

@@ -1,4 +1,4 @@
--- Lists in order that have the same items, each once, are equal, where none but equal items tie.
+-- Sorted lists of the same distinct items are equal, if only equal items tie.
 use Rattle.std.proofs.Common.{◌≡◌, ◌≢◌, false, List, [], ◌∷◌, refl, sym, ap, ◌∙◌, subst, arith, ⊎_elim}
 use Rattle.std.specs.Cmp.{IsTotalOrder}
 use Rattle.std.specs.List.{AllPairs, Contains}
@@ -26,7 +26,7 @@ module _ {X : Type 0} (cmp : X → X → Ordering) (total : IsTotalOrder cmp) wh
         | Greater ↦ λ e. absurd (false≢true (sym h ∙ ap is_lt (total.antisymm y x ∙ ap ordering_reverse e)))
       ] refl
 
-  -- but for the first, which is that of both
+  -- the tails of two lists with the same first item
   others : (x y : X) (xs ys : List X) → x ≡ y → AllPairs (λ a b. a ≢ b) (x ∷ xs) → ((z : X) → Contains (x ∷ xs) z → Contains (y ∷ ys) z)
       → (z : X) → Contains xs z → Contains ys z
   others x y xs ys same once has z c = ⊎_elim

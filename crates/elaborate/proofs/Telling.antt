@@ -1,4 +1,4 @@
--- One node more that is told.
+-- One step of the loop that makes `told_in`.
 use Rattle.std.proofs.Common.{◌≡◌, ◌<◌, ℕ, ◌+◌, List, ◌∷◌, ◌++◌, length, drop, get_or, Option, sym, ap, ◌∙◌, arith, append_assoc}
 use Rattle.std.proofs.lemmas.List.{get_or_default}
 use Rattle.common_laws.specs.Lists.{drop_at}

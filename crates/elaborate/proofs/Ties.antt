@@ -1,4 +1,4 @@
--- Told nodes that tie are one.
+-- Only equal nodes tie.
 use Rattle.std.proofs.Common.{◌≡◌, ap, ◌∙◌, subst, refl}
 use Rattle.std.specs.declared.cmp.Ordering.{Ordering}
 use Rattle.std.specs.declared.cmp.Ordering.TheVariants.{Less, Equal, Greater}

@@ -14,7 +14,7 @@ use Rattle.elaborate.proofs.Order.{told-total}
 use Rattle.elaborate.proofs.Sorted.{all-after, one-list}
 use Rattle.elaborate.proofs.Ties.{tie}
 
--- what differs in a part differs
+-- distinct images come from distinct items
 once-by : {X Y : Type 0} (f : X → Y) (xs : List X) → AllPairs (λ a b. a ≢ b) (map f xs) → AllPairs (λ a b. a ≢ b) xs
 once-by f xs once i j d less within same =
     let before = get_or-map f xs i d (f d) in
@@ -22,7 +22,7 @@ once-by f xs once i j d less within same =
     once i j (f d) less (subst (λ n. j < n) (sym (length-map xs f)) within)
     (before (omega (arith, less, within)) ∙ ap f same ∙ sym (after within))
 
--- told nodes of one plan stand in another
+-- the nodes of one plan are those of another
 among : (selection : Selection) (xs ys : List Told) → AreRanked selection xs → AreRanked selection ys → (t : Told) → Contains xs t → Contains ys t
 among selection xs ys from to t c = to.whole t (from.inside t c) (from.lines t c)
 

@@ -1,4 +1,4 @@
--- Each node that has a line is told.
+-- Each node that has a line is printed.
 use Rattle.std.proofs.Common.{◌≡◌, ◌<◌, ◌⊎◌, inl, inr, ⊎_elim, ℕ, true, false, nat_eq, List, [], length, map, get_or, refl, sym, ap, ◌∙◌, subst}
 use Rattle.std.specs.List.{Contains, list_any}
 use Rattle.std.proofs.lemmas.Bool.{eq-eqb, eqb-true, false≢true}
@@ -24,7 +24,7 @@ use Rattle.elaborate.specs.Plan.{AreRanked, IsPlan, graph_of, line_at, no_told, 
 use Rattle.elaborate.specs.Whole.{LacksNone}
 use Rattle.elaborate.proofs.Needed.{once-kept}
 
--- a number is among some, or isn't
+-- membership of a number is decidable
 decide : (places : List ℕ) (u : ℕ) → Contains places u ⊎ (Contains places u → ⊥)
 decide places u =
     elim (list_any (λ k. nat_eq k u) places) as (λ b. list_any (λ k. nat_eq k u) places ≡ b → Contains places u ⊎ (Contains places u → ⊥)) [
@@ -39,7 +39,7 @@ module _ (selection : Selection) (all : List Told) (ranked : AreRanked selection
   abbrev place : Node → ℕ
   place node = place_of (nodes_of all) node
 
-  -- a node of the plan that has a line stands at its place
+  -- a node of the plan that has a line is at its place
   stands : (node : Node) (line : PlanNode) → IsInPlan selection node → HasLine selection node line → IsAt (nodes_of all) node (place node)
   stands node line plan has =
       let t : Told = record { node = node; line = line } in
@@ -52,7 +52,7 @@ module _ (selection : Selection) (all : List Told) (ranked : AreRanked selection
   node-there node line plan has =
       sym (get_or-map (λ (x : Told). x.node) all (place node) no_told no_node (within node line plan has)) ∙ (stands node line plan has).is
 
-  -- it is placed, since all that it needs is
+  -- it is placed, since all its needs are
   placed : (node : Node) (line : PlanNode) → IsInPlan selection node → HasLine selection node line → Contains places (place node)
   placed node line plan (told n l f each is) =
       let has = told node line f each is in

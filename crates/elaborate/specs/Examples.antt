@@ -1,4 +1,4 @@
--- Nodes in their order.
+-- Nodes in sorted order.
 use Rattle.std.specs.Prelude.{◌≡◌, ℕ, false, List, [], ◌∷◌, codes, refl}
 use Rattle.std.specs.declared.cmp.Ordering.TheVariants.{Less, Greater}
 use Rattle.qualified_goals.specs.declared.variable.Qual.{Qual}
@@ -24,7 +24,7 @@ node_with version component id qual = record {
   };
 }
 
--- versions by their numbers
+-- versions as lists of numbers
 by_version : told_cmp (node_with (1 ∷ 2 ∷ []) (codes "lib") (codes "b") Top)
     (node_with (1 ∷ 10 ∷ []) (codes "lib") (codes "a") Top) ≡ Less
 by_version = refl

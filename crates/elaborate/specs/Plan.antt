@@ -15,11 +15,11 @@ use Rattle.node_lines.specs.Numbers.{row_of}
 use Rattle.elaborate.specs.Told.{told_cmp}
 use Rattle.elaborate.specs.declared.told.Told.{Told}
 
--- the nodes of some that are told
+-- the nodes of these, without their lines
 abbrev pub nodes_of : List Told → List Node
 nodes_of all = map (λ t. t.node) all
 
--- the nodes of the plan that have lines, each once, the least first
+-- the nodes of the plan that have lines, each once, in sorted order
 pub record AreRanked (selection : Selection) (all : List Told) : Type 0 where
   pub once : AllPairs (λ a b. a ≢ b) (nodes_of all)
   pub sorted : IsSorted told_cmp all
@@ -27,11 +27,11 @@ pub record AreRanked (selection : Selection) (all : List Told) : Type 0 where
   pub lines : (t : Told) → Contains all t → HasLine selection t.node t.line
   pub whole : (t : Told) → IsInPlan selection t.node → HasLine selection t.node t.line → Contains all t
 
--- what each needs, by places among them
+-- the graph of these nodes: the needs of each, by places among them
 abbrev pub graph_of : Selection → List Told → List (List ℕ)
 graph_of selection all = map (λ t. row_of (nodes_of all) (needs_of selection t.node)) all
 
--- what stands behind the last
+-- the default where a place is out of range
 abbrev pub no_told : Told
 no_told = record { node = no_node; line = no_line }
 

@@ -1,4 +1,4 @@
--- The order in which the nodes of a plan that have lines are compared.
+-- The order of the nodes that have lines.
 use Rattle.std.specs.declared.cmp.Ordering.{Ordering}
 use Rattle.std.specs.declared.cmp.Ordering.TheVariants.{Less, Equal, Greater}
 use Rattle.std.specs.Ordering.{nat_cmp, ordering_then}
@@ -10,7 +10,7 @@ use Rattle.plan_components.specs.declared.node.Piece.{Piece}
 use Rattle.plan_components.specs.declared.node.Piece.TheVariants.{One, Whole}
 use Rattle.elaborate.specs.declared.told.Told.{Told}
 
--- a package as a whole, and then its components in file order
+-- a whole package before its components, which are in file order
 abbrev pub piece_cmp : Piece → Piece → Ordering
 piece_cmp Whole Whole = Equal
 piece_cmp Whole (One n) = Less
@@ -21,7 +21,7 @@ piece_cmp (One m) (One n) = nat_cmp m n
 abbrev pub node_cmp : Node → Node → Ordering
 node_cmp a b = ordering_then (qual_cmp a.qual b.qual) (ordering_then (nat_cmp a.«package» b.«package») (piece_cmp a.piece b.piece))
 
--- By name, version, component, identifier and qualifier; package and piece tell any two nodes apart.
+-- By name, version, component, identifier and qualifier. Package and piece then break every tie.
 abbrev pub told_cmp : Told → Told → Ordering
 told_cmp a b =
     ordering_then (ordering_then (ordering_then (ordering_then

@@ -1,4 +1,4 @@
-// What each node needs, by places in their order.
+// The needs of each node, by ranks.
 ghost use Rattle.std.specs.Prelude.{◌≡◌, IfOk, map, slice_index_or, []};
 ghost use Rattle.plan_components.specs.SameNode.{place_of};
 ghost use Rattle.elaborate.specs.Ranks.{needs_at, rank_of, ranked_row};
@@ -8,7 +8,7 @@ use plan_components::{Need, Node, Reached};
 use plan_types::{List, NoMemory};
 use std::alloc::Global;
 
-/// The graph of these nodes.
+/// The graph of these nodes: an edge leads to each node that one needs.
 pub(crate) fn graph_of(
     alloc: Global,
     reached: &Reached,

@@ -1,4 +1,4 @@
-// What follows of a plan.
+// Laws of plans.
 ghost use Rattle.std.specs.Prelude.{◌≡◌, List};
 ghost use Rattle.plan_nodes.specs.declared.node.PlanNode.{PlanNode};
 ghost use Rattle.plan_components.specs.Chosen.{Selection};
@@ -7,17 +7,17 @@ ghost use Rattle.elaborate.specs.Plan.{IsPlan};
 ghost use Rattle.elaborate.specs.Whole.{LacksNone};
 ghost use Rattle.node_lines.specs.Lines.{HaveLines};
 
-/// What is chosen makes one plan.
+/// A selection has one plan.
 pub fn one_plan()
     ensures { (selection : Selection) (a b : List PlanNode) → IsPlan selection a → IsPlan selection b → a ≡ b }
 {}
 
-/// Each identifier that a line needs is told before it.
+/// Each identifier that a line needs is printed before the line.
 pub fn each_need_told_before()
     ensures { (selection : Selection) (lines : List PlanNode) → IsPlan selection lines → AreToldBefore lines }
 {}
 
-/// Where each node of the plan has a line, each is told.
+/// If each node of the plan has a line, each is printed.
 pub fn no_node_is_lacking()
     ensures { (selection : Selection) (lines : List PlanNode) → IsPlan selection lines → HaveLines selection → LacksNone selection lines }
 {}

@@ -1,5 +1,6 @@
-//! The component plan. In go the packages of an index and a trail of choices; out come the nodes of the plan that the trail
-//! makes, in the order in which they can be built, each line once.
+//! The component plan. In go a sound index and a trail of choices; out come the nodes of the trail's plan.
+//! They are in build order, each line once: what a node needs is printed before it.
+//! A trail has one plan, and it lacks no node if each node has a line.
 #![tactic(auto)]
 
 mod graph;

@@ -18,7 +18,7 @@ use plan_types::{Env, Index, List, NoMemory};
 use qualified_goals::Names;
 use std::alloc::Global;
 
-/// The nodes of the plan that a trail makes of a sound index, in build order, each line once.
+/// The nodes of a trail's plan, in build order, each line once.
 pub fn elaborate(
     alloc: Global,
     trail: &[Choice],

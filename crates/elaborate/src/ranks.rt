@@ -1,4 +1,4 @@
-// The places of nodes in their order, by the places at which they were reached.
+// Ranks: the places of nodes in sorted order, by the places at which they were reached.
 ghost use Rattle.std.specs.Prelude.{◌≡◌, ◌≢◌, AllPairs, IfOk, OnOk, length, map, slice_set, replicate};
 ghost use Rattle.plan_components.specs.SameNode.{place_of};
 ghost use Rattle.elaborate.specs.Ranks.{ranks_after, with_rank};
@@ -8,7 +8,7 @@ use plan_components::Reached;
 use plan_types::NoMemory;
 use std::alloc::Global;
 
-/// For each node that is reached, its place among these.
+/// The rank of each reached node: its place among these.
 pub(crate) fn ranks_of(
     alloc: Global,
     reached: &Reached,

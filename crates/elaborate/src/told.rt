@@ -47,7 +47,7 @@ fn push_told(all: &mut Vec<Told>, node: Node, line: Option<PlanNode>) -> Result<
     }
 }
 
-/// Sorts nodes by name, version, component, identifier, and then by the nodes themselves, the qualifier first.
+/// Sorts nodes by name, version, component and identifier, then by qualifier, package and piece.
 pub(crate) fn sort_told(all: &mut Vec<Told>) -> Result<(), NoMemory>
     ensures permutation { IsPermutation all.old.items all.new.items }
     ensures sorted { OnOk result (IsSorted told_cmp all.new.items) }

@@ -1,4 +1,4 @@
--- the places so far
+-- the ranks so far
 use Rattle.std.proofs.Common.{◌≡◌, map, take}
 use Rattle.plan_components.specs.declared.node.Need.{Need}
 use Rattle.elaborate.specs.Ranks.{rank_of}

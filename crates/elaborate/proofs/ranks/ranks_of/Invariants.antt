@@ -1,4 +1,4 @@
--- the places so far, and those behind
+-- the ranks so far, and the rest
 use Rattle.std.proofs.Common.{◌≡◌, drop}
 use Rattle.elaborate.specs.Ranks.{ranks_after, ranks_from}
 use Rattle.elaborate.proofs.ranks.ranks_of.Given as goal

@@ -1,4 +1,4 @@
--- the nodes so far, and those behind
+-- the nodes so far, and the rest
 use Rattle.std.proofs.Common.{◌≡◌, ◌++◌, ◌+◌, drop, length}
 use Rattle.std.specs.Vec.Iter.{into_iter_items}
 use Rattle.elaborate.specs.Telling.{told_in}
