@@ -1,5 +1,5 @@
--- The nodes of a plan are among finitely many: the numbers of the packages that they name are below a bound, and each package has
--- finitely many pieces.
+-- The nodes of a plan are among finitely many. The numbers of their packages are below a bound, and each package
+-- has finitely many pieces.
 use Rattle.std.proofs.Common.{◌≡◌, ◌<◌, ⊎_elim, ℕ, ◌+◌, Bool, true, false, if◌then◌else◌, List, [], ◌++◌, length, map, Option, Some, None, slice_get, unwrap_or, refl, subst, arith}
 use Rattle.std.specs.List.{Contains, filter, flat_map}
 use Rattle.std.proofs.lemmas.List.Quantifiers.{position-Some}
@@ -35,7 +35,7 @@ use Rattle.plan_components.specs.Wanted.{first_of, first_pieces, is_begun, is_wa
 use Rattle.plan_answers.proofs.Pieces.{asked-in, first-in, pieces_in, whole-in}
 
 module _ (selection : Selection) where
-  -- above all numbers of packages
+  -- a bound on the numbers of packages
   abbrev bound : ℕ
   bound = length selection.packages + length selection.names.packages + 1
 
@@ -51,7 +51,7 @@ module _ (selection : Selection) where
   abbrev quals : List Qual
   quals = all_quals numbers numbers
 
-  -- the packages that a node names have numbers below it, and its piece is one of those of its package
+  -- a node's packages have numbers below the bound, and its piece is one of its package
   record IsWithin (node : Node) : Type 0 where
     qual_is : Contains quals node.qual
     package_is : node.«package» < bound
@@ -171,7 +171,7 @@ module _ (selection : Selection) where
   pub all_nodes : List Node
   all_nodes = flat_map under quals
 
-  -- those of the plan are among them
+  -- the nodes of the plan are among them
   pub is_among : (node : Node) → IsInPlan selection node → Contains all_nodes node
   unfolding all_nodes
   is_among node plan =

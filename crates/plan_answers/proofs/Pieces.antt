@@ -1,4 +1,4 @@
--- The pieces of a plan stand at places among the components of what is chosen.
+-- The pieces of a plan are places of components of the chosen instance.
 use Rattle.std.proofs.Common.{◌<◌, ⊎_elim, ℕ, suc, ◌+◌, Bool, true, false, ◌&&◌, if◌then◌else◌, List, [], ◌∷◌, length, map, Option, Some, None, subst, arith}
 use Rattle.std.specs.List.{Contains}
 use Rattle.common_laws.specs.Lists.{contains-cases, contains-head, contains-map, contains-none, contains-tail, map-contains}
@@ -30,7 +30,7 @@ from-low k test (component ∷ components) place c =
       | false ↦ behind
     ] c
 
--- all these are places of so many components
+-- all these places are below a length
 abbrev AreLow : ℕ → List ℕ → Type 0
 AreLow count ks = (k : ℕ) → Contains ks k → k < count
 
@@ -73,14 +73,14 @@ module _ (body : Option Body) where
   pieces-in true [] low piece c = absurd (contains-none piece c)
   pieces-in true (k ∷ ks) low piece c = whole-in piece c
 
--- what a dependency asks for
+-- the pieces that a dependency asks for
 pub asked-in : (dep : Dep) (body : Option Body) (piece : Piece) → Contains (asked_pieces dep body) piece → Contains (pieces_in body) piece
 asked-in dep None piece c = absurd (contains-none piece c)
 asked-in dep (Some (Installed record_of needs)) piece c = whole-in (Some (Installed record_of needs)) piece c
 asked-in dep (Some (Source d flats exposed)) piece c =
     pieces-in (Some (Source d flats exposed)) d.custom (places (asks dep.kind dep) d.components) (places-low (asks dep.kind dep) d.components) piece c
 
--- and what a plan begins with
+-- the first pieces of a plan
 pub first-in : (selection : Selection) (local : Bool) (p : ℕ) (body : Option Body) (piece : Piece) → Contains (first_pieces selection local p body) piece → Contains (pieces_in body) piece
 first-in selection local p None piece c = absurd (contains-none piece c)
 first-in selection local p (Some (Installed record_of needs)) piece c = whole-in (Some (Installed record_of needs)) piece c

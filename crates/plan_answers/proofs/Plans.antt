@@ -1,4 +1,4 @@
--- The lines of the nodes are made along a build order; those that have one are sorted, and placed in a build order of their own.
+-- Nodes get their lines in build order. Those that have one are sorted, and have a build order of their own.
 use Rattle.std.proofs.Common.{Bool, List, Option, map, refl, is_lt}
 use Rattle.plan_nodes.specs.declared.node.PlanNode.{PlanNode}
 use Rattle.plan_nodes.specs.Once.{each_line_once}
@@ -20,7 +20,7 @@ use Rattle.elaborate.proofs.Order.{told-order}
 use Rattle.elaborate.proofs.Planned.{ranked}
 use Rattle.plan_answers.proofs.Reached.{some_reached}
 
--- the order in which those with lines are sorted
+-- the order in which nodes with lines are sorted
 abbrev is_before : Told → Told → Bool
 is_before s t = is_lt (told_cmp s t)
 

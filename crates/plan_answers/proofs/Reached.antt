@@ -1,4 +1,4 @@
--- The nodes of a plan are looked at one after the other, each once; since they are finitely many, that ends.
+-- A traversal takes each node of a plan once. It ends, since the nodes are finitely many.
 use Rattle.std.proofs.Common.{BuildHasherDefault, FoldHasher, ◌≡◌, ◌≢◌, ◌≤◌, ◌↔◌, inl, inr, ℕ, zero, suc, ◌+◌, true, false, if◌then◌else◌, List, [], ◌∷◌, ◌++◌, length, length-append, map, refl, ap, sym, ◌∙◌, subst, arith}
 use Rattle.std.specs.Hash.FoldHasher.{initial}
 use Rattle.std.specs.List.{AllPairs, Contains, IsDistinct, list_any}
@@ -25,7 +25,7 @@ use Rattle.plan_answers.proofs.Nodes.{all_nodes, is_among}
 
 -- ---- nodes, each once
 
--- by the test by which a set of nodes is made
+-- nodes are distinct, by the equality of the set
 abbrev Once : List Node → Type 0
 Once nodes = IsDistinct eq-value.it nodes
 
@@ -50,7 +50,7 @@ puts-all nodes (n ∷ more) =
     let next = insert_key eq-value.it nodes n in
     puts_both (n ∷ []) more nodes next (insert_all eq-value.it next more) (puts_key nodes n) (puts-all next more)
 
--- nodes that stand among others, each once, are no more than those
+-- distinct nodes that are among others are no more than these
 no-more : (nodes others : List Node) → Once nodes → ((n : Node) → Contains nodes n → Contains others n) → length nodes ≤ length others
 no-more nodes others once inside =
     length-le_from_is_member laws-law nodes others once
@@ -58,7 +58,7 @@ no-more nodes others once inside =
     let found = any-at (eq-value.it n) nodes h in
     any-from (eq-value.it n) others n (inside n (subst (Contains nodes) (sym (exact n found.0 found.2)) found.1)) (alike n))
 
--- a set that holds these, with any room and hasher
+-- a set of these nodes, with any capacity and hasher
 set_of : List Node → IndexSet Node (BuildHasherDefault FoldHasher)
 set_of nodes = key_set (hash_map (map (λ n. (n, n)) nodes) (record { initial = initial }) 0)
 
@@ -67,13 +67,13 @@ unfolding set_of
 set_has [] = refl
 set_has (n ∷ nodes) = ap (λ l. n ∷ l) (set_has nodes)
 
--- ---- one after the other
+-- ---- the traversal
 
 module _ (selection : Selection) where
   abbrev Found : Type 0
   Found = (reached : Reached) × AreReached selection reached
 
-  -- what all of them need is there
+  -- the end: the needs of all nodes are there
   ends : (nodes : List Node) (needs : List (List Need)) → Keeps selection nodes needs → Once nodes → length nodes ≤ length needs → Found
   ends nodes needs keeps once over = (
     record { set = set_of nodes; needs = needs },
@@ -84,7 +84,7 @@ module _ (selection : Selection) where
     },
   )
 
-  -- so many nodes at most are yet to be looked at
+  -- the step, by the number of nodes that are left
   goes : (fuel : ℕ) (nodes : List Node) (needs : List (List Need)) → Keeps selection nodes needs → Once nodes → length (all_nodes selection) ≤ fuel + length needs → Found
   goes zero nodes needs keeps once low =
       let fits = no-more nodes (all_nodes selection) once (λ node c. is_among selection node (keeps.reached node c)) in

@@ -1,5 +1,5 @@
-//! Whatever is chosen has a plan: finitely many nodes are needed, the lines of those that have one are sorted, and their graph has a
-//! build order. There is no code here.
+//! The law that every selection has a plan, so the contract of `elaborate` can be met. There is no code here.
+//! Finitely many nodes are reached, their lines are sorted, and every graph has a build order.
 #![tactic(auto)]
 
 mod laws;
