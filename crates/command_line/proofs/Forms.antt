@@ -29,7 +29,7 @@ some_digits : (text : List ℕ) → is_count text ≡ true → 0 < length text
 some_digits [] h = cc
 some_digits (b ∷ bs) h = omega arith
 
--- no leading zero, unless it is alone
+-- a part with a leading zero is `0`
 plain_digits : (text : List ℕ) → (not (begins_with 48 text) || length text == 1) ≡ true → get_or text 0 0 ≡ 48 → length text ≡ 1
 plain_digits [] h e = absurd (omega arith)
 plain_digits (b ∷ bs) h e =
@@ -42,7 +42,7 @@ part_text text h =
     let few = few_digits text p.0 in
     numeral_text text few.0 (some_digits text p.0) few.1 (plain_digits text p.1)
 
--- pieces that are parts of a version make a version
+-- parts of a version make a version
 parts_joined : (x : List ℕ) (xs : List (List ℕ)) → list_all is_part (x ∷ xs) ≡ true
     → (is_version (map (number_after 0) (x ∷ xs)) ≡ true) × (join_with_byte 46 (x ∷ xs) ≡ version_text (map (number_after 0) (x ∷ xs)))
 parts_joined x [] h =
@@ -62,7 +62,7 @@ version_reads text h = go (slice_split (λ b. b == 46) text) h (length-slice_spl
     go [] all some joined = absurd (omega arith)
     go (x ∷ xs) all some joined = let r = parts_joined x xs all in (r.0, sym joined ∙ r.1)
 
--- a compiler's name is read as one in a condition, and such names are ASCII
+-- a compiler's name has the form of one in a condition, so it is ASCII
 pub compiler_ascii : (name : List ℕ) → is_compiler_name name ≡ true → IsAscii name
 compiler_ascii [] h = cc
 compiler_ascii (b ∷ bs) h =
@@ -70,12 +70,12 @@ compiler_ascii (b ∷ bs) h =
     let is_run : Run is_letter_or_digit is_letter_or_digit (b ∷ bs) (b ∷ bs) = run b bs (and_from (is_letter_or_digit b) (is_letter_or_digit b) p.0 p.0) p.1 in
     name_ascii Compiler ((b ∷ bs) ++ []) (b ∷ bs) [] (run_reads is_letter_or_digit is_letter_or_digit (b ∷ bs) (b ∷ bs) [] is_run refl)
 
--- the compiler that is taken where none is given has the form too
+-- the default compiler is well-formed too
 pub compiler_formed : (given : Option (List ℕ)) → option_map_or is_compiler given true ≡ true → is_compiler (compiler_or given) ≡ true
 compiler_formed None h = refl
 compiler_formed (Some text) h = h
 
--- a number of packages lies within its bounds
+-- a number of packages is within its bounds
 pub number_bounds : (text : List ℕ) → is_number text ≡ true → (1 ≤ number_in text) × (number_in text ≤ 2000)
 number_bounds text h =
     let least : Bool = nat_le 1 (number_in text) in

@@ -1,4 +1,4 @@
--- Words that have a reading are a command with options around it, so that the parser takes them and finds their values.
+-- Words with a reading are a command with options around it. The parser takes them and finds their values.
 use Rattle.std.proofs.Common.{◌≡◌, ◌∙◌, ◌+◌, ◌≤◌, ◌&&◌, ◌||◌, ℕ, Bool, true, false, refl, sym, ap, ap₂, subst, arith, List, [], ◌∷◌, ◌++◌, map, take, drop, length, cond}
 use Rattle.std.specs.Prelude.{◌==◌, Option, Some, None, codes, find, is_some, nat_le}
 use Rattle.std.specs.Option.{option_map_or}
@@ -48,7 +48,7 @@ any_option word (option ∷ others) some = go (gives option word) refl some (any
 known_option : (command : CommandName) (word : Text) → is_known command word ≡ true → is_command command word ≡ false → (g : Given) × (word ≡ word_of g)
 known_option command word known other = any_option word (taken_by command) (ap (λ b. b || list_any (λ option. gives option word) (taken_by command)) (sym other) ∙ known)
 
--- words of which none is the command
+-- known words without the command are options
 only_options : (command : CommandName) (words : List Text) → list_all (is_known command) words ≡ true → count_by (is_command command) words ≡ 0 → (gs : List Given) × (words ≡ map word_of gs)
 only_options command [] known none = ([], refl)
 only_options command (word ∷ words) known none =
@@ -63,7 +63,7 @@ only_options command (word ∷ words) known none =
     not_one true n e = absurd (omega arith)
     not_one false n e = refl
 
--- words of which one is the command
+-- known words with one command are that command with options around it
 around : (command : CommandName) (words : List Text) → list_all (is_known command) words ≡ true → count_by (is_command command) words ≡ 1 → (before after : List Given) × (words ≡ words_around command before after)
 around command [] known one = absurd (omega arith)
 around command (word ∷ words) known one =
@@ -102,7 +102,7 @@ reads words command h =
       needed = q.1;
     }
 
--- what is found passes
+-- an item that `find` finds passes the test
 asked_one : {X : Type 0} (test : X → Bool) (xs : List X) → is_some (find test xs) ≡ true → (x : X) × (test x ≡ true)
 asked_one test [] h = absurd (false≢true h)
 asked_one test (x ∷ xs) h =
@@ -111,7 +111,7 @@ asked_one test (x ∷ xs) h =
       | false ↦ λ e k. asked_one test xs k
     ] refl h
 
--- an option stands at most once, and its value has its form
+-- an option occurs at most once, and its value is well-formed
 
 at_most_once : (words : List Text) (option : OptionName) → is_well_given words option ≡ true → count_by (gives option) words ≤ 1
 at_most_once words option well = leb-true (count_by (gives option) words) 1 (and_parts (nat_le (count_by (gives option) words) 1) (option_map_or (has_form option) (given option words) true) well).0
@@ -121,7 +121,7 @@ well_formed words h option =
     let command = asked_one (asks_for words) commands h in
     (and_parts (nat_le (count_by (gives option) words) 1) (option_map_or (has_form option) (given option words) true) ((reads words command.0 command.1).options_are option)).1
 
--- what a command needs is given
+-- the options that a command needs are given
 asked_for : (words : List Text) (command : CommandName) (rest : List CommandName) → find (asks_for words) rest ≡ Some command → asks_for words command ≡ true
 asked_for words command [] found = absurd (cc found)
 asked_for words command (one ∷ rest) found = go (asks_for words one) refl found (asked_for words command rest)
@@ -142,7 +142,7 @@ number_given words h =
     go None there formed = absurd (false≢true there)
     go (Some text) there formed = formed
 
--- what the parser makes of words that have a reading
+-- the parser takes the words and finds their values
 pub record Parses (words : List Text) : Type 0 where
   pub takes_them : takes parser words ≡ true
   pub values : (option : OptionName) → first_of (name_of option) (matches_of parser words) ≡ found_in option words

@@ -1,4 +1,4 @@
--- What holds of each option of the table, and what a word that gives an option looks like.
+-- Facts of each option of the table, and the form of a word that gives an option.
 use Rattle.std.proofs.Common.{◌≡◌, ◌∙◌, ◌+◌, ◌&&◌, ◌||◌, ℕ, zero, suc, Bool, true, false, not, cond, refl, sym, ap, ap₂, arith, List, [], ◌∷◌, ◌++◌, map, take, drop, length, codes, subst, append-nil, Option, Some, None}
 use Rattle.std.specs.Prelude.{◌==◌, find, nat_eq, slice_get}
 use Rattle.std.specs.Option.{option_map}
@@ -21,7 +21,7 @@ use Rattle.command_line.specs.Parser.{parser, rule_as}
 
 -- ---- each option
 
--- where an option stands in the table
+-- the place of an option in the table
 abbrev place_of : OptionName → ℕ
 place_of Index = 0
 place_of Installed = 1
@@ -55,7 +55,7 @@ all-at test [] i x at all = absurd (cc at)
 all-at test (y ∷ ys) zero x at all = let same : y ≡ x = cc at in ap test (sym same) ∙ (and_parts (test y) (list_all test ys) all).0
 all-at test (y ∷ ys) (suc i) x at all = all-at test ys i x at (and_parts (test y) (list_all test ys) all).1
 
--- what holds of all options holds of each
+-- a test that holds on the table holds for each option
 pub each_option : (test : OptionName → Bool) → list_all test options ≡ true → (option : OptionName) → test option ≡ true
 each_option test all option = all-at test options (place_of option) option (stands option) all
 
@@ -113,7 +113,7 @@ its_own Json = refl
 its_own CountConflicts = refl
 its_own MinimizeConflictSet = refl
 
--- options of one name are one
+-- `name_of` is injective
 pub one_option : (option other : OptionName) → bytes_eq (name_of other) (name_of option) ≡ true → other ≡ option
 one_option option other same =
     let names : name_of other ≡ name_of option = (bytes_eq-Decides (name_of other) (name_of option)).0 same in
@@ -121,7 +121,7 @@ one_option option other same =
 
 -- ---- a word that gives an option
 
--- an option with what stands behind its name in a word; for a flag that is left out
+-- an option with its value; a flag's word leaves the value out
 abbrev pub Given : Type 0
 Given = OptionName × Text
 
@@ -132,17 +132,17 @@ spelled Flag name v = codes "--" ++ name ++ []
 abbrev pub word_of : Given → Text
 word_of g = spelled (kind_of g.0) (name_of g.0) g.1
 
--- the value that stands in such a word
+-- the value in such a word
 abbrev pub attached : OptionKind → Text → Option Text
 attached Valued v = Some v
 attached Flag v = None
 
--- what is held of such a word
+-- the value that the parser stores for such a word
 abbrev pub held_of : OptionKind → Text → Text
 held_of Valued v = v
 held_of Flag v = codes "true"
 
--- such a word is no `--`
+-- such a word isn't `--`
 not_dashes_as : (kind : OptionKind) (name v : Text) → is_empty name ≡ false → bytes_eq (spelled kind name v) (45 ∷ 45 ∷ []) ≡ false
 not_dashes_as Valued [] v some = refl
 not_dashes_as Valued (x ∷ name) v some = refl
@@ -152,7 +152,7 @@ not_dashes_as Flag (x ∷ name) v some = refl
 pub not_dashes : (g : Given) → bytes_eq (word_of g) (45 ∷ 45 ∷ []) ≡ false
 not_dashes g = not_dashes_as (kind_of g.0) (name_of g.0) g.1 (good g.0).some
 
--- behind a name without one comes the first `=`
+-- the first `=` of a word is behind the name, which has none
 first_equals : (name v : Text) → has_byte 61 name ≡ false → position_or_len (λ x. x == 61) ((name ++ codes "=") ++ v) ≡ length name
 first_equals [] v none = refl
 first_equals (x ∷ name) v none = go (x == 61) none (first_equals name v)
@@ -189,7 +189,7 @@ long_rest (x ∷ name) v some none =
     ap (λ b. Some (before_first (λ c. c == 61) text, cond b (Some (after_first (λ c. c == 61) text)) None)) (has_equals (x ∷ name) v)
     ∙ ap₂ (λ n w. Some (n, Some w)) before after
 
--- behind a name without one comes no `=`
+-- a flag's word has no `=`
 no_equals_first : (name : Text) → has_byte 61 name ≡ false → position_or_len (λ x. x == 61) (name ++ []) ≡ length name
 no_equals_first [] none = refl
 no_equals_first (x ∷ name) none = go (x == 61) none (no_equals_first name)
@@ -209,7 +209,7 @@ flag_rest (x ∷ name) some none =
     ap (λ b. Some (before_first (λ c. c == 61) ((x ∷ name) ++ []), cond b (Some (after_first (λ c. c == 61) ((x ∷ name) ++ []))) None)) (ap (has_byte 61) whole ∙ none)
     ∙ ap (λ n. Some (n, None)) before
 
--- a word is cut into the name and the value
+-- the parser splits a word into name and value
 long_as : (kind : OptionKind) (name v : Text) → is_empty name ≡ false → has_byte 61 name ≡ false → long_of (spelled kind name v) ≡ Some (name, attached kind v)
 long_as Valued name v some none = long_rest name v some none
 long_as Flag name v some none = flag_rest name some none
@@ -219,7 +219,7 @@ long_is g = long_as (kind_of g.0) (name_of g.0) g.1 (good g.0).some (good g.0).n
 
 -- ---- the rule of an option
 
--- what is built of the rule of a kind and a name
+-- the built rule of a kind and a name
 abbrev pub built_as : OptionKind → Text → Rule
 built_as kind name = filled (rule_as kind name)
 
@@ -245,7 +245,7 @@ rule_is MinimizeConflictSet = refl
 
 -- ---- which option a word gives
 
--- texts that end with their first `=` begin alike where they are one
+-- `a=` is a prefix of `b=v` iff the names are equal
 ended : (a b v : Text) → has_byte 61 a ≡ false → has_byte 61 b ≡ false → bytes_eq (a ++ codes "=") (take (length (a ++ codes "=")) ((b ++ codes "=") ++ v)) ≡ bytes_eq b a
 ended [] [] v none others = refl
 ended [] (y ∷ b) v none others = ap (λ c. c && true) (nat_eq_equiv.symm 61 y) ∙ go (y == 61) others
@@ -261,7 +261,7 @@ ended (x ∷ a) [] v none others = go (x == 61) none
 ended (x ∷ a) (y ∷ b) v none others =
     ap₂ (λ c d. c && d) (nat_eq_equiv.symm x y) (ended a b v (or_parts (x == 61) (has_byte 61 a) none).1 (or_parts (y == 61) (has_byte 61 b) others).1)
 
--- a flag's word begins no word with a value, nor does such a name begin a flag's word
+-- a word with a value is no flag's word, and `name=` is no prefix of a flag's word
 false-and : (b c : Bool) → c ≡ false → (b && c) ≡ false
 false-and true c e = e
 false-and false c e = refl
@@ -288,20 +288,20 @@ alike Valued Flag = false
 alike Flag Valued = false
 alike Flag Flag = true
 
--- options of two kinds have two names
+-- options of different kinds have different names
 two_names : (option other : OptionName) → (alike (kind_of option) (kind_of other) || not (bytes_eq (name_of other) (name_of option))) ≡ true
 two_names option other =
     each_option (λ p. alike (kind_of option) (kind_of p) || not (bytes_eq (name_of p) (name_of option)))
     (each_option (λ o. list_all (λ p. alike (kind_of o) (kind_of p) || not (bytes_eq (name_of p) (name_of o))) options) refl option) other
 
--- the flags, which stand last in the table
+-- the flags, the last options of the table
 abbrev pub flags : List OptionName
 flags = Json ∷ CountConflicts ∷ MinimizeConflictSet ∷ []
 
 pub each_flag : list_all (λ flag. alike (kind_of flag) Flag) flags ≡ true
 each_flag = refl
 
--- each option of their kind is one of them
+-- each option of kind `Flag` is one of these
 pub a_flag : (option : OptionName) → kind_of option ≡ Flag → list_any (λ flag. bytes_eq (name_of flag) (name_of option)) flags ≡ true
 a_flag Index e = absurd (cc e)
 a_flag Installed e = absurd (cc e)
@@ -316,7 +316,7 @@ a_flag Json e = refl
 a_flag CountConflicts e = refl
 a_flag MinimizeConflictSet e = refl
 
--- a flag has a name of its own
+-- no valued option has a flag's name
 pub not_flag : (flag option : OptionName) → alike (kind_of flag) Flag ≡ true → kind_of option ≡ Valued → bytes_eq (name_of flag) (name_of option) ≡ false
 not_flag flag option is e = not-true (bytes_eq (name_of flag) (name_of option)) (by (kind_of flag) is (ap (λ k. alike k (kind_of flag) || not (bytes_eq (name_of flag) (name_of option))) (sym e) ∙ two_names option flag))
   where
@@ -324,7 +324,7 @@ not_flag flag option is e = not-true (bytes_eq (name_of flag) (name_of option)) 
     by Valued is apart = absurd (false≢true is)
     by Flag is apart = apart
 
--- a word gives an option where the names are one
+-- a word gives an option iff the names are equal
 pub same_test : (option : OptionName) (g : Given) → gives option (word_of g) ≡ bytes_eq (name_of g.0) (name_of option)
 same_test option g = by (kind_of option) (kind_of g.0) (two_names option g.0)
   where
@@ -345,12 +345,12 @@ dropped_all : (front v : Text) → drop (length front) (front ++ v) ≡ v
 dropped_all [] v = refl
 dropped_all (x ∷ front) v = dropped_all front v
 
--- what is held of an option that was given a value, or of a flag that was given
+-- the value that the parser stores for an option, by the value that words give it
 abbrev pub held_as : OptionKind → Option Text → Option Text
 held_as Valued value = value
 held_as Flag value = option_map (λ _. codes "true") value
 
--- of a word of the option that is what stands in it
+-- a word of the option stores the value in it
 pub held_here : (option : OptionName) (v : Text) → held_as (kind_of option) (Some (value_in option (word_of (option, v)))) ≡ Some (held_of (kind_of option) v)
 held_here option v = by (kind_of option)
   where
@@ -359,7 +359,7 @@ held_here option v = by (kind_of option)
     by Valued = ap Some (dropped_all (codes "--" ++ name_of option ++ codes "=") v)
     by Flag = refl
 
--- an option of one name holds the same
+-- options of equal names store the same
 pub held_found : (option : OptionName) (g : Given) → bytes_eq (name_of g.0) (name_of option) ≡ true
     → Some (held_of (kind_of g.0) g.1) ≡ held_as (kind_of option) (Some (value_in option (word_of g)))
 held_found option g same =

@@ -1,4 +1,4 @@
--- What a parse makes of words that are a command and options.
+-- The parse of words that are a command and options.
 use Rattle.std.proofs.Common.{◌≡◌, ◌∙◌, ◌+◌, ◌≤◌, ◌&&◌, ◌||◌, ℕ, Bool, true, false, refl, sym, ap, ap₂, subst, arith, List, [], ◌∷◌, ◌++◌, map, Option, Some, None, codes, append-nil, append_assoc, cond}
 use Rattle.std.specs.List.{count_by, find, fold, list_all, list_any}
 use Rattle.std.proofs.lemmas.List.Sums.{fold-append, sum_by-append, sum_by-cons}
@@ -51,11 +51,11 @@ used_fresh id value how rows fresh = rw (at_fresh id (λ _. []) [] rows fresh, a
 abbrev between : List Row → ℕ → Walk
 between rows position = record { held = record { rows = rows; pending = None; skip = 0 }; waiting = idle; position = position; is_trailing = false; stopped = None }
 
--- behind a command, which is used at the next word
+-- the walk after a command, whose row is added at the next word
 abbrev pub behind : CommandName → List Row → Walk
 behind command rows = record { held = record { rows = rows; pending = Some (codes "command", command_word command ∷ []); skip = 0 }; waiting = idle; position = 2; is_trailing = false; stopped = None }
 
--- a word that is cut into the name of an option of a kind, and its value
+-- a word that the parser splits into the name of an option and its value
 record IsCut (word : Text) (kind : OptionKind) (name v : Text) : Type 0 where
   no_dashes : bytes_eq word (45 ∷ 45 ∷ []) ≡ false
   long : long_of word ≡ Some (name, attached kind v)
@@ -64,7 +64,7 @@ record IsCut (word : Text) (kind : OptionKind) (name v : Text) : Type 0 where
 cut : (g : Given) → IsCut (word_of g) (kind_of g.0) (name_of g.0) g.1
 cut g = record { no_dashes = not_dashes g; long = long_is g; rule = rule_is g.0 }
 
--- the rows with what is held of an option
+-- the rows with one for an option
 abbrev with_held : OptionKind → Text → Text → List Row → List Row
 with_held kind name v rows = with_values name (reading_by (built_as kind name)) CommandLine (held_of kind v ∷ []) (without name rows)
 
@@ -99,7 +99,7 @@ command_passes Generate rows = refl
 command_passes Freeze rows = refl
 command_passes Replay rows = refl
 
--- the rows with the command behind which a word stands
+-- the rows with one for the command, added at the next word
 abbrev with_command : CommandName → List Row → List Row
 with_command command rows = with_values (codes "command") (reading_by command_rule) CommandLine (command_word command ∷ []) (without (codes "command") rows)
 
@@ -201,7 +201,7 @@ no_command_row : (gs : List Given) → has_row (codes "command") (map row_of gs)
 no_command_row [] = refl
 no_command_row (g ∷ gs) = rw (not_command g.0) (no_command_row gs)
 
--- what is held at the end: the rows in the order of the words
+-- the end of a walk: the rows in the order of the words
 pub record Ends (rows : List Row) (end : Held) : Type 0 where
   pub rows_are : (settled rules end).rows ≡ rows
   pub passes : settle_passes rules false end ≡ true
@@ -246,7 +246,7 @@ words_around command before after = map word_of before ++ command_word command �
 abbrev pub rows_around : CommandName → List Given → List Given → List Row
 rows_around command before after = map row_of before ++ command_row command ∷ map row_of after
 
--- what a walk over the words comes to
+-- a walk over the words passes and ends with these rows
 pub record Walks (command : CommandName) (before after : List Given) : Type 0 where
   pub ends : Ends (rows_around command before after) (walk rules [] nothing_held (words_around command before after)).held
   pub passes : walk_passes shape [] (walk_from nothing_held) (words_around command before after) ≡ true
@@ -270,7 +270,7 @@ walks command before after once =
           ∙ end.1);
     }
 
--- ---- the end: a flag that isn't there has a row of its own
+-- ---- the end: a flag that no word gives gets a default row
 
 -- an argument without a default
 plain : (rows : List Row) (a : Rule) → a.defaults ≡ [] → with_default rows a ≡ rows
@@ -286,20 +286,20 @@ plain_all (a ∷ others) rows all =
     let parts = both (is_empty a.defaults) (list_all (λ r. is_empty r.defaults) others) all in
     ap (λ rs. fold with_default rs others) (plain rows a (is_nil a.defaults parts.0)) ∙ plain_all others rows parts.1
 
--- the row of a flag where no word gives it
+-- the default row of a flag
 abbrev absent : OptionName → Row
 absent flag = record { id = name_of flag; values = codes "false" ∷ []; count = None; source = Some DefaultValue; reading = reading_by (built_as Flag (name_of flag)) }
 
--- the rows with it
+-- the rows, with a flag's default row if it has none
 abbrev with_flag : OptionName → List Row → List Row
 with_flag flag rows = cond (has_row (name_of flag) rows) rows (rows ++ absent flag ∷ [])
 
--- the rows with those of some flags
+-- the rows, with the default rows of some flags
 abbrev with_each : List OptionName → List Row → List Row
 with_each [] rows = rows
 with_each (flag ∷ others) rows = with_each others (with_flag flag rows)
 
--- the rows with those of all flags
+-- the rows, with the default rows of all flags
 abbrev pub with_flags : List Row → List Row
 with_flags rows = with_each flags rows
 
@@ -347,7 +347,7 @@ command_found : (command : CommandName) (before after : List Given) → is_given
 command_found command before after =
     ap (λ found. option_map_or (λ r. explicit_source r.source) found false) (find_past (λ r. bytes_eq r.id (codes "command")) (map row_of before) (command_row command ∷ map row_of after) (no_command_row before))
 
--- what is found stays when rows of flags follow
+-- rows added at the end don't change what is found
 find_kept : {X : Type 0} (p : X → Bool) (xs ys : List X) → list_any p xs ≡ true → find p (xs ++ ys) ≡ find p xs
 find_kept p [] ys some = absurd (false≢true some)
 find_kept p (x ∷ xs) ys some = go (p x) some (find_kept p xs ys)
@@ -415,7 +415,7 @@ words_taken command before after once =
 
 -- ---- the values
 
--- what is held of an option by its row, or by a word for it, in front of more
+-- rows and words in front keep the value of an option equal in both
 value_found : (option : OptionName) (gs : List Given) (rows : List Row) (words : List Text) → first_of (name_of option) rows ≡ held_as (kind_of option) (given option words)
     → first_of (name_of option) (map row_of gs ++ rows) ≡ held_as (kind_of option) (given option (map word_of gs ++ words))
 value_found option [] rows words same = same
@@ -454,7 +454,7 @@ values_given command option before after =
     nothing Valued = refl
     nothing Flag = refl
 
--- an option has a row where a word gives it
+-- an option has a row iff a word gives it
 same_there : (option : OptionName) (gs : List Given) (rows : List Row) (words : List Text) → has_row (name_of option) rows ≡ is_some (given option words)
     → has_row (name_of option) (map row_of gs ++ rows) ≡ is_some (given option (map word_of gs ++ words))
 same_there option [] rows words same = same
@@ -474,7 +474,7 @@ there_alike command option before after =
     ap (has_row (name_of option)) (sym (append-nil (map row_of after))) ∙ same_there option after [] [] refl ∙ ap (λ words. is_some (given option words)) (append-nil (map word_of after)) in
     same_there option before (command_row command ∷ map row_of after) (command_word command ∷ map word_of after) (rw (command_not option, command_gives_none command option) behind_all)
 
--- ---- what is found at the end
+-- ---- the values at the end
 
 module _ (command : CommandName) (before after : List Given) where
   abbrev held_rows : List Row
@@ -500,7 +500,7 @@ module _ (command : CommandName) (before after : List Given) where
       ap (option_and_then (λ r. slice_get r.values 0)) (valued_each option valued flags held_rows each_flag)
       ∙ values_given command option before after ∙ ap (λ kind. held_as kind (given option all_words)) valued
 
-  -- a flag that no word gives has its own row
+  -- a flag that no word gives is found as `false`
   absent_found : (option : OptionName) (others : List OptionName) (rows : List Row) → list_any (λ flag. bytes_eq (name_of flag) (name_of option)) others ≡ true
       → has_row (name_of option) rows ≡ false → first_of (name_of option) (with_each others rows) ≡ Some (codes "false")
   absent_found option [] rows some none = absurd (false≢true some)

@@ -1,4 +1,4 @@
--- The commands: the word of each, the options that it takes, and those that it needs.
+-- The commands: their words, the options that they take, and those that they need.
 use Rattle.std.specs.Prelude.{ℕ, List, [], ◌∷◌, codes}
 use Rattle.command_line.specs.declared.command_name.CommandName.{CommandName}
 use Rattle.command_line.specs.declared.command_name.CommandName.TheVariants.{Plan, Generate, Freeze, Replay}

@@ -1,4 +1,4 @@
--- What words mean, computed.
+-- Readings of words, computed.
 use Rattle.std.specs.Prelude.{◌≡◌, refl, false, [], ◌∷◌, Some, None, codes}
 use Rattle.plan_types.specs.declared.limit.Limit.TheVariants.{Unlimited, At}
 use Rattle.command_line.specs.declared.option_name.OptionName.TheVariants.{Index, Json}
@@ -86,7 +86,7 @@ up = refl
 no-name : is_path (codes "a//b") ≡ false
 no-name = refl
 
--- cut at the last `-`, so that the name has none
+-- `ghc-any` is no compiler's name, since it has a `-`
 dashed : is_compiler (codes "ghc-any-9.4") ≡ false
 dashed = refl
 

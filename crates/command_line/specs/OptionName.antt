@@ -1,4 +1,4 @@
--- The options, each one word: its name and all that follows the first `=`, or the name of a flag alone.
+-- The options. Each is one word: `--name=value`, split at the first `=`, or `--name` for a flag.
 use Rattle.std.specs.Prelude.{ℕ, Bool, List, [], ◌++◌, codes, length, drop, nat_eq}
 use Rattle.std.specs.List.{starts_with}
 use Rattle.std.specs.Str.{bytes_eq}
@@ -7,7 +7,7 @@ use Rattle.command_line.specs.declared.option_name.OptionKind.TheVariants.{Value
 use Rattle.command_line.specs.declared.option_name.OptionName.{OptionName}
 use Rattle.command_line.specs.declared.option_name.OptionName.TheVariants.{Index, Installed, Os, Arch, Compiler, MaxBackjumps, Number, Events, Slots, Json, CountConflicts, MinimizeConflictSet}
 
--- whether a value stands in the word of an option
+-- whether the word of an option has a value
 abbrev pub kind_of : OptionName → OptionKind
 kind_of Index = Valued
 kind_of Installed = Valued
@@ -37,16 +37,16 @@ name_of Json = codes "json"
 name_of CountConflicts = codes "count-conflicts"
 name_of MinimizeConflictSet = codes "minimize-conflict-set"
 
--- what stands behind the name
+-- the text behind the name: `=` or nothing
 abbrev pub sign_of : OptionKind → List ℕ
 sign_of Valued = codes "="
 sign_of Flag = []
 
--- what stands before the value
+-- the part of the word before the value
 abbrev pub prefix_of : OptionName → List ℕ
 prefix_of option = codes "--" ++ name_of option ++ sign_of (kind_of option)
 
--- whether the word gives a value, or is that of the flag
+-- whether a word gives an option of this kind and prefix
 abbrev pub gives_as : OptionKind → List ℕ → List ℕ → Bool
 gives_as Valued prefix word = starts_with nat_eq word prefix
 gives_as Flag prefix word = bytes_eq word prefix
@@ -55,6 +55,6 @@ gives_as Flag prefix word = bytes_eq word prefix
 abbrev pub gives : OptionName → List ℕ → Bool
 gives option word = gives_as (kind_of option) (prefix_of option) word
 
--- the value that stands in the word of an option; that of a flag is empty
+-- the value in the word of an option; that of a flag is empty
 abbrev pub value_in : OptionName → List ℕ → List ℕ
 value_in option word = drop (length (prefix_of option)) word

@@ -16,12 +16,12 @@ use Rattle.command_line.specs.Words.{given, options}
 abbrev pub command_rule : Rule
 command_rule = record (new_rule (codes "command")) { required = true; action = Some Set }
 
--- what is done at an option: its value is taken, or the flag is set
+-- the action at an option: take its value, or set the flag
 abbrev pub action_as : OptionKind → ArgAction
 action_as Valued = Set
 action_as Flag = SetTrue
 
--- an option of a kind and a name
+-- the rule of an option of a kind and a name
 abbrev pub rule_as : OptionKind → List ℕ → Rule
 rule_as kind name = record (new_rule name) { long = Some name; action = Some (action_as kind) }
 
@@ -29,21 +29,21 @@ rule_as kind name = record (new_rule name) { long = Some name; action = Some (ac
 abbrev pub option_rule : OptionName → Rule
 option_rule option = rule_as (kind_of option) (name_of option)
 
--- what is found of a flag
+-- the value of a flag in the parser's matches
 abbrev pub truth_text : Bool → List ℕ
 truth_text true = codes "true"
 truth_text false = codes "false"
 
--- what is found of an option that was given this, or nothing
+-- the value of an option in the parser's matches, by the value that words give it
 abbrev pub found_as : OptionKind → Option (List ℕ) → Option (List ℕ)
 found_as Valued value = value
 found_as Flag value = Some (truth_text (is_some value))
 
--- what is found of an option in words
+-- the value of an option in the parser's matches, by the words
 abbrev pub found_in : OptionName → List (List ℕ) → Option (List ℕ)
 found_in option words = found_as (kind_of option) (given option words)
 
--- that is what was found of each option
+-- matches have for each option its value by the words
 abbrev pub Finds : List (List ℕ) → Found → Type 0
 Finds words found = (option : OptionName) → first_value found (name_of option) ≡ found_in option words
 

@@ -17,15 +17,15 @@ use Rattle.conditionals.specs.Environment.{system_of}
 use Rattle.version_range.specs.Number.{limit_of}
 use Rattle.std.specs.Option.{option_and_then, option_map}
 
--- where index and installed packages are
+-- the paths of the index and of the installed packages
 abbrev pub places_of : Option (List ℕ) → Option (List ℕ) → Places
 places_of index installed = record { index = unwrap_or index (codes "index"); installed = unwrap_or installed (codes "installed") }
 
--- the compiler that is given, or the default
+-- the given compiler, or the default
 abbrev pub compiler_or : Option (List ℕ) → List ℕ
 compiler_or compiler = unwrap_or compiler (codes "ghc-9.4.7")
 
--- names are in lower case, and a system has the name by which conditions compare it
+-- the environment: names in lower case, the system under its usual name
 abbrev pub env_of : Option (List ℕ) → Option (List ℕ) → Option (List ℕ) → Env
 env_of os arch compiler = record {
   os = system_of (str_to_ascii_lowercase (unwrap_or os (codes "linux")));
@@ -34,7 +34,7 @@ env_of os arch compiler = record {
   compiler_version = record { parts = parts_of (compiler_digits (compiler_or compiler)) };
 }
 
--- what the options of words say for a command that takes no flags
+-- the options of words, for a command that takes no flags
 abbrev pub plain_options : List (List ℕ) → Options
 plain_options words = record {
   places = places_of (given Index words) (given Installed words);
@@ -45,7 +45,7 @@ plain_options words = record {
   minimize = false;
 }
 
--- what the options of words say
+-- the options of words
 abbrev pub options_of : List (List ℕ) → Options
 options_of words = record (plain_options words) {
   json = is_some (given Json words);
@@ -53,30 +53,30 @@ options_of words = record (plain_options words) {
   minimize = is_some (given MinimizeConflictSet words);
 }
 
--- the options where words give none, but with this limit
+-- the default options, with this limit
 abbrev pub default_options : Limit → Options
 default_options limit = record { places = places_of None None; env = env_of None None None; limit = Some limit; json = false; count_conflicts = false; minimize = false }
 
--- whether what is found of a flag says that it is there
+-- whether the parser's matches have a flag
 abbrev pub is_true : Option (List ℕ) → Bool
 is_true None = false
 is_true (Some text) = bytes_eq text (codes "true")
 
--- the folder that words ask for, and the limit that they give, or the one of a project that sets none
+-- `generate` with its number, and with the given limit or the default of 4000
 abbrev pub generate_of : List (List ℕ) → Command
 generate_of words =
     Generate (number_in (unwrap_or (given Number words) [])) (unwrap_or (option_and_then limit_of (given MaxBackjumps words)) (At 4000))
 
--- how many nodes may run at once
+-- how many nodes may run at once, 1 by default
 abbrev pub slots_or : Option (List ℕ) → ℕ
 slots_or None = 1
 slots_or (Some text) = number_in text
 
--- the build that words ask for: of a plan, at the events of a file
+-- `replay` with its options, file of events and slots
 abbrev pub replay_of : List (List ℕ) → Command
 replay_of words = Replay (plain_options words) (unwrap_or (given Events words) (codes "events")) (slots_or (given Slots words))
 
--- what a command means with the options of its words
+-- a command with the options of its words
 abbrev pub meant : List (List ℕ) → CommandName → Command
 meant words command.Plan = Plan (options_of words)
 meant words command.Generate = generate_of words
@@ -87,7 +87,7 @@ meant words command.Replay = replay_of words
 abbrev pub reading : List (List ℕ) → Option Command
 reading words = option_map (meant words) (asked words)
 
--- a folder is made of 1 to 2,000 packages, and a build has a slot
+-- bounds of a command's numbers: `generate` makes 1 to 2,000 packages, `replay` has at least one slot
 abbrev pub IsBounded : Command → Type 0
 IsBounded (Plan options) = Unit {0}
 IsBounded (Generate number limit) = (1 ≤ number) × (number ≤ 2000)

@@ -18,28 +18,28 @@ options = Index ∷ Installed ∷ Os ∷ Arch ∷ Compiler ∷ MaxBackjumps ∷ 
 abbrev pub is_command : CommandName → List ℕ → Bool
 is_command command word = bytes_eq word (command_word command)
 
--- the word of a command, or an option that it takes, with its value
+-- whether a word is that of the command, or gives an option that the command takes
 abbrev pub is_known : CommandName → List ℕ → Bool
 is_known command word = is_command command word || list_any (λ option. gives option word) (taken_by command)
 
--- what the words give an option
+-- the value that the words give an option
 abbrev pub given : OptionName → List (List ℕ) → Option (List ℕ)
 given option words = option_map (value_in option) (find (gives option) words)
 
--- the words give the option
+-- whether the words give the option
 abbrev pub is_given : List (List ℕ) → OptionName → Bool
 is_given words option = is_some (given option words)
 
--- the option stands at most once, and its value has its form
+-- the option occurs at most once, and its value is well-formed
 abbrev pub is_well_given : List (List ℕ) → OptionName → Bool
 is_well_given words option = nat_le (count_by (gives option) words) 1 && option_map_or (has_form option) (given option words) true
 
--- the words ask for a command: its word, and around it options that it takes, in any order, those that it needs among them
+-- The words fit a command: its word once and options that it takes, in any order. No needed option is missing.
 abbrev pub asks_for : List (List ℕ) → CommandName → Bool
 asks_for words command =
     list_all (is_known command) words
     && ((count_by (is_command command) words == 1 && list_all (is_well_given words) options) && list_all (is_given words) (needed_by command))
 
--- the command that words ask for, where they ask for one
+-- the command that the words fit, if any
 abbrev pub asked : List (List ℕ) → Option CommandName
 asked words = find (asks_for words) commands

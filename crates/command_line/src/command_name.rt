@@ -1,4 +1,4 @@
-// The commands: the word of each, the options that it takes, and those that it needs.
+// The commands: their words, the options that they take, and those that they need.
 ghost use Rattle.std.specs.Prelude.{◌≡◌};
 ghost use Rattle.command_line.specs.CommandName.{command_word, commands, needed_by, taken_by};
 

@@ -49,7 +49,7 @@ fn is_compiler(text: &[u8]) -> bool
     is_compiler_name(name) && is_version_text(digits)
 }
 
-/// The name and the version of a compiler.
+/// Splits a compiler at its last `-` into name and version.
 pub fn cut_at_last_dash(text: &[u8]) -> (&[u8], &[u8])
     ensures name { result.0.now ≡ compiler_name text.now }
     ensures digits { result.1.now ≡ compiler_digits text.now }
@@ -117,7 +117,7 @@ fn is_within(number: u64, most: u64) -> bool
     1 <= number && number <= most
 }
 
-/// The number that a text is.
+/// The number of a text; 0 for a text that isn't a number.
 pub fn number_in(text: &[u8]) -> u64
     ensures { result ≡ number_in text.now }
 {
@@ -128,7 +128,7 @@ pub fn number_in(text: &[u8]) -> u64
     }
 }
 
-// Where the last dash ends; 0 where there is none.
+// The index behind the last `-`, or 0 without one.
 fn behind_last_dash(text: &[u8]) -> usize
     ensures within { result ≤ length text.now }
     ensures place { result ≡ length text.now - suffix_len (λ b. not (b == 45)) text.now }

@@ -1,6 +1,6 @@
-//! The words of the command line. In go the words behind the program's name; out comes the command that they mean, or
-//! that they mean none. A test of its own comes first, and only words that pass it are handed to the parser of `clap`,
-//! which then gives their values and refuses for want of memory alone.
+//! Reads the words of the command line. In go the words behind the program's name; out comes the command that they
+//! mean, or that they have no reading. The test of this crate alone decides which words have one. Only these go to
+//! the parser of `clap`, which then finds the values of options and fails only out of memory.
 #![tactic(auto)]
 
 mod command_name;

@@ -19,7 +19,7 @@ pub enum OptionName {
     MinimizeConflictSet,
 }
 
-/// What stands in the word of an option.
+/// What the word of an option has.
 #[derive(Clone, Copy, Debug, PartialEq, Eq)]
 pub enum OptionKind {
     /// Its name and a value.
@@ -86,7 +86,7 @@ pub fn value_in(option: OptionName, word: &[u8]) -> &[u8]
     behind(word, prefix_of(option).len())
 }
 
-// What stands before the value.
+// The part of the word before the value.
 fn prefix_of(option: OptionName) -> &'static str
     ensures { result.now ≡ prefix_of option }
 {

@@ -1,4 +1,4 @@
-// The parser of words that have a reading.
+// The parser for words that have a reading.
 ghost use Rattle.std.specs.Prelude.{◌≡◌, true, is_some, IfOk, IfErr};
 ghost use Rattle.clap.specs.Words.{app_of, found_of, kind_of as error_kind, with_rule};
 ghost use Rattle.command_line.specs.OptionName.{kind_of};
@@ -12,8 +12,7 @@ use clap::{Arg, ArgAction, ArgMatches, Command, Error};
 use plan_types::Text;
 use std::alloc::{AllocError, Global};
 
-/// What the parser finds in words that have a reading: of each option its value, where it has one, and of a flag whether it is
-/// there.
+/// Parses words that have a reading: finds the value of each option that is given, and whether each flag is given.
 pub fn parsed<'a>(alloc: Global, words: &'a [Text]) -> Result<ArgMatches<'a>, Error>
     requires { is_some (asked words.now) ≡ true }
     ensures values { IfOk result (λ matches. Finds words.entry.now (found_of matches)) }

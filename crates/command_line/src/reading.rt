@@ -1,4 +1,4 @@
-// What words come to: a command and its options.
+// The reading of words: a command and its options.
 ghost use Rattle.std.specs.Prelude.{◌≡◌, ◌≤◌, ℕ, List, IfOk, IfErr, IsErrOf, Some, None, [], true, false, is_some, unwrap_or};
 ghost use Rattle.std.specs.Option.{option_and_then, option_copied, option_map_or};
 ghost use Rattle.std.specs.Str.{str_to_ascii_lowercase};
@@ -23,36 +23,36 @@ use std::alloc::Global;
 use thiserror::Error;
 use version_range::{limit_of, read_version};
 
-/// What a run is told besides the folder.
+/// The options of a run, besides its folder.
 #[derive(Debug, Drop)]
 pub struct Options {
     pub places: Places,
     pub env: Env,
-    /// Where the words set none, the project does.
+    /// The limit of the words, which overrides the project's.
     pub limit: Option<Limit>,
-    /// Whether an answer is printed as JSON.
+    /// Whether the output is JSON.
     pub json: bool,
-    /// Whether the search tries first what was in the most conflict sets.
+    /// Whether the search picks the variable that was in the most conflict sets.
     pub count_conflicts: bool,
-    /// Whether a conflict set is shrunk until nothing can be dropped from it.
+    /// Whether the conflict set is shrunk to a minimal one.
     pub minimize: bool,
 }
 
-/// What is to be done.
+/// A command with its options.
 #[derive(Debug, Drop)]
 pub enum Command {
     Plan(Options),
-    /// A folder of so many packages, from 1 to 2,000, is made and planned.
+    /// Makes a folder of so many packages, from 1 to 2,000, and plans it.
     Generate {
         number: u32,
         limit: Limit,
     },
-    /// The plan is printed as constraints of a project file.
+    /// Prints the plan as constraints of a project file.
     Freeze(Options),
-    /// A build of the plan, with so many slots, is told what this file of events says.
+    /// Replays a build of the plan, with so many slots, at the events of a file.
     Replay {
         options: Options,
-        /// The path of the file, with names joined by `/`.
+        /// The path of the events' file, with names joined by `/`.
         events: Text,
         /// How many nodes may run at once, from 1 to 999.
         slots: u32,
@@ -92,7 +92,7 @@ pub fn read_words(alloc: Global, words: &[Text]) -> Result<Command, WordsFault>
     }
 }
 
-// What a command means with the options of its words.
+// A command with the options of its words.
 fn meant(alloc: Global, words: &[Text], command: CommandName) -> Result<Command, NoMemory>
     requires { asked words.now ≡ Some command }
     ensures meant { IfOk result (λ found. found ≡ meant words.now command) }
@@ -123,7 +123,7 @@ fn generate_of(alloc: Global, words: &[Text]) -> Result<Command, NoMemory>
     })
 }
 
-/// The options where words give none, but with this limit.
+/// The default options, with this limit.
 pub fn default_options(alloc: Global, limit: Limit) -> Result<Options, NoMemory>
     ensures { IfOk result (λ options. options ≡ default_options limit) }
 {
@@ -165,7 +165,7 @@ fn replay_of(alloc: Global, words: &[Text]) -> Result<Command, NoMemory>
     })
 }
 
-// What the parser finds, which refuses for want of memory alone.
+// The matches of the parser, which fails only out of memory.
 fn matches_of<'a>(alloc: Global, words: &'a [Text]) -> Result<ArgMatches<'a>, NoMemory>
     requires { is_some (asked words.now) ≡ true }
     ensures { IfOk result (λ matches. Finds words.entry.now (found_of matches)) }
@@ -240,7 +240,7 @@ fn number_of(value: Option<&str>) -> u32
     }
 }
 
-// How many nodes may run at once: one where no number is given.
+// How many nodes may run at once, 1 by default.
 fn slots_of(value: Option<&str>) -> u32
     requires { option_map_or is_slot_count (option_copied value) true ≡ true }
     ensures slots { result ≡ slots_or (option_copied value.entry) }
@@ -296,7 +296,7 @@ fn env_of(
     })
 }
 
-// The name, and the version behind the last dash.
+// The name in lower case, and the version behind the last `-`.
 fn compiler_of(alloc: Global, text: &[u8]) -> Result<(Text, Version), NoMemory>
     requires { is_compiler text.now ≡ true }
     ensures name { IfOk result (λ p. p.0 ≡ str_to_ascii_lowercase (compiler_name text.now)) }

@@ -1,4 +1,4 @@
-// Which words have a reading: those that ask for a command.
+// Words have a reading if they fit a command.
 ghost use Rattle.std.specs.Prelude.{◌≡◌, ◌==◌, ◌&&◌, true, count_by, find};
 ghost use Rattle.std.specs.List.{list_any, list_all};
 ghost use Rattle.std.specs.Option.{option_copied, option_map_or};
@@ -12,7 +12,7 @@ use crate::form::has_form;
 use crate::option_name::{OptionName, gives, value_in};
 use plan_types::Text;
 
-/// The command that words ask for, where they ask for one.
+/// The command that the words fit, if any.
 pub fn asked(words: &[Text]) -> Option<CommandName>
     ensures { result ≡ asked words.now }
 {
@@ -30,7 +30,7 @@ fn asked_among(words: &[Text], commands: &[CommandName]) -> Option<CommandName>
     None
 }
 
-// The words are that of the command, and around it options that it takes, in any order; those that it needs among them.
+// The words are the command's word once and options that it takes, in any order. No needed option is missing.
 fn asks_for(words: &[Text], command: CommandName) -> bool
     ensures { result ≡ asks_for words.now command }
 {
@@ -117,7 +117,7 @@ fn are_well_given(words: &[Text]) -> bool
     options().iter().all(|option| is_well_given(*option, words))
 }
 
-// The option stands at most once, and its value has its form.
+// The option occurs at most once, and its value is well-formed.
 fn is_well_given(option: OptionName, words: &[Text]) -> bool
     ensures { result ≡ is_well_given words.now option }
 {

@@ -2,6 +2,6 @@ use Rattle.std.proofs.Common.{◌≡◌, drop, find}
 use Rattle.command_line.specs.Words.{asks_for}
 use Rattle.command_line.proofs.words.asked_among.Given as goal
 
--- none of the commands so far is asked for
+-- the words fit none of the commands so far
 abbrev pub invariant-loop-command : goal.invariant-loop-command
 invariant-loop-command l = find (asks_for l.words) l.commands ≡ find (asks_for l.words) (drop l.command-index l.commands)
