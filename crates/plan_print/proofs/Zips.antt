@@ -1,4 +1,4 @@
--- Pairs of two lists of which the second is at its end.
+-- `zip` with an empty second list.
 use Rattle.std.proofs.Common.{◌≡◌, ◌≤◌, ℕ, List, [], ◌∷◌, drop, length, zip, refl, ap, arith}
 use Rattle.std.proofs.lemmas.List.{drop_all}
 

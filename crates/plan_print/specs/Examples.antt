@@ -67,7 +67,7 @@ plan = refl
 off : choice_line index names (choice (at_top 1 Tests) 0) ≡ codes "choose main:*test off\n"
 off = refl
 
--- an instance behind the last has no text
+-- an instance out of range has no text
 no-entry : choice_line index names (choice (at_top 1 ThePackage) 1) ≡ codes "choose main \n"
 no-entry = refl
 

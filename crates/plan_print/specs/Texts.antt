@@ -1,4 +1,4 @@
--- The texts of answers, each line with its end.
+-- The texts of answers; each line ends with a line feed.
 use Rattle.std.specs.Prelude.{ℕ, ◌==◌, List, [], ◌∷◌, ◌++◌, length, flat_map, zip, codes, if◌then◌else◌}
 use Rattle.std.specs.Fmt.{decimal}
 use Rattle.plan_types.specs.declared.index.Index.{Index}
@@ -19,47 +19,47 @@ use Rattle.plan_print.specs.Choice.{choice_line, keep_line}
 abbrev pub counts_line : Counts → List ℕ
 counts_line counts = codes "visited " ++ decimal counts.visited ++ codes " exhausted " ++ decimal counts.exhausted ++ 10 ∷ []
 
--- the choices of a trail and the nodes of its plan, each in their order
+-- a plan: the notes, the choices of its trail, its nodes and the counts
 abbrev pub plan_text : Index → NameTable → List Choice → List PlanNode → Counts → List ℕ
 plan_text index names trail nodes counts =
     codes "plan" ++ 10 ∷ notes_text index ++ flat_map (choice_line index names) trail ++ flat_map node_line nodes ++ counts_line counts
 
--- a variable of a set stands behind a blank
+-- a variable of a set, behind a space
 abbrev pub named_var : NameTable → Var → List ℕ
 named_var names v = 32 ∷ var_text names v
 
--- the line of the variables of a conflict
+-- the line of a conflict set
 abbrev pub conflict_line : NameTable → List Var → List ℕ
 conflict_line names set = codes "conflict" ++ flat_map (named_var names) set ++ 10 ∷ []
 
--- the variables that can't be met together, in goal order
+-- a conflict: the notes, the conflict set and the counts
 abbrev pub conflict_text : Index → NameTable → List Var → Counts → List ℕ
 conflict_text index names set counts =
     codes "no plan" ++ 10 ∷ notes_text index ++ conflict_line names set ++ counts_line counts
 
--- the lines of a variable of a shrunk set: what is dropped, and the choices that hold then
+-- the lines of a variable of a shrunk set: the variable, and the choices that hold without it
 abbrev pub freed_lines : Index → NameTable → Var × List Choice → List ℕ
 freed_lines index names freed = codes "without" ++ named_var names freed.0 ++ 10 ∷ flat_map (keep_line index names) freed.1
 
--- a set from which nothing can be dropped, and for each of its variables what becomes possible without it
+-- a conflict with a minimal set, and for each of its variables the choices that hold without it
 abbrev pub shrunk_text : Index → NameTable → List Var → List (List Choice) → Counts → List ℕ
 shrunk_text index names set maps counts =
     codes "no plan" ++ 10 ∷ notes_text index ++ conflict_line names set ++ flat_map (freed_lines index names) (zip set maps) ++ counts_line counts
 
--- the line of how many points were exhausted when a set could not be shrunk
+-- the number of exhausted points after which shrinking stopped
 abbrev pub spent_line : ℕ → List ℕ
 spent_line spent = codes "not minimised " ++ decimal spent ++ 10 ∷ []
 
--- a set that could not be shrunk within so many exhausted points
+-- a conflict whose shrinking stopped after so many exhausted points
 abbrev pub not_shrunk_text : Index → NameTable → List Var → ℕ → Counts → List ℕ
 not_shrunk_text index names set spent counts =
     codes "no plan" ++ 10 ∷ notes_text index ++ conflict_line names set ++ spent_line spent ++ counts_line counts
 
--- the text of a search that gave up
+-- a search that reached its limit: the notes and the counts
 abbrev pub gave_up_text : Index → Counts → List ℕ
 gave_up_text index counts = codes "gave up" ++ 10 ∷ notes_text index ++ counts_line counts
 
--- what is said besides stands behind the cause, where something is
+-- the detail of a refusal behind a space, or nothing if it is empty
 abbrev pub detail_text : List ℕ → List ℕ
 detail_text detail = if length detail == 0 then [] else codes " " ++ detail
 

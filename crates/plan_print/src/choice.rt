@@ -9,7 +9,7 @@ use qualified_goals::{Names, Part};
 use std::alloc::Global;
 use version_range::print_version;
 
-// A line of a choice: a word, its variable and its value.
+// Appends the line of a choice: a word, the variable and the value.
 pub fn push_choice(
     alloc: Global,
     text: &mut Text,
@@ -29,7 +29,7 @@ pub fn push_choice(
     text.push_str("\n")
 }
 
-/// The value of a choice as it is printed.
+/// The printed value of a choice.
 pub fn value_text(alloc: Global, choice: Choice, index: &Index) -> Result<Text, NoMemory>
     ensures { IfOk result (λ text. text ≡ value_text index.now choice) }
 {

@@ -1,5 +1,6 @@
-//! The texts of answers. In go a plan, a conflict, the counts of a search or a refusal, with the index and the names that
-//! they speak of by numbers; out comes the whole text that is printed, each line with its end.
+//! The texts of answers: of a plan, a conflict, a search that reached its limit, or a refusal. In go the answer, the
+//! index and the names; out comes the whole text, in lines that each end with a line feed. It is the text that
+//! `specs` defines, byte for byte.
 #![tactic(auto)]
 
 mod cause;

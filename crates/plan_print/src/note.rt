@@ -1,4 +1,4 @@
-// The lines of what a user should know of an index.
+// The notes on an index, in lines.
 ghost use Rattle.std.specs.Prelude.{◌≡◌, ◌++◌, IfOk, OnOk, flat_map};
 ghost use Rattle.plan_print.specs.Note.{skipped_line, skipped_note, warning_line, warning_note, notes_text};
 
@@ -7,7 +7,7 @@ use crate::place::push_where;
 use plan_types::{Index, NoMemory, Skipped, Text, Warning};
 use std::alloc::Global;
 
-// What a user should know of an index: what was left out of it, then what was accepted unread.
+// Appends the notes on an index: the skipped files, then the warnings.
 pub fn push_notes(alloc: Global, text: &mut Text, index: &Index) -> Result<(), NoMemory>
     ensures { OnOk result (text.new ≡ text.old ++ notes_text index.now) }
 {
@@ -15,7 +15,7 @@ pub fn push_notes(alloc: Global, text: &mut Text, index: &Index) -> Result<(), N
     push_warning_lines(alloc, text, index.warnings.as_slice())
 }
 
-/// What is said of a file that was skipped.
+/// The note on a skipped file.
 pub fn skipped_note(alloc: Global, file: &Skipped) -> Result<Text, NoMemory>
     ensures { IfOk result (λ note. note ≡ skipped_note file.now) }
 {
@@ -24,7 +24,7 @@ pub fn skipped_note(alloc: Global, file: &Skipped) -> Result<Text, NoMemory>
     Ok(note)
 }
 
-/// What is said of something that was accepted unread.
+/// The note on something that was accepted unread.
 pub fn warning_note(alloc: Global, warning: &Warning) -> Result<Text, NoMemory>
     ensures { IfOk result (λ note. note ≡ warning_note warning.now) }
 {

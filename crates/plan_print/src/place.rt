@@ -5,7 +5,7 @@ ghost use Rattle.plan_print.specs.Place.{where_of};
 use plan_types::{NoMemory, Text};
 use std::alloc::Global;
 
-// The path, and behind it the line where there is one.
+// Appends a path, and its line unless that is 0.
 pub fn push_where(alloc: Global, text: &mut Text, path: &str, line: u32) -> Result<(), NoMemory>
     ensures { OnOk result (text.new ≡ text.old ++ where_of path.now line) }
 {

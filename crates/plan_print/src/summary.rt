@@ -1,4 +1,4 @@
-// What is printed of the plan of a folder that was made of a number.
+// The summary of a plan of a generated folder.
 ghost use Rattle.std.specs.Prelude.{◌≡◌, IfOk};
 ghost use Rattle.plan_print.specs.Summary.{summary_text};
 
@@ -7,7 +7,7 @@ use choice_problem::Counts;
 use plan_types::{NoMemory, Text};
 use std::alloc::Global;
 
-/// The number, how many choices and nodes the plan has, the counts of the search, and the digest of the plan's text.
+/// The folder's number, the numbers of choices and nodes, the counts of the search, and the digest of the plan's text.
 pub fn text_of_summary(
     alloc: Global,
     number: u32,

@@ -14,7 +14,7 @@ use plan_types::{Index, List, NoMemory, Refusal, Text};
 use qualified_goals::Names;
 use std::alloc::Global;
 
-/// A plan: what a user should know of the index, the choices and the nodes in their order, and the counts of the search.
+/// A plan: the notes on the index, the choices and nodes in their order, and the counts of the search.
 pub fn text_of_plan(
     alloc: Global,
     trail: &List<Choice>,
@@ -33,8 +33,7 @@ pub fn text_of_plan(
     Ok(text)
 }
 
-/// That there is no plan: what a user should know of the index, the variables that can't be met together in goal order,
-/// and the counts of the search.
+/// No plan: the notes on the index, the conflict set in goal order, and the counts of the search.
 pub fn text_of_conflict(
     alloc: Global,
     set: &ConflictSet,
@@ -51,8 +50,7 @@ pub fn text_of_conflict(
     Ok(text)
 }
 
-/// That there is no plan: the variables of a set from which nothing can be dropped, and for each the choices that hold within the
-/// set without it.
+/// No plan: a minimal conflict set, and for each of its variables the choices that hold within the set without it.
 pub fn text_of_shrunk(
     alloc: Global,
     set: &ConflictSet,
@@ -71,7 +69,7 @@ pub fn text_of_shrunk(
     Ok(text)
 }
 
-/// That there is no plan: the variables that can't be met together, and that so many exhausted points didn't suffice to shrink them.
+/// No plan: the conflict set, and the number of exhausted points after which its shrinking stopped.
 pub fn text_of_not_shrunk(
     alloc: Global,
     set: &ConflictSet,
@@ -90,7 +88,7 @@ pub fn text_of_not_shrunk(
     Ok(text)
 }
 
-/// That the search met its limit: what a user should know of the index, and the counts of the search.
+/// The search reached its limit: the notes on the index, and the counts of the search.
 pub fn text_of_giving_up(alloc: Global, index: &Index, counts: Counts) -> Result<Text, NoMemory>
     ensures { IfOk result (λ text. text ≡ gave_up_text index.now counts) }
 {
@@ -128,7 +126,7 @@ fn push_trail(
     Ok(())
 }
 
-// What becomes possible without each variable.
+// Appends the choices that hold without each variable of the set.
 fn push_freed(
     alloc: Global,
     text: &mut Text,
@@ -228,7 +226,7 @@ fn push_spent(alloc: Global, text: &mut Text, spent: u64) -> Result<(), NoMemory
     text.push_str(line.as_str())
 }
 
-// The line of the counts of a search.
+// Appends the line of the counts of a search.
 pub fn push_counts(alloc: Global, text: &mut Text, counts: Counts) -> Result<(), NoMemory>
     ensures { OnOk result (text.new ≡ text.old ++ counts_line counts) }
 {

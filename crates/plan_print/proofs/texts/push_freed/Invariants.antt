@@ -1,4 +1,4 @@
--- the lines so far, and those that are still to come
+-- the lines so far, and the rest
 use Rattle.std.proofs.Common.{◌≡◌, ◌++◌, drop, zip}
 use Rattle.std.specs.List.{flat_map}
 use Rattle.plan_print.specs.Texts.{freed_lines}
