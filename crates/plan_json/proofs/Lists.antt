@@ -1,4 +1,4 @@
--- What holds of a list of values where it holds of each.
+-- Facts of a list of values, from the same facts of each.
 use Rattle.std.proofs.Common.{◌≡◌, ◌≤◌, ◌+◌, ◌||◌, ℕ, true, false, max, List, [], ◌∷◌, ◌++◌, map, flat_map, refl, sym, ap, ap₂, ◌∙◌, arith, append_assoc}
 use Rattle.std.proofs.lemmas.Bool.{or_from}
 use Rattle.serde_json.specs.Data.{Data, depth, items_depth}
@@ -19,7 +19,7 @@ module _ {A : Type 0} (value : A → Data) (text : A → List ℕ) (same : (x : 
   list-text [] = refl
   list-text (x ∷ xs) = ap₂ (λ t r. 91 ∷ (t ++ r)) (same x) (rest-text xs)
 
--- ---- no fractions, and how deep it nests
+-- ---- no fractions, and the depth
 
 pub list-whole : {A : Type 0} (value : A → Data) → ((x : A) → has_float (value x) ≡ false) → (xs : List A) → has_float (list_of value xs) ≡ false
 list-whole value whole [] = refl

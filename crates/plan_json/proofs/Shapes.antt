@@ -36,7 +36,7 @@ choice-text : (index : Index) (names : NameTable) (choice : Choice) → compact_
 unfolding escape_byte
 choice-text index names choice = refl
 
--- what becomes possible without a variable, with these choices
+-- the text of a variable of a shrunk set, with this text of its choices
 abbrev freed-with : NameTable → Var → List ℕ → List ℕ
 freed-with names v keep = concat (codes "{\"keep\":" ∷ keep ∷ codes ",\"var\":" ∷ variable_json names v ∷ codes "}" ∷ [])
 
@@ -55,7 +55,7 @@ truth : (b : Bool) → compact_text (boolean b) ≡ truth_text b
 truth true = refl
 truth false = refl
 
--- a node's line with these needs, and this word for what can't be built
+-- a node's text, with these texts of its needs and of `unbuildable`
 abbrev node-with : PlanNode → List ℕ → List ℕ → List ℕ
 node-with node needs unbuildable =
     concat
@@ -76,7 +76,7 @@ node-text node = node-shape node ∙ ap₂ (node-with node) (ids-text node) (tru
 
 -- ---- the lines
 
--- the lines with these lists
+-- the lines, with these texts of their lists
 abbrev gave-up-with : Counts → List ℕ → List ℕ → List ℕ
 gave-up-with counts skipped warnings =
     concat
@@ -217,7 +217,7 @@ module _ (index : Index) where
         ∙ ap₂ (λ cs ns. plan-with counts cs ns (compact_text (list_of skipped_value index.skipped)) (compact_text (list_of warning_value index.warnings))) choices told
         ∙ ap₂ (plan-with counts (list_text (choice_json index names) trail) (list_text node_json nodes)) skipped-are warnings-are))
 
--- ---- whole numbers alone, and shallow
+-- ---- whole numbers only, and a small depth
 
 skipped-deep : (index : Index) → depth (list_of skipped_value index.skipped) ≤ 1
 skipped-deep index = list-deep skipped_value 0 (λ file. omega arith) index.skipped
@@ -241,7 +241,7 @@ module _ (index : Index) where
   warnings-whole : has_float (list_of warning_value index.warnings) ≡ false
   warnings-whole = list-whole warning_value (λ warning. refl) index.warnings
 
-  -- what stands behind the choices and nodes, or the conflict
+  -- the lists that each answer has
   end-whole : (has_float (list_of skipped_value index.skipped) || (has_float (list_of warning_value index.warnings) || false)) ≡ false
   end-whole = or_from _ _ skipped-whole (or_from _ _ warnings-whole refl)
 

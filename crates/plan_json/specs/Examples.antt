@@ -6,7 +6,7 @@ use Rattle.plan_types.specs.declared.refusal.Cause.TheVariants.{BadName}
 use Rattle.plan_nodes.specs.declared.node.NodeKind.TheVariants.{Store}
 use Rattle.plan_json.specs.Texts.{gave_up_json, list_text, node_json}
 
--- a quote, a backslash and control bytes are spelled
+-- a quote, a backslash and control bytes are escaped
 spelled : quoted (codes "a\"b\\c" ++ 10 ∷ 31 ∷ []) ≡ codes "\"a\\\"b\\\\c\\n\\u001f\""
 unfolding escape_byte
 spelled = refl
@@ -15,7 +15,7 @@ commas : list_text (λ text. quoted text) (codes "a" ∷ codes "b" ∷ []) ≡ c
 unfolding escape_byte
 commas = refl
 
--- what is needed stands in the order of its bytes, each once
+-- needed identifiers in byte order, each once
 node : node_json (record {
   kind = Store;
   name = codes "q";

@@ -1,4 +1,4 @@
--- The lines of answers as JSON. A text in quotes has a backslash before a quote and a backslash, and its control bytes spelled.
+-- The lines of answers as JSON. A quoted text has its quotes, backslashes and control bytes escaped.
 use Rattle.std.specs.Prelude.{ℕ, Bool, true, false, List, [], ◌∷◌, ◌++◌, flat_map, zip, codes}
 use Rattle.std.specs.List.{concat}
 use Rattle.std.specs.Fmt.{decimal}
@@ -16,33 +16,33 @@ use Rattle.plan_nodes.specs.Line.{all_needs, kind_word, package_text}
 use Rattle.plan_print.specs.Choice.{value_text}
 use Rattle.plan_print.specs.Note.{skipped_note, warning_note}
 
--- a text with the end of its line
+-- a text with a line feed
 abbrev pub line : List ℕ → List ℕ
 line text = text ++ 10 ∷ []
 
--- an item behind another
+-- an item behind a comma
 abbrev pub behind_comma : {A : Type 0} → (A → List ℕ) → A → List ℕ
 behind_comma text x = codes "," ++ text x
 
--- a list
+-- the text of a list
 abbrev pub list_text : {A : Type 0} → (A → List ℕ) → List A → List ℕ
 list_text text [] = codes "[]"
 list_text text (x ∷ xs) = concat (codes "[" ∷ text x ∷ flat_map (behind_comma text) xs ∷ codes "]" ∷ [])
 
--- a word for what is or isn't so
+-- the text of a Boolean
 abbrev pub truth_text : Bool → List ℕ
 truth_text true = codes "true"
 truth_text false = codes "false"
 
--- what the line of a skipped file says behind its first word
+-- the note on a skipped file, quoted
 abbrev pub skipped_json : Skipped → List ℕ
 skipped_json file = quoted (skipped_note file)
 
--- what the line of a warning says behind its first word
+-- the note of a warning, quoted
 abbrev pub warning_json : Warning → List ℕ
 warning_json warning = quoted (warning_note warning)
 
--- a variable as it is printed
+-- a printed variable, quoted
 abbrev pub variable_json : NameTable → Var → List ℕ
 variable_json names v = quoted (var_text names v)
 
@@ -66,7 +66,7 @@ node_json node =
     ∷ codes ",\"unbuildable\":" ∷ truth_text node.unbuildable
     ∷ codes "}" ∷ [])
 
--- a plan: its choices and its nodes in their order
+-- a plan: its choices and nodes in their order
 abbrev pub plan_json : Index → NameTable → List Choice → List PlanNode → Counts → List ℕ
 plan_json index names trail nodes counts =
     line
@@ -79,7 +79,7 @@ plan_json index names trail nodes counts =
     ∷ codes ",\"warnings\":" ∷ list_text warning_json index.warnings
     ∷ codes "}" ∷ []))
 
--- the variables that can't be met together, in goal order
+-- a conflict: its set
 abbrev pub conflict_json : Index → NameTable → List Var → Counts → List ℕ
 conflict_json index names set counts =
     line
@@ -91,7 +91,7 @@ conflict_json index names set counts =
     ∷ codes ",\"warnings\":" ∷ list_text warning_json index.warnings
     ∷ codes "}" ∷ []))
 
--- what becomes possible without a variable
+-- a variable of a shrunk set, and the choices that hold without it
 abbrev pub freed_json : Index → NameTable → Var × List Choice → List ℕ
 freed_json index names freed =
     concat
@@ -99,7 +99,7 @@ freed_json index names freed =
     ∷ codes ",\"var\":" ∷ variable_json names freed.0
     ∷ codes "}" ∷ [])
 
--- a set from which nothing can be dropped, and what becomes possible without each of its variables
+-- a conflict with a minimal set, and for each of its variables the choices that hold without it
 abbrev pub shrunk_json : Index → NameTable → List Var → List (List Choice) → Counts → List ℕ
 shrunk_json index names set maps counts =
     line
@@ -112,7 +112,7 @@ shrunk_json index names set maps counts =
     ∷ codes ",\"without\":" ∷ list_text (freed_json index names) (zip set maps)
     ∷ codes "}" ∷ []))
 
--- a set that could not be shrunk within so many exhausted points
+-- a conflict whose shrinking stopped after so many exhausted points
 abbrev pub not_shrunk_json : Index → NameTable → List Var → ℕ → Counts → List ℕ
 not_shrunk_json index names set spent counts =
     line
@@ -125,7 +125,7 @@ not_shrunk_json index names set spent counts =
     ∷ codes ",\"warnings\":" ∷ list_text warning_json index.warnings
     ∷ codes "}" ∷ []))
 
--- a search that gave up
+-- a search that reached its limit
 abbrev pub gave_up_json : Index → Counts → List ℕ
 gave_up_json index counts =
     line

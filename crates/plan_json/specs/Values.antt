@@ -1,4 +1,4 @@
--- Answers as values of JSON. The keys of an object stand in the order of their bytes.
+-- Answers as values of JSON. The keys of an object are in byte order.
 use Rattle.std.specs.Prelude.{ℕ, List, map, zip, codes}
 use Rattle.serde_json.specs.Data.{Data, Members, array, boolean, number, object, string, unsigned, member, no_members, put}
 use Rattle.serde_json.specs.View.{items_of}
@@ -15,32 +15,32 @@ use Rattle.plan_nodes.specs.Line.{all_needs, kind_word, package_text}
 use Rattle.plan_print.specs.Choice.{value_text}
 use Rattle.plan_print.specs.Note.{skipped_note, warning_note}
 
--- a list, each item made in the same way
+-- the array of these items' values
 abbrev pub list_of : {A : Type 0} → (A → Data) → List A → Data
 list_of value xs = array (items_of (map value xs))
 
--- what the line of a skipped file says behind its first word
+-- the note on a skipped file
 abbrev pub skipped_value : Skipped → Data
 skipped_value file = string (skipped_note file)
 
--- what the line of a warning says behind its first word
+-- the note of a warning
 abbrev pub warning_value : Warning → Data
 warning_value warning = string (warning_note warning)
 
--- a variable as it is printed
+-- a printed variable
 abbrev pub variable_value : NameTable → Var → Data
 variable_value names v = string (var_text names v)
 
--- a choice: its value and its variable, as its line says them
+-- a choice: its value and its variable, as printed
 abbrev pub choice_value : Index → NameTable → Choice → Data
 choice_value index names choice =
     object (member (codes "value") (string (value_text index choice)) (member (codes "var") (variable_value names choice.var) no_members))
 
--- the identifiers of all that a node needs
+-- the identifiers that a node needs
 abbrev pub ids_value : PlanNode → Data
 ids_value node = list_of (λ id. string id) (all_needs node)
 
--- a node, as its line tells it
+-- a node
 abbrev pub node_value : PlanNode → Data
 node_value node =
     object
@@ -51,7 +51,7 @@ node_value node =
     (member (codes "package") (string (package_text node))
     (member (codes "unbuildable") (boolean node.unbuildable) no_members))))))
 
--- an answer with what each has besides: the counts, what was skipped and warned of, and its head
+-- members with those that each answer has: the counts, the notes on the index, and the status
 abbrev pub with_end : List ℕ → Index → Counts → Members → Members
 with_end head index counts members =
     put (codes "exhausted") (number (unsigned counts.exhausted))
@@ -72,7 +72,7 @@ plan_value index names trail nodes counts =
     (member (codes "visited") (number (unsigned counts.visited))
     (member (codes "warnings") (list_of warning_value index.warnings) no_members)))))))
 
--- the variables that can't be met together, in goal order
+-- a conflict: its set
 abbrev pub conflict_value : Index → NameTable → List Var → Counts → Data
 conflict_value index names set counts =
     object
@@ -83,12 +83,12 @@ conflict_value index names set counts =
     (member (codes "visited") (number (unsigned counts.visited))
     (member (codes "warnings") (list_of warning_value index.warnings) no_members))))))
 
--- what becomes possible without a variable
+-- a variable of a shrunk set, and the choices that hold without it
 abbrev pub freed_value : Index → NameTable → Var × List Choice → Data
 freed_value index names freed =
     object (member (codes "keep") (list_of (choice_value index names) freed.1) (member (codes "var") (variable_value names freed.0) no_members))
 
--- a set from which nothing can be dropped, and what becomes possible without each of its variables
+-- a conflict with a minimal set, and for each of its variables the choices that hold without it
 abbrev pub shrunk_value : Index → NameTable → List Var → List (List Choice) → Counts → Data
 shrunk_value index names set maps counts =
     object
@@ -100,7 +100,7 @@ shrunk_value index names set maps counts =
     (member (codes "warnings") (list_of warning_value index.warnings)
     (member (codes "without") (list_of (freed_value index names) (zip set maps)) no_members)))))))
 
--- a set that could not be shrunk within so many exhausted points
+-- a conflict whose shrinking stopped after so many exhausted points
 abbrev pub not_shrunk_value : Index → NameTable → List Var → ℕ → Counts → Data
 not_shrunk_value index names set spent counts =
     object
@@ -112,7 +112,7 @@ not_shrunk_value index names set spent counts =
     (member (codes "visited") (number (unsigned counts.visited))
     (member (codes "warnings") (list_of warning_value index.warnings) no_members)))))))
 
--- a search that gave up
+-- a search that reached its limit
 abbrev pub gave_up_value : Index → Counts → Data
 gave_up_value index counts =
     object

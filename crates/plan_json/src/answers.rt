@@ -14,7 +14,7 @@ use qualified_goals::Names;
 use serde_json::{Map, Value, put};
 use std::alloc::Global;
 
-/// A plan: its choices and its nodes in their order, what a user should know of the index, and the counts of the search.
+/// A plan: its choices and nodes in their order, the notes on the index, and the counts of the search.
 pub fn json_of_plan(
     alloc: Global,
     trail: &List<Choice>,
@@ -30,8 +30,7 @@ pub fn json_of_plan(
     line_of(alloc, &value)
 }
 
-/// That there is no plan: the variables that can't be met together in goal order, what a user should know of the index, and
-/// the counts of the search.
+/// No plan: the conflict set in goal order, the notes on the index, and the counts of the search.
 pub fn json_of_conflict(
     alloc: Global,
     set: &ConflictSet,
@@ -46,8 +45,7 @@ pub fn json_of_conflict(
     line_of(alloc, &value)
 }
 
-/// That there is no plan: the variables of a set from which nothing can be dropped, and for each the choices that hold within the
-/// set without it.
+/// No plan: a minimal conflict set, and for each of its variables the choices that hold within the set without it.
 pub fn json_of_shrunk(
     alloc: Global,
     set: &ConflictSet,
@@ -63,7 +61,7 @@ pub fn json_of_shrunk(
     line_of(alloc, &value)
 }
 
-/// That there is no plan: the variables that can't be met together, and that so many exhausted points didn't suffice to shrink them.
+/// No plan: the conflict set, and the number of exhausted points after which its shrinking stopped.
 pub fn json_of_not_shrunk(
     alloc: Global,
     set: &ConflictSet,
@@ -79,7 +77,7 @@ pub fn json_of_not_shrunk(
     line_of(alloc, &value)
 }
 
-/// That the search met its limit: what a user should know of the index, and the counts of the search.
+/// The search reached its limit: the notes on the index, and the counts of the search.
 pub fn json_of_giving_up(alloc: Global, index: &Index, counts: Counts) -> Result<Text, NoMemory>
     ensures text { IfOk result (λ text. text ≡ gave_up_json index.now counts) }
     ensures reads { IfOk result (ReadsAs (gave_up_value index.now counts)) }
@@ -168,7 +166,7 @@ fn gave_up_value(alloc: Global, index: &Index, counts: Counts) -> Result<Value, 
     Ok(Value::from(members))
 }
 
-// What each answer has: its head, what a user should know of the index, and the counts of the search.
+// Adds the members that each answer has: its status, the notes on the index, and the counts of the search.
 fn put_end(
     members: &mut Map<String, Value>,
     alloc: Global,

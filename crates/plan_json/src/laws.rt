@@ -1,4 +1,4 @@
-// The lines are compact texts of values, so that they read back.
+// Lines are compact texts of values, so they read back.
 ghost use Rattle.std.specs.Prelude.{◌≡◌, ℕ, List};
 ghost use Rattle.plan_types.specs.declared.index.Index.{Index as TheIndex};
 ghost use Rattle.qualified_goals.specs.declared.variable.Var.{Var as TheVar};
@@ -10,7 +10,7 @@ ghost use Rattle.serde_json.specs.Written.{compact_text};
 ghost use Rattle.plan_json.specs.Texts.{conflict_json, gave_up_json, line, not_shrunk_json, plan_json, shrunk_json};
 ghost use Rattle.plan_json.specs.Values.{conflict_value, gave_up_value, not_shrunk_value, plan_value, shrunk_value};
 
-/// Each line is the text without blanks of a value with exactly these keys and values, and the end of the line.
+/// Each line is the compact text of the answer's value, with a line feed. A compact text has no blanks.
 pub fn compact_texts()
     ensures plan { (index : TheIndex) (names : NameTable) (trail : List TheChoice) (nodes : List Node) (counts : TheCounts)
         → plan_json index names trail nodes counts ≡ line (compact_text (plan_value index names trail nodes counts)) }

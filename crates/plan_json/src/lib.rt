@@ -1,6 +1,5 @@
-//! Answers as JSON. In go a plan, a conflict or the counts of a search, with the index and the names that they speak of by
-//! numbers; out comes a line with one object, its keys in the order of their bytes, that reads back as what the lines of the
-//! answer say.
+//! Answers as JSON. In go a plan, a conflict or the counts of a search, with the index and the names; out comes a line
+//! with one object. Its keys are in byte order. The line reads back as the value that `specs` defines for the answer.
 #![tactic(auto)]
 
 mod answers;

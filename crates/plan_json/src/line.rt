@@ -9,7 +9,7 @@ use plan_types::{NoMemory, Text};
 use serde_json::Value;
 use std::alloc::Global;
 
-/// The text of a value without a blank, and the end of its line.
+/// The compact text of a value, without blanks, and a line feed.
 pub fn line_of(alloc: Global, value: &Value) -> Result<Text, NoMemory>
     requires { IsPlain (view value.now) }
     ensures text { IfOk result (λ text. text ≡ line (compact_text (view value.now))) }

@@ -1,4 +1,4 @@
-// The lists of an answer: choices, nodes, and what stands in their lines besides.
+// The lists of an answer: choices, nodes, variables and notes.
 ghost use Rattle.std.specs.Prelude.{◌≡◌, ◌∷◌, ◌++◌, [], IfOk, OnOk, map, fold, zip};
 ghost use Rattle.std.specs.BTreeSet.{insert_key};
 ghost use Rattle.std.specs.Cmp.Lexicographic.{slice_cmp};
@@ -46,7 +46,7 @@ pub fn node_list(alloc: Global, nodes: &[PlanNode]) -> Result<Value, NoMemory>
     Ok(Value::from(items))
 }
 
-/// The variables of a conflict in their order.
+/// The variables of a conflict set in their order.
 pub fn variable_list(alloc: Global, vars: &[Var], names: &Names) -> Result<Value, NoMemory>
     ensures { IfOk result (λ value. view value ≡ list_of (variable_value names.now) vars.now) }
 {
@@ -58,7 +58,7 @@ pub fn variable_list(alloc: Global, vars: &[Var], names: &Names) -> Result<Value
     Ok(Value::from(items))
 }
 
-/// What becomes possible without each variable of a set.
+/// The choices that hold without each variable of a set.
 pub fn freed_list(
     alloc: Global,
     set: &[Var],
@@ -81,7 +81,7 @@ pub fn freed_list(
     Ok(Value::from(items))
 }
 
-/// What is said of the files that were skipped.
+/// The notes on skipped files.
 pub fn skipped_list(alloc: Global, skipped: &[Skipped]) -> Result<Value, NoMemory>
     ensures { IfOk result (λ value. view value ≡ list_of skipped_value skipped.now) }
 {
@@ -93,7 +93,7 @@ pub fn skipped_list(alloc: Global, skipped: &[Skipped]) -> Result<Value, NoMemor
     Ok(Value::from(items))
 }
 
-/// What is said of what was accepted unread.
+/// The notes on what was accepted unread.
 pub fn warning_list(alloc: Global, warnings: &[Warning]) -> Result<Value, NoMemory>
     ensures { IfOk result (λ value. view value ≡ list_of warning_value warnings.now) }
 {

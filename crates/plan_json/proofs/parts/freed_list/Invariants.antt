@@ -1,4 +1,4 @@
--- the items so far, and those that are still to come
+-- the items so far, and the rest
 use Rattle.std.proofs.Common.{◌≡◌, ◌++◌, drop, map, zip}
 use Rattle.serde_json.specs.View.{view}
 use Rattle.plan_json.specs.Values.{freed_value}

@@ -1,4 +1,4 @@
--- the items so far, and those of the identifiers behind
+-- the items so far, and those of the other identifiers
 use Rattle.std.proofs.Common.{◌≡◌, ◌++◌, map}
 use Rattle.serde_json.specs.Data.{string}
 use Rattle.serde_json.specs.View.{view}
