@@ -1,4 +1,4 @@
--- Lists of numbers with one more, and what is drawn for the versions of a package.
+-- Steps of the lists of packages and versions, and of the numbers of draws.
 use Rattle.std.proofs.Common.{◌≡◌, ℕ, zero, suc, ◌+◌, ◌-◌, ◌*◌, ◌<◌, ◌≤◌, Bool, true, false, [], ◌∷◌, ◌++◌, take, refl, ap, ◌∙◌, arith}
 use Rattle.std.specs.Prelude.{nat_lt, if◌then◌else◌}
 use Rattle.std.specs.List.{range_with_len}
@@ -8,11 +8,11 @@ range-more : (a k j : ℕ) → a + k ≡ j → range_with_len a (suc k) ≡ rang
 range-more a zero j e = let same : a ≡ j = omega (arith, e) in ap (λ n. n ∷ []) same
 range-more a (suc k) j e = ap (λ l. a ∷ l) (range-more (a + 1) k j (omega (arith, e)))
 
--- one number more
+-- one more package
 pub counted : (n : ℕ) → 1 ≤ n → range_with_len 1 (n + 1 - 1) ≡ range_with_len 1 (n - 1) ++ n ∷ []
 counted n some = let count : n + 1 - 1 ≡ suc (n - 1) = omega (arith, some) in ap (range_with_len 1) count ∙ range-more 1 (n - 1) n (omega (arith, some))
 
--- one version more
+-- one more version
 pub versions : (v : ℕ) → 1 ≤ v → v < 4 → take (v + 1 - 1) (1 ∷ 2 ∷ 3 ∷ []) ≡ take (v - 1) (1 ∷ 2 ∷ 3 ∷ []) ++ v ∷ []
 versions zero some few = absurd (omega (arith, some))
 versions (suc zero) some few = refl

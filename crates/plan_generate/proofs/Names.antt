@@ -1,4 +1,4 @@
--- A package's name has six bytes, none of which divides a path, and tells it from others.
+-- A package's name has six bytes and no `/`, and `name` is injective.
 use Rattle.std.proofs.Common.{◌≡◌, ℕ, zero, suc, ◌-◌, ◌<◌, ◌≤◌, false, List, [], ◌∷◌, ◌++◌, length, get_or, refl, ap, ◌∙◌, length-append, append-nil, ◌^◌, arith}
 use Rattle.std.specs.Prelude.{replicate, codes, All, ◌==◌}
 use Rattle.std.specs.Fmt.{char_count, decimal, format_spec, padded_integral, styled_decimal}
@@ -11,7 +11,7 @@ use Rattle.std.proofs.lemmas.Grind.{common_steps}
 use Rattle.common_laws.specs.Small.{tail_same}
 use Rattle.plan_generate.specs.Text.{name}
 
--- not the byte between the names of a path
+-- a byte that isn't `/`
 abbrev pub IsInside : ℕ → Type 0
 IsInside b = (b == 47) ≡ false
 
@@ -35,7 +35,7 @@ module _ (number : ℕ) (few : number ≤ 2000) where
       (All-replicate IsInside (5 - length (decimal number)) 48 refl)
       (digits-inside (decimal number) ((decimal_is_IsNumeral number (omega arith)).0.1)))
 
--- zeros in front of digits of which the first is none
+-- digits behind zeros are determined if their first one isn't zero
 same-digits : (m n : ℕ) (ds es : List ℕ) → 48 < get_or ds 0 0 → 48 < get_or es 0 0 → replicate m 48 ++ ds ≡ replicate n 48 ++ es → ds ≡ es
 same-digits zero zero ds es h k e = e
 same-digits zero (suc n) ds es h k e = let first = ap (λ l. get_or l 0 0) e in absurd (omega (arith, first, h))
@@ -48,7 +48,7 @@ name-tells p q p-some p-few q-some q-few e =
     (same-digits (5 - length (decimal p)) (5 - length (decimal q)) (decimal p) (decimal q)
     (first_decimal p p-some (omega arith)) (first_decimal q q-some (omega arith)) (tail_same e))
 
--- how a number with five digits is written
+-- the format of a number in five digits
 pub five-digits : (n : ℕ) → styled_decimal (format_spec 32 0 4 5 (2 ^ 64 - 1)) n ≡ replicate (5 - length (decimal n)) 48 ++ decimal n
 unfolding padded_integral char_count
 five-digits n =

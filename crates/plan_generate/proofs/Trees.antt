@@ -1,4 +1,4 @@
--- The files that are made stand in one folder.
+-- The generated files are a tree: their paths are well-formed, and no two clash.
 use Rattle.std.proofs.Common.{◌≡◌, ℕ, zero, suc, ◌+◌, ◌<◌, ◌≤◌, Bool, true, false, not, ◌&&◌, ◌||◌, List, [], ◌∷◌, ◌++◌, length, take, drop, get_or, refl, sym, ap, ◌∙◌, length-append, append_assoc, arith}
 use Rattle.std.specs.Prelude.{All, codes, flat_map, ◌==◌}
 use Rattle.std.specs.List.{list_all, list_any, range_with_len, slice_split}
@@ -17,12 +17,12 @@ use Rattle.plan_generate.specs.Text.{name, version_path}
 use Rattle.plan_generate.specs.Generated.{generated, main_file, package_files, version_file}
 use Rattle.plan_generate.proofs.Names.{IsInside, digits-inside, name-inside, name-length, name-tells}
 
--- a text without a slash
+-- a text without a `/`
 inside-all : (bs : List ℕ) → list_all (λ b. not (b == 47)) bs ≡ true → All IsInside bs
 inside-all [] h = All-nil IsInside
 inside-all (b ∷ bs) h = let both = and_parts (not (b == 47)) (list_all (λ b. not (b == 47)) bs) h in All-cons IsInside b bs (not-true (b == 47) both.0) (inside-all bs both.1)
 
--- what follows a package's name in its path, and what follows the version there
+-- the parts of a path behind the version, and behind the package's name
 abbrev behind_version : ℕ → List ℕ
 behind_version number = codes "/" ++ (name number ++ codes ".cabal")
 
@@ -74,7 +74,7 @@ module _ (number version : ℕ) (few : number ≤ 2000) (digit : version < 10) w
       let third = length-append (name number) (codes ".cabal") in
       omega (arith, ap length (grouped number version), of_name, of_digit, first, second, third)
 
--- the paths of two versions are alike where package and version are
+-- `version_path` is injective
 paths-tell : (p q v w : ℕ) → 0 < p → p ≤ 2000 → 0 < q → q ≤ 2000 → v < 10 → w < 10 → version_path p v ≡ version_path q w → (p ≡ q) × (v ≡ w)
 paths-tell p q v w p-some p-few q-some q-few v-digit w-digit e = (
   name-tells p q p-some p-few q-some q-few
@@ -96,7 +96,7 @@ paths-tell p q v w p-some p-few q-some q-few v-digit w-digit e = (
         sym (ap (λ d. get_or (d ++ behind_version p) 0 0) (decimal_digit v v-digit)) ∙ ap (λ l. get_or l 0 0) (tail_same behind)
         ∙ ap (λ d. get_or (d ++ behind_version q) 0 0) (decimal_digit w w-digit)
 
--- two paths of one length
+-- different paths of the same length don't clash
 apart : (one other : Bytes) → length one ≡ length other → (one ≡ other → ⊥) → clashes one other ≡ false
 apart one other same differ =
     or_from (same_text one other || is_under one other) (is_under other one)
@@ -111,7 +111,7 @@ versions-apart p q v w p-some p-few q-some q-few v-digit w-digit differ =
     apart (version_path p v) (version_path q w) (path-length p v p-few v-digit ∙ sym (path-length q w q-few w-digit))
     (λ e. let both = paths-tell p q v w p-some p-few q-some q-few v-digit w-digit e in differ both.0 both.1)
 
--- one file more
+-- one more file
 tree-more : (file : Bytes × Bytes) (files : Files) → is_path file.0 ≡ true → list_any (λ other. clashes file.0 other.0) files ≡ false → is_tree files ≡ true
     → is_tree (file ∷ files) ≡ true
 tree-more file files path none tree =
@@ -119,7 +119,7 @@ tree-more file files path none tree =
     and_from (is_path file.0 && free) (is_tree files) (and_from (is_path file.0) free path (ap not none)) tree
 
 module _ (count : ℕ) where
-  -- the versions of so many packages from one on, and the local package
+  -- the files of so many packages, from this number on, and of the local package
   abbrev from : ℕ → ℕ → Files
   from number many = flat_map (package_files count) (range_with_len number many) ++ main_file count ∷ []
 

@@ -1,4 +1,4 @@
--- Small examples of what is made.
+-- Small examples of generated files.
 use Rattle.std.specs.Prelude.{◌≡◌, refl, [], ◌∷◌, ◌++◌, codes, length}
 use Rattle.std.specs.Fmt.{digits}
 use Rattle.plan_generate.specs.Draws.{needs_of}
@@ -13,7 +13,7 @@ a_path : version_path 7 3 ≡ codes "index/g00007/3/g00007.cabal"
 unfolding digits
 a_path = refl
 
--- the first package depends on none, and the second on the first
+-- the first package depends on none, and the second one on the first
 the_first : needs_of 2 1 3 ≡ []
 the_first = refl
 

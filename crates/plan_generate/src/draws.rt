@@ -1,11 +1,11 @@
-// Numbers that are drawn, each from the one before it, and the packages that they stand for.
+// Pseudo-random draws, each from the previous one, and the packages that they pick.
 ghost use Rattle.std.specs.Prelude.{◌≡◌, ◌<◌, ◌^◌, IfOk};
 ghost use Rattle.plan_generate.specs.Draws.{after_draws, draws_each, drawn, needed, needs_after};
 
 use plan_types::{List, NoMemory};
 use std::alloc::Global;
 
-/// The number that was drawn last.
+/// The last draw; at first the seed.
 #[derive(Drop)]
 pub struct Draws {
     last: u64,
@@ -29,7 +29,7 @@ impl Draws {
         self.last
     }
 
-    /// Two packages before this one, or one that was drawn twice; none for the first, and nothing is drawn.
+    /// Draws two earlier packages, or one if the draws are equal. Draws nothing for the first package, which has none.
     pub fn draw_needs(&mut self, alloc: Global, number: u64) -> Result<List<u64>, NoMemory>
         ensures needs { IfOk result (λ needs. needs ≡ needs_after self.old.last number) }
         ensures last { self.new.last ≡ after_draws self.old.last (draws_each number) }

@@ -1,4 +1,4 @@
-// The folder that is made.
+// The generated folder.
 ghost use Rattle.std.specs.Prelude.{◌≡◌, ◌≤◌, ◌+◌, ℕ, [], ◌++◌, IfOk, OnOk};
 ghost use Rattle.outside_folder.specs.MemFile.{told};
 ghost use Rattle.outside_folder.specs.MemFolder.{mem_fail_at, mem_files};
@@ -38,7 +38,7 @@ fn files_of(alloc: Global, count: u64) -> Result<List<MemFile>, NoMemory>
     Ok(files)
 }
 
-// Adds the versions of a package.
+// Appends the versions of a package.
 fn push_package(
     alloc: Global,
     files: &mut List<MemFile>,

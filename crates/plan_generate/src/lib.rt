@@ -1,5 +1,6 @@
-//! A folder that is made of a number: so many packages in three versions, each of which depends on two earlier ones, and a local
-//! package that depends on all. Whoever times a search of some size says that number, and the folder is the same everywhere.
+//! Makes a folder in memory for timing the planner. In goes a number of packages; out comes the folder, or that memory
+//! was lacking. Each package has three versions, which depend on at most two earlier packages. A local package depends
+//! on all. The number alone determines the files, and no call on the folder fails.
 #![tactic(auto)]
 
 mod draws;

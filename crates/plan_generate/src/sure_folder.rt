@@ -1,4 +1,4 @@
-// A folder in memory of which no call fails.
+// A folder in memory on which no call fails.
 ghost use Rattle.std.specs.Prelude.{◌≡◌, [], Some};
 ghost use Rattle.outside_folder.specs.MemFolder.{mem_fail_at};
 
@@ -6,7 +6,7 @@ use outside_folder::{Folder, FolderFault, MemFolder, Name};
 use plan_types::List;
 use std::alloc::Global;
 
-/// A folder in memory of which no call fails, so that its count of faults stays 0.
+/// A folder in memory on which no call fails, so its count of faults stays 0.
 #[derive(Drop)]
 pub struct SureFolder {
     folder: MemFolder,

@@ -1,4 +1,4 @@
-// The texts of the files.
+// The texts of the generated files.
 ghost use Rattle.std.specs.Prelude.{◌≡◌, ◌++◌, IfOk, OnOk, flat_map};
 ghost use Rattle.plan_generate.specs.Text.{depends_line, flag_of, name, name_behind, plain_text, version_path, version_text};
 
@@ -7,7 +7,7 @@ use std::alloc::Global;
 
 const FLAG: &str = "  if flag(f)\n    build-depends: missing\nflag f\n  default: True\n";
 
-/// The path of the file of a version.
+/// The path of a version's file.
 pub fn version_path(alloc: Global, number: u64, version: u64) -> Result<Text, NoMemory>
     ensures { IfOk result (λ path. path ≡ version_path number version) }
 {
@@ -20,7 +20,7 @@ pub fn version_path(alloc: Global, number: u64, version: u64) -> Result<Text, No
     Ok(path)
 }
 
-/// The file of a version, which depends on these packages.
+/// The file of a version that depends on these packages.
 pub fn version_text(
     alloc: Global,
     number: u64,
@@ -36,7 +36,7 @@ pub fn version_text(
     Ok(text)
 }
 
-/// The file of a package with a library that depends on these.
+/// The file of a package whose library depends on these packages.
 pub fn plain_text(alloc: Global, name: &str, version: u64, needs: &[u64]) -> Result<Text, NoMemory>
     ensures { IfOk result (λ text. text ≡ plain_text name.now version needs.now) }
 {

@@ -1,4 +1,4 @@
--- the packages so far, and what was drawn for them
+-- the packages so far, and their draws
 use Rattle.std.proofs.Common.{◌≡◌, ◌-◌, ◌≤◌}
 use Rattle.std.specs.Prelude.{flat_map}
 use Rattle.std.specs.List.{range_with_len}

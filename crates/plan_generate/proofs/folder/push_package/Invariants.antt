@@ -1,4 +1,4 @@
--- the versions so far, and what was drawn for them
+-- the versions so far, and their draws
 use Rattle.std.proofs.Common.{◌≡◌, ℕ, ◌-◌, ◌≤◌, ◌++◌, []}
 use Rattle.std.specs.Prelude.{map, take, ◌∷◌}
 use Rattle.outside_folder.specs.MemFile.{told}
