@@ -1,6 +1,6 @@
-//! Makes a folder in memory for timing the planner. In goes a number of packages; out comes the folder, or that memory
-//! was lacking. Each package has three versions, which depend on at most two earlier packages. A local package depends
-//! on all. The number alone determines the files, and no call on the folder fails.
+//! Makes a folder in memory, for timing the planner. In goes a number of packages, from 1 to 2,000; out comes the
+//! folder. Each package has three versions, which depend on at most two earlier packages. A local package depends on
+//! all. The number alone determines the files, and no call on the folder fails.
 #![tactic(auto)]
 
 mod draws;
