@@ -1,4 +1,4 @@
--- Constraints whose text is read as they are.
+-- Constraints whose text is read back as they are.
 use Rattle.std.specs.Prelude.{◌≡◌, ℕ, Bool, true, false, not, ◌&&◌, ◌||◌, List, [], ◌∷◌, codes, Ok}
 use Rattle.std.specs.List.{list_all}
 use Rattle.plan_types.specs.declared.condition.Env.{Env}
@@ -17,44 +17,44 @@ use Rattle.version_range.specs.Version.{is_version}
 use Rattle.project_file.specs.Project.{project_from}
 use Rattle.project_file.specs.Read.{IsProject}
 
--- `-any` and `-none` are ranges where they stand alone
+-- whether a flag alone reads as a range: `-any` or `-none`
 abbrev pub is_range_word : FlagSet → Bool
 is_range_word set = not set.on && (same_text set.name (codes "any") || same_text set.name (codes "none"))
 
--- whether these are flags where they stand behind a name
+-- whether these read as flags behind a name
 abbrev pub are_flags : List FlagSet → Bool
 are_flags [] = false
 are_flags (set ∷ []) = not (is_range_word set)
 are_flags (set ∷ next ∷ sets) = true
 
--- a flag as it is read
+-- whether a flag's name is well-formed and in lower case
 abbrev pub is_plain_flag : FlagSet → Bool
 is_plain_flag set = is_flag_name set.name && is_lower set.name
 
--- the package of a scope has the form of a name
+-- whether the package of a scope has a well-formed name
 abbrev pub is_plain_scope : Scope → Bool
 is_plain_scope Top = true
 is_plain_scope Any = true
 is_plain_scope Setup = true
 is_plain_scope (SetupOf owner) = is_package_name owner
 
--- a version, installed or not, or flags that aren't read as a range
+-- a version, `installed`, `source`, or flags that don't read as a range
 pub data IsPlain : What → Type 0 where
   version : (v : Version) → is_version v.parts ≡ true → IsPlain (what.Range (Equal v))
   installed : IsPlain what.Installed
   source : IsPlain what.Source
   flags : (sets : List FlagSet) → are_flags sets ≡ true → list_all is_plain_flag sets ≡ true → IsPlain (what.Flags sets)
 
--- a constraint of such a form
+-- a constraint with well-formed names, of such a form
 pub record IsPlainConstraint (c : Constraint) : Type 0 where
   pub scope : is_plain_scope c.scope ≡ true
   pub name : is_package_name c.«package» ≡ true
   pub what : IsPlain c.what
 
--- a project that gives constraints and nothing else
+-- a project with these constraints and nothing else
 abbrev pub project_with : List Constraint → Project
 project_with constraints = record (project_from []) { constraints = constraints }
 
--- as a project file, wherever it lies, a text gives these constraints and nothing else
+-- a text, as the project file of any path, is read as exactly these constraints
 abbrev pub IsReadAs : List ℕ → List Constraint → Type 0
 IsReadAs text constraints = (env : Env) (path : List ℕ) → IsProject env (record { path = path; bytes = text } ∷ []) (Ok (project_with constraints))

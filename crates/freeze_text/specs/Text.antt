@@ -19,7 +19,7 @@ scope_text (SetupOf owner) = owner ++ codes ":setup."
 abbrev pub flag_text : FlagSet → List ℕ
 flag_text set = (if set.on then codes " +" else codes " -") ++ set.name
 
--- what is asked, behind a space
+-- what a constraint asks for, behind a space
 abbrev pub what_text : What → List ℕ
 what_text (Range range) = codes " " ++ range_text range
 what_text Installed = codes " installed"
@@ -28,7 +28,7 @@ what_text (Flags sets) = flat_map flag_text sets
 what_text Tests = codes " test"
 what_text Benches = codes " bench"
 
--- the scope, the package and what is asked of it
+-- a constraint: its scope, its package, and what it asks for
 abbrev pub constraint_text : Constraint → List ℕ
 constraint_text c = scope_text c.scope ++ (c.«package» ++ what_text c.what)
 
@@ -40,12 +40,12 @@ end_text last = if last then codes "\n" else codes ",\n"
 abbrev pub line_text : Constraint → Bool → List ℕ
 line_text c last = codes "    " ++ (constraint_text c ++ end_text last)
 
--- one a line, with a comma behind each but the last
+-- constraints, one a line, with a comma behind each but the last
 abbrev pub lines_text : List Constraint → List ℕ
 lines_text [] = []
 lines_text (c ∷ constraints) = line_text c (length constraints == 0) ++ lines_text constraints
 
--- a project file that gives constraints, which is empty where there are none
+-- a project file with these constraints, empty if there are none
 abbrev pub freeze_text : List Constraint → List ℕ
 freeze_text [] = []
 freeze_text (c ∷ constraints) = codes "constraints:\n" ++ lines_text (c ∷ constraints)

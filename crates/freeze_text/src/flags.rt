@@ -4,7 +4,7 @@ ghost use Rattle.freeze_text.specs.Reads.{are_flags, is_range_word};
 
 use plan_types::FlagSet;
 
-/// Whether these are flags where they stand behind a name: there are some, and they aren't read as a range.
+/// Whether these read as flags behind a name: there is at least one, and they don't read as a range.
 pub fn are_flags(sets: &[FlagSet]) -> bool
     ensures { result ≡ are_flags sets.now }
 {

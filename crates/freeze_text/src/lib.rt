@@ -1,5 +1,5 @@
-//! Constraints as a project file. In go the constraints of a project; out comes their text, a line each, which is read as these
-//! constraints and nothing else.
+//! Constraints as a project file. In go the constraints of a project; out comes their text, one constraint a line.
+//! The text of plain constraints is read back as exactly these constraints.
 #![tactic(auto)]
 
 mod flags;

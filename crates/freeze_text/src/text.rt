@@ -10,7 +10,7 @@ use plan_types::{Constraint, FlagSet, NoMemory, Project, Range, Scope, Text, Wha
 use std::alloc::Global;
 use version_range::print_range;
 
-/// The constraints of a project as a project file: one a line, with commas between. It is empty where there are none.
+/// The constraints of a project as a project file: one a line, with commas between; empty without constraints.
 pub fn text_of_freeze(alloc: Global, project: &Project) -> Result<Text, NoMemory>
     ensures text { IfOk result (λ text. text ≡ freeze_text project.now.constraints) }
     ensures reads { IfOk result (λ text. AllByRecursion IsPlainConstraint project.now.constraints
