@@ -1,4 +1,4 @@
--- What further constraints bar.
+-- Choices that constraints bar.
 use Rattle.std.specs.Prelude.{◌≡◌, Bool, false, not, ◌&&◌, List, ◌++◌, Contains}
 use Rattle.std.specs.List.{list_any}
 use Rattle.plan_types.specs.declared.constraint.Constraint.{Constraint}
@@ -13,11 +13,11 @@ use Rattle.constraint_set.specs.Bars.{asks, excludes, is_met}
 use Rattle.cabal_problem.specs.Variables.{is_on}
 use Rattle.frozen_choices.specs.Frozen.{entry_of}
 
--- whether a constraint in scope excludes an instance that a choice takes
+-- whether a constraint in scope excludes the instance of a choice
 abbrev pub excludes_choice : List Package → NameTable → List Constraint → Choice → Bool
 excludes_choice packages names constraints c = list_any (λ k. is_met names k c.var && excludes k.what (entry_of packages c).instance) constraints
 
--- whether one asks for the other value of a part
+-- whether a constraint in scope asks for the other value of a flag or stanza
 abbrev pub asks_for_other : NameTable → List Constraint → Choice → Bool
 asks_for_other names constraints c = list_any (λ k. is_met names k c.var && asks names k.what c.var.part (not (is_on c.val))) constraints
 
@@ -28,14 +28,14 @@ bars_choice packages names constraints c (Flag f) = asks_for_other names constra
 bars_choice packages names constraints c Tests = asks_for_other names constraints c
 bars_choice packages names constraints c Benches = asks_for_other names constraints c
 
--- they bar no choice of a trail
+-- constraints bar no choice of a trail
 abbrev pub BarsNone : List Package → NameTable → List Constraint → List Choice → Type 0
 BarsNone packages names constraints trail = (c : Choice) → Contains trail c → bars_choice packages names constraints c c.var.part ≡ false
 
--- a project with further constraints
+-- a project with more constraints
 abbrev pub with_constraints : List Constraint → Project → Project
 with_constraints constraints project = record project { constraints = project.constraints ++ constraints }
 
--- settings with further constraints
+-- settings with more constraints
 abbrev pub settings_with : List Constraint → Settings → Settings
 settings_with constraints settings = record settings { project = with_constraints constraints settings.project }

@@ -23,7 +23,7 @@ use Rattle.qualified_goals.specs.Names.{NameTable}
 use Rattle.choice_problem.specs.declared.problem.Choice.{Choice}
 use Rattle.frozen_choices.specs.Frozen.{asked, flags_asked, frozen}
 
--- ---- a local package `main` without flags, and `dep`, which is there as source 1 with a flag and a manual one, and as unit 2
+-- ---- a local package `main` without flags, and `dep`: source 1 with an automatic and a manual flag, and unit 2
 
 abbrev version : ℕ → Version
 version n = record { parts = n ∷ [] }
@@ -79,7 +79,7 @@ of_dep at wanted = asked at (codes "dep") wanted
 
 -- ---- the constraints
 
--- one instance at top level and in the setup of `main`: everywhere, with all its flags
+-- the same instance at top level and in the setup of `main`: everywhere, with all its flags
 alike_everywhere : frozen (main ∷ dep ∷ []) names (choice Top 0 ThePackage 0 ∷ choice Top 1 ThePackage 0 ∷ choice Top 1 (Flag 0) 1 ∷ choice Top 1 (Flag 1) 0 ∷ source (Setup 0) 1 0)
     ≡ of_dep Any (what.Range (Equal (version 1))) ∷ of_dep Any what.Source ∷ of_dep Any (what.Flags (set_to true (codes "fast") ∷ set_to false (codes "safe") ∷ [])) ∷ []
 alike_everywhere = refl
@@ -90,7 +90,7 @@ apart : frozen (main ∷ dep ∷ []) names (choice Top 0 ThePackage 0 ∷ choice
     ∷ of_dep (SetupOf (codes "main")) what.Source ∷ of_dep (SetupOf (codes "main")) (what.Flags (set_to true (codes "fast") ∷ [])) ∷ []
 apart = refl
 
--- a local package has its flags alone
+-- a local package: only its flags
 local_flags : frozen (record main { entries = entry true (described (codes "main") (flag true (codes "safe") ∷ [])) ∷ [] } ∷ []) names
     (choice Top 0 ThePackage 0 ∷ choice Top 0 (Flag 1) 1 ∷ [])
     ≡ asked Any (codes "main") (what.Flags (set_to true (codes "safe") ∷ [])) ∷ []

@@ -1,4 +1,4 @@
-// What holds of the constraints of a trail.
+// Laws of the constraints of a trail.
 ghost use Rattle.std.specs.Prelude.{◌≡◌, ℕ, List};
 ghost use Rattle.std.specs.List.{AllByRecursion};
 ghost use Rattle.plan_types.specs.declared.condition.Env.{Env};
@@ -15,7 +15,7 @@ ghost use Rattle.frozen_choices.specs.Barred.{BarsNone};
 ghost use Rattle.frozen_choices.specs.Frozen.{frozen};
 ghost use Rattle.frozen_choices.specs.Plain.{AreInDomains};
 
-/// None of the constraints of a trail that is as a map whole and valid bars a choice of it.
+/// If a trail is a complete, valid assignment, its constraints bar no choice of it.
 pub fn frozen_bars_none()
     ensures { (env : Env) (index : Index) (project : Project) (names : NameTable) (orders : List (List ℕ)) (trail : List Choice)
         → IsSound env index → AreNumbers index.packages names → AreNew trail
@@ -23,7 +23,7 @@ pub fn frozen_bars_none()
         → BarsNone index.packages names (frozen index.packages names trail) trail }
 {}
 
-/// They have the forms in which constraints are read from a text. A choice of an instance that isn't there would have no version.
+/// The constraints of a trail are plain, so their text reads back. A choice out of its domain would have no version.
 pub fn frozen_is_plain()
     ensures { (env : Env) (index : Index) (names : NameTable) (trail : List Choice) → IsSound env index
         → AreInDomains index.packages trail → AllByRecursion IsPlainConstraint (frozen index.packages names trail) }

@@ -1,5 +1,6 @@
-//! Choices as constraints. In go the packages of an index and a trail of choices; out come the constraints with which these choices
-//! are made again. None of them bars a choice of the trail. There is no code here.
+//! Defines the constraints of a trail, which reproduce its choices, and proves two laws of them. There is no code here.
+//! If the trail is that of a complete, valid assignment, its constraints bar no choice of it. If its choices are in
+//! their domains, the constraints can be written as text and read back.
 #![tactic(auto)]
 
 mod laws;
