@@ -1,4 +1,4 @@
-// What the constraints of a trail leave of a problem.
+// Laws of a problem with the constraints of a trail.
 ghost use Rattle.std.specs.Prelude.{◌≡◌, ℕ, List, true};
 ghost use Rattle.std.specs.List.{list_all};
 ghost use Rattle.plan_types.specs.declared.condition.Env.{Env};
@@ -22,7 +22,7 @@ use cabal_problem::{problem_is_lawful, valid_as_whole};
 use choice_problem::{ends_right, ends_valid, general_is_lawful, one_first};
 use frozen_choices::frozen_bars_none;
 
-/// What is valid with the constraints of a trail is valid without them.
+/// What is complete and valid with the constraints of a trail is so without them.
 pub fn frozen_adds_nothing()
     ensures { (env : Env) (index : Index) (project : Project) (names : NameTable) (orders : List (List ℕ)) (trail : List Choice)
         → IsSound env index → AreNumbers index.packages names → AreNew trail
@@ -31,7 +31,7 @@ pub fn frozen_adds_nothing()
         (whole_problem env index.packages (with_constraints (frozen index.packages names trail) project) names orders) }
 {}
 
-/// Where it was the first of all, it still is with its constraints.
+/// If a trail is the first complete, valid assignment, it stays first with its constraints.
 pub fn frozen_stays_first()
     ensures { (env : Env) (index : Index) (project : Project) (names : NameTable) (orders : List (List ℕ)) (trail : List Choice)
         → IsSound env index → AreNumbers index.packages names → AreNew trail
@@ -41,7 +41,7 @@ pub fn frozen_stays_first()
     frozen_bars_none();
 }
 
-/// A search without a limit that finds a trail finds it again with the constraints of that trail.
+/// If a search without a limit finds a trail, it finds it again with the constraints of that trail.
 pub fn found_again()
     ensures { (env : Env) (index : Index) (project : Project) (names : NameTable) (orders : List (List ℕ)) (trail : List Choice)
         → IsSound env index → list_all (λ named. has_package index named.name) project.extra ≡ true

@@ -1,6 +1,6 @@
-//! A plan that is frozen is found again. In go an index, settings, and the trail of a plan; with the constraints of that trail added,
-//! nothing more is valid than before, what was the first still is, and a search without a limit finds the same trail. There is no
-//! code here.
+//! Laws of a frozen plan: a project with the constraints of a plan's trail. There is no code here.
+//! With these constraints no assignment becomes valid that wasn't, and the first one stays first.
+//! A search without a limit over the same index finds the same trail.
 #![tactic(auto)]
 
 mod laws;
