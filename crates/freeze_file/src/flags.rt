@@ -1,4 +1,4 @@
-// Flags, with the values that a trail has for them.
+// Flags with their values in a trail.
 ghost use Rattle.std.specs.Prelude.{◌≡◌, ◌++◌, IfOk, OnOk, filter, map};
 ghost use Rattle.frozen_choices.specs.Frozen.{flag_beside, is_automatic, is_manual, is_turned_on};
 ghost use Rattle.freeze_file.specs.Steps.{AddsManual, AreThose};
@@ -11,7 +11,7 @@ use qualified_goals::{Names, Part, Var};
 use solver_index::flag_number;
 use std::alloc::Global;
 
-/// These flags, with the values that the trail has for them beside a choice.
+/// These flags, with their values in the trail under the choice's qualifier.
 pub(crate) fn flags_beside(
     alloc: Global,
     names: &Names,
@@ -29,7 +29,7 @@ pub(crate) fn flags_beside(
     Ok(sets)
 }
 
-/// The same of those that no instance of the package declares as manual.
+/// The same for flags that no instance of the package declares as manual.
 pub(crate) fn automatic_beside(
     alloc: Global,
     names: &Names,

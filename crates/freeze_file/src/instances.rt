@@ -1,4 +1,4 @@
-// Instances that choices take. A place behind the last stands for an installed one without a version.
+// Chosen instances. A place out of range counts as an installed instance without a version.
 ghost use Rattle.std.specs.Prelude.{◌≡◌, IfOk};
 ghost use Rattle.std.specs.Option.{option_copied};
 ghost use Rattle.plan_types.specs.Packages.{declared_by, is_installed, package_at};
@@ -20,14 +20,14 @@ pub(crate) fn name_at(packages: &[Package], p: u64) -> &str
     }
 }
 
-/// The instance that a choice takes.
+/// The instance of a choice.
 pub(crate) fn entry_of<'a>(packages: &'a [Package], choice: &Choice) -> Option<&'a Entry>
     ensures { or_none (option_copied result) ≡ entry_of packages.now choice.now }
 {
     Package::entries_at(packages, choice.var.package).get(choice.val as usize)
 }
 
-/// The flags that it declares.
+/// The flags that an instance declares.
 pub(crate) fn declared_flags(entry: Option<&Entry>) -> &[FlagDecl]
     ensures { result.now ≡ declared_by (or_none (option_copied entry.entry)).body }
 {
@@ -37,7 +37,7 @@ pub(crate) fn declared_flags(entry: Option<&Entry>) -> &[FlagDecl]
     }
 }
 
-/// Whether it is installed.
+/// Whether an instance is installed.
 pub(crate) fn is_installed(entry: Option<&Entry>) -> bool
     ensures { result ≡ is_installed (or_none (option_copied entry.entry)).body }
 {
@@ -47,7 +47,7 @@ pub(crate) fn is_installed(entry: Option<&Entry>) -> bool
     }
 }
 
-/// Its version.
+/// The version of an instance.
 pub(crate) fn version_of(alloc: Global, entry: Option<&Entry>) -> Result<Version, NoMemory>
     ensures { IfOk result (λ version. version ≡ (or_none (option_copied entry.entry)).instance.version) }
 {
@@ -59,7 +59,7 @@ pub(crate) fn version_of(alloc: Global, entry: Option<&Entry>) -> Result<Version
     }
 }
 
-/// Whether the instances of these choices are all like that of the first.
+/// Whether the instances of these choices are all alike.
 pub(crate) fn is_uniform(packages: &[Package], first: &Choice, choices: &[Choice]) -> bool
     ensures { result ≡ is_uniform packages.now first.now choices.now }
 {

@@ -1,5 +1,6 @@
-//! A plan as constraints. In go a trail of choices and the packages of an index; out comes a project with the constraints with which
-//! these choices are made again, and nothing else.
+//! Freezes a plan. In go a trail of choices, its index and names; out comes a project with the constraints of the trail
+//! and nothing else. If the trail is a complete, valid assignment, no constraint bars a choice of it. Then each
+//! constraint is also plain: its text reads back.
 #![tactic(auto)]
 
 mod flags;

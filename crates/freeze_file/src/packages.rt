@@ -16,13 +16,13 @@ use qualified_goals::{Names, Qual};
 use solver_index::is_local;
 use std::alloc::Global;
 
-/// What is frozen: the choices of a trail, by the packages of an index and the numbers of its names.
+/// The trail to freeze, with the packages and names of its index.
 #[derive(Drop)]
 pub(crate) struct Frozen<'a> {
     pub packages: &'a [Package],
     pub names: &'a Names,
     pub trail: &'a Trail,
-    /// The packages in whose setups something is chosen.
+    /// The packages whose setups have choices.
     pub setups: &'a [u64],
 }
 
@@ -202,7 +202,7 @@ impl Frozen<'_> {
     }
 }
 
-// That an instance is installed, or that it isn't.
+// `installed` or `source`.
 fn kind_of(entry: Option<&Entry>) -> What
     ensures { result ≡ kind_of (or_none (option_copied entry.entry)) }
 {

@@ -23,7 +23,7 @@ use plan_types::{Constraint, Index, List, NoMemory, Package, Project};
 use qualified_goals::{Names, Qual};
 use std::alloc::Global;
 
-/// A project with the constraints with which the choices of a trail are made again, and nothing else.
+/// A project with the constraints of a trail, which reproduce its choices, and nothing else.
 pub fn freeze(
     alloc: Global,
     trail: &List<Choice>,
@@ -82,7 +82,7 @@ fn trail_of(alloc: Global, choices: &[Choice]) -> Result<Trail, NoMemory>
     Ok(trail)
 }
 
-// The packages in whose setups something is chosen, in goal order.
+// The packages whose setups have choices, in goal order.
 fn setups_in(alloc: Global, packages: &[Package], choices: &[Choice]) -> Result<List<u64>, NoMemory>
     ensures { IfOk result (λ setups. setups ≡ setups_in packages.now choices.now) }
 {
