@@ -1,4 +1,4 @@
-// Whatever is chosen by a whole valid assignment can be built.
+// Each node of the plan of a complete, valid assignment can be built.
 ghost use Rattle.std.specs.Prelude.{◌≡◌, ℕ, List, true};
 ghost use Rattle.std.specs.List.{list_all};
 ghost use Rattle.plan_types.specs.declared.condition.Env.{Env};
@@ -28,7 +28,7 @@ use cabal_problem::{listed_as_whole, problem_is_lawful};
 use elaborate::no_node_is_lacking;
 use plan_search::what_is_found_is_right;
 
-/// Each node of the plan that a whole valid assignment makes of a sound index has a line.
+/// Each node of the plan of a complete, valid assignment over a sound index has a line.
 pub fn every_node_has_a_line()
     ensures { (env : Env) (index : Index) (project : Project) (names : NameTable) (orders : List (List ℕ)) (assignment : Assignment)
         → IsSound env index → AreNumbers index.packages names → AreOrders project index.packages orders
@@ -40,7 +40,7 @@ pub fn every_node_has_a_line()
     problem_is_lawful();
 }
 
-/// So that plan tells each of its nodes.
+/// So each node of that plan is printed.
 pub fn valid_plan_lacks_none()
     ensures { (env : Env) (index : Index) (project : Project) (names : NameTable) (orders : List (List ℕ)) (assignment : Assignment)
         (lines : List PlanNode) → IsSound env index → AreNumbers index.packages names → AreOrders project index.packages orders
@@ -53,8 +53,7 @@ pub fn valid_plan_lacks_none()
     no_node_is_lacking();
 }
 
-/// Nothing is lacking of a plan that a run prints: each node of what its valid assignment makes has a line among those that
-/// are printed.
+/// A plan that a run prints lacks no node: each node of its complete, valid assignment has a printed line.
 pub fn printed_plan_lacks_none()
     // for the command `plan` over a folder in memory
     ensures meant { (picking : Picking) (options : Options) (files : Files) (text : Bytes) (plan : PlansValid picking (form_of options) options files text)

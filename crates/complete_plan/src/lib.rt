@@ -1,6 +1,7 @@
-//! The plan of a whole valid assignment lacks no node: each has a line, so that there is an order in which all can be built.
-//! What a node needs of another package follows a demand, and demands of a valid assignment lead in no cycle; what it needs of
-//! its own package follows dependencies among components, and those of a sound index have none. There is no code here.
+//! Laws that the plan of a complete, valid assignment over a sound index lacks no node. There is no code here.
+//! Each node has a line, since needs form no cycle, so all nodes can be built in some order. A need of another package
+//! follows a demand, and the demands of a valid assignment form no cycle. A need within a package follows a dependency
+//! among its components, and a sound index has no component cycle.
 #![tactic(auto)]
 
 mod laws;
