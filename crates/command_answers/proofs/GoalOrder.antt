@@ -1,4 +1,4 @@
--- The packages of a folder's index stand in goal order, since what was read is of each name once.
+-- The packages of a folder's index are in goal order, since each name was read once.
 use Rattle.std.proofs.Common.{◌≡◌, ℕ, Bool, List, [], ◌∷◌, ◌++◌, map, Result, Ok, Err, refl, sym, ap, ◌∙◌, subst}
 use Rattle.std.specs.List.{IsDistinct}
 use Rattle.plan_types.specs.Bytes.{same_text}
@@ -25,11 +25,11 @@ use Rattle.index_assembly.specs.Index.{IsIndexOf, is_extra, package_from, packag
 use Rattle.index_assembly.specs.Order.{in_order}
 use Rattle.command_answers.proofs.Sorted.{sorted_in_goal_order}
 
--- the names of what was found
+-- the names that were found
 abbrev found_names : List FoundName → List Bytes
 found_names found = map (λ (f : FoundName). f.name) found
 
--- ---- what was read is of each name once
+-- ---- each name was read once
 
 visited_names : (visits : List Visit) → found_names (map found_of visits) ≡ names_of visits
 visited_names [] = refl
@@ -66,7 +66,7 @@ module _ (env : Env) (places : Places) (extra : List Named) (paths : List Bytes)
   read_once : AreReadings env places extra paths files (Ok readings) → Once
   read_once h = behind_locals h.0 h.2
 
--- ---- the packages that are made of it
+-- ---- the packages made of what was read
 
 from_name : (name : Bytes) (asked : Bool) (own others : List Entry) → (package_from name asked own others).name ≡ name
 from_name name asked [] others = refl

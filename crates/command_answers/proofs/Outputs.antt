@@ -1,4 +1,4 @@
--- Words and a folder's files have one output: there is a task or a refusal, a finding over the task, and a text of it in each form.
+-- Words and files have one output: a task or a refusal, a finding over the task, and its text in each form.
 use Rattle.std.proofs.Common.{◌≡◌, ℕ, Bool, true, false, List, Result, Ok, Err, Option, Some, None, refl}
 use Rattle.plan_types.specs.declared.condition.Env.{Env}
 use Rattle.plan_types.specs.declared.index.Index.{Index}
@@ -61,9 +61,9 @@ OneAnswer = (words : List Bytes) (files : Files) (a b : _) → IsOutputOf words 
 
 -- ---- each form has a text
 
--- A form has no name above the crate that prints in it, so that its texts go by what asks for it.
+-- The type of forms isn't public in `plan_command`, so texts are given by a relation of their form.
 
--- whatever is planned has a text of this kind
+-- every plan has a text by this relation
 abbrev HasTexts : (Index → NameTable → List Choice → List PlanNode → Counts → Bytes → Type 0) → Type 0
 HasTexts IsText = (index : Index) (names : NameTable) (trail : List Choice) (nodes : List PlanNode) (counts : Counts) → (text : Bytes) × IsText index names trail nodes counts text
 

@@ -1,4 +1,4 @@
--- Packages of different names that are put into their order stand in goal order.
+-- Sorted packages with distinct names are in goal order.
 use Rattle.std.proofs.Common.{◌≡◌, ◌<◌, ◌+◌, ℕ, false, List, [], length, get_or, refl, sym, ap, ◌∙◌, subst, arith, Ordering, Less, Equal, Greater, is_lt}
 use Rattle.std.specs.Cmp.Lexicographic.{bytes_decides, slice_cmp}
 use Rattle.std.specs.List.{IsDistinct}
@@ -22,7 +22,7 @@ use Rattle.index_assembly.specs.Index.{is_package_below}
 use Rattle.index_assembly.specs.Order.{in_order}
 use Rattle.index_assembly.proofs.Sorting.{package-order, sorted-is}
 
--- a package that isn't above another, and has another name, is below it
+-- a package that isn't above another, and has a different name, is below it
 below : (a b : Package) → is_package_below b a ≡ false → same_text a.name b.name ≡ false → package_cmp a b ≡ Less
 below a b over apart = by (package_cmp b a) refl
   where

@@ -1,4 +1,4 @@
--- The files of a folder and options make a task or have a refusal, and the packages of a task stand in goal order.
+-- Options and files have a task or a refusal, and the packages of a task are in goal order.
 use Rattle.std.proofs.Common.{◌≡◌, List, Result, Ok, Err, refl, sym, subst}
 use Rattle.plan_types.specs.declared.condition.Env.{Env}
 use Rattle.plan_types.specs.declared.dependency.Named.{Named}

@@ -1,4 +1,4 @@
-// Every folder and every list of words has an output.
+// All words and files have an output.
 ghost use Rattle.std.specs.Prelude.{◌≡◌, List, Result};
 ghost use Rattle.plan_types.specs.declared.refusal.Refusal.{Refusal};
 ghost use Rattle.outside_folder.specs.Files.{Bytes, Files};
@@ -13,7 +13,7 @@ use plan_command::one_answer;
 use replay_answers::{some_event_list, some_replay};
 use search_answers::some_finding;
 
-/// The files of a folder and options make a task, or have a first refusal.
+/// Options and files have a task or a first refusal.
 pub fn some_task()
     ensures { (options : Options) (files : Files) → (task : Result Task Refusal) × IsTask options files task }
 {
@@ -21,7 +21,7 @@ pub fn some_task()
     some_folder_index();
 }
 
-/// Whatever the words and the files of a folder are, there is exactly one output: one status and one text.
+/// All words and files have exactly one output: one status and one text.
 pub fn the_answer()
     ensures { (words : List Bytes) (files : Files) → (output : _) × IsOutputOf words files output
         × ((other : _) → IsOutputOf words files other → other ≡ output) }

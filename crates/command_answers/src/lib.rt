@@ -1,7 +1,7 @@
-//! Every folder and every list of words has an output. The files of a folder and options make a task, or have a first refusal; the
-//! packages of a task stand in goal order, so that a search over them finds something; what is found has nodes, and these have a
-//! text in each form. The law beside the command says that there is one output at most; these say that there is one. There is no
-//! code here.
+//! Laws that words and files always have exactly one output. There is no code here.
+//! Options and files have a task or a first refusal. The packages of a task are in goal order, so a search over them
+//! has a finding. A found trail has nodes, and these have a text in each form. That the output is unique is a law of
+//! `plan_command`.
 #![tactic(auto)]
 
 mod laws;
