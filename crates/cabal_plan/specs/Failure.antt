@@ -1,4 +1,4 @@
--- What is said on standard error of how a run ended.
+-- The line on standard error after a run.
 use Rattle.std.specs.Prelude.{◌≡◌, ◌⊎◌, ◌∷◌, [], ◌++◌, codes, Option, Some, None}
 use Rattle.outside_folder.specs.Faults.{Rose}
 use Rattle.outside_folder.specs.Sink.{Appends, AppendsPrefix}
@@ -7,7 +7,7 @@ use Rattle.outside_folder.specs.Files.{Bytes}
 use Rattle.plan_command.specs.declared.status.Status.{Status}
 use Rattle.plan_command.specs.declared.status.Status.TheVariants.{Planned, NoPlan, GaveUp, Refused, ReadFault, WriteFault, NoMemory, Usage}
 
--- the line, where the output doesn't tell it
+-- the line of a failure; a status with an output has none
 abbrev pub failure_of : Status → Option Bytes
 failure_of Planned = None
 failure_of NoPlan = None
@@ -18,7 +18,7 @@ failure_of WriteFault = Some (codes "cabal-plan: the output could not be written
 failure_of NoMemory = Some (codes "cabal-plan: out of memory" ++ 10 ∷ [])
 failure_of Usage = None
 
--- this line was written, or writing it failed and a prefix of it was; nothing where there is no line
+-- the line was written, or its write failed after a prefix; without a line nothing was written
 abbrev pub IsSaid : Option Bytes → Taken → Taken → Type 0
 IsSaid None old new = new ≡ old
 IsSaid (Some line) old new = Appends old.bytes new.bytes line ⊎ (Rose old.faults new.faults × AppendsPrefix old.bytes new.bytes line)

@@ -1,4 +1,4 @@
--- How the program ends, and what it leaves in the folder and in the sinks.
+-- The end of the program, and the folder and sinks after it.
 use Rattle.std.specs.Prelude.{◌≡◌, ◌≢◌, ℕ, ◌≤◌, List, Option, None, Result, Ok, Err}
 use Rattle.std.specs.IoError.{error_kind}
 use Rattle.std.specs.declared.io.Error.{Error}
@@ -18,14 +18,14 @@ use Rattle.plan_command.specs.Output.{IsUsage, usage}
 use Rattle.plan_command.specs.Run.{BuildsInOrder, IsOutputOf, MayPrint, Prints, Reads}
 use Rattle.plan_command.specs.Status.{number_of_status}
 
--- The sink's count of faults rose where a write failed, and only there.
+-- The sink's count of faults rose iff a write failed.
 pub record Writes (old new : Taken) (end : Status) : Type 0 where
   pub later : old.faults ≤ new.faults
   pub rose : end ≡ status.WriteFault → Rose old.faults new.faults
   pub still : end ≢ status.WriteFault → new.faults ≡ old.faults
 
--- Over a folder the end is that of one run: what is printed is that of the words and of the files that are read for them, and each
--- failure is told.
+-- The end of one run over a folder. The output is that of the words and the files read for them, and no failure is
+-- hidden.
 pub record IsRunOver {F : Type 0} (tells : F → Option Files) (faults : F → ℕ) (words : List Bytes) (folder after : F) (old new : Taken) (end : Status) : Type 0 where
   pub told : (files : Files) → Reads (reading words) (tells folder) files → Prints (IsOutputOf words files) old.bytes new.bytes end
   pub one_text : Prints (MayPrint (reading words)) old.bytes new.bytes end
@@ -35,29 +35,29 @@ pub record IsRunOver {F : Type 0} (tells : F → Option Files) (faults : F → �
   pub reads : Leaves tells faults folder after (end ≡ status.ReadFault)
   pub writes : Writes old new end
 
--- want of memory, behind which nothing was written
+-- out of memory, with nothing written
 abbrev pub IsWant : Taken → Taken → Status → Type 0
 IsWant old new end = (end ≡ status.NoMemory) × (new ≡ old)
 
--- the end of a run over a folder, or want of memory where there is none
+-- the end of a run over a folder; without a folder, out of memory
 abbrev pub IsEndOver : {F : Type 0} → (F → Option Files) → (F → ℕ) → List Bytes → Result F NoMemory → Result F NoMemory → Taken → Taken → Status → Type 0
 IsEndOver tells faults words (Ok folder) (Ok after) old new end = IsRunOver tells faults words folder after old new end
 IsEndOver tells faults words (Ok folder) (Err none) old new end = ⊥
 IsEndOver tells faults words (Err none) after old new end = (after ≡ Err none) × IsWant old new end
 
--- where the words can't be had as text, that is want of memory, or the usage line is printed
+-- the end if the system can't give the words as text: out of memory, or the usage line is printed
 pub record IsEndWithoutWords (why : ErrorKind) (old new : Taken) (end : Status) : Type 0 where
   pub no_memory : why ≡ kind.OutOfMemory → IsWant old new end
   pub no_text : why ≢ kind.OutOfMemory → IsUsage end × Prints (λ output. output ≡ usage) old.bytes new.bytes end
   pub writes : Writes old new end
 
--- the end, with what the system gave as the program's name and words
+-- the end, by the arguments that the system gave or its error
 abbrev pub IsEnd : {A F : Type 0} → (A → List Bytes) → (F → Option Files) → (F → ℕ) → Result A Error → Result F NoMemory → Result F NoMemory
     → Taken → Taken → Status → Type 0
 IsEnd texts tells faults (Ok args) folder after old new end = IsEndOver tells faults (words_of (texts args)) folder after old new end
 IsEnd texts tells faults (Err error) folder after old new end = (after ≡ folder) × IsEndWithoutWords (error_kind error) old new end
 
--- The number with which the program exits is that of its end, and so is the line on standard error.
+-- The exit status and the line on standard error are those of the end.
 pub record IsExit {A F : Type 0} (texts : A → List Bytes) (tells : F → Option Files) (faults : F → ℕ) (args : Result A Error) (folder after : Result F NoMemory)
     (old new said_before said : Taken) (number : ℕ) : Type 0 where
   pub end : Status

@@ -1,8 +1,8 @@
--- What a sink has taken.
+-- The state of a sink.
 use Rattle.std.specs.Prelude.{ℕ, Option}
 use Rattle.outside_folder.specs.Files.{Bytes}
 
--- its bytes, where it tells them, and how often it failed
+-- the bytes of a sink, if it is observable, and its count of faults
 pub record Taken : Type 0 where
   pub bytes : Option Bytes
   pub faults : ℕ

@@ -1,8 +1,8 @@
--- The words that the program is called with.
+-- The words of the command line.
 use Rattle.std.specs.Prelude.{List, [], ◌∷◌}
 use Rattle.outside_folder.specs.Files.{Bytes}
 
--- those behind the program's name
+-- the words behind the program's name
 abbrev pub words_of : List Bytes → List Bytes
 words_of [] = []
 words_of (name ∷ words) = words

@@ -1,4 +1,6 @@
-//! The program `cabal-plan`: it plans the packages of the current folder, and prints the plan.
+//! The program `cabal-plan`. In go its words and the current folder; out come a text on standard output and an exit
+//! status. No failure is hidden: a failed read, a failed write and out of memory have a status of their own. Each
+//! also has a line on standard error.
 #![tactic(auto)]
 
 ghost use Rattle.std.specs.Prelude.{◌≡◌, ◌++◌, ◌∷◌, [], codes, map, string_bytes, IfOk};
@@ -30,8 +32,8 @@ fn main(rt: HostRuntime) -> ExitCode {
     )
 }
 
-// Runs what the words ask for over a folder, says on standard error what the output can't say, and ends with the number of what
-// came of it.
+// Runs the words' command over a folder, writes the line of a failure to standard error, and exits with the run's
+// status.
 fn program<R: AllocGlobal, F: Folder, S: Sink, E: Sink>(
     rt: &R,
     args: io::Result<Args>,
@@ -63,7 +65,7 @@ fn status_of<F: Folder, S: Sink>(
     }
 }
 
-// Where the system doesn't give the words as text, they have no reading.
+// Words that the system can't give as text have no reading.
 fn status_without_words<S: Sink>(kind: ErrorKind, out: &mut S) -> Status
     ensures { IsEndWithoutWords kind (taken S.bytes S.faults out.old) (taken S.bytes S.faults out.new) result }
 {
@@ -132,7 +134,7 @@ fn current_folder<R: Files + AllocGlobal + Clone + Drop>(
     Ok(RealFolder::new(rt, root))
 }
 
-// Says what the output can't say. Where even that fails, the status alone tells.
+// Writes the line of a failure. If that write fails too, only the exit status reports the failure.
 fn say<E: Sink>(status: Status, errors: &mut E)
     ensures { IsSaid (failure_of status) (taken E.bytes E.faults errors.old) (taken E.bytes E.faults errors.new) }
 {

@@ -1,4 +1,4 @@
--- the words that are run are those that were given
+-- `run` gets the given words
 use Rattle.std.proofs.Common.{subst}
 use Rattle.cabal_plan.specs.Run.{IsRunOver}
 use Rattle.cabal_plan.specs.Taken.{taken}

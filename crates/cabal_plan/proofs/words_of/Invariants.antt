@@ -3,6 +3,6 @@ use Rattle.std.specs.Vec.Iter.{into_iter_items}
 use Rattle.cabal_plan.specs.Words.{words_of}
 use Rattle.cabal_plan.proofs.words_of.Given as goal
 
--- the words so far, and then those that are left
+-- the words so far, and the rest
 abbrev pub invariant-loop-word : goal.invariant-loop-word
 invariant-loop-word l = l.words ++ map string_bytes (into_iter_items l.word-iterator) ≡ words_of (map string_bytes (into_iter_items l.fn.args))
