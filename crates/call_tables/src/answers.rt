@@ -1,5 +1,5 @@
-// Texts of which no run shows the numbers or the identifiers, with `;` at the end of a line: a plan of one node without choices, and a
-// set of no variables that wasn't made smaller.
+// Texts with numbers and identifiers that no run prints; `;` is the end of a line. A plan of one node without choices,
+// and an empty conflict set that wasn't shrunk.
 ghost use Rattle.qualified_goals.specs.Names.{AreInGoalOrder};
 
 use crate::builds::node;
@@ -39,14 +39,14 @@ fn index(alloc: Global) -> Index
     }
 }
 
-// The package of the node.
+// Names the package of the node.
 fn name(alloc: Global, node: &mut PlanNode) -> Result<(), NoMemory> {
     node.name = Text::from_str(alloc, "a")?;
     node.version.parts.push(1)?;
     Ok(())
 }
 
-// The identifier is needed as a library and as a tool, and told once.
+// The identifier is needed as a library and as a tool, and printed once.
 fn nodes(alloc: Global) -> Result<List<PlanNode>, NoMemory> {
     let mut node = node(alloc, WORDS)?;
     name(alloc, &mut node)?;

@@ -1,6 +1,6 @@
-// Builds of nodes that no plan has: nodes that need themselves or later ones, and none. Between bars: the nodes, each with the
-// identifiers that it needs behind it (libraries, tools behind `+` and setups behind `*`), and `=` before one that is installed; the
-// slots; and the events. The replay has `;` at the end of a line.
+// Builds of nodes that no plan has: nodes that need themselves or later ones, and no nodes at all. A case has three
+// parts between bars: the nodes, the slots and the events. Behind a node are the identifiers that it needs: libraries,
+// tools with `+`, setups with `*`. An installed node has `=` before it. In a replay `;` is the end of a line.
 use plan_jobs::Jobs;
 use plan_nodes::{NodeKind, PlanNode};
 use plan_types::{List, NoMemory, Text, Version};
@@ -14,7 +14,7 @@ a a,b b +b *b,=c d,d c|9|start,start,start,start => replay;start 1 a;start 2 b;s
 |1|start,completed 1,failed 1 => replay;start NoneReady;completed 1 NotRunning;failed 1 NotRunning;completed 0 failed 0 running 0 waiting 0 held 0;
 ";
 
-// Those of the words that begin with the mark, or with a letter where there is no mark.
+// The needed identifiers with this mark, or without one if the mark is empty.
 fn needs(alloc: Global, words: &str, mark: &str) -> Result<List<Text>, NoMemory> {
     let mut needs = List::new(alloc);
     for word in words.split(' ').skip(1) {
@@ -26,7 +26,7 @@ fn needs(alloc: Global, words: &str, mark: &str) -> Result<List<Text>, NoMemory>
     Ok(needs)
 }
 
-/// The node that these words stand for.
+/// The node of these words.
 pub fn node(alloc: Global, words: &str) -> Result<PlanNode, NoMemory> {
     let name = words.split(' ').next().unwrap_or("");
     let id = name.trim_start_matches('=');

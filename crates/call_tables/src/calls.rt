@@ -1,9 +1,9 @@
-// Calls on folders as they are written, `list` or `read` and a path behind `./`, with what is answered.
+// Calls on folders in written form: `list` or `read`, and a path behind `./`; and the text of their answers.
 use outside_folder::{Folder, Name};
 use std::alloc::Global;
 use std::test::Fail;
 
-// The names, with a `/` behind those of directories, or how many there are of many.
+// The names, with `/` behind those of directories; of more than 100 only their number.
 fn shown_names(alloc: Global, names: &[Name]) -> Result<String, Fail> {
     let count = names.len();
     if count > 100 {
@@ -18,7 +18,7 @@ fn shown_names(alloc: Global, names: &[Name]) -> Result<String, Fail> {
     Ok(line)
 }
 
-// The bytes as a text, or how many there are of a large file.
+// The bytes as a text; of more than 100 only their number.
 fn shown_bytes(alloc: Global, bytes: &[u8]) -> Result<String, Fail> {
     let count = bytes.len();
     if count > 100 {

@@ -1,5 +1,5 @@
-// `tree`: how a condition is put together. `value`, a condition and what is known of the flags `a` and `b`: its value. A run knows all
-// flags or none. `chain`: the value of `flag(a)` with this behind it a hundred thousand times, where `a` is on.
+// `tree`: the tree of a condition. `value`, a condition and the known values of the flags `a` and `b`: its value. A run
+// knows all flags or none. `chain`: the value of `flag(a)` followed by this text 100,000 times, with `a` on.
 ghost use Rattle.std.specs.Prelude.{◌≡◌, true, IfOk};
 ghost use Rattle.conditionals.specs.Value.{each_once};
 
@@ -49,7 +49,7 @@ pub fn environment(alloc: Global) -> Result<Env, NoMemory> {
     })
 }
 
-/// The condition that a text stands for, copied.
+/// A copy of the condition of a text.
 pub fn condition(alloc: Global, text: &str) -> Result<Cond, TextFault> {
     let cond = read_cond(alloc, text.as_bytes(), Spec::V3_0)?;
     Ok(cond.copy(alloc)?)
@@ -88,7 +88,7 @@ fn value(alloc: Global, text: &str, signs: &str) -> Result<String, Fail> {
     Ok(format!(in alloc; "{value:?}")?)
 }
 
-// The tree without the names of what holds its branches.
+// The tree, without the names of the pointers to its branches.
 fn tree(alloc: Global, text: &str) -> Result<String, Fail> {
     let cond = condition(alloc, text)?;
     let shown = format!(in alloc; "{cond:?}")?;
@@ -96,7 +96,7 @@ fn tree(alloc: Global, text: &str) -> Result<String, Fail> {
     Ok(shown.as_str().replace(alloc, " }", "")?)
 }
 
-// Calls of themselves for the left side would run out of stack.
+// Recursion on the left side would run out of stack.
 fn chain(alloc: Global, link: &str) -> Result<String, Fail> {
     let mut text = String::from_str(alloc, "flag(a)")?;
     text.push_str(link.repeat(alloc, 100_000)?.as_str())?;

@@ -4,7 +4,7 @@ use plan_types::{List, Text};
 use std::alloc::Global;
 use std::test::Fail;
 
-// A path, which is also what the file holds; or a path, `=` and how many bytes it holds.
+// A path, which is also the file's content; or a path, `=`, and the number of its bytes.
 fn file(alloc: Global, written: &str) -> Result<MemFile, Fail> {
     let (path, bytes) = match written.split_once('=') {
         Some((path, length)) => (path, vec![in alloc; 7u8; length.parse::<usize>()?]?),
@@ -15,7 +15,7 @@ fn file(alloc: Global, written: &str) -> Result<MemFile, Fail> {
     Ok(MemFile { path, bytes })
 }
 
-/// Behind `./` is a file, and other words stand for none.
+/// The files of the words that begin with `./`; other words are ignored.
 pub(crate) fn files(alloc: Global, words: &str) -> Result<List<MemFile>, Fail> {
     let mut files = List::new(alloc);
     for word in words.split(' ') {

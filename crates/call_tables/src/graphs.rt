@@ -1,7 +1,7 @@
-// Graphs as they are written: what each node needs, with a bar between two nodes; `-` needs none. With `chain` one of 100,000 nodes
-// begins that each need the next; behind bars stand those that need others, and a colon before these. `order`: the order in which
-// the nodes can be built; of a long one, how many stand in it and the first of them. `cycle`: the first node on a cycle; in the last
-// one a chain leads from a cycle of the two nodes before the last two to one of these. `units`: how many lead to the last node.
+// Graphs in written form: the needs of each node, with a bar between two nodes and `-` for no needs. `chain` begins a
+// graph of 100,000 nodes that each need the next; behind bars are exceptions, as a node, a colon and its needs.
+// `order`: a build order; of a long one its length and first node. `cycle`: the first node on a cycle. The last graph
+// there has two cycles, and a path from one to the other. `units`: the number of nodes that lead to the last node.
 ghost use Rattle.std.specs.Prelude.{◌<◌, IsTrue};
 ghost use Rattle.common_laws.specs.Graphs.{IsGraph};
 
@@ -121,7 +121,7 @@ fn order_or_cycle(alloc: Global, call: &str, needs: &List<List<usize>>) -> Resul
     Ok(format!(in alloc; "{first:?}")?)
 }
 
-// A mark for each of so many nodes, of which the last one is marked.
+// Marks of so many nodes; only the last node is marked.
 fn last_marked(alloc: Global, count: usize) -> Result<List<bool>, NoMemory> {
     let mut marked = List::new(alloc);
     for _ in 1..count {
@@ -131,7 +131,7 @@ fn last_marked(alloc: Global, count: usize) -> Result<List<bool>, NoMemory> {
     Ok(marked)
 }
 
-// How many nodes lead to the last one.
+// The number of nodes that lead to the last one.
 fn led(alloc: Global, needs: &[List<usize>]) -> Result<String, Fail> {
     let marked = last_marked(alloc, needs.len())?;
     if marked.len() != needs.len() {

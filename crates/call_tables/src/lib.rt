@@ -1,4 +1,4 @@
-//! Tests alone: calls that no run of the program shows, and the answers of each.
+//! Tests only. Tables of calls with their answers, for cases that no run of the program reaches. It promises nothing.
 #![tactic(auto)]
 
 #[cfg(test)]

@@ -1,5 +1,5 @@
-// A folder's files, the entries of a project (`!` stands where there is no `cabal.project`, and a `?` behind one that may match
-// nothing), and how many calls these take, so that the next one may fail. No star, no listing.
+// A folder's files, the entries of a project, and the number of calls on the folder that these take. `!` is for a
+// folder without `cabal.project`; an entry with `?` may match nothing. A name without a star needs no listing.
 use outside_folder::{MemFile, MemFolder};
 use plan_types::{Halt, Limit, List, NoMemory, Project, ProjectEntry, Text};
 use project_paths::find_packages;
@@ -33,7 +33,7 @@ fn entry(alloc: Global, text: &str) -> Result<ProjectEntry, NoMemory> {
     })
 }
 
-// A project with the entries that are written so, and nothing else.
+// A project with these entries and nothing else.
 fn project(alloc: Global, texts: &str) -> Result<Project, NoMemory> {
     let mut entries = List::new(alloc);
     for text in texts.split(',') {
@@ -57,7 +57,7 @@ fn project(alloc: Global, texts: &str) -> Result<Project, NoMemory> {
     })
 }
 
-// A folder of empty files at these paths, of which this call fails.
+// A folder of empty files at these paths, on which this call fails.
 fn folder(alloc: Global, paths: &str, failing: u64) -> Result<MemFolder, Fail> {
     let mut files = List::new(alloc);
     for path in paths.split(' ') {

@@ -1,5 +1,5 @@
-// Files, and behind `fails at` the calls that are to fail; then calls, with what they answer, or why the files make no folder.
-// `six` stands for the files below.
+// Files, and behind `fails at` the calls that are to fail; then calls with their answers, or why the files are no tree.
+// `six` means the files below.
 use crate::calls::answered;
 use crate::files::files;
 use outside_folder::{MemFault, MemFolder};

@@ -1,5 +1,5 @@
-// The policy and instances (the first letter of the origin, and the version), and their places in order. In a run no local package
-// stands beside others of its name, and none twice.
+// The policy and the instances (the first letter of the origin, and the version), and the places of these in order. In
+// a run a local package is the only instance of its name.
 use plan_types::{Instance, List, Origin, Text, TextFault};
 use preferences::{Policy, order};
 use std::alloc::Global;

@@ -1,5 +1,6 @@
-// The rows of a table of conditions, with others by how far in front of them they stand; `chain` is the rows of so many branches, of
-// which each asks another flag. What is known of the last row: how many paths it has, and whether it is never Yes.
+// The rows of a table of conditions. A row refers to another by its distance before the row itself. `chain` is the rows
+// of so many branches, each on a flag of its own. The answer is the outlook of the last row: its number of paths, and
+// whether it is never Yes.
 use crate::conditions::{condition, environment};
 use condition_outlook::{Outlook, outlooks};
 use plan_types::{Conditions, Guard, Row};
@@ -42,7 +43,7 @@ fn push_own(alloc: Global, conds: &mut Conditions, text: &str) -> Result<(), Fai
     push(alloc, conds, Row::Own(guard))
 }
 
-// The number of the row that stands so far in front of the next one.
+// The number of the row at this distance before the next one.
 fn before(conds: &Conditions, text: &str) -> Result<usize, Fail> {
     let back = text.parse::<usize>()?;
     Ok(conds.rows().len().checked_sub(back).ok_or("no such row")?)

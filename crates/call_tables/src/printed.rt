@@ -1,5 +1,5 @@
-// `elements`, a text with `;` at the end of a line: its canonical text. `range`, the cabal-version and a text: how the range prints.
-// `cuts`, a range: whether its cuts have any version. `chain`: so many versions joined.
+// `elements`, a text with `;` for the end of a line: its canonical text. `range`, the cabal-version and a text: the
+// printed range. `cuts`, a range: whether it has a member, by its cuts. `chain`: so many versions joined by `||`.
 use cabal_lexer::{print_elements, read_elements};
 use plan_types::{List, NoMemory, Range, Spec, Version};
 use std::alloc::Global;
@@ -141,8 +141,7 @@ fn is_printed(alloc: Global, range: &Range, text: &str) -> Result<bool, NoMemory
     Ok(print_range(alloc, range)?.as_str() == text)
 }
 
-// A recursion for each operator would run out of stack at some length, and a set that is asked from end
-// to end would take long.
+// Recursion for each operator would run out of stack at some length, and a linear search of the cuts would take long.
 fn chain(alloc: Global, length: &str) -> Result<String, Fail> {
     let length = length.parse::<u32>()?;
     let text = one_of_the_first(alloc, length)?;

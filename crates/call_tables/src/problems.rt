@@ -1,4 +1,4 @@
-// Problems that are written out. In the first the package 0 asks for 1 and 2, and the value 0 of 2 allows no value of 1.
+// Written problems. In the first one package 0 depends on 1 and 2, and the value 0 of 2 allows no value of 1.
 use choice_problem::{Choice, Demand, Part, Qual, Var, Written, WrittenVar};
 use plan_types::{List, NoMemory};
 use std::alloc::Global;
@@ -20,7 +20,7 @@ fn listed(alloc: Global, number: u64, order: &[u64]) -> Result<WrittenVar, NoMem
     })
 }
 
-// What packages ask for that have their value 0.
+// A demand whose condition is that these packages have the value 0.
 fn demand(alloc: Global, owners: &[u64], number: u64, allowed: &[u64]) -> Result<Demand, NoMemory> {
     let mut when = List::new(alloc);
     for owner in owners {
@@ -36,7 +36,7 @@ fn demand(alloc: Global, owners: &[u64], number: u64, allowed: &[u64]) -> Result
     })
 }
 
-/// The problem with what breaks a law, where it still is one.
+/// The first problem with a fault added, or none if that breaks a law.
 pub fn written_with(alloc: Global, fault: &str) -> Result<Option<Written>, NoMemory> {
     let (mut variables, mut roots, mut demands) = (
         List::new(alloc),
@@ -79,7 +79,7 @@ pub fn five(alloc: Global) -> Result<Option<Written>, NoMemory> {
     Ok(Written::new(variables, roots, demands))
 }
 
-/// No variables, or one without values.
+/// So many variables without values.
 pub fn small(alloc: Global, count: u64) -> Result<Option<Written>, NoMemory> {
     let (mut variables, mut roots) = (List::new(alloc), List::new(alloc));
     for number in 0..count {

@@ -1,4 +1,4 @@
-// Calls of what reads a project and of what makes identifiers that no run makes.
+// Calls that no run makes: of the reader of projects, and of the maker of identifiers.
 ghost use Rattle.std.specs.Prelude.{IfOk};
 ghost use Rattle.std.specs.List.{AllByRecursion};
 ghost use Rattle.project_file.specs.Read.{IsWithin};

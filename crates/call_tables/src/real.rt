@@ -1,4 +1,4 @@
-// Calls on a folder of the test's own, and what they answer.
+// Calls on a folder of the test's own, and their answers.
 use crate::calls::answered;
 use outside_folder::{Folder, RealFolder, RealSink, write_all};
 use plan_types::Text;
@@ -29,7 +29,8 @@ read ./b/c\0 => none
 list ./b\0/empty => none
 ";
 
-// Two directories, two files at the limit, a link that leads nowhere and one that leads to itself. A name of 256 letters stands nowhere.
+// Two directories, three files, a dangling link, and a link to itself. One file has as many bytes as the limit, one
+// has one more. No file can have a name of 256 letters.
 fn made(rt: &HostRuntime) -> Result<Text, Fail> {
     let name = format!(in rt.alloc(); "call-tables-{}", process::id(rt.process()))?;
     let root = env::temp_dir(rt)?.join(rt.alloc(), name.as_str())?;
@@ -43,7 +44,7 @@ fn made(rt: &HostRuntime) -> Result<Text, Fail> {
     Ok(Text::from_str(rt.alloc(), root.as_str())?)
 }
 
-// The calls with another answer, and what they answer.
+// The calls with a wrong answer, and this answer.
 fn others<F: Folder>(alloc: Global, folder: &mut F) -> Result<String, Fail> {
     let mut others = String::new(alloc);
     for line in CALLS.lines() {

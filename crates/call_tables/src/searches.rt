@@ -1,6 +1,6 @@
-// Searches of problems that are written out, without a limit. `with`, what breaks a law: whether there is a problem, and its outcome.
-// `small`, how many packages without values. `asked`: the outcome of the five packages, and whether the search asks at most 17
-// questions for orders and 20 for demands. `begun`: how many choices there are before the first.
+// Searches of written problems, without a limit. `with`, a fault: the outcome, or that the fault breaks a law. `small`:
+// so many packages without values. `asked`: the outcome of the five packages, and whether the search makes at most 17
+// calls for orders and 20 for demands. `begun`: the number of choices before the first one.
 ghost use Rattle.std.specs.Prelude.{◌≡◌, ◌<◌};
 
 use crate::problems::{five, small, written_with};
@@ -79,7 +79,7 @@ fn outcome(alloc: Global, problem: Option<Written>) -> Result<String, NoMemory> 
     }
 }
 
-// A problem that counts two of the questions that it is asked.
+// A problem that counts the calls for orders and for demands.
 #[derive(Drop)]
 struct Asked<C> {
     choices: C,

@@ -1,5 +1,5 @@
-// The room, the most bytes of a write, and the write that fails; whether all of two lines is written, and what is left in
-// the sink, with `;` for the end of a line.
+// The sink's room, the most bytes of a write, and the write that fails. The answer is whether both lines are written,
+// and the bytes in the sink, with `;` for the end of a line.
 use outside_folder::{MemSink, write_all};
 use plan_types::List;
 use std::alloc::Global;
@@ -14,7 +14,7 @@ pub(crate) const CASES: &str = "\
 100 0 9 => cut []
 ";
 
-// What is written.
+// The text to write.
 const LINES: &str = "plan\nchoose main 1 local\n";
 
 fn sink(alloc: Global, line: &str) -> Result<MemSink, Fail> {

@@ -1,5 +1,5 @@
-// Each table has a case a line: what is asked, and behind the last ` => ` the answer. One loop goes over all of them, and no
-// contract of a call that is asked is known where it stands.
+// Each table has one case a line: a call, and behind the last ` => ` its answer. One loop runs all of them. It uses no
+// contract of the calls.
 use crate::{
     answers, builds, conditions, graphs, listings, memory, orders, outlooks, printed, searches,
     sinks,
@@ -55,7 +55,7 @@ fn answer(alloc: Global, table: Table, case: &str) -> Result<String, Fail> {
     }
 }
 
-// The cases of a table with another answer, and that answer below each.
+// The cases of a table with a wrong answer, and this answer below each.
 fn others(alloc: Global, table: Table) -> Result<String, Fail> {
     let mut others = String::new(alloc);
     for line in cases(table).lines() {

@@ -1,4 +1,4 @@
--- the ledger is that of the blank
+-- the ledger has the name and parts of the blank
 use Rattle.call_tables.proofs.searches.searched.Given as goal
 
 abbrev pub ghosts-counted : goal.ghosts-counted
