@@ -1,4 +1,4 @@
-// What a run answers, and what differs from what is wanted.
+// The answer of a run, and its difference from the wanted one.
 use crate::case::Run;
 use outside_folder::{Folder, MemFault, MemFile, MemFolder, MemSink};
 use plan_command::{code_of, run};
@@ -6,8 +6,8 @@ use plan_types::{List, NoMemory, Text};
 use sha2::{Digest, Sha256};
 use std::alloc::Global;
 
-/// Which call on the folder and which write fail, counted from 1 (0: none), how many bytes a write takes at most, and for how many the
-/// sink has room.
+/// The call on the folder and the write that fail, counted from 1 (0: none), the most bytes of a write, and the sink's
+/// room in bytes.
 #[derive(Clone, Copy)]
 pub struct Faults {
     pub call: u64,
@@ -17,7 +17,7 @@ pub struct Faults {
 }
 
 impl Faults {
-    /// Nothing fails.
+    /// No call and no write fails.
     pub const NONE: Faults = Faults {
         call: 0,
         write: 0,
@@ -26,7 +26,7 @@ impl Faults {
     };
 }
 
-/// The number of a run's status, and what it printed.
+/// The exit status of a run, and its output.
 #[derive(Drop)]
 pub struct Answer {
     pub status: u8,
@@ -39,7 +39,7 @@ fn numbered(alloc: Global, number: u64) -> Result<List<u64>, NoMemory> {
     Ok(numbers)
 }
 
-/// A folder in memory of which this call fails, where its files make one.
+/// A folder in memory on which this call fails, or none if its files are no tree.
 pub fn mem_folder(
     alloc: Global,
     files: List<MemFile>,
@@ -52,7 +52,7 @@ pub fn mem_folder(
     }
 }
 
-/// What a run over a folder answers, of whose sink the writes fail as is said.
+/// The answer of a run over a folder, with these faults of its sink.
 pub fn answer_over<F: Folder>(
     alloc: Global,
     run: &Run,
@@ -66,7 +66,7 @@ pub fn answer_over<F: Folder>(
     Ok(Answer { status, output })
 }
 
-// Above this call no clause of `run` is known.
+// Callers of this function know no clause of `run`.
 fn status_of<F: Folder>(
     alloc: Global,
     words: &List<Text>,
@@ -76,13 +76,13 @@ fn status_of<F: Folder>(
     code_of(run(alloc, words.as_slice(), folder, out))
 }
 
-/// What is printed, as a text.
+/// The printed bytes as a text.
 pub fn text_of(alloc: Global, bytes: &[u8]) -> Result<String, NoMemory> {
     let text = str::from_utf8(bytes).unwrap_or("what is printed is no text");
     Ok(String::from_str(alloc, text)?)
 }
 
-/// What the answer has where another is wanted.
+/// The difference of an answer from the wanted one, or none.
 pub fn other_than_wanted(
     alloc: Global,
     run: &Run,
@@ -110,7 +110,7 @@ fn is_right(alloc: Global, run: &Run, found: &Answer, wanted: &str) -> Result<bo
     }
 }
 
-// Whether an output begins and ends as the lines around `...` do.
+// Whether an output begins and ends with the lines around `...`.
 fn has_ends(output: &str, ends: &str) -> bool {
     match ends.split_once("...\n") {
         Some((first, last)) => output.starts_with(first) && output.ends_with(last),
@@ -118,7 +118,7 @@ fn has_ends(output: &str, ends: &str) -> bool {
     }
 }
 
-// The first line of a text that isn't the same in another.
+// The first line of a text that differs from the other text's.
 fn first_other<'a>(text: &'a str, other: &str) -> &'a str {
     let mut others = other.lines();
     for line in text.lines() {

@@ -6,7 +6,7 @@ use outside_folder::MemFile;
 use plan_types::{List, NoMemory, Text};
 use std::alloc::Global;
 
-/// A run as it is written: its words, what fails, the status and the digest of the output where one is given, and the output.
+/// A run as written: its words, its faults, and the wanted status and output, with a digest of a long output.
 #[derive(Drop)]
 pub struct Run {
     pub words: List<Text>,
@@ -23,7 +23,7 @@ pub struct Link {
     pub target: String,
 }
 
-/// A case as it is written. One with links is run over a folder of the system alone.
+/// A case as written. A case with links is run only over a folder of the system.
 #[derive(Drop)]
 pub struct Case {
     pub name: String,
@@ -45,7 +45,7 @@ fn is_mark(line: &str) -> bool {
     MARKS.iter().any(|mark| line.starts_with(*mark))
 }
 
-// The blocks of a case, of which the first has its name as head.
+// The blocks of a case. The first one has the case's name as head.
 fn blocks<'a>(alloc: Global, written: &'a str) -> Result<Vec<Block<'a>>, NoMemory> {
     let mut blocks: Vec<Block<'a>> = Vec::new(alloc);
     for line in written.lines() {
@@ -63,7 +63,7 @@ fn blocks<'a>(alloc: Global, written: &'a str) -> Result<Vec<Block<'a>>, NoMemor
     Ok(blocks)
 }
 
-/// The case that is written so: its name in the first line, and its files and runs below.
+/// Reads a case: its name in the first line, and its files and runs below.
 pub fn case_of(alloc: Global, written: &str) -> Result<Case, NoMemory> {
     let mut case = Case {
         name: String::from_str(alloc, written.lines().next().unwrap_or(""))?,
@@ -98,7 +98,7 @@ fn link_of(alloc: Global, link: &str) -> Result<Link, NoMemory> {
     Ok(Link { path, target })
 }
 
-// A run in turn has the answer of the run above it.
+// A run that is made many times has the output of the run above it.
 fn run_of(alloc: Global, head: &str, content: &str, above: Option<&Run>) -> Result<Run, NoMemory> {
     let (call, end) = head.split_once(" => ").unwrap_or((head, "0"));
     let (words, fault) = call.split_once(" ! ").unwrap_or((call, ""));

@@ -1,8 +1,8 @@
-// The bytes that lines of content stand for.
+// The bytes of lines of content.
 use plan_types::{List, NoMemory};
 use std::alloc::Global;
 
-/// The bytes of a file or an output, of the lines that are written for it.
+/// The bytes of a file or an output, from its written lines.
 pub fn bytes_of(alloc: Global, lines: &str) -> Result<List<u8>, NoMemory> {
     let mut bytes = Vec::new(alloc);
     for line in lines.trim_end_matches('\n').lines() {
@@ -11,7 +11,7 @@ pub fn bytes_of(alloc: Global, lines: &str) -> Result<List<u8>, NoMemory> {
     Ok(List::from_vec(bytes))
 }
 
-/// The same bytes once more.
+/// A copy of the bytes.
 pub fn copied(alloc: Global, bytes: &[u8]) -> Result<List<u8>, NoMemory> {
     let mut copied = Vec::new(alloc);
     copied.extend_from_slice(bytes)?;
@@ -43,7 +43,7 @@ fn push_line(bytes: &mut Vec<u8>, line: &str) -> Result<(), NoMemory> {
     Ok(())
 }
 
-// What the bytes of a line so far leave open.
+// The state of an escape after some bytes of a line.
 #[derive(Clone, Copy)]
 enum Open {
     Nothing,
@@ -52,7 +52,7 @@ enum Open {
     Digit(u8),
 }
 
-// Puts the bytes that a line stands for behind the others, and says whether it has a line end.
+// Appends the bytes of a line, and returns whether it has a line end.
 fn push_escaped(bytes: &mut Vec<u8>, line: &[u8]) -> Result<bool, NoMemory> {
     let mut open = Open::Nothing;
     for byte in line {

@@ -1,4 +1,4 @@
-// Runs of which something fails, and runs over files that are cut off.
+// Runs with faults, and runs over truncated files.
 use crate::answer::{Answer, Faults, answer_over, mem_folder, other_than_wanted, text_of};
 use crate::case::Run;
 use crate::content::copied;
@@ -6,26 +6,26 @@ use outside_folder::MemFile;
 use plan_types::{List, NoMemory};
 use std::alloc::Global;
 
-/// What fails in a run.
+/// The faults of a run.
 #[derive(Clone, Copy)]
 pub enum Failing {
     Nothing,
     /// The call on the folder with this number, from 1.
     Call(u64),
-    /// Each of the calls on the folder in turn, which are so many. The next run over the same folder answers as if none had failed.
+    /// Each of so many calls on the folder in turn. The next run over the same folder answers as if none had failed.
     EachCall(u64),
-    /// Each write in turn, where a write takes so many bytes.
+    /// Each write in turn, with so many bytes a write.
     EachWrite(usize),
-    /// In turn what stands behind each byte of the output, for which the sink has no room.
+    /// A full sink, with room for each smaller number of the output's bytes in turn.
     EachByte,
-    /// Nothing, but each file is cut off behind each of its bytes in turn.
+    /// No fault, but each file is truncated behind each of its bytes in turn.
     EachCut,
-    /// What is written is none of these.
+    /// None of these.
     Unknown,
 }
 
 impl Failing {
-    /// Whether a run is made many times, with the answer of the run above it in mind.
+    /// Whether a run is made many times.
     pub fn is_in_turn(self) -> bool {
         matches!(
             self,
@@ -34,7 +34,7 @@ impl Failing {
     }
 }
 
-/// What fails, as it is written.
+/// Reads the faults of a run.
 pub fn failing_of(fault: &str) -> Failing {
     let (kind, number) = fault.split_once(' ').unwrap_or((fault, "0"));
     match (kind, number.parse::<u32>()) {
@@ -48,7 +48,7 @@ pub fn failing_of(fault: &str) -> Failing {
     }
 }
 
-/// What a run over these files answers, where that isn't what is wanted with what fails.
+/// The answer of a run over these files with its faults, if it is wrong.
 pub fn other_failing(
     alloc: Global,
     files: &[MemFile],
@@ -71,7 +71,7 @@ pub fn other_failing(
     }
 }
 
-// The files once more, of which the one at a place has so many bytes at most.
+// A copy of the files, in which the one at a place is truncated to so many bytes.
 fn cut(
     alloc: Global,
     files: &[MemFile],
@@ -140,7 +140,7 @@ fn other_of_calls(
     other_with(alloc, files, run, faults)
 }
 
-// The run of which this call fails prints nothing, and leaves the folder as it was.
+// A run whose call fails prints nothing, and leaves the folder as it was.
 fn other_of_call(
     alloc: Global,
     files: &[MemFile],
@@ -158,7 +158,7 @@ fn other_of_call(
     other_than_wanted(alloc, run, &second)
 }
 
-// What comes of a failing write, where that isn't the front of the wanted output with so many bytes.
+// The answer of a run with a failed write, unless it is the prefix of the wanted output of so many bytes.
 fn other_front(
     alloc: Global,
     files: &[MemFile],
@@ -237,7 +237,7 @@ fn other_of_file(
     Ok(None)
 }
 
-// Files that are cut off are answered, and by a second run in the same way.
+// A run over truncated files has an answer, and so has a second run: the same one.
 fn other_of_cut(
     alloc: Global,
     files: List<MemFile>,
@@ -255,7 +255,7 @@ fn other_of_cut(
     shown(alloc, "with a file that is cut off", &first)
 }
 
-// A plan, that there is none, or a refusal.
+// Whether an answer is a plan, that there is none, or a refusal.
 fn is_told(found: &Answer) -> bool {
     let output = found.output.as_str();
     match found.status {

@@ -1,6 +1,7 @@
-//! Runs cases. Its words name files of cases: each run is made over a folder in memory, and where that is small over one of the system
-//! too, and is to answer what is written below it, also where a call on the folder or a write fails. It prints for each file how many
-//! runs came out, and what the others answered. No clause speaks of it. The notation stands at the head of `bin/build/cases.py`.
+//! Runs the planner on cases. In go files of cases, in the notation of `bin/build/cases.py`. Out comes, for each file,
+//! how many runs passed, and the answers of the others. Each run is made over a folder in memory, and over a folder of
+//! the system too if its files are small. Its answer must be the one written in the case, also after a failed call or
+//! write. This program has no contract.
 #![tactic(auto)]
 
 mod answer;

@@ -1,4 +1,4 @@
-// The folder of the system that a case is run over.
+// The folder of the system over which a case is run.
 use crate::case::{Case, Link};
 use outside_folder::RealFolder;
 use plan_types::{NoMemory, Text};
@@ -29,7 +29,7 @@ fn write_file(rt: &HostRuntime, path: &str, bytes: &[u8]) -> io::Result<()> {
     fs::write(rt, path.as_str(), bytes)
 }
 
-// Where a path leads in the folder, with the folders above it made.
+// A path below the folder. Makes the directories above it.
 fn placed(rt: &HostRuntime, path: &str) -> io::Result<String> {
     let path = format!(in rt.alloc(); "{ROOT}/{path}")?;
     if let Some((dir, _)) = path.as_str().rsplit_once('/') {
@@ -38,7 +38,7 @@ fn placed(rt: &HostRuntime, path: &str) -> io::Result<String> {
     Ok(path)
 }
 
-/// Takes the folder and its files away.
+/// Removes the folder and its files.
 pub fn clear(rt: &HostRuntime) -> io::Result<()> {
     fs::remove_dir_all(rt, ROOT)
 }

@@ -1,4 +1,4 @@
-// What comes of the cases of a file.
+// The report on the cases of a file.
 use crate::answer::{Faults, answer_over, mem_folder, other_than_wanted};
 use crate::case::{Case, Run, case_of};
 use crate::failing::{Failing, other_failing};
@@ -16,7 +16,7 @@ struct Report {
     others: String,
 }
 
-/// How many runs of a file of cases came out, and below it what the others answered.
+/// How many runs of a file of cases passed, and below that the answers of the others.
 pub fn report_of(rt: &HostRuntime, subject: &str, text: &str) -> io::Result<String> {
     let mut report = Report {
         passed: 0,
@@ -57,7 +57,8 @@ fn try_case(rt: &HostRuntime, case: Case, report: &mut Report) -> io::Result<()>
     Ok(())
 }
 
-// Whether a case is run over a folder of the system too: many files and large ones take long to write, and are left to `bin/try-cases`.
+// Whether a case is run over a folder of the system too. Many or large files take long to write; `bin/try-cases` runs
+// their cases.
 fn is_small(case: &Case) -> bool {
     let files = case.files.as_slice();
     files.len() <= 100 && files.iter().all(|file| file.bytes.len() <= 2_000_000)
@@ -67,7 +68,7 @@ fn is_whole(run: &Run) -> bool {
     matches!(run.failing, Failing::Nothing)
 }
 
-// The runs of which something fails, over folders in memory.
+// The runs with faults, over folders in memory.
 fn try_failing(alloc: Global, case: &Case, report: &mut Report) -> io::Result<()> {
     for run in case.runs.iter().filter(|run| !is_whole(*run)) {
         let other = with_memory(other_failing(alloc, case.files.as_slice(), run))?;
@@ -152,7 +153,7 @@ fn real_answer(rt: &HostRuntime, run: &Run) -> Result<Option<String>, NoMemory> 
     other_answer(rt.alloc(), run, &mut folder_at(rt)?)
 }
 
-// What a run answers over a folder, where that isn't what is wanted.
+// The answer of a run over a folder, if it is wrong.
 fn other_answer<F: Folder>(
     alloc: Global,
     run: &Run,

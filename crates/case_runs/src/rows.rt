@@ -1,10 +1,10 @@
-// What is written once and stands for more: a case for each of its rows, and lines for each number of a range.
+// Repetitions: a case for each of its rows, and lines for each number of a range.
 use plan_types::NoMemory;
 use std::alloc::Global;
 
 const ROW: &str = "@ ";
 
-/// The cases that a written case stands for, one for each of its rows, or itself where it has none.
+/// The cases of a written case: one for each of its rows, or itself if it has none.
 pub fn cases_of(alloc: Global, text: &str) -> Result<Vec<String>, NoMemory> {
     let mut cases = Vec::new(alloc);
     for row in text.lines().filter(|line| line.starts_with(ROW)) {
@@ -16,7 +16,7 @@ pub fn cases_of(alloc: Global, text: &str) -> Result<Vec<String>, NoMemory> {
     Ok(cases)
 }
 
-// The text without its rows, with the fields of one of them filled in.
+// The text without its rows, with the fields of one row filled in.
 fn with_fields(alloc: Global, text: &str, row: &str) -> Result<String, NoMemory> {
     let mut case = String::new(alloc);
     for line in text.lines().filter(|line| !line.starts_with(ROW)) {
@@ -50,7 +50,7 @@ fn push_repeated(alloc: Global, text: &mut String, line: &str) -> Result<(), NoM
     }
 }
 
-// Of a line that stands for many, the first number, the last one, and what is written for each.
+// Parses a repeated line: the first number, the last one, and the text for each.
 fn repeated(line: &str) -> Option<(u32, u32, &str)> {
     let (range, lines) = line.strip_prefix("* ")?.split_once(' ')?;
     let (first, last) = range.split_once("..")?;

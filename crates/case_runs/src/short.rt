@@ -4,7 +4,7 @@ use outside_folder::MemFile;
 use plan_types::{List, NoMemory, Text};
 use std::alloc::Global;
 
-/// Puts the files that a short form stands for behind the others.
+/// Appends the files of a short form.
 pub fn push_short(alloc: Global, files: &mut List<MemFile>, form: &str) -> Result<(), NoMemory> {
     let (kind, rest) = cut(form);
     match kind {
@@ -16,17 +16,17 @@ pub fn push_short(alloc: Global, files: &mut List<MemFile>, form: &str) -> Resul
         }
         "unit" => push_unit(alloc, files, rest),
         "units" => push_units(alloc, files, rest),
-        // A file without a path makes no folder, so that the case fails.
+        // A file without a path is in no tree, so the case fails.
         _ => push_file(alloc, files, "", form),
     }
 }
 
-// The first word, and what stands behind it.
+// The first word, and the text behind it.
 fn cut(words: &str) -> (&str, &str) {
     words.split_once(' ').unwrap_or((words, ""))
 }
 
-/// Puts a file with these lines of content behind the others.
+/// Appends a file with these lines of content.
 pub fn push_file(
     alloc: Global,
     files: &mut List<MemFile>,
@@ -38,7 +38,7 @@ pub fn push_file(
     files.push(MemFile { path, bytes })
 }
 
-// The text of a package that is written as its name, its version and what it depends on.
+// The text of a package, from its name, version and dependencies.
 fn package_text(alloc: Global, package: &str) -> Result<String, NoMemory> {
     let (name, rest) = cut(package);
     let (version, depends) = cut(rest);
@@ -70,7 +70,7 @@ fn push_source(alloc: Global, files: &mut List<MemFile>, package: &str) -> Resul
     push_package(alloc, files, folder.as_str(), ".cabal", package)
 }
 
-// A unit is written as its identifier, the name and the version of its package, and the units that it depends on.
+// A unit is written as its identifier, the name and version of its package, and the units that it depends on.
 fn push_unit(alloc: Global, files: &mut List<MemFile>, unit: &str) -> Result<(), NoMemory> {
     let (id, rest) = cut(unit);
     let (name, rest) = cut(rest);
@@ -83,7 +83,7 @@ fn push_unit(alloc: Global, files: &mut List<MemFile>, unit: &str) -> Result<(),
     push_file(alloc, files, path.as_str(), text.as_str())
 }
 
-// Each word is an identifier, of the form NAME-VERSION, of a unit that depends on nothing.
+// Each word is the identifier, NAME-VERSION, of a unit without dependencies.
 fn push_units(alloc: Global, files: &mut List<MemFile>, ids: &str) -> Result<(), NoMemory> {
     for id in ids.split(' ') {
         let (name, version) = id.rsplit_once('-').unwrap_or((id, ""));
