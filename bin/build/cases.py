@@ -41,7 +41,7 @@ ARGS = f"{TOP}/crates/case_runs/args"
 MARKS = ("# ", "--- ", "+ ", "$ ")
 BEGIN, ROW, REPEAT = "=== ", "@ ", "* "
 KINDS = ("local", "source", "plain", "unit", "units", "link")
-# What can fail in a run, and whether a number says more.
+# The faults of a run, and whether a number follows.
 FAILING = {"call": True, "calls": True, "writes": True, "bytes": False, "cuts": False}
 ESCAPES = {b"n": b"\n", b"t": b"\t", b"r": b"\r", b"s": b" "}
 
@@ -51,7 +51,7 @@ class BadCase(Exception):
 
 
 class Run:
-    """A run: its words, what fails in it, the status, the output or, of a long one, its digest and its ends."""
+    """A run: its words, its fault, the status, and the output or, of a long one, its digest and its ends."""
 
     def __init__(self, case, words, failing, status, digest, output):
         self.case, self.words, self.failing, self.status, self.digest, self.output = case, words, failing, status, digest, output
@@ -65,7 +65,7 @@ class Case:
 
 
 def names():
-    """Returns the names of the files of cases, as the program of cases is given them."""
+    """Returns the names of the files of cases, as the arguments of the program of cases."""
     with open(ARGS, encoding="utf-8") as lines:
         return lines.read().split("\n")[:-1]
 
@@ -77,7 +77,7 @@ def filled(line, fields):
 
 
 def repeated(line):
-    """Returns the lines that a line stands for."""
+    """Returns the lines that a line repeats, or the line itself."""
     told = re.match(r"\* (\d+)\.\.(\d+) (.*)$", line)
     if told is None:
         return [line]
@@ -132,7 +132,7 @@ def record(unit, name, version, depends):
 
 
 def made(words, files):
-    """Puts the files that a line of short forms stands for to the others."""
+    """Adds the files of a short form."""
     kind, rest = words.split(" ", 1)
     cut = lambda count: (rest.split(" ", count) + [""] * count)[: count + 1]
     if kind == "local":
@@ -161,7 +161,7 @@ def run_of(case, line, output):
 
 
 def take(case, block):
-    """Puts what a block says to its case: a line with a mark, and the lines below."""
+    """Adds a block to its case: a line with a mark, and the lines below it."""
     head, content = block[0], block[1:]
     if head.startswith("--- "):
         case.files[head[4:]] = bytes_of(content)
@@ -176,7 +176,7 @@ def take(case, block):
 
 
 def case_of(subject, line, lines, fields):
-    """Makes a case of its lines, with these fields filled in."""
+    """Returns the case of these lines, with these fields filled in."""
     lines = [it for line in lines for it in repeated(filled(line, fields))]
     case, block = Case(subject, lines[0][len(BEGIN) :], line), [lines[0]]
     for it in lines[1:]:
@@ -207,7 +207,7 @@ def cases_in(subject, text):
 
 
 def faults(subject):
-    """Returns what is wrong with the form of a file of cases, without making its folders: the program of cases passes over such lines."""
+    """Returns what is wrong with the form of a file of cases. The program of cases ignores such lines."""
     with open(f"{DATA}/{subject}", encoding="utf-8") as file:
         lines = file.read().split("\n")
     found = [] if lines[0].startswith("# ") else [f"{subject}:1: the first line is no remark"]
@@ -235,7 +235,7 @@ def cases(subject):
 
 
 def is_right(run, output):
-    """Returns whether an output is the one that is wanted."""
+    """Returns whether an output is the wanted one."""
     if run.digest is None:
         return output == run.output
     import hashlib

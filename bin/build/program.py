@@ -1,4 +1,4 @@
-"""Where the program stands that was built for the present sources."""
+"""The path of the program that was built for the present sources."""
 
 import contextlib
 import hashlib
@@ -8,23 +8,23 @@ import sys
 
 TOP = os.path.dirname(os.path.dirname(os.path.dirname(os.path.realpath(__file__))))
 PROGRAM = "cabal_plan"
-# Outside the checkout, so that checkouts of the same sources share it, and the gate finds nothing of it.
+# Outside the checkout: checkouts of the same sources share it, and the gate doesn't find it.
 OUT = f"{os.environ.get('XDG_CACHE_HOME') or os.path.expanduser('~/.cache')}/cabal-plan"
 # The program of the last release, for x86-64 Linux, and the sum of its sources.
 RELEASE, RELEASED_SOURCES = f"{TOP}/dist/cabal-plan", f"{TOP}/dist/sources.sha256"
-# The status where it can't be built.
+# The status if the program can't be built.
 FAILED = 70
 
 
 def table(top=TOP):
-    """Returns, for each crate of a repository, what its crates.txt says that it uses."""
+    """Returns for each crate of a repository the crates that it uses, by crates.txt."""
     with open(f"{top}/crates.txt", encoding="utf-8") as lines:
         said = [line.split(":", 1) for line in lines if ":" in line and not line.startswith("#")]
     return {crate.strip(): words.split() for crate, words in said}
 
 
 def below(crate, known, found):
-    """Puts the crate, with what it uses, behind those that it stands on."""
+    """Adds the crate, with the crates that it uses, behind those below it."""
     if crate not in found:
         for it in known[crate]:
             if it in known:
@@ -34,7 +34,7 @@ def below(crate, known, found):
 
 
 def sources(crates):
-    """Returns the paths of what the program is made from, relative to the top."""
+    """Returns the paths of the program's sources, relative to the top."""
     found = ["HANDLES"]
     for crate in crates:
         for part in ("src", "specs", "proofs"):
@@ -61,12 +61,12 @@ def is_released(total):
 
 
 def built_program():
-    """Returns the path of the program: the one that was built of the present sources, else that of the release where it was; else it
-    is built first."""
+    """Returns the path of the program for the present sources: the one that was built, or else the release's if it has
+    the same sources. If there is none, the program is built first."""
     crates = below(PROGRAM, table(), {})
     paths = sources(crates)
     total = sum_of(TOP, crates, paths)
-    # A program's name holds the sum of its sources, and it comes there whole: nobody sees half of one, or another's.
+    # A program's name has the sum of its sources, and the file appears whole: nobody sees a part of it, or another's.
     program = f"{OUT}/{PROGRAM}-{total}"
     if os.access(program, os.X_OK):
         return program

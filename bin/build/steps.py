@@ -10,9 +10,9 @@ import subprocess
 import sys
 import time
 
-# Bytes that a check takes: at least, for a line of code, for a line of a definition or a proof, and for the kit's crates.
+# The memory of a check in bytes: the least, a line of code, a line of a definition or proof, the kit's crates.
 LEAST, OF_CODE, OF_PROOFS, OF_KIT = 1_000_000_000, 1_000_000, 200_000, 1_500_000_000
-# What each further processor adds to that, as a part of it.
+# The part of this that each further processor adds.
 MORE = 0.6
 PARTS = ("src", "specs", "proofs")
 
@@ -40,7 +40,7 @@ def alone(folder):
 
 
 def linked(one, other):
-    """Gives the files of a folder a second name: whoever makes such a file anew removes it first."""
+    """Links the files of a folder. A program that makes such a file again removes it first."""
     shutil.rmtree(other, ignore_errors=True)
     shutil.copytree(one, other, copy_function=os.link)
 
@@ -61,11 +61,11 @@ def free_memory():
 
 
 class Build:
-    """A copy of the sources, and a folder for each crate with copies of those that it stands on: rt lets one call at a time
-    into a crate's folder, and would keep crates that stand on the same ones waiting for each other."""
+    """A copy of the sources, and a folder for each crate with copies of the crates below it. `rt` locks the folder of a
+    crate, so in a common folder crates would wait for each other."""
 
     def __init__(self, top, room, crates):
-        """crates: what each uses, of these and of the kit, each behind those that it stands on, and the program last."""
+        """crates: for each crate those that it uses, also the kit's; in an order with the program last."""
         self.top, self.room, self.crates, self.sources = top, room, crates, f"{room}/sources"
         self.used = {crate: [it for it in words if it in crates] for crate, words in crates.items()}
         self.program = list(crates)[-1]
@@ -77,7 +77,7 @@ class Build:
             of_kit = OF_KIT if len(crates[crate]) > len(self.used[crate]) else 0
             self.work[crate] = code + proofs
             self.memory[crate] = LEAST + OF_CODE * code + OF_PROOFS * proofs + of_kit
-        # The lines on the longest way to the program.
+        # The lines on the longest path to the program.
         for crate in reversed(crates):
             above = [self.ahead[it] for it in crates if crate in self.used[it]]
             self.ahead[crate] = self.work[crate] + max(above, default=0)
@@ -92,7 +92,7 @@ class Build:
         return f"{self.room}/{crate}/crates/{of or crate}"
 
     def lay_out(self, crate):
-        """Puts the sources of a crate and of those below it into its folder, with the libraries that were built of these."""
+        """Fills a crate's folder: its sources, and the sources and libraries of the crates below it."""
         os.makedirs(self.folder(crate), exist_ok=True)
         shutil.copyfile(f"{self.sources}/HANDLES", f"{self.room}/{crate}/HANDLES")
         with open(f"{self.room}/{crate}/crates.txt", "w", encoding="utf-8") as table:
@@ -107,7 +107,7 @@ class Build:
             linked(f"{self.folder(it)}/out/rlib", f"{self.folder(crate, it)}/out/rlib")
 
     def prove(self, crate, jobs, words):
-        """Proves a crate, and returns its log where that fails."""
+        """Proves a crate, and returns its log if that fails."""
         self.lay_out(crate)
         out = f"{self.folder(crate)}/out"
         os.makedirs(out, exist_ok=True)
@@ -123,7 +123,7 @@ class Build:
             status = ran.wait()
             self.running.discard(ran)
         if words == RUN:
-            # It also runs what it built, without words: the stamp tells that it was built.
+            # `rt run` also runs the program without words and so fails; the stamp shows that it was built.
             status = not os.path.isfile(stamp)
         return log if status else None
 
@@ -134,8 +134,8 @@ class Build:
                 os.killpg(ran.pid, signal.SIGTERM)
 
     def next(self, ready, running, lanes):
-        """Returns the crate to begin now, with how many processors, or None. Each takes one; the longest way to the program
-        doesn't wait for others, and takes two, or as many as nobody else would use: it is what the whole waits for."""
+        """Returns the crate to begin now and its number of processors, or None. A crate takes one. Only the crate with
+        the longest path to the program needn't wait for an idle one, and takes two, or all that no other needs."""
         idle = lanes - sum(jobs for _, jobs, _ in running.values())
         room = 0.85 * self.memory_free - sum(taken for _, _, taken in running.values())
         first = max(self.ahead[it] for it in [*ready, *(it for it, _, _ in running.values())])
@@ -174,7 +174,7 @@ class Build:
 
     @contextlib.contextmanager
     def stopped_in_the_end(self):
-        """Ends the provers that still run when this is left, also by a signal, before anyone waits for them."""
+        """Ends the provers that still run at the end, also after a signal, before anything waits for them."""
 
         def end(number, _):
             sys.exit(128 + number)
@@ -194,7 +194,7 @@ class Build:
 
 
 LIB, RUN = ["rt", "lib"], ["rt", "run"]
-# How many programs of earlier sources are kept, for other checkouts.
+# How many programs are kept, for checkouts of other sources.
 KEPT = 4
 
 
@@ -205,7 +205,7 @@ def drop_old(out, program):
 
 
 def built(out, program, build, paths, sum_of):
-    """Builds the program under this name, which holds the sum of its sources; returns whether it is there."""
+    """Builds the program under this name, which has the sum of its sources, and returns whether it is there."""
     with alone(out):
         if os.access(program, os.X_OK):
             return True

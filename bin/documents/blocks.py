@@ -1,5 +1,5 @@
-"""What the documents show of the program. Each of its calls in a block has to be a run of a case over the same files, and what stands below it
-the output of that run, in which a line `...` stands for lines that are left out."""
+"""The calls and outputs in the documents. Each call in a block must be a run of a case over the same files, and the
+lines below it the output of that run. A line `...` replaces any lines."""
 
 import functools
 import os
@@ -13,12 +13,12 @@ from pages import TOP, Failure, cells, names
 SUBJECT = "examples"
 PATH = os.path.relpath(f"{DATA}/{SUBJECT}", TOP)
 CALL = re.compile(r"(\S*/)?(cabal-plan|try-plan)(?: ([^|>]*?))?(?: \| (.*)| ?>.*)?$")
-# The first words of an answer that a block may show without the call.
+# The first words of an answer that a block may show without its call.
 ANSWER = re.compile(r"(plan|no plan|gave up|replay|constraints:|refused .*|generated \d+)$")
 # The folders whose examples a table shows, one a row, and the lines of answers that a row may show.
 TABLES = ("examples/differences",)
 LINE = re.compile(r"(choose|node|conflict) ")
-# With these a document changes the folder that it shows, at paths below it.
+# Commands by which a document changes its folder, at paths below it.
 CHANGES = ("mkdir ", "echo ", "sed ")
 OUTSIDE = re.compile(r"~|\.\.|(^|[\s>])/")
 
@@ -30,7 +30,7 @@ def is_read(path):
 
 
 def files_of(folder):
-    """Returns the files of a folder that the program may read: for each path its bytes."""
+    """Returns the files of a folder that the program may read, as the bytes of each path."""
     found = {}
     for at, _, inside in os.walk(folder):
         for path in (os.path.relpath(f"{at}/{name}", folder) for name in inside):
@@ -49,7 +49,7 @@ def lay_out(files, folder):
 
 @functools.lru_cache(maxsize=None)
 def folders():
-    """Returns the folders of examples: those that hold a file and stand in no other."""
+    """Returns the folders of examples: those that have a file and are below no other such folder."""
     found = []
     for at, inner, inside in os.walk(f"{TOP}/examples"):
         if inside:
@@ -63,15 +63,15 @@ def pattern(lines):
 
 
 def first_wrong(lines, output):
-    """Returns the place of the first shown line that isn't in the output as it stands there, or none; behind the last one where more follows."""
+    """Returns the place of the first wrong line, or none. If the output goes on, that is behind the last line."""
     if re.fullmatch(pattern(lines), output):
         return None
     return next((at for at in range(len(lines)) if not re.match(pattern(lines[: at + 1]), output)), len(lines))
 
 
 class Shell:
-    """Where the commands of a document run: in a folder of the repository, with its files if it is one of the examples, or in one that isn't
-    known. `run` is the last run of the program."""
+    """The state of a document's commands: a folder of the repository, with its files if it is an example, or an unknown
+    folder. `run` is the last run of the program."""
 
     def __init__(self):
         self.folder, self.files, self.run = "", None, None
@@ -82,7 +82,7 @@ class Shell:
         self.files = files_of(f"{TOP}/{folder}") if is_ours and folder in folders() else None
 
     def change(self, command):
-        """Runs a command that changes the files, on a copy, and returns whether it could be."""
+        """Runs a command that changes the files, on a copy, and returns whether it succeeded."""
         if OUTSIDE.search(command):
             return False
         with tempfile.TemporaryDirectory(prefix="docs-") as room:
@@ -93,10 +93,10 @@ class Shell:
 
 
 def run_of(shell, program, words, known):
-    """Returns the run of these words over the folder of the shell, or none, and why there is none."""
+    """Returns the run of these words over the folder of the shell, or none and the reason."""
     if program and os.path.normpath(f"{shell.folder}/{program}") not in ("bin/cabal-plan", "bin/try-plan"):
         return None, f"{program} isn't the program, seen from {shell.folder or 'the top'}"
-    # Of a folder that is made nothing is read.
+    # `generate` reads no file.
     files = {} if words[:1] == ["generate"] else shell.files
     over = [it for it in known if it.files == files]
     if not over:
@@ -106,7 +106,7 @@ def run_of(shell, program, words, known):
 
 
 def shown(page, at, run, lines):
-    """Yields what is wrong with an output that is shown."""
+    """Yields the faults of a shown output."""
     if run.digest:
         yield page.fails(at, f"the case {run.case.name} has no whole output")
         return
@@ -119,7 +119,7 @@ def shown(page, at, run, lines):
 
 
 def piped(page, at, command, run):
-    """Yields what is wrong with what is made of an output."""
+    """Yields the faults of a pipe from an output."""
     if command.startswith("python3 "):
         ended = subprocess.run(command, shell=True, input=run.output, stdout=subprocess.DEVNULL, stderr=subprocess.DEVNULL, check=False)
         if ended.returncode:
@@ -127,7 +127,7 @@ def piped(page, at, command, run):
 
 
 def step(page, shell, at, command, lines, known):
-    """Makes one step of a document, and returns what is wrong with it, or none where it shows nothing of the program."""
+    """Does one step of a document, and returns its faults, or none if the step doesn't run the program."""
     if told := re.match(r"cd (\S+)(?: && (.*))?$", command):
         shell.enter(told[1])
         command = told[2] or ""
@@ -150,7 +150,7 @@ def step(page, shell, at, command, lines, known):
 
 
 def answer(page, at, lines, known):
-    """Returns what is wrong with an answer that is shown without its call."""
+    """Returns the faults of an answer that is shown without its call."""
     is_shown = lambda run: not run.digest and first_wrong(lines, run.output.decode()) is None
     if any(is_shown(run) for case in known for run in case.runs):
         return []
@@ -158,7 +158,7 @@ def answer(page, at, lines, known):
 
 
 def of_page(page, known):
-    """Yields for each call and each answer of a document what is wrong with it."""
+    """Yields the faults of each call and each answer of a document."""
     shell = Shell()
     for first, lines in page.blocks:
         starts = [at for at, line in enumerate(lines) if line.startswith("$ ")]
@@ -181,7 +181,7 @@ def differs(folder, case):
 
 
 def of_folders(known):
-    """Yields for each folder of examples, and for each case over one, what is wrong with it."""
+    """Yields the faults of each folder of examples, and of each case over one."""
     there = folders()
     named = {case.name for case in known}
     for folder in there:
@@ -194,7 +194,7 @@ def of_folders(known):
 
 
 def of_rows(page, known):
-    """Yields for each row of a table of folders of examples which of the lines that its cells show no run over it prints."""
+    """Yields for each row of a table of examples the lines in its cells that no run over the example prints."""
     base = next((f"{it.rstrip('/')}/" for it in names("\n".join(page.prose)) if it.rstrip("/") in TABLES), None)
     is_ours = False
     for number, line in enumerate(page.prose, 1):
@@ -210,7 +210,7 @@ def of_rows(page, known):
 
 
 def checks(pages):
-    """Yields for each check what is wrong."""
+    """Yields the faults of each check."""
     try:
         known = list(cases(SUBJECT))
     except (OSError, BadCase) as error:

@@ -1,4 +1,4 @@
-"""The names that the documents put in backquotes: each file has to be there, and all else has to occur in the sources."""
+"""Names in backquotes in the documents: a file must exist, and any other name must occur in the sources."""
 
 import functools
 import glob
@@ -9,15 +9,15 @@ from pages import TOP
 from program import table
 
 CRATES = set(os.listdir(f"{TOP}/crates"))
-# Where the names of documents come from, but for this check.
+# The sources of names, without this check.
 SOURCES = [f"crates/*/{it}/**" for it in ("src", "specs", "proofs", "data")] + ["crates/*/args", "crates/*/stdout", "crates.txt", "HANDLES"]
 SOURCES += ["bin/*", "bin/build/*", "bin/folder/*", "bench/**", "examples/**"]
 PARTS = ("src", "specs", "proofs", "data", "must-fail", "mistakes")
 STARTS = {"crates", "docs", "bin", "bench", "examples", "src", "specs", "proofs", "must-fail", "mistakes"} | CRATES
 ENDS = (".rt", ".antt", ".md", ".edit", ".txt", ".py")
-# In a path these stand for any name.
+# In a path these mean any name.
 ANY = re.compile(r"\b(?:NAME|FILE|FUNCTION|VERSION|WHAT_IS_WRONG)\b")
-# What a file defines.
+# The definitions of a file.
 OF_CODE = re.compile(
     r"\b(?:fn|struct|enum|trait|type|const|static|mod)\s+(\w+)|\b(?:ensures|requires)\s+(\w+)\s*\{|^\s*ghost\s+(\w+)\s*[:=]"
     r"|^\s*([A-Z]\w*)\s*(?:\{|\(|,)|^\s*(?:pub(?:\(\w+\))?\s+)?(\w+):",
@@ -26,7 +26,7 @@ OF_CODE = re.compile(
 OF_TEXT = re.compile(r"^ *(?!use\b)(?:(?:abbrev|unfoldable|pub|data|record|law|lemma) +)*([\w-]+)", re.M)
 # A name of code.
 IS_CODE = re.compile(r"[a-z]\w*_\w+|[A-Z][a-z]\w*[A-Z]\w*")
-# What is told of other programs stands in no source.
+# Commands of other programs are in no source.
 COMMANDS = ("cabal ", "find ", "ghc ", "git ", "grep ", "ln ", "mkdir ", "mv ", "rt ", "rattle-kit")
 FOREIGN = {
     "fields and files of cabal, and words of its command line, that this program passes over or refuses": "--allow-newer --constraint --dry-run "
@@ -56,7 +56,8 @@ def sources():
 
 @functools.lru_cache(maxsize=None)
 def words():
-    """Returns the words of the sources, but of proofs those alone that they define, also words with hyphens in them, and the names of files."""
+    """Returns the words of the sources, also those with hyphens, and the names of files. Of proofs only their own
+    definitions count."""
     found = set(names_of_code())
     for path, text in sources().items():
         found |= set(re.findall(r"[\w-]+", path if "/proofs/" in path else f"{path} {text}"))
@@ -65,8 +66,8 @@ def words():
 
 @functools.lru_cache(maxsize=None)
 def defined(path):
-    """Returns the names that a file defines, or the files of a folder: of code those of its functions, types, variants, fields and clauses, of
-    definitions and proofs those at the front of a line."""
+    """Returns the names that a file, or the files of a folder, define. In code these are functions, types, variants,
+    fields and clauses; in definitions and proofs names at the front of a line."""
     paths = glob.glob(f"{TOP}/{path}/**", recursive=True) if os.path.isdir(f"{TOP}/{path}") else [f"{TOP}/{path}"]
     found = set()
     for it in filter(os.path.isfile, paths):
@@ -77,7 +78,7 @@ def defined(path):
 
 @functools.lru_cache(maxsize=None)
 def names_of_code():
-    """Returns the names that the sources define, those of files and crates, and the words that a text in quotes is alone."""
+    """Returns the names that the sources define, the names of files and crates, and quoted texts of one word."""
     found = set(KNOWN_ELSEWHERE) | CRATES | {it for used in table().values() for it in used}
     for path, text in sources().items():
         found.add(os.path.splitext(os.path.basename(path))[0])
@@ -103,13 +104,14 @@ def matches(pattern):
 
 
 class Place:
-    """Where a document is: the crate and the folder that it named last."""
+    """The state of a document: the crate and the folder that it named last."""
 
     def __init__(self):
         self.crate = self.folder = None
 
     def find(self, piece):
-        """Returns the path that a piece names, or none. A file without a folder stands where the last one did, or somewhere in the crate."""
+        """Returns the path that a piece names, or none. A file without a folder is in the last folder, or else anywhere
+        in the crate."""
         path = ANY.sub("*", piece).rstrip("/")
         crate = "*" if path in PARTS or not self.crate else self.crate
         tries = [path, f"crates/{path}", f"crates/{crate}/{path}"]
@@ -119,30 +121,30 @@ class Place:
         return next((matches(it)[0] for it in tries if matches(it)), None)
 
     def go(self, path):
-        """Goes where a path leads."""
+        """Sets the crate and the folder to those of a path."""
         parts = path.split("/")
         if parts[0] == "crates" and len(parts) > 2 and "*" not in parts[1]:
             self.crate, self.folder = parts[1], os.path.dirname(path) if os.path.isfile(f"{TOP}/{path}") else path
 
 
 def lacking(text):
-    """Returns the words of a name that no source has; a name of code has to be defined there."""
+    """Returns the words of a name that no source has. A name of code must be defined in a source."""
     if IS_CODE.fullmatch(text):
         return [text] * (text not in names_of_code())
     found = re.findall(r"(?<![\w-])--[a-z][\w-]*", text) + re.findall(r"(?<![\w-])[a-z]+(?:-[a-z]+)+(?![\w-])", text)
-    # (one or two letters are an example of any name, and a word with digits may be a version, a commit or a digest)
+    # (one or two letters may be any name; a word with digits may be a version, a commit or a digest)
     found += [it for it in re.findall(r"\w+", text) if len(it) > 2 and not it[0].isdigit() and not re.fullmatch(r"(?=.*\d)[0-9a-f]{7,}", it)]
     return [it for it in found if it not in words()]
 
 
 def are_apart(text):
-    """Returns the names of a text of the form TYPE::NAME that no file of the sources has together."""
+    """Returns the names TYPE::NAME of a text whose parts no file of the sources has together."""
     pairs = re.findall(r"(\w+)::(\w+)", text)
     return [f"{one}::{other}" for one, other in pairs if not any({one, other} <= it for it in words_of_code())]
 
 
 def of_span(page, place, span):
-    """Yields what is wrong with a name alone."""
+    """Yields the faults of a single name."""
     if span.text in CRATES:
         place.crate, place.folder = span.text, None
         return
@@ -162,7 +164,7 @@ def of_span(page, place, span):
 
 
 def of_file(page, place, spans, at):
-    """Yields which names that are told to stand in a file don't: 'NAME in FILE', or several names and several files."""
+    """Yields the names that aren't in their file: 'NAME in FILE', or several names and several files."""
     files = [spans[at].text]
     for it in spans[at + 1 :]:
         if it.gap not in (" and ", ", ") or not is_path(it.text):
@@ -179,11 +181,11 @@ def of_file(page, place, spans, at):
 
 
 def of_section(page, head, spans):
-    """Yields what is wrong with the names of a section."""
+    """Yields the faults of the names of a section."""
     place, row = Place(), None
     place.crate = of_head = next((it for it in re.findall(r"\w+", head) if it in CRATES), None)
     for at, span in enumerate(spans):
-        # (what a row of a table names holds for that row)
+        # (the place that a row of a table names is only for that row)
         if row not in (None, span.line):
             place.crate, place.folder = of_head, None
         row = span.line if page.prose[span.line - 1].startswith("|") else None
@@ -199,7 +201,7 @@ def of_section(page, head, spans):
 
 
 def of_page(page):
-    """Yields what is wrong with the names of a document."""
+    """Yields the faults of the names of a document."""
     heads = [(1, "")] + [(at, line) for at, line in enumerate(page.prose, 1) if line.startswith("#")]
     ends, spans = [at for at, _ in heads[1:]] + [len(page.prose) + 1], list(page.spans())
     for (first, head), end in zip(heads, ends):
@@ -207,6 +209,6 @@ def of_page(page):
 
 
 def checks(pages):
-    """Yields for each document what is wrong with its names."""
+    """Yields the faults of the names of each document."""
     for page in pages:
         yield list(of_page(page))

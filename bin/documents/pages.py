@@ -8,7 +8,7 @@ SPAN = re.compile(r"(`+)([^`\n]+)\1")
 
 
 class Failure:
-    """What is wrong at a line of a file."""
+    """A fault at a line of a file."""
 
     def __init__(self, path, line, what):
         self.path, self.line, self.what = path, line, what
@@ -61,7 +61,7 @@ class Page:
 
 
 def plain(text):
-    """Returns a name as it is meant: in a table a backslash stands before each bar."""
+    """Returns a name without the backslashes before bars that a table needs."""
     return text.replace("\\|", "|").strip()
 
 
@@ -71,7 +71,7 @@ def names(text):
 
 
 def cells(line):
-    """Returns the cells of a row of a table, or none of another line."""
+    """Returns the cells of a row of a table, or none for another line."""
     if not line.startswith("|") or line.startswith("|---"):
         return []
     return [it.strip() for it in re.split(r"(?<!\\)\|", line)[1:-1]]

@@ -1,10 +1,10 @@
-"""Checks of the files of cases: their form, and how many runs the program of cases is to count in each."""
+"""Checks of the files of cases: their form, and the number of runs that the program of cases counts in each."""
 
 from cases import TOP, count, faults, names
 
 
 def checks(_):
-    """Yields for each file of cases what is wrong with it."""
+    """Yields the faults of each file of cases."""
     with open(f"{TOP}/crates/case_runs/stdout", encoding="utf-8") as file:
         told = file.read().split("\n")[:-1]
     wanted = [f"{subject}: {count(subject)} of {count(subject)}" for subject in names()]

@@ -1,4 +1,4 @@
-"""The tables of the documents: what they list has to be what the sources have."""
+"""The tables of the documents: they must list what the sources have."""
 
 import os
 import re
@@ -8,7 +8,7 @@ from names import CRATES, defined
 from pages import TOP, Failure, cells, names
 from program import table
 
-# Of std, and the words of the language.
+# Names of std, and words of the language.
 PLAIN = {"Eq", "From", "Hash", "Ord", "clause", "for", "impl", "law"}
 
 
@@ -19,7 +19,7 @@ def told_by_calls(*words):
 
 
 def calls(page):
-    """Returns where the table of public calls isn't what `bin/calls` prints."""
+    """Returns the place where the table of public calls isn't what `bin/calls` prints."""
     wanted = told_by_calls()
     if wanted[0] not in page.prose:
         return [page.fails(1, "it has no table of public calls")]
@@ -31,7 +31,7 @@ def calls(page):
 
 
 def laws(page):
-    """Returns which public laws no row on their crate names."""
+    """Returns the public laws that no row on their crate names."""
     rows = {}
     for number, crate, row in contract_rows(page):
         rows.setdefault(crate, set()).update(it for name in names(row[2]) for it in re.findall(r"\w+", name))
@@ -40,7 +40,7 @@ def laws(page):
 
 
 def contract_rows(page):
-    """Yields each row on a contract: the number of its line, its crate, and its cells. One without a crate is on that of the row above."""
+    """Yields each row on a contract: its line, its crate and its cells. Without a crate it continues the row above."""
     crate = None
     for number, line in enumerate(page.prose, 1):
         row = cells(line)
@@ -50,7 +50,7 @@ def contract_rows(page):
 
 
 def contracts(page):
-    """Yields for each row on a contract which names of it its crate, and those that the row names besides, lack."""
+    """Yields for each row on a contract the names that its crate and the row's other crates don't have."""
     used = table()
     for number, crate, row in contract_rows(page):
         yield [page.fails(number, f"{crate} defines no {it}") for it in lacking(crate, used, row)] if crate in CRATES else [
@@ -66,8 +66,8 @@ def lacking(crate, used, row):
 
 
 def definition_rows(page):
-    """Yields each row on definitions: the number of its line, the files in which they stand, and their names. One without a file is on that of
-    the row above, and one without a crate on the crate above."""
+    """Yields each row on definitions: its line, their files and their names. Without a file or crate it continues the
+    row above."""
     crate, files = None, []
     for number, line in enumerate(page.prose, 1):
         row = cells(line)
@@ -79,7 +79,7 @@ def definition_rows(page):
 
 
 def definitions(page):
-    """Yields for each row on definitions which files aren't there, and which names they don't define."""
+    """Yields for each row on definitions the missing files, and the names that its files don't define."""
     for number, files, told in definition_rows(page):
         there = {name for it in files for name in defined(it)}
         wrong = [page.fails(number, f"there is no {it}") for it in files if not os.path.isfile(f"{TOP}/{it}")]
@@ -87,12 +87,12 @@ def definitions(page):
 
 
 def first_of(row):
-    """Returns the names that a row is about: those of its first cell, or else of the second one in front of a colon."""
+    """Returns the names of a row: those in its first cell, or else in the second one before a colon."""
     return names(row[0]) or names(row[1].split(":")[0]) if row else []
 
 
 def crates(page, title):
-    """Returns which crates the tables of a section lack, and which of those that they list aren't there."""
+    """Returns the crates that the tables of a section lack, and those listed there that don't exist."""
     found = {}
     for _, head, lines in page.sections():
         if head == title:
@@ -112,7 +112,7 @@ def listed(folder):
 
 
 def edits(page):
-    """Yields for each row of the table of wrong bodies which of its edits stand elsewhere, and at last which edits of the gate have no row."""
+    """Yields for each row of the table of wrong bodies its edits in other places; last, the gate's edits without row."""
     where, told, last = {it: edits_in(it) for it in ("must-fail", "mistakes")}, set(), 0
     for number, line in rows_below(page, "| Crate | `must-fail` | `mistakes` |"):
         crate, *columns = cells(line)
@@ -137,7 +137,7 @@ def place(edit, where):
 
 
 def checks(pages):
-    """Yields for each check what is wrong."""
+    """Yields the faults of each check."""
     by_name = {os.path.basename(it.path): it for it in pages}
     for name in ("README.md", "ARCHITECTURE.md", "DEFINITIONS.md", "PROVED.md"):
         if name not in by_name:

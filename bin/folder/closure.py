@@ -1,21 +1,22 @@
 """Finds the packages that a project can reach.
 
-In: an index, the names to begin with, the records of units, and which files can be read. Out: for each name its versions. A name is reached
-where it stands in a dependency field of a reached package, under whatever condition, or where a record of one needs its unit. This is at
-least what the planner reads. The test suites and benchmarks of an index's packages are in no plan: what only they name can be left out."""
+In: an index, the first names, the records of units, and which files can be read. Out: for each reached name its
+versions. A name is reached if a dependency field of a reached package has it, under any condition, or if a record of
+one needs its unit. The planner reads no more than this. Test suites and benchmarks of an index's packages are in no
+plan, so names that only they have can be left out."""
 
 import functools
 import re
 
 from index import by_number
 
-# What each dependency field's name has at its end, and what it is whole.
+# The ends of the names of dependency fields, and a pattern of the whole field.
 ENDS = (b"depends", b"build-tools")
 FIELD = re.compile(rb"(?:build-depends|build-tool-depends|build-tools|setup-depends)[ \t]*:(?:\s*\{([^}]*)\})?")
 NEW_LINE = re.compile(rb"\n")
 COMMENT = re.compile(rb"(?m)^[ \t]*--[^\n]*$")
 NAME = re.compile(rb"(?:\A|,)\s*([A-Za-z0-9]+(?:-[A-Za-z0-9]+)*)")
-# A section that is built for a local package alone, where it begins at the front of a line, up to the next element there.
+# Sections that are built only for a local package. They begin at the front of a line, and so does the next element.
 SUITES, NEXT = (b"\ntest-suite", b"\nbenchmark"), re.compile(rb"\n[a-z]")
 HAS_SETUP = re.compile(rb"build-type[ \t]*:\s*(?:simple|configure|make)\b")
 OF_SETUP = {b"base", b"Cabal"}
@@ -24,12 +25,12 @@ MOST_FILES, MOST_BYTES = 20_000, 268_435_456
 
 @functools.lru_cache(maxsize=None)
 def ending(indent):
-    """Returns the pattern of what ends a field's text: a line that is indented no deeper than the field, and is no comment."""
+    """Returns the pattern of the end of a field: a line no deeper than the field, which is no comment."""
     return re.compile(rb"\n[ \t]{0,%d}+(?![ \t\r\n]|--)" % indent)
 
 
 def dependency_fields(data, low):
-    """Yields where each dependency field begins, and its text. `low` is the same text in lower case."""
+    """Yields the place and the text of each dependency field. `low` is the same text in lower case."""
     for at in (at for end in ENDS for at in places(low, end)):
         start = low.rfind(b"\n", 0, at) + 1
         before = low[start:at]
@@ -44,8 +45,8 @@ def dependency_fields(data, low):
 
 
 def mentioned(data):
-    """Returns the names in the dependency fields of a file and those that a setup script has unsaid; and those of them that stand outside of test
-    suites and benchmarks."""
+    """Returns the names in the dependency fields of a file, with the implicit ones of a setup script; and those of them
+    outside of test suites and benchmarks."""
     low = data.lower()
     unsaid = set() if any(HAS_SETUP.match(low, at) for at in places(low, b"build-type")) else OF_SETUP
     suites = [(at, it.start() if (it := NEXT.search(low, at + 1)) else len(low)) for word in SUITES for at in places(low, word)]
@@ -59,7 +60,7 @@ def mentioned(data):
 
 
 def places(text, word):
-    """Yields where a word stands in a text."""
+    """Yields the places of a word in a text."""
     at = text.find(word)
     while at >= 0:
         yield at
@@ -76,15 +77,15 @@ def of_units(records):
 
 
 class Closure:
-    """What a project reaches in an index: the versions of each name, the names that each mentions, and how many bytes all have. `can_read` says
-    which files can be read; without it all can."""
+    """What a project reaches in an index: for each name its versions, the names that it mentions, and the bytes of its
+    files. `can_read` is whether a file can be read; without it all can."""
 
     def __init__(self, index, records, can_read, newest):
         self.index, self.units, self.can_read, self.newest, self.records = index, of_units(records), can_read, newest, len(records)
         self.versions, self.full, self.lean, self.sizes = {}, {}, {}, {}
 
     def read(self, name):
-        """Reads the files of a name: all versions, or so many of the newest, those that can be read before others."""
+        """Reads the files of a name: all versions, or at most `newest`, the readable ones first."""
         there = sorted(self.index.versions(name), key=by_number, reverse=True)
         datas = {it: self.index.data(name, it) for it in (there if self.can_read else there[: self.newest])}
         good = {it for it, data in datas.items() if not self.can_read or self.can_read(data)}
@@ -100,8 +101,8 @@ class Closure:
         self.full[name], self.lean[name] = ({it.decode() for it in found} | units for found in (full, lean))
 
     def reach(self, roots, locals_):
-        """Returns the names that are reached from some, and whether those are left out that suites alone reach, since all are too many. Local
-        names have no versions."""
+        """Returns the names that are reached from `roots`, and whether those are left out that only suites reach, since
+        all are too many. Local names have no versions."""
         for name in locals_:
             self.versions[name], self.sizes[name] = [], 0
             self.full[name] = self.lean[name] = self.units.get(name, set())
@@ -109,7 +110,7 @@ class Closure:
         return (self.spread(roots, self.lean, False), True) if self.is_too_much(found) else (found, False)
 
     def spread(self, roots, mentions, can_stop):
-        """Returns all names that are reached by mentions; where it can stop, it does so once they are too many."""
+        """Returns all names that mentions reach. With `can_stop` it stops once they are too many."""
         found, rest, files = set(roots), list(roots), 0
         while rest and not (can_stop and files > MOST_FILES):
             name = rest.pop()
@@ -125,10 +126,10 @@ class Closure:
         return sum(len(self.versions[it]) for it in names)
 
     def is_too_much(self, names):
-        """Returns whether the planner would refuse so many files."""
+        """Returns whether the planner would refuse the files of these names as too many."""
         return self.records + self.count(names) > MOST_FILES or sum(self.sizes[it] for it in names) > MOST_BYTES
 
     def fitting(self, names):
-        """Returns how many versions of each name the planner would take, or 0 where not even one."""
+        """Returns how many versions of each name the planner would accept, or 0 if not even one."""
         counts = [len(self.versions[it]) for it in names]
         return max((n for n in range(1, max(counts, default=0) + 1) if self.records + sum(min(n, it) for it in counts) <= MOST_FILES), default=0)

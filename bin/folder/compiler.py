@@ -1,7 +1,7 @@
-"""Asks a ghc for what the planner has to know of it.
+"""Asks a ghc for its version and platform.
 
-In: the path of ghc, or none for the one on the PATH. Out: its version, the system and the processor that it compiles for, as the planner
-spells them, its global database, and its ghc-pkg."""
+In: the path of ghc, or none for the one on the PATH. Out: its version, its target system and processor in the
+planner's words, its global database, and its ghc-pkg."""
 
 import os
 import re
@@ -19,7 +19,7 @@ PAIR = re.compile(r'\("((?:[^"\\]|\\.)*)"\s*,\s*"((?:[^"\\]|\\.)*)"\)')
 
 
 class Compiler:
-    """A compiler: its path, its version, and what it says of itself."""
+    """A compiler: its path, its version, and its own information."""
 
     def __init__(self, path, version, info):
         self.path, self.version = path, version
@@ -29,7 +29,7 @@ class Compiler:
 
     @staticmethod
     def system(text):
-        """Returns the planner's word for the system of a platform, such as `linux` of `linux-gnu` and `osx` of `darwin20`."""
+        """Returns the planner's word for a system, such as `linux` for `linux-gnu` and `osx` for `darwin20`."""
         if "android" in text:
             return "android"
         word = text.split("-")[0].lower()
@@ -40,14 +40,14 @@ class Compiler:
         return [f"--compiler=ghc-{self.version}", f"--os={self.os}", f"--arch={self.arch}"]
 
     def ghc_pkg(self):
-        """Returns the path of the ghc-pkg that stands beside this compiler."""
+        """Returns the path of the ghc-pkg beside this compiler."""
         places = [os.path.dirname(it) for it in (self.path, os.path.realpath(self.path))]
         tries = [f"{place}/{name}" for place in places for name in (f"ghc-pkg-{self.version}", "ghc-pkg")]
         return next((it for it in tries if os.access(it, os.X_OK)), None)
 
 
 def answer(words):
-    """Returns what a program prints."""
+    """Returns the output of a program."""
     try:
         ran = subprocess.run(words, stdin=subprocess.DEVNULL, stdout=subprocess.PIPE, stderr=subprocess.PIPE, check=False)
     except OSError as error:
@@ -59,7 +59,7 @@ def answer(words):
 
 
 def compiler(asked):
-    """Returns the compiler of that path or name, or the one that a call of ghc finds."""
+    """Returns the compiler of this path or name, or the ghc on the PATH."""
     path = shutil.which(asked or "ghc")
     if not path and asked:
         raise Refusal(f"there is no compiler {asked}: --with-compiler takes the path of a ghc, or a name on the PATH")

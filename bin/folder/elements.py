@@ -1,6 +1,6 @@
 """Reads the elements of a `.cabal` or project file as cabal does, older forms too.
 
-In: the text of a file. Out: its fields and sections as a tree, and which forms stand in it that the planner doesn't read."""
+In: the text of a file. Out: its fields and sections as a tree, and its forms that the planner doesn't read."""
 
 import re
 
@@ -15,7 +15,7 @@ TOO_DEEP = 200
 
 
 class Misread(Exception):
-    """What can't be read, and at which line."""
+    """A text that can't be read: the reason, and the line."""
 
     def __init__(self, line, why):
         super().__init__(f"{why} at line {line}")
@@ -23,7 +23,7 @@ class Misread(Exception):
 
 
 class Field:
-    """A field: its name in lower case, its values, each the text of a line, and its line."""
+    """A field: its name in lower case, its values, one a line, and the line of the field."""
 
     def __init__(self, name, values, line=0):
         self.name, self.values, self.line = name, values, line
@@ -40,7 +40,7 @@ class Section:
 
 
 class Reader:
-    """Where the reading of a file is: at a line, and there behind so many characters of its text; how many braces are open; the forms that it met."""
+    """The state of a reading: the line, the offset in it, the number of open braces, and the forms found so far."""
 
     def __init__(self, text):
         self.lines, self.at, self.col, self.open, self.forms = [], 0, 0, 0, set()
@@ -54,7 +54,7 @@ class Reader:
         return self.at >= len(self.lines)
 
     def rest(self):
-        """Returns what is left of the line."""
+        """Returns the rest of the line."""
         return "" if self.is_over() else self.lines[self.at][2][self.col :]
 
     def number(self):
@@ -67,7 +67,7 @@ class Reader:
         return self.col == 0
 
     def skip(self, count):
-        """Goes so many bytes on, and over the blanks behind them; behind the end of a line to the next one."""
+        """Moves on by so many bytes and the blanks behind them; at the end of a line to the next one."""
         text = self.lines[self.at][2]
         self.col += count
         while self.col < len(text) and text[self.col] in BLANK:
@@ -76,7 +76,7 @@ class Reader:
             self.at, self.col = self.at + 1, 0
 
     def elements(self, least, is_braced, depth):
-        """Returns the elements that are indented by at least so much, up to the brace that closes them where they stand in braces."""
+        """Returns the elements of at least this indent, in braces up to the closing one."""
         found = []
         if depth > TOO_DEEP:
             raise Misread(self.number(), "sections too deep")
@@ -132,7 +132,7 @@ class Reader:
         return found
 
     def close(self):
-        """Goes behind a closing brace."""
+        """Moves on behind a closing brace."""
         alone = self.is_at_start()
         at = self.at
         self.skip(1)
@@ -158,7 +158,7 @@ class Reader:
         return found
 
     def inline_value(self):
-        """Returns the value of a field that stands behind a brace in its line: up to the next brace or the line's end."""
+        """Returns the value of a field behind a brace in its line: up to the next brace or the line's end."""
         text = self.rest()
         end = min((at for at in (text.find("{"), text.find("}")) if at >= 0), default=len(text))
         self.skip(end)
@@ -183,7 +183,7 @@ class Reader:
 
 
 def elements(text):
-    """Returns the elements of a text, and the forms in it that the planner doesn't read."""
+    """Returns the elements of a text, and its forms that the planner doesn't read."""
     reader = Reader(text)
     return reader.elements(0, False, 0), reader.forms
 
@@ -202,7 +202,7 @@ def printed(items, depth=0):
 
 
 def walk(items):
-    """Yields each element and all that stand in it."""
+    """Yields each element and all elements in it."""
     rest = list(reversed(items))
     while rest:
         it = rest.pop()

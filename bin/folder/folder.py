@@ -1,7 +1,7 @@
-"""Makes the folder that is planned.
+"""Makes the folder to plan in.
 
-In: a project's folder and the options. Out: the links `index` and `installed` in it, and where its local files have to be rewritten a folder of
-links and copies that stands for it; the folder to plan in, and the words of the environment."""
+In: a project's folder and the options. Out: the links `index` and `installed` in it, the folder to plan in, and the
+words of the environment. If local files are rewritten, that is a folder of links and copies in place of the project."""
 
 import collections
 import glob
@@ -21,7 +21,7 @@ INDEX, INSTALLED, PROJECT, CHANGED = "index", "installed", "project", ".changed"
 
 
 def copy_of(path, data, say):
-    """Returns the bytes of a rewritten copy and the kinds of changes; none where the file can stay, or can't be rewritten."""
+    """Returns the bytes to plan with, and the kinds of changes: none if the file stays or can't be rewritten."""
     try:
         return rewritten(data)
     except Misread as error:
@@ -30,7 +30,7 @@ def copy_of(path, data, say):
 
 
 def local_packages(project, is_rewritten, say):
-    """Returns for each local file its bytes, those that are planned, and the kinds of changes."""
+    """Returns for each local file its bytes, the bytes to plan with, and the kinds of changes."""
     found = {path: read(os.path.join(project, path)) for path in local_files(project)}
     if is_rewritten:
         return {path: (data, *copy_of(path, data, say)) for path, data in found.items()}
@@ -41,13 +41,13 @@ def local_packages(project, is_rewritten, say):
 
 
 def own_name(data):
-    """Returns the name that a `.cabal` file states."""
+    """Returns the name in a `.cabal` file."""
     found = re.search(rb"(?im)^[ \t]*name[ \t]*:\s*([A-Za-z0-9-]+)", data)
     return found[1].decode() if found else ""
 
 
 class Wanted:
-    """What is wanted of an index: the names that the project needs, its own, the records, and the options."""
+    """The input that selects files of an index: the project's needed and own names, the records and the options."""
 
     def __init__(self, project, local, units, asked):
         self.own = {own_name(data) for data, *_ in local.values()}
@@ -55,13 +55,13 @@ class Wanted:
         self.units, self.newest, self.is_rewritten = units, asked.newest, asked.older_headers
 
     def key(self):
-        """Returns what tells this from others."""
+        """Returns all of this as a text."""
         units = sorted((it.unit, it.name, it.needs) for it in self.units)
         return repr((sorted(self.roots), sorted(self.own), units, self.newest, self.is_rewritten))
 
 
 def reached(source, wanted, say):
-    """Returns what the project reaches of an index, as a list of names and versions, and a line that says what that is."""
+    """Returns the names and versions that the project reaches in an index, and a line that describes them."""
     source.open()
     reach = closure.Closure(source, wanted.units, None if wanted.is_rewritten else is_read, wanted.newest)
     names, is_lean = reach.reach(wanted.roots, wanted.own)
@@ -77,12 +77,12 @@ def reached(source, wanted, say):
 
 
 def code():
-    """Returns what tells this code from other code."""
+    """Returns a hash of this code."""
     return hash_of(b"\0".join(read(it) for it in sorted(glob.glob(f"{os.path.dirname(os.path.realpath(__file__))}/*.py"))))
 
 
 def made_index(own, source, wanted, say):
-    """Returns the name of the index that is made: out of a tar it isn't made again while the tar and what is wanted of it stay the same."""
+    """Returns the name of the made index. From a tar it is made again only if the tar or `wanted` has changed."""
     if source.stamp:
         key = "\n".join([code(), source.stamp, wanted.key()])
         return own.make(INDEX, key, lambda at: fill_index(at, source, *reached(source, wanted, say), wanted.is_rewritten, say))
@@ -92,7 +92,7 @@ def made_index(own, source, wanted, say):
 
 
 def fill_index(at, source, files, told, is_rewritten, say):
-    """Writes the files of an index: links where a file stays as it is and a folder can be linked to, else copies."""
+    """Writes the files of an index: links for unchanged files in folders, else copies."""
     changed = [f"{told}\n"]
     for name, version in files:
         data = source.data(name, version) if is_rewritten or not source.target(name, version) else None
@@ -109,7 +109,7 @@ def fill_index(at, source, files, told, is_rewritten, say):
 
 
 def fill_installed(at, units):
-    """Sets links to the files of records, and writes those that a dump has. Names that stand twice get a number in front."""
+    """Links the files of records, and writes the records of a dump. A repeated name gets a number in front."""
     taken = collections.Counter()
     for it in units:
         name = os.path.basename(it.path) if it.path else f"{it.unit}.conf"
@@ -122,7 +122,7 @@ def fill_installed(at, units):
 
 
 def fill_project(at, project, local, made):
-    """Lays out a project with links to its files, and copies of the local files that were changed."""
+    """Fills a folder with links to the files of a project, and with copies of its changed local files."""
     links = {name: f"../../{name}" for name in FILES if os.path.isfile(os.path.join(project, name))}
     links |= {kind: f"../{name}" for kind, name in made.items()}
     links |= {path: "../" * (path.count("/") + 2) + path for path, (*_, kinds) in local.items() if not kinds}
@@ -135,7 +135,7 @@ def fill_project(at, project, local, made):
 
 
 def say_changes(lines, is_rewritten, say):
-    """Says what the index has, how many of its files were changed, and by which kinds."""
+    """Prints what the index has, and how many of its files were changed, by kind."""
     say(lines.pop(0))
     if not is_rewritten:
         return
@@ -145,7 +145,7 @@ def say_changes(lines, is_rewritten, say):
 
 
 def made_folder(project, asked, say):
-    """Makes what the planner reads, and returns the folder to plan in and the words of the environment."""
+    """Makes all that the planner reads, and returns the folder to plan in and the words of the environment."""
     local = local_packages(project, asked.older_headers, say)
     own = Own(project)
     own.check((INDEX, INSTALLED))
@@ -166,7 +166,7 @@ def made_folder(project, asked, say):
 
 
 def linked(project, own, local, made, is_rewritten, say):
-    """Sets the links, says what stands where, and returns the folder to plan in."""
+    """Sets the links, prints where they lead, and returns the folder to plan in."""
     copies = [(path, kinds) for path, (*_, kinds) in local.items() if kinds]
     names = {*made.values(), own_project(project, own, local, made, say, copies), PROJECT} if copies else {*made.values()}
     for kind, name in made.items():
@@ -179,7 +179,7 @@ def linked(project, own, local, made, is_rewritten, say):
 
 
 def say_ignored(project, say):
-    """Says which lines `.gitignore` lacks."""
+    """Prints the lines that `.gitignore` lacks."""
     path = os.path.join(project, ".gitignore")
     there = read(path).decode("utf-8", "replace").split() if os.path.isfile(path) else []
     lacking = [it for it in (f"/{OWN}/", f"/{INDEX}", f"/{INSTALLED}") if it not in there]
@@ -188,7 +188,7 @@ def say_ignored(project, say):
 
 
 def own_project(project, own, local, made, say, copies):
-    """Makes the folder that stands for a project of which some local files are rewritten, and returns its name."""
+    """Makes the folder in place of a project with rewritten local files, and returns its name."""
     stated = [(path, hash_of(data), sorted(kinds)) for path, (_, data, kinds) in sorted(local.items())]
     key = code() + repr((made, [it for it in FILES if os.path.isfile(os.path.join(project, it))], stated))
     name = own.make(PROJECT, key, lambda at: fill_project(at, project, local, made))

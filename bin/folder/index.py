@@ -1,7 +1,7 @@
 """Reads an index of packages, as a folder or as the tar that cabal keeps.
 
-In: a path. Out: an index that knows the versions of a name, and the bytes of each `.cabal` file. A tar is read as a stream, once for the
-places of its files; of several entries of one path the last counts. Nothing of it is kept but these places."""
+In: a path. Out: an index with the versions of a name, and the bytes of each `.cabal` file. A tar is read once as a
+stream for the places of its files, and only these are kept. Of several entries of one path the last counts."""
 
 import os
 import re
@@ -11,7 +11,7 @@ from refusal import Refusal, read
 
 VERSION = re.compile(r"(0|[1-9]\d{0,8})(\.(0|[1-9]\d{0,8}))*")
 BLOCK, CHUNK = 512, 1 << 22
-# How a file of a tar and a longer name of the next one are marked.
+# The marks of a tar's entry: a file, or a long name of the next entry.
 FILE, LONG_NAME, LONGER, CABAL = (b"0", b"\0"), b"L", (b"L", b"x"), b".cabal\0"
 
 
@@ -20,7 +20,7 @@ def is_version(text):
 
 
 def by_number(text):
-    """Returns what versions are compared by."""
+    """Returns the key by which versions are compared."""
     return [int(it) for it in text.split(".")]
 
 
@@ -31,7 +31,7 @@ class Folder:
         self.path, self.told, self.stamp = os.path.abspath(path), path, None
 
     def open(self):
-        """Nothing is read before it is asked for."""
+        """Does nothing: a folder is read when needed."""
 
     def versions(self, name):
         """Returns the versions of a name."""
@@ -47,17 +47,18 @@ class Folder:
         return read(f"{self.path}/{name}/{version}/{name}.cabal")
 
     def target(self, name, version):
-        """Returns the folder of a version, which a link may lead to."""
+        """Returns the folder of a version, for a link to it."""
         return f"{self.path}/{name}/{version}"
 
     def key(self, name, version):
-        """Returns what tells this file from others, also from the same one at another time."""
+        """Returns a key of this file, which changes with the file."""
         it = os.stat(f"{self.path}/{name}/{version}/{name}.cabal")
         return f"{self.path} {it.st_size} {it.st_mtime_ns}"
 
 
 class Tar:
-    """An index that is a tar: for each name its versions, and for each of these where its bytes are. Its stamp tells it from a later one."""
+    """An index that is a tar: for each name its versions, each with the place of its bytes. A change of the tar changes
+    `stamp`."""
 
     def __init__(self, path):
         self.path, self.told, self.places = os.path.abspath(path), path, {}
@@ -118,7 +119,7 @@ class Tar:
         return size
 
     def note(self, path, at, size):
-        """Keeps the place of a file where it is the `.cabal` file of a version."""
+        """Keeps the place of a file if it is the `.cabal` file of a version."""
         parts = path.decode("utf-8", "replace").removeprefix("./").split("/")
         if len(parts) == 3 and parts[2] == f"{parts[0]}.cabal" and is_version(parts[1]):
             self.places.setdefault(parts[0], {})[parts[1]] = at, size
@@ -135,12 +136,12 @@ class Tar:
         return found
 
     def target(self, _name, _version):
-        """Returns none: nothing can be linked to."""
+        """Returns none: a link can't lead into a tar."""
         return None
 
 
 def number(field):
-    """Returns the number of a field of a tar's head, or none where it has none."""
+    """Returns the number in a field of a tar's head, or none."""
     if field[:1] == b"\x80":
         return int.from_bytes(field[1:], "big")
     digits = field.strip(b"\0 ")
@@ -148,14 +149,14 @@ def number(field):
 
 
 def name_of(head):
-    """Returns the path that a tar's head says."""
+    """Returns the path in a tar's head."""
     name = head[: head.index(0) if 0 in head[:100] else 100][:100]
     prefix = head[345:500].split(b"\0")[0] if head[257:263] == b"ustar\0" else b""
     return prefix + b"/" + name if prefix else name
 
 
 def long_name(kind, data):
-    """Returns the path that an entry says of the next one."""
+    """Returns the path that an entry gives the next one."""
     if kind == LONG_NAME:
         return data.rstrip(b"\0")
     found = re.search(rb"(?:^|\n)\d+ path=([^\n]*)\n", data)
@@ -163,7 +164,7 @@ def long_name(kind, data):
 
 
 def places():
-    """Returns where cabal keeps the tars of its servers."""
+    """Returns the folders where cabal keeps the tars of its servers."""
     home = os.path.expanduser("~")
     cache = os.environ.get("XDG_CACHE_HOME") or f"{home}/.cache"
     given = [os.environ["CABAL_DIR"]] if os.environ.get("CABAL_DIR") else []
@@ -180,7 +181,7 @@ def found_tars():
 
 
 def index(asked):
-    """Returns the index of that path, or the one that cabal has fetched."""
+    """Returns the index of this path, or the one that cabal has fetched."""
     if not asked:
         tars = found_tars()
         if not tars:

@@ -1,7 +1,8 @@
-"""Writes what the planner reads into a folder of the project that belongs to this tool, and sets links to it.
+"""Writes the planner's input into this tool's own folder in a project, and sets links to it.
 
-In: what is to stand there. Out: links beside the project's files. What is made stands whole in a folder of its own, named by what it was made
-from; then a link is turned to it. So a run that is ended at any time leaves what was there, and a second run changes nothing."""
+In: the files to write. Out: links beside the project's files. The files are written into a new folder, named by a
+hash of their sources; then a link is set to it. So a run that is ended at any time leaves the earlier state, and a
+second run changes nothing."""
 
 import fcntl
 import hashlib
@@ -15,14 +16,14 @@ LOCK, NEW = "lock", "new"
 
 
 class Own:
-    """The folder of this tool in a project, which one run at a time may change."""
+    """The folder of this tool in a project. Only one run at a time may change it."""
 
     def __init__(self, project):
         self.project, self.path = project, os.path.join(project, OWN)
         self.lock = None
 
     def check(self, names):
-        """Refuses where a link would take the place of something that this tool hasn't made."""
+        """Refuses if a link would replace something that this tool hasn't made."""
         for name in names:
             at = os.path.join(self.project, name)
             is_ours = os.path.islink(at) and os.readlink(at).startswith(f"{OWN}/")
@@ -30,7 +31,7 @@ class Own:
                 raise Refusal(f"{name} is here already, and this tool hasn't made it: move it away" + "; --index=PATH names it there" * (name == "index"))
 
     def open(self):
-        """Makes the folder where it isn't there, locks it, and takes away what an ended run has left."""
+        """Makes the folder if it is missing, locks it, and removes the remains of ended runs."""
         try:
             os.makedirs(self.path, exist_ok=True)
             self.lock = open(os.path.join(self.path, LOCK), "ab")  # (open up to the end: the lock is the file's)
@@ -42,7 +43,7 @@ class Own:
         clear(os.path.join(self.path, NEW))
 
     def make(self, kind, key, fill):
-        """Returns the name of a folder of that kind and key, made by `fill` where it isn't there yet."""
+        """Returns the name of the folder of this kind and key. `fill` makes it if it is missing."""
         name = f"{kind}-{hashlib.sha256(key.encode('utf-8', 'surrogateescape')).hexdigest()[:16]}"
         at, new = os.path.join(self.path, name), os.path.join(self.path, NEW)
         if os.path.isdir(at):
@@ -58,7 +59,7 @@ class Own:
         return name
 
     def link(self, at, target):
-        """Turns a link to a target, at once. Where it leads there already nothing is changed."""
+        """Sets a link to a target in one step, unless it leads there already."""
         if os.path.islink(at) and os.readlink(at) == target:
             return
         new = os.path.join(self.path, NEW)
@@ -66,7 +67,7 @@ class Own:
         os.rename(new, at)
 
     def undo(self, names):
-        """Takes away what no link leads to; all of it, where there is none."""
+        """Removes the folders to which no link leads, or this tool's whole folder if there is no link."""
         links = [os.path.join(self.project, it) for it in names] + [os.path.join(self.path, "project")]
         used = {os.path.basename(os.readlink(it)) for it in links if os.path.islink(it)}
         if used:
@@ -75,14 +76,14 @@ class Own:
             clear(self.path)
 
     def keep(self, names):
-        """Takes away what isn't used any more."""
+        """Removes the folders that are no longer used."""
         for it in os.listdir(self.path):
             if it not in names and it != LOCK:
                 clear(os.path.join(self.path, it))
 
 
 def clear(path):
-    """Takes away a folder, a file or a link, where it is there."""
+    """Removes a folder, a file or a link, if it exists."""
     if os.path.islink(path) or os.path.isfile(path):
         os.remove(path)
     else:

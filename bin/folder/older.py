@@ -1,6 +1,6 @@
-"""Rewrites a `.cabal` file of another header, or in an older form, so that the planner reads it.
+"""Rewrites a `.cabal` file with another header or of an older form, so that the planner reads it.
 
-In: the bytes of a file. Out: the bytes of the copy, and the kinds of changes; or none where the file can stay as it is."""
+In: the bytes of a file. Out: the bytes of the copy, and the kinds of changes: none if the file stays as it is."""
 
 import re
 
@@ -10,13 +10,14 @@ READ = ("2.4", "3.0", "3.4")
 HEADER = re.compile(rb"(?i)(?<![^\n])[ \t]*cabal-version[ \t]*:[ \t]*(\S[^\n]*|\r?\n[ \t]+[^\n:]+|)")
 MORE = re.compile(rb"\s*\n[ \t]+[&|<>=]")
 FIRST = re.compile(rb"\A(?:\xef\xbb\xbf)?(?:[ \t]*(?:--[^\n]*)?\r?\n)*[ \t]*cabal-version[ \t]*:[ \t]*(\S+)[ \t]*\r?(?:\n|\Z)(?=\S|\s*\Z|[ \t]*(?:--|\r?\n))", re.I)
-# Where one of these stands in a file, it is read whole: braces, blanks beyond ASCII, older fields, and a component's name of other characters.
+# A file with one of these is parsed as a whole: braces, blanks beyond ASCII, older fields, and component names with
+# other characters.
 UNUSUAL = (b"{", b"}", b"\xa0", b"build-tools")
 OTHER_NAME = re.compile(rb"\n(?:library|executable|test-suite|benchmark|foreign-library)[ \t]+[\w-]*[^\w\s-]")
 SECTIONS = (b"\nlibrary", b"\nexecutable", b"\ntest-suite", b"\nbenchmark", b"\nforeign-library")
 BUILD_TYPE = re.compile(rb"\nbuild-type[ \t]*:")
 COMPONENTS = ("library", "executable", "test-suite", "benchmark", "foreign-library")
-# The programs that cabal takes as the tool of a package of that name.
+# The programs that cabal takes as tools of the package of the same name.
 TOOLS = {"hscolour", "haddock", "happy", "alex", "hsc2hs", "c2hs", "cpphs", "greencard", "hspec-discover"}
 # The fields of a package in a file without sections; all others are those of its library.
 OF_PACKAGE = {
@@ -37,18 +38,18 @@ NAMES = "component names"
 
 
 def version(text):
-    """Returns the version that the text of a header says; of none that of the oldest files."""
+    """Returns the version of a header's text; without a header the version of the oldest files."""
     found = re.search(r"\d+(?:\.\d+)*", text)
     return tuple(map(int, found[0].split("."))) if found else (1, 0)
 
 
 def nearest(stated):
-    """Returns the header that comes nearest to a version: the last one up to it, or else the first."""
+    """Returns the nearest header to a version: the last one up to it, or else the first."""
     return [it for it in READ if version(it) <= stated][-1:][0] if stated >= version(READ[0]) else READ[0]
 
 
 def is_read(data):
-    """Returns whether the planner reads a file of that header."""
+    """Returns whether the planner reads the header of a file."""
     found = FIRST.match(data)
     return bool(found) and found[1].decode("latin-1") in READ
 
@@ -62,7 +63,7 @@ def decoded(data):
 
 
 def rewritten(data):
-    """Returns the bytes that the planner reads in place of a file, and the kinds of changes: none where it can stay as it is."""
+    """Returns the bytes to read in place of a file, and the kinds of changes: none if the file stays as it is."""
     text, is_utf8 = decoded(data)
     if is_utf8 and is_usual(data.lower()):
         if is_read(data):
@@ -83,19 +84,19 @@ def rewritten(data):
 
 
 def is_usual(low):
-    """Returns whether nothing but the header of a file, which is given in lower case, can be older."""
+    """Returns whether only the header of a file can be of an older form. The file is in lower case."""
     is_setup_unsaid = b"custom" in low and b"\ncustom-setup" not in low
     is_whole = not is_setup_unsaid and any(it in low and not is_field(low, low.index(it) + len(it)) for it in SECTIONS)
     return is_whole and not any(it in low for it in UNUSUAL) and not OTHER_NAME.search(low)
 
 
 def is_field(low, end):
-    """Returns whether a name that ends there is that of a field, as `executable:` in a file without sections."""
+    """Returns whether a name that ends there is a field's, such as `executable:` in a file without sections."""
     return low[end : low.find(b"\n", end)].strip()[:1] == b":"
 
 
 def header_alone(data):
-    """Returns the bytes with another header at the front, and nothing else changed; or none where more has to be."""
+    """Returns the bytes with another header and no other change, or none if more has to change."""
     found = HEADER.search(data)
     stated = version(found[1].decode("latin-1")) if found else (1, 0)
     if (stated < (2, 2) and not BUILD_TYPE.search(data.lower())) or (found and MORE.match(data, found.end())):
@@ -130,7 +131,8 @@ def changed(items):
 
 
 def with_setup(items, stated):
-    """Says of a package with a setup script which `Cabal` cabal gives it where the file doesn't: one before 1.25, and not far before the header."""
+    """Adds cabal's implicit `Cabal` dependency to a package with a setup script, unless the file has one: a version
+    before 1.25, and not far before the header."""
     types = [it.text().lower() for it in items if isinstance(it, Field) and it.name == "build-type"]
     if stated >= (1, 24) or types[-1:] != ["custom"] or any(isinstance(it, Section) and it.name == "custom-setup" for it in items):
         return set()
@@ -140,7 +142,8 @@ def with_setup(items, stated):
 
 
 def sectioned(items):
-    """Puts the fields of a file without sections into sections, as cabal does: those in front of the first `executable` are the library's."""
+    """Moves the fields of a file without sections into sections, as cabal does: those before the first `executable` are
+    the library's."""
     if not items or any(isinstance(it, Section) for it in items):
         return set()
     first = next((at for at, it in enumerate(items) if it.name == "executable"), len(items))
@@ -158,7 +161,8 @@ def sectioned(items):
 
 
 def with_tools(items, name):
-    """Turns `build-tools` into `build-tool-depends`: the package's own executables and the tools that cabal knows. Others have no say."""
+    """Rewrites `build-tools` as `build-tool-depends`: the package's own executables, and the tools that cabal knows.
+    Others are left out."""
     own, found = {it.args for it in items if isinstance(it, Section) and it.name == "executable"}, set()
     for it in walk(items):
         if isinstance(it, Field) and it.name == "build-tools":
@@ -170,7 +174,7 @@ def with_tools(items, name):
 
 
 def renamed(items):
-    """Gives components names of letters, digits, `-` and `_`."""
+    """Renames components: letters, digits, `-` and `_` only."""
     components = [it for it in items if isinstance(it, Section) and it.name in COMPONENTS]
     taken = {it.args for it in components}
     odd = [it for it in components if re.search(r"[^A-Za-z0-9_-]", it.args)]

@@ -14,7 +14,7 @@ MOST_NAMED = 20
 
 
 def count(output, say):
-    """Says how many files are skipped, for which cause, and names the first of them."""
+    """Prints how many files are skipped, by cause, and the first of them."""
     found = SKIPPED.findall(output)
     causes = collections.Counter(cause for _, cause in found)
     say(f"{len(found)} files are still skipped" + "".join(f", {number} {cause}" for cause, number in causes.most_common()))
@@ -25,7 +25,7 @@ def count(output, say):
 
 
 def answer(words, where):
-    """Returns what the planner prints, and its status."""
+    """Returns the planner's output and status."""
     try:
         ran = subprocess.run(words, cwd=where, stdin=subprocess.DEVNULL, stdout=subprocess.PIPE, check=False)
     except OSError as error:
@@ -34,7 +34,7 @@ def answer(words, where):
 
 
 def run(words, where, say):
-    """Plans, and returns the status; counts what is skipped where there is something to say it with."""
+    """Plans, and returns the status. Counts the skipped files if there is a `say` to print them."""
     output, status = answer(words, where)
     sys.stdout.buffer.write(output)
     sys.stdout.buffer.flush()
@@ -44,7 +44,7 @@ def run(words, where, say):
 
 
 def still_skipped(words, where, say):
-    """Asks the planner for a plan that it gives up at once, for what it says of the files."""
+    """Runs the planner with a limit at which it gives up at once, to see which files it skips."""
     output, status = answer([*words, "--max-backjumps=0"], where)
     text = output.decode("utf-8", "replace")
     if status > 2:

@@ -1,7 +1,7 @@
-"""Reads a project as far as it says which packages are needed.
+"""Reads the parts of a project on the packages that it needs.
 
-In: its folder. Out: the project files that are there, the local `.cabal` files by the rules of the planner, and the names of
-`extra-packages`. Conditions are passed over: what stands under any of them counts. What the planner refuses is left to it."""
+In: its folder. Out: its project files, its local `.cabal` files by the planner's rules, and the names of
+`extra-packages`. Conditions are ignored: fields under all of them count. It leaves refusals to the planner."""
 
 import os
 import re
@@ -15,12 +15,12 @@ REFUSED = re.compile(r"^[/~]|\*\*|[{}]|://|(^|/)\.\.(/|$)")
 
 
 def fields(folder, name):
-    """Returns the values of all fields of that name in the project files, each as one text."""
+    """Returns the values of all fields of this name in the project files, each as one text."""
     return [it.text() for file in FILES for it in read_elements(folder, file) if isinstance(it, Field) and it.name == name]
 
 
 def read_elements(folder, file):
-    """Returns all elements of a project file; none where it isn't there."""
+    """Returns all elements of a project file, or none if it is missing."""
     path = os.path.join(folder, file)
     if not os.path.isfile(path):
         return []
@@ -31,7 +31,7 @@ def read_elements(folder, file):
 
 
 def matches(folder, entry):
-    """Returns the paths that an entry gives, seen from the folder."""
+    """Returns the paths that an entry matches, relative to the folder."""
     found = [""]
     for name in (it for it in entry.split("/") if it not in ("", ".")):
         if "*" not in name:
@@ -48,7 +48,7 @@ def listed(folder):
 
 
 def of_entry(folder, entry):
-    """Returns the `.cabal` files that an entry gives."""
+    """Returns the `.cabal` files of an entry."""
     found = []
     for path in matches(folder, entry):
         whole = os.path.join(folder, path)
@@ -61,7 +61,7 @@ def of_entry(folder, entry):
 
 
 def local_files(folder):
-    """Returns the local `.cabal` files, seen from the folder."""
+    """Returns the local `.cabal` files, relative to the folder."""
     has_project = os.path.isfile(os.path.join(folder, "cabal.project"))
     texts = fields(folder, "packages") + fields(folder, "optional-packages") + ["./*.cabal"] * (not has_project)
     entries = [it for text in texts for it in re.split(r"[,\s]+", text) if it and not REFUSED.search(it)]

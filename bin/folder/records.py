@@ -1,7 +1,7 @@
 """Finds the records of installed units.
 
-In: a compiler. Out: the records of its global database, and behind them those of cabal's store for it: for each its file's name, its unit, its
-package and the units that it needs, and a path to link to, or its bytes where it was cut out of a dump."""
+In: a compiler. Out: the records of its global database, and then those of cabal's store for it. A record has its
+unit, its package and the units that it needs, and a path to link to, or its bytes if it is from a dump."""
 
 import hashlib
 import os
@@ -16,7 +16,7 @@ DEPENDS = re.compile(rb"(?im)^depends[ \t]*:(.*(?:\n[ \t]+.*)*)")
 
 
 class Record:
-    """A record: its path, or none where it has bytes of its own; its unit, its package, and the units that it needs."""
+    """A record: its path, or its own bytes; its unit, its package, and the units that it needs."""
 
     def __init__(self, path, data):
         self.path, self.data = path, None if path else data
@@ -26,19 +26,19 @@ class Record:
         self.needs = [it.decode("utf-8", "replace") for found in DEPENDS.findall(data) for it in re.split(rb"[\s,]+", found) if it]
 
     def key(self):
-        """Returns what tells this record from others, also from the same one at another time."""
+        """Returns a key of what is written for this record: a link to its path, or its bytes."""
         if self.data is not None:
             return f"{self.unit} {len(self.data)} {hash_of(self.data)}"
         return f"{self.unit} {self.path}"
 
 
 def hash_of(data):
-    """Returns some digits of the SHA-256 of bytes."""
+    """Returns the first digits of the SHA-256 of bytes."""
     return hashlib.sha256(data).hexdigest()[:24]
 
 
 def homes():
-    """Returns where cabal may keep its store."""
+    """Returns the folders where cabal may keep its store."""
     home = os.path.expanduser("~")
     state = os.environ.get("XDG_STATE_HOME") or f"{home}/.local/state"
     given = [os.environ["CABAL_DIR"]] if os.environ.get("CABAL_DIR") else []
@@ -46,7 +46,7 @@ def homes():
 
 
 def stores(version):
-    """Returns the databases of the store for a compiler: a folder may say more behind its version, behind a hyphen."""
+    """Returns the store's databases for a compiler. A folder may have more behind the version and a hyphen."""
     found = []
     for store in (f"{home}/store" for home in homes()):
         names = sorted(os.listdir(store)) if os.path.isdir(store) else []
@@ -56,7 +56,7 @@ def stores(version):
 
 
 def records_of(database, ghc):
-    """Returns the records of a database: those of its files, or those that ghc-pkg says of it where it has none."""
+    """Returns the records of a database: those of its files, or without files those that ghc-pkg prints."""
     names = sorted(it for it in os.listdir(database) if it.endswith(".conf"))
     if names:
         return [Record(f"{database}/{it}", read(f"{database}/{it}")) for it in names]
@@ -68,7 +68,7 @@ def records_of(database, ghc):
 
 
 def records(ghc, with_store):
-    """Returns the records, each unit once, and what there is to say of them."""
+    """Returns the records, each unit once, and lines to print about them."""
     if not os.path.isdir(ghc.database):
         raise Refusal(f"{ghc.path} names a global database that isn't there: {ghc.database}")
     found, told = {}, []

@@ -1,8 +1,8 @@
-"""What the tool can't do: one line that says why, and what to do."""
+"""Refusals of the tool: one line with the reason and the remedy."""
 
 
 class Refusal(Exception):
-    """Why nothing was made."""
+    """The reason why nothing was made."""
 
 
 def read(path):

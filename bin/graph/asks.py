@@ -1,6 +1,7 @@
-"""What the files of a folder ask for. In: a folder with its project files, `index` and `installed`, and the names to look at. Out: which versions
-of each are there, and who asks for which range of whom. It reads layouts by their indents, and takes all that a file says whatever its conditions
-are: they are told beside the range. It decides nothing: whether a range holds a version is the program's to say."""
+"""The dependencies in a folder. In: a folder with project files, `index` and `installed`, and some names. Out: the
+versions of each name, and which package asks for which range of which. It reads the layout by indent, and takes
+dependencies under all conditions, which it returns with the range. It doesn't decide whether a version is in a
+range: that is the program's task."""
 
 import glob
 import os
@@ -12,11 +13,12 @@ ENTRY = re.compile(r"([A-Za-z0-9-]+)\s*(?::\s*(\{[^}]*\}|[\w-]+))?\s*(.*)", re.S
 
 
 class BadFile(Exception):
-    """A file can't be read: its path, and why."""
+    """A file that can't be read: its path, and the reason."""
 
 
 class Ask:
-    """An owner in some version asks for a range of another: as `lib`, `setup` or `tool`, in a section and under conditions."""
+    """A dependency: a version of its owner, the package and range, the kind (`lib`, `setup` or `tool`), the section and
+    the conditions."""
 
     def __init__(self, owner, version, kind, name, text, places):
         self.owner, self.version, self.kind, self.name, self.places = owner, version, kind, name, places
@@ -24,7 +26,7 @@ class Ask:
 
 
 def text_of(path):
-    """Returns the text of a file. A byte that isn't UTF-8 says nothing of a range."""
+    """Returns the text of a file. Bytes that aren't UTF-8 are replaced: no range has any."""
     try:
         with open(path, encoding="utf-8", errors="replace") as file:
             return file.read()
@@ -33,7 +35,7 @@ def text_of(path):
 
 
 def lines_of(text):
-    """Yields each line that says something: its indent, and its text without braces at the end."""
+    """Yields each line that isn't blank or a comment: its indent, and its text without braces at the end."""
     for line in text.splitlines():
         body = line.strip()
         if body and not body.startswith("--") and body.strip("{} "):
@@ -41,7 +43,7 @@ def lines_of(text):
 
 
 def fields(text):
-    """Returns the fields of a file: the sections and branches that each stands in, its name, its value."""
+    """Returns the fields of a file: the sections and branches around each, its name, its value."""
     found, open_, field = [], [], None
     for indent, body in lines_of(text):
         if field is not None and indent > field:
@@ -57,18 +59,19 @@ def fields(text):
 
 
 def entries(value):
-    """Returns the entries between commas, of which none inside braces counts."""
+    """Returns the entries between commas outside braces."""
     return [it.strip() for it in re.split(r",(?![^{]*\})", value) if it.strip()]
 
 
 def package_of(text):
-    """Returns the name and the version that a `.cabal` file states."""
+    """Returns the name and version in a `.cabal` file."""
     top = {name: value for places, name, value in fields(text) if not places}
     return top.get("name", ""), top.get("version", "")
 
 
 def asks_of(owner, version, text, names, is_local):
-    """Yields what a `.cabal` file asks of other names. Of packages of the index tests and benchmarks have no say."""
+    """Yields the dependencies of a `.cabal` file on these names. Those of tests and benchmarks count only in local
+    packages."""
     for places, field, value in fields(text):
         counts = field in FIELDS and (is_local or not " ".join(places).startswith(("test-suite", "benchmark")))
         for told in filter(None, map(ENTRY.match, entries(value) if counts else ())):
@@ -77,14 +80,14 @@ def asks_of(owner, version, text, names, is_local):
 
 
 def record(path):
-    """Returns name, version, id and needs of a record of `installed`."""
+    """Returns the name, version, id and needs of a record in `installed`."""
     told = {name: value.split() for _, name, value in fields(text_of(path))}
     name, version, unit = (" ".join(told.get(it, [])) for it in ("name", "version", "id"))
     return name, version, unit, told.get("depends", [])
 
 
 def settings(folder):
-    """Returns what the project files say, each setting with its entries."""
+    """Returns the settings of the project files, each with its entries."""
     found = {}
     for path in (f"{folder}/{it}" for it in PROJECT if os.path.isfile(f"{folder}/{it}")):
         for places, name, value in fields(text_of(path)):
@@ -93,7 +96,7 @@ def settings(folder):
 
 
 def local_files(folder, told):
-    """Returns the local `.cabal` files: those that the entries of the project match."""
+    """Returns the local `.cabal` files, which the entries of the project match."""
     named = [it for key in ("packages", "optional-packages") for entry in told.get(key, []) for it in entry.split()]
     if not os.path.isfile(f"{folder}/cabal.project"):
         named = ["*.cabal"]
@@ -106,8 +109,8 @@ def by_number(path):
 
 
 class Folder:
-    """What a folder has of some names: `versions` of each, in the order of the files, `asks` among them, `settings` of the project. Files that the
-    program skipped ask for nothing."""
+    """The part of a folder on some names: the `versions` of each in the order of the files, the dependencies `asks`
+    among them, and the project's `settings`. Files that the program skipped have no dependencies."""
 
     def __init__(self, folder, index, installed, names, skipped):
         self.settings, self.versions, self.asks = settings(folder), {it: [] for it in names}, []

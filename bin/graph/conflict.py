@@ -1,12 +1,12 @@
-"""The picture of a conflict. In: the names of the JSON of `no plan`, and the folder's files, since the JSON has no ranges. Out: DOT with a node for
-each name of the conflict, and an edge for each range that one of them asks of another."""
+"""The picture of a conflict. In: the variables in the JSON of `no plan`, and the folder's files, since the JSON has no
+ranges. Out: DOT with a node for each variable of the conflict, and an edge for each range between two of them."""
 
 import re
 
 import asks
 import dot
 
-# So many lines of ranges stand at an edge, and so many versions at a node.
+# The most lines of ranges at an edge, and the most versions at a node.
 RANGES, VERSIONS = 4, 6
 TITLE = "No plan: these cannot be chosen together. An arrow is what one asks of another"
 WITHOUT_FILES = "No plan: these cannot be chosen together. The folder's files say nothing of them, so no ranges are shown"
@@ -22,7 +22,7 @@ class Name:
 
 
 def target(ask, owner):
-    """Returns the variable that a range is asked of, where the owner is chosen."""
+    """Returns the variable to which a dependency leads, from the owner's variable."""
     if ask.kind == "setup":
         return f"{ask.owner}:setup.{ask.name}"
     return f"{ask.owner}:{ask.name}:exe.{ask.name}" if ask.kind == "tool" else owner.qualifier + ask.name
@@ -33,7 +33,7 @@ def some(of, most):
 
 
 def ranges(found):
-    """Returns the label of an edge: each range once, with the versions that ask for it and where they do."""
+    """Returns the label of an edge: each range once, with the versions of the owner that have it and their sections."""
     lines = {}
     for ask in found:
         where = f" ({', '.join(ask.places)})" * bool(ask.places)
@@ -52,7 +52,7 @@ def between(names, folder):
 
 
 def scoped(entry, names):
-    """Returns the names that a constraint speaks of."""
+    """Returns the variables in the scope of a constraint."""
     told = re.match(r"(any\.|setup\.|[\w-]+:setup\.)?([\w-]+)", entry)
     if not told:
         return []
@@ -62,7 +62,7 @@ def scoped(entry, names):
 
 
 def of_project(names, settings):
-    """Yields what the project files say of the names: constraints and packages that are asked for besides, and stanzas that have to be on."""
+    """Yields the project's settings on these variables: constraints, extra packages, and stanzas that must be on."""
     told = [(it, entry) for key in ("constraints", "extra-packages") for entry in settings.get(key, []) for it in scoped(entry, names)]
     for key, part in (("tests", "*test"), ("benchmarks", "*bench")):
         if [it.lower() for it in settings.get(key, [])[-1:]] == ["true"]:
@@ -89,7 +89,7 @@ def parts(names):
 
 
 def twins(names):
-    """Yields an edge between the places in which a package is chosen: where they take one version, it is built once."""
+    """Yields an edge between the qualifiers under which a package is chosen: choices of one version are built once."""
     first = {}
     for it in names:
         if first.setdefault((it.package, it.part), it) is not it:
@@ -97,7 +97,7 @@ def twins(names):
 
 
 def picture(answer, at):
-    """Returns the DOT of a conflict; `at` has the paths of the folder, its index and its records."""
+    """Returns the DOT of a conflict. `at` has the paths of the folder, of its index and of its records."""
     names = [Name(it) for it in answer["conflict"]]
     folder = asks.Folder(*at, {it.package for it in names}, [it for it in answer.get("skipped", []) if isinstance(it, str)])
     lines = [dot.node(it.text, look(it, folder)) for it in names]

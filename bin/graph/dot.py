@@ -1,8 +1,8 @@
-"""The text of a graph as DOT. In: nodes and edges with their attributes. Out: lines that are the same for the same graph."""
+"""The text of a graph as DOT. In: nodes and edges with their attributes. Out: lines, which the graph determines."""
 
 
 def quoted(text):
-    """Returns a text as DOT writes it; a line end stays one."""
+    """Returns a text in DOT's quotes. Line ends are kept."""
     return '"' + text.replace("\\", "\\\\").replace('"', '\\"').replace("\n", "\\n") + '"'
 
 

@@ -1,5 +1,5 @@
-"""The picture of a plan. In: the nodes of its JSON, and a name, or none. Out: DOT with the nodes by level: a node stands behind all that it needs,
-and what stands at one level can be built at once."""
+"""The picture of a plan. In: the nodes of its JSON, and a name or none. Out: DOT with the nodes by level. A node is
+behind all its needs, and the nodes of one level can be built at the same time."""
 
 import dot
 
@@ -17,7 +17,7 @@ class NoSuchName(Exception):
 
 
 def needs_of(nodes):
-    """Returns for each node the places of those that it needs. Of two nodes with one identifier the earlier is meant."""
+    """Returns for each node the places of its needs. An identifier of two nodes means the earlier one."""
     places = {}
     for at, node in enumerate(nodes):
         places.setdefault(node["id"], at)
@@ -30,7 +30,7 @@ def is_named(node, name):
 
 
 def leads_to(nodes, needs, name):
-    """Returns the places of the nodes of that name, and of all that need one of them, at once or by way of others."""
+    """Returns the places of the nodes of that name, and of all nodes from which a path leads to one of them."""
     kept = set()
     for at, node in enumerate(nodes):
         if is_named(node, name) or kept & set(needs[at]):
@@ -41,7 +41,7 @@ def leads_to(nodes, needs, name):
 
 
 def levels_of(needs, kept):
-    """Returns the level of each kept node: one above the highest that it needs. Needs stand before what needs them."""
+    """Returns the level of each kept node: one above its highest need. Each node comes after its needs."""
     levels = {}
     for at in sorted(kept):
         levels[at] = max((levels[it] + 1 for it in needs[at] if it in levels), default=0)
@@ -55,7 +55,7 @@ def look(node):
 
 
 def is_implied(at, by, needs, kept):
-    """Returns whether a need is told by a longer way already: another need leads to it."""
+    """Returns whether a longer path implies an edge: another need of the node leads to this one."""
     open_, seen = [it for it in needs[by] if it != at and it in kept], set()
     while open_:
         one = open_.pop()
@@ -68,13 +68,13 @@ def is_implied(at, by, needs, kept):
 
 
 def edges(needs, kept, is_whole):
-    """Returns an edge for each need; without those that a longer way implies, unless the whole is asked for."""
+    """Returns an edge for each need, without those that longer paths imply unless `is_whole`."""
     pairs = [(it, at) for at in sorted(kept) for it in needs[at] if it in kept]
     return [dot.edge(f"n{it + 1}", f"n{at + 1}") for it, at in pairs if is_whole or not is_implied(it, at, needs, kept)]
 
 
 def picture(answer, why, is_whole):
-    """Returns the DOT of a plan: of all of it, or of what leads to a name."""
+    """Returns the DOT of a plan: of all nodes, or of those that lead to a name."""
     nodes = answer["nodes"]
     needs = needs_of(nodes)
     kept = leads_to(nodes, needs, why) if why else set(range(len(nodes)))
