@@ -112,7 +112,7 @@ def listed(folder):
 
 
 def edits(page):
-    """Yields for each row of the table of wrong bodies its edits in other places; last, the gate's edits without row."""
+    """Yields for each row of the table of wrong bodies its misplaced edits; last, the gate's edits without a row."""
     where, told, last = {it: edits_in(it) for it in ("must-fail", "mistakes")}, set(), 0
     for number, line in rows_below(page, "| Crate | `must-fail` | `mistakes` |"):
         crate, *columns = cells(line)
