@@ -1,4 +1,5 @@
-"""cabal-install without a network. In: the folder of a project, and the files of its index. Out: its verdict and its plan, as `planner.py` has them."""
+"""cabal-install without a network. In: the folder of a project, and the files of its index. Out: the verdict and the
+plan, in the form of `planner.py`."""
 
 import io
 import json
@@ -14,18 +15,18 @@ NO_PLAN, LIMIT = "Could not resolve dependencies", "Backjump limit reached"
 
 
 class Missing(Exception):
-    """A program that is needed isn't installed."""
+    """A missing program."""
 
 
 def number_of(program):
-    """Returns the release of a program on the path."""
+    """Returns the version of a program on the path."""
     if not shutil.which(program):
         raise Missing(f"{program} isn't installed: Debian has it in the packages ghc and cabal-install")
     return subprocess.run([program, "--numeric-version"], stdout=subprocess.PIPE, text=True, check=True).stdout.strip()
 
 
 def archive(package, version, text, path):
-    """Makes an archive of a package that holds nothing but its `.cabal` file: a plan needs no more."""
+    """Makes an archive of a package with only its `.cabal` file: a plan needs no more."""
     with tarfile.open(path, "w:gz", compresslevel=1) as tar:
         told = tarfile.TarInfo(f"{package}-{version}/{package}.cabal")
         told.size = len(text)
@@ -33,7 +34,7 @@ def archive(package, version, text, path):
 
 
 class Home:
-    """A home of cabal with one repository in a folder: `.cabal` files by package and version."""
+    """A home of cabal with one repository in a folder, of `.cabal` files by package and version."""
 
     def __init__(self, room):
         self.room, self.index = os.path.abspath(room), None
@@ -43,7 +44,7 @@ class Home:
             file.write(CONFIG.format(f"{self.room}/repository"))
 
     def offer(self, index):
-        """Puts these packages into the repository, and no others. Those of the last call stay there where they are the same."""
+        """Makes these the packages of the repository. Those that the last call had too aren't written again."""
         if self.index is index:
             return
         shutil.rmtree(f"{self.room}/repository")
@@ -53,7 +54,7 @@ class Home:
         self.index = index
 
     def plan(self, folder, words):
-        """Runs cabal in a folder, and returns what it answers."""
+        """Runs cabal in a folder, and returns its answer."""
         environment = {**os.environ, "CABAL_DIR": f"{self.room}/home", "HOME": f"{self.room}/home", "CABAL_CONFIG": f"{self.room}/home/config"}
         status, told, seconds = plans.run(["cabal", "build", "all", "--dry-run", *words], folder, environment)
         if status is None:
@@ -65,13 +66,14 @@ class Home:
 
 
 def needs_of(unit):
-    """Returns the identifiers of what a unit needs, for all of its components."""
+    """Returns the identifiers that a unit needs, for all of its components."""
     parts = [unit, *unit.get("components", {}).values()]
     return [it for part in parts for key in ("depends", "exe-depends") for it in part.get(key, [])]
 
 
 def needed(units):
-    """Returns the units that a local one leads to. cabal also lists libraries and executables that nothing needs, and builds none of them."""
+    """Returns the units that are reached from a local one. cabal also lists libraries and executables that nothing
+    needs, but doesn't build them."""
     by_id = {it["id"]: it for it in units}
     open_, seen = [it["id"] for it in units if it.get("style") == "local"], set()
     while open_:
@@ -90,7 +92,7 @@ def parts_of(unit):
 
 
 def read(path):
-    """Returns the components that are needed and the flags of a `plan.json`."""
+    """Returns the needed components and the flags of a `plan.json`."""
     with open(path, encoding="utf-8") as file:
         units = needed(json.load(file)["install-plan"])
     components, flags = set(), {}

@@ -1,5 +1,5 @@
-"""Folders to plan with both. In: the examples, an index of real packages, or a number to draw from. Out: projects, each with the files of its own and
-the files of its index, as this program and as cabal-install are given them."""
+"""Folders to plan with both. In: the examples, an index of real packages, or the number of a random folder. Out:
+projects, each with its own files and those of its index, in the forms for this program and for cabal-install."""
 
 import glob
 import os
@@ -7,11 +7,12 @@ import random
 
 
 class BadIndex(Exception):
-    """A folder isn't an index: what is wrong."""
+    """A folder that isn't an index: the reason."""
 
 
 class Project:
-    """A folder: its name, its local files by path, and its index by package and version; `ours` where this program is given other texts."""
+    """A folder: its name, its local files by path, and its index by package and version. `ours` has the texts for this
+    program if they differ."""
 
     def __init__(self, name, local, index, ours=None, ours_index=None, has_units=False):
         self.name, self.local, self.index, self.has_units = name, local, index, has_units
@@ -45,8 +46,8 @@ def example(folder):
 
 
 def real(index, rewritten):
-    """Yields each package of an index as the local one, over the whole index: the local package hides its own file there. `rewritten` gives the text
-    that this program can read."""
+    """Yields each package of an index as the local one, over the whole index. The local package hides its own file
+    there. `rewritten` returns the text that this program can read."""
     ours = {key: rewritten(text) for key, text in index.items()}
     for key in sorted(index):
         name = f"{key[0]}.cabal"
@@ -54,19 +55,20 @@ def real(index, rewritten):
 
 
 def bounds(draw, versions):
-    """Returns a range over versions, that mostly holds some of them."""
+    """Returns a random range, which mostly has some of these versions."""
     at = draw.choice(versions)
     return draw.choice(["", "", f" >={at}", f" <={at}", f" =={at}", f" <{at}", f" >{at}", f" =={at} || >{at}"])
 
 
 def section(draw, names, versions, most):
-    """Returns the lines of a section that depends on some of the names."""
+    """Returns the lines of a section with random dependencies on these names."""
     needs = draw.sample(names, min(len(names), draw.randint(0, most)))
     return [f"  build-depends: {', '.join(it + bounds(draw, versions[it]) for it in needs)}"] if needs else []
 
 
 def package(draw, name, version, names, versions, is_local):
-    """Returns the text of a drawn package: a library, at times with a flag, an executable, a tool that it needs, and tests where it is local."""
+    """Returns the text of a random package: a library, at times with a flag, an executable, a needed tool, and tests if
+    it is local."""
     lines = ["cabal-version: 2.4", f"name: {name}", f"version: {version}"]
     body = ["library", *section(draw, names, versions, 3 if is_local else 2)]
     if names and draw.random() < 0.3:
@@ -84,7 +86,7 @@ def package(draw, name, version, names, versions, is_local):
 
 
 def drawn(number):
-    """Returns the folder of a number: the same for the same number."""
+    """Returns the random folder of a number, which determines it."""
     draw = random.Random(number)
     names = [f"p{at}" if draw.random() < 0.7 else f"t{at}" for at in range(draw.randint(3, 7))]
     versions = {it: [str(at) for at in range(1, draw.randint(2, 4))] for it in names}

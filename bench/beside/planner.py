@@ -1,4 +1,4 @@
-"""This program. In: its path, a folder, and words. Out: its verdict and its plan, as `cabal.py` has them."""
+"""This program. In: its path, a folder, and words. Out: the verdict and the plan, in the form of `cabal.py`."""
 
 import json
 
@@ -8,7 +8,7 @@ VERDICTS = {0: "plan", 1: "no plan", 2: "gave up", 3: "refused"}
 
 
 def plan(program, folder, words):
-    """Runs the program in a folder, and returns what it answers."""
+    """Runs the program in a folder, and returns its answer."""
     status, told, seconds = plans.run([program, "plan", "--json", *words], folder)
     if status is None:
         return plans.Answer("no answer", seconds, told)

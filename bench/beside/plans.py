@@ -1,15 +1,15 @@
-"""What a planner answers, and how two answers compare."""
+"""Answers of planners, and their comparison."""
 
 import resource
 import subprocess
 
-# After so many seconds of the clock there is no answer.
+# A run is stopped after so many seconds of the clock.
 SECONDS = 600
 
 
 class Answer:
-    """A verdict (`plan`, `no plan`, `gave up`, `refused`), its seconds, what was printed; of a plan its components (package, version, component)
-    and the flags of each package and version."""
+    """A verdict (`plan`, `no plan`, `gave up`, `refused`), its seconds and the output; of a plan also its components
+    (package, version, component) and the flags of each package and version."""
 
     def __init__(self, verdict, seconds, told, components=frozenset(), flags=None):
         self.verdict, self.seconds, self.told, self.components, self.flags = verdict, seconds, told, set(components), flags or {}
@@ -19,13 +19,14 @@ class Answer:
 
 
 def spent():
-    """Returns the seconds of processor time of all that was run so far."""
+    """Returns the seconds of processor time of all runs so far."""
     told = resource.getrusage(resource.RUSAGE_CHILDREN)
     return told.ru_utime + told.ru_stime
 
 
 def run(words, folder, environment=None):
-    """Runs a program in a folder, and returns its status, or none where it doesn't end, what it printed, and its seconds of processor time."""
+    """Runs a program in a folder, and returns its status (none if it was stopped), its output, and its seconds of
+    processor time."""
     begun = spent()
     try:
         ran = subprocess.run(
@@ -41,13 +42,13 @@ def words_of(components):
 
 
 def by_part(answer, other):
-    """Returns the components of a plan; those of a package that the other plan takes as a whole are one."""
+    """Returns the components of a plan. Components of a package that the other plan builds as a whole are one."""
     whole = {it[:2] for it in other.components | answer.components if it[2] == "package"}
     return {(*it[:2], "package") if it[:2] in whole else it for it in answer.components}
 
 
 def difference(ours, theirs):
-    """Returns in words how two plans differ, or nothing where packages, versions and components are the same."""
+    """Returns a text of the difference of two plans, empty if packages, versions and components are the same."""
     pairs = [(ours.versions(), theirs.versions()), (by_part(ours, theirs), by_part(theirs, ours))]
     one, other = next(((one, other) for one, other in pairs if one != other), (set(), set()))
     told = [f"only here: {words_of(one - other)}"] * bool(one - other) + [f"only cabal: {words_of(other - one)}"] * bool(other - one)
@@ -55,7 +56,7 @@ def difference(ours, theirs):
 
 
 def flags_differ(ours, theirs):
-    """Returns the flags to which the two give other values, of the packages that both build."""
+    """Returns the flags with different values in the two, of packages that both build."""
     found = []
     for key in sorted(ours.flags.keys() & theirs.flags.keys()):
         one, other = ours.flags[key], theirs.flags[key]

@@ -1,5 +1,5 @@
-"""Each call that lists or reads is refused in turn, and each write. A call that fails ends the run with nothing written; a write that fails ends
-it with what was written before."""
+"""Refuses in turn each call that lists or reads, and each write. A run with a failed call must write nothing; a run
+with a failed write must end after what was written before."""
 
 import errno
 import os
@@ -9,13 +9,13 @@ from folders import fifty, project
 from running import CALL, WRITE, Others, is_failure, lay_out, name_of, room, shown, table
 
 READ_FAULT, WRITE_FAULT, WANTING = 4, 5, 6
-# What comes of each error where the call of the system has it, if only one thing may.
+# The answer to each error of a system call, if there is only one possible answer.
 ERRORS = {
     errno.EIO: READ_FAULT,
     errno.EACCES: READ_FAULT,
     errno.EMFILE: READ_FAULT,
     errno.ENOMEM: WANTING,
-    # Some other answer, or the same: what isn't there is missing, and a call that was interrupted may be made again.
+    # Another answer or the same: with ENOENT the file is missing, and an interrupted call may be repeated.
     errno.ENOENT: None,
     errno.ENOTDIR: None,
     errno.EINTR: None,
@@ -44,7 +44,7 @@ def refuse_calls(program, name, folder, words, error, others):
 
 
 def refuse_writes(program, name, folder, words, error, most, others):
-    """Each write fails in turn, where each takes so many bytes at most."""
+    """Each write fails in turn, with at most so many bytes a write."""
     whole = program.run(folder, words, most=most)
     plain = program.run(folder, words)
     if (whole.status, whole.out) != (plain.status, plain.out):
@@ -58,7 +58,7 @@ def refuse_writes(program, name, folder, words, error, most, others):
 
 
 def closed_outputs(program, folder, others):
-    """What comes of outputs as a shell gives them: a full device, none, and a pipe that nobody reads."""
+    """Outputs as a shell gives them: a full device, a closed output, and a pipe that nobody reads."""
     rows = []
     read, write = os.pipe()
     os.close(read)

@@ -1,4 +1,5 @@
-"""Folders of the examples with a few bytes or lines changed: each is answered within a second, with a status of an answer, and so again."""
+"""Folders of the examples with a few bytes or lines changed: each must be answered within a second, and again in the
+same way."""
 
 import collections
 import json
@@ -21,7 +22,7 @@ WORDS = (
     ["plan", "--max-backjumps=-1"],
     ["plan", "--max-backjumps=0"],
 )
-# What is put in somewhere: marks and words of the grammars, and bytes that are in none.
+# Insertions: marks and words of the grammars, and bytes that are in no grammar.
 PIECES = (
     b"{ } ( ) ! && || , : . * - _ + = == >= < ^>= ={ =={1,2} ^>={1.2,3} -any -none installed source True False 0 1 01 999999999 1000000000 "
     b"if elif else flag(f) flag(fast) os(linux) arch(x86_64) impl(ghc>=9) true false import: common library executable test-suite benchmark "
@@ -79,7 +80,7 @@ def changed_lines(draw, content, files):
 def changed(draw, files):
     files = dict(files)
     for _ in range(draw.choice((1, 1, 1, 2, 2, 3, 5))):
-        # What decides the most is changed most often.
+        # The most important files are changed most often.
         path = draw.choice(sorted(files, key=lambda it: (it.count("/"), it))[:3] + sorted(files))
         kind = draw.randrange(20)
         if kind == 0 and len(files) > 1:
@@ -94,13 +95,13 @@ def changed(draw, files):
 
 
 def tried(program, folder, words, name, others):
-    """Returns how a run over a folder ended, after some checks of it."""
+    """Returns the end of a run over a folder, after some checks of it."""
     once, again = (program.timed(folder, words) for _ in "ab")
     if once.status not in range(4) or once.err:
         others.add(f"{name}: {shown(once)}")
     elif (once.status, once.out) != (again.status, again.out):
         others.add(f"{name}, another answer the second time: {shown(once)} and {shown(again)}")
-    # The faster of both, since other work of the machine isn't the program's.
+    # The faster of both, since the machine may have other work.
     if min(once.seconds, again.seconds) > SECOND:
         others.add(f"{name}, {min(once.seconds, again.seconds):.2f} s: {shown(once)}")
     if "--json" in words and once.status in range(3):
@@ -109,7 +110,7 @@ def tried(program, folder, words, name, others):
             others.add(f"{name}, status and text differ: {shown(once)}")
     elif once.status == 3 and (not once.out.startswith(b"refused ") or once.out.count(b"\n") != 1):
         others.add(f"{name}, no refusal: {shown(once)}")
-    # Whether there is a plan doesn't depend on how it is looked for.
+    # Whether there is a plan doesn't depend on the search.
     other = [it for it in words if it != "--count-conflicts"] if "--count-conflicts" in words else [*words, "--count-conflicts"]
     counted = program.timed(folder, other)
     if counted.status != once.status and 2 not in (counted.status, once.status):
@@ -118,7 +119,7 @@ def tried(program, folder, words, name, others):
 
 
 def examples():
-    """Returns the files of each example: of each folder with a project or a package in it."""
+    """Returns the files of each example: of each folder with a project or a package."""
     found = {}
     for at, folders, names in os.walk(EXAMPLES):
         if any(it == "cabal.project" or it.endswith(".cabal") for it in names):

@@ -1,4 +1,4 @@
-/* Is loaded before a program: counts what the program asks of the system, and refuses what it is told to refuse.
+/* Loaded before a program: counts its requests to the system, and refuses some of them.
 
    FAULTS_COUNTS   a file of five numbers of eight bytes each: the requests for memory, the calls that list and read, the writes to
                    standard output, those of all these that were refused, and the most bytes of memory that were asked for at once

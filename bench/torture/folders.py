@@ -1,4 +1,4 @@
-"""The folders over which calls are refused: those of worked examples, and one of some fifty files."""
+"""The folders over which calls are refused: worked examples, and a folder of some fifty files."""
 
 from running import EXAMPLES, files_of
 
@@ -14,12 +14,13 @@ def project():
 
 
 def missing():
-    """A package that needs one that isn't there."""
+    """A package that needs a missing one."""
     return {"main.cabal": plain("main", 1, ["foo"])}
 
 
 def thirty():
-    """Thirty packages in four versions, and a last one that goes with none of the first. With a limit of four it gives up."""
+    """Thirty packages in four versions, and a last one that allows no version of the first. With a limit of four the
+    search gives up."""
     names = [f"a{number:02}" for number in range(1, 31)]
     files = {"main.cabal": plain("main", 1, [*names, "z"]), "index/z/1/z.cabal": plain("z", 1, ["a01 ==5"])}
     for name in names:
@@ -28,7 +29,7 @@ def thirty():
 
 
 def fifty():
-    """Three local packages, six records and forty files of the index in three versions, one of them too large and one that is cut."""
+    """Three local packages, six records, and forty files of the index in three versions. One is too large, one cut off."""
     files = {
         "cabal.project": "packages: */*.cabal app\noptional-packages: more/*/\ntests: True\nconstraints: any.p03 <3, p05 +f\npreferences: p07 <3\n",
         "cabal.project.local": "allow-newer: p02\nmax-backjumps: 100\n",
@@ -51,7 +52,7 @@ def fifty():
     return files
 
 
-# For each row its folder and its words.
+# The folder and the words of each row.
 ROWS = {
     "a project": (project, ["plan"]),
     "a project, `--json`": (project, ["plan", "--json"]),

@@ -1,5 +1,5 @@
-"""Files of 1 MiB for each thing that a grammar nests or repeats: what is answered, and the seconds and megabytes that it takes under the usual
-stack of 8 MiB."""
+"""Files of 1 MiB for each construct that a grammar nests or repeats: the answer, the seconds and the megabytes, under
+the usual stack of 8 MiB."""
 
 import sys
 
@@ -12,12 +12,12 @@ HEAD = "cabal-version: 3.0\nname: main\nversion: 1\n"
 FLAG = "flag f\n"
 ONE = {"index/a/1/a.cabal": plain("a", 1)}
 LOCAL = {"main.cabal": plain("main", 1, ["a"]), **ONE}
-# What takes longer, or holds more, is told apart.
+# Files that take more are listed separately.
 SECONDS, MEGABYTES = 2, 500
 
 
 def filled(head, unit, tail="", between="", most=MOST):
-    """A text of just below 1 MiB: a head, as many units as fit, and a tail. unit: a text, or what makes one of a number."""
+    """A text of just below 1 MiB: a head, as many units as fit, and a tail. unit: a text, or a function of a number."""
     make = unit if callable(unit) else lambda _: unit
     parts, left = [], most - len(head) - len(tail)
     while left >= len(piece := make(len(parts)) + between):
@@ -27,7 +27,7 @@ def filled(head, unit, tail="", between="", most=MOST):
 
 
 def nested(opening, closing, middle):
-    """As many pairs as fit, each in the one before it."""
+    """As many nested pairs as fit."""
     count = (MOST - len(HEAD) - 1_000) // (len(opening) + len(closing))
     return opening * count + middle + closing * count
 
@@ -45,13 +45,13 @@ def declared(count):
 
 
 def in_turn(count):
-    """A chain of branches in which so many flags are asked in turn, with a dependency in each."""
+    """A chain of branches on so many flags in turn, with a dependency in each."""
     head = f"{HEAD}{declared(count)}library\n  if flag(f0)\n    build-depends: a\n"
     return package(filled(head, lambda it: f"  elif flag(f{(it + 1) % count})\n    build-depends: a\n", most=MOST - 200))
 
 
 def differing(indent, count=19_000):
-    """Branches that each ask another flag, with a dependency in each."""
+    """Branches on a flag of their own each, with a dependency in each."""
     return "".join(f"{indent}elif flag(f{it})\n{indent}  build-depends: a\n" for it in range(count))
 
 
@@ -88,14 +88,14 @@ def units(count, needs):
 
 
 def internal(ring):
-    """Libraries of one package of which each needs the next one."""
+    """Libraries of one package that each need the next one."""
     text = filled(HEAD, lambda it: f"library l{it}\n  build-depends: main:l{it + 1}\n", most=MOST - 100)
     count = text.count("library")
     return package(text + f"library l{count}\n" + "  build-depends: main:l0\n" * ring)
 
 
 def imports(more):
-    """Stanzas of which each imports the one before it."""
+    """Stanzas that each import the one before."""
     text = filled(f"{HEAD}common s0\n  build-depends: a\n", lambda it: f"common s{it + 1}\n  import: s{it}\n{more}", most=MOST - 100)
     return package(f"{text}library\n  import: s{text.count('common') - 1}\n")
 
@@ -190,7 +190,7 @@ FILES = {
     "tools": lambda: library(chained("  build-tool-depends: ", "a:e", ",") + "\n"),
     "tools of packages that differ": lambda: library(chained("  build-tool-depends: ", lambda it: f"t{it}:e", ",") + "\n"),
     "needs of a setup script": lambda: package(chained(f"{HEAD}build-type: Custom\ncustom-setup\n  setup-depends: ", "a", ",") + "\n"),
-    # What a package declares.
+    # Declarations of a package.
     "flags": lambda: package(filled(HEAD + "library\n", lambda it: f"flag f{it}\n")),
     "flags that each stand in a condition": lambda: package(
         filled(HEAD, lambda it: f"flag f{it}\nlibrary l{it}\n  if flag(f{it})\n    build-depends: a\n")

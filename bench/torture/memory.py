@@ -1,5 +1,5 @@
-"""Each request for memory is refused in turn, alone and with all behind it: the answer is want of memory with nothing written, or what it is
-where nothing is refused."""
+"""Refuses each request for memory in turn, alone and with all later ones. The answer must be out of memory with nothing
+written, or the same as without a refused request."""
 
 import errno
 import time

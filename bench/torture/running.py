@@ -1,4 +1,4 @@
-"""Runs the program over folders, with what the system is made to refuse it."""
+"""Runs the program over folders, with refused calls of the system."""
 
 import collections
 import concurrent.futures
@@ -32,7 +32,7 @@ Counts = collections.namedtuple("Counts", "memory calls writes refused most", de
 
 
 def room():
-    """Returns a folder for what is made, in memory where there is room."""
+    """Returns a folder for made files, in memory if there is room."""
     return tempfile.TemporaryDirectory(prefix="torture-", dir="/dev/shm" if os.access("/dev/shm", os.W_OK) else None)
 
 
@@ -44,7 +44,7 @@ def lay_out(folder, files):
 
 
 def files_of(folder):
-    """Returns the files below a folder: for each path its bytes."""
+    """Returns the files below a folder, as the bytes of each path."""
     found = {}
     for at, _, names in os.walk(folder):
         for name in names:
@@ -54,16 +54,16 @@ def files_of(folder):
 
 
 def side_by_side(call, given):
-    """Calls it with each that is given, as many at once as there are processors, and gives the answers in order."""
+    """Calls it with each of these, on all processors, and returns the answers in order."""
     with concurrent.futures.ThreadPoolExecutor(len(os.sched_getaffinity(0))) as pool:
         yield from pool.map(call, given)
 
 
 class Program:
-    """The program, and beside it the library that counts what it asks for and refuses it."""
+    """The program, and the library that counts its requests and refuses some."""
 
     def __init__(self, work):
-        # What it starts has the usual stack, and a crash leaves no file.
+        # Each run has the usual stack, and a crash leaves no file.
         resource.setrlimit(resource.RLIMIT_STACK, (STACK, resource.getrlimit(resource.RLIMIT_STACK)[1]))
         resource.setrlimit(resource.RLIMIT_CORE, (0, 0))
         given = os.environ.get("PROGRAM")
@@ -73,8 +73,8 @@ class Program:
         subprocess.run(["gcc", "-shared", "-fPIC", "-O2", "-o", self.faults, f"{HERE}/faults.c"], check=True)
 
     def run(self, folder, words, refuse=None, most=None):
-        """Runs it once. refuse: a kind, the first and the last call of it that are refused, and the error's number; most: how many
-        bytes a write takes. The status is below 0 where a signal ended it, and None where it was stopped."""
+        """Runs it once. refuse: a kind, its first and last refused call, and the error's number; most: the most bytes of
+        a write. The status is below 0 if a signal ended the run, and None if it was stopped."""
         counts = f"{self.faults}.{threading.get_ident()}"
         with open(counts, "wb") as file:
             file.write(bytes(struct.calcsize(NUMBERS)))
@@ -88,8 +88,8 @@ class Program:
             return ended._replace(counts=Counts(*struct.unpack(NUMBERS, file.read())))
 
     def timed(self, folder, words, given=None, seconds=PATIENCE):
-        """Runs it as it is, with its seconds of processor time, which other work beside it leaves as they are, and the most memory that it
-        held. It is stopped after so many of these seconds."""
+        """Runs it without refusals, and measures its seconds of processor time, which other work doesn't change, and
+        its peak of memory. It is stopped after so many of these seconds."""
         work = os.path.dirname(self.faults)
         with tempfile.TemporaryFile(dir=work) as out, tempfile.TemporaryFile(dir=work) as err:
             how = {"stdin": subprocess.DEVNULL, "stdout": out, "stderr": err, "cwd": folder, "env": given}
@@ -101,13 +101,13 @@ class Program:
             took = used.ru_utime + used.ru_stime
             out.seek(0)
             err.seek(0)
-            # The system ends what has used up its seconds by one of two signals.
+            # The system ends a run that has used up its seconds by one of two signals.
             status = None if ran.returncode in (-signal.SIGXCPU, -signal.SIGKILL) else ran.returncode
             return Ended(status, out.read(), err.read(), took, used.ru_maxrss / 1024, Counts())
 
 
 def is_failure(ended, status):
-    """Returns whether a run ended so, with its one line on standard error."""
+    """Returns whether a run ended with this failure and its one line on standard error."""
     return ended.status == status and ended.err == FAILURES[status]
 
 
@@ -121,7 +121,7 @@ def name_of(error):
 
 
 def table(heads, rows):
-    """Prints rows as the documents have them."""
+    """Prints rows as a table of the documents."""
     print("| " + " | ".join(heads) + " |")
     print("|" + "---|" * len(heads))
     for row in rows:
@@ -130,7 +130,7 @@ def table(heads, rows):
 
 
 class Others:
-    """The answers that are none of those that may come; some of them are shown."""
+    """The unexpected answers; some of them are printed."""
 
     MOST = 20
 
