@@ -29,7 +29,7 @@ def thirty():
 
 
 def fifty():
-    """Three local packages, six records, and forty files of the index in three versions. One is too large, one cut off."""
+    """Three local packages, six records, and forty files of the index in three versions: one too large, one cut off."""
     files = {
         "cabal.project": "packages: */*.cabal app\noptional-packages: more/*/\ntests: True\nconstraints: any.p03 <3, p05 +f\npreferences: p07 <3\n",
         "cabal.project.local": "allow-newer: p02\nmax-backjumps: 100\n",

@@ -12,7 +12,7 @@ HEAD = "cabal-version: 3.0\nname: main\nversion: 1\n"
 FLAG = "flag f\n"
 ONE = {"index/a/1/a.cabal": plain("a", 1)}
 LOCAL = {"main.cabal": plain("main", 1, ["a"]), **ONE}
-# Files that take more are listed separately.
+# Runs that take more are marked.
 SECONDS, MEGABYTES = 2, 500
 
 

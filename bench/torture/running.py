@@ -73,8 +73,8 @@ class Program:
         subprocess.run(["gcc", "-shared", "-fPIC", "-O2", "-o", self.faults, f"{HERE}/faults.c"], check=True)
 
     def run(self, folder, words, refuse=None, most=None):
-        """Runs it once. refuse: a kind, its first and last refused call, and the error's number; most: the most bytes of
-        a write. The status is below 0 if a signal ended the run, and None if it was stopped."""
+        """Runs it once. refuse: a kind, its first and last refused call, and the error's number; most: the most bytes
+        of a write. The status is below 0 if a signal ended the run, and None if it was stopped."""
         counts = f"{self.faults}.{threading.get_ident()}"
         with open(counts, "wb") as file:
             file.write(bytes(struct.calcsize(NUMBERS)))
