@@ -1,5 +1,5 @@
 // Builds of nodes that no plan has: nodes that need themselves or later ones, and no nodes at all. A case has three
-// parts between bars: the nodes, the slots and the events. Behind a node are the identifiers that it needs: libraries,
+// parts between bars: the nodes, the slots and the events. After a node come the identifiers that it needs: libraries,
 // tools with `+`, setups with `*`. An installed node has `=` before it. In a replay `;` is the end of a line.
 use plan_jobs::Jobs;
 use plan_nodes::{NodeKind, PlanNode};

@@ -1,9 +1,9 @@
-// Calls on folders in written form: `list` or `read`, and a path behind `./`; and the text of their answers.
+// Calls on folders in written form: `list` or `read`, and a path after `./`; and the text of their answers.
 use outside_folder::{Folder, Name};
 use std::alloc::Global;
 use std::test::Fail;
 
-// The names, with `/` behind those of directories; of more than 100 only their number.
+// The names, with `/` after those of directories; of more than 100 only their number.
 fn shown_names(alloc: Global, names: &[Name]) -> Result<String, Fail> {
     let count = names.len();
     if count > 100 {

@@ -1,5 +1,5 @@
 // Graphs in written form: the needs of each node, with a bar between two nodes and `-` for no needs. `chain` begins a
-// graph of 100,000 nodes that each need the next; behind bars are exceptions, as a node, a colon and its needs.
+// graph of 100,000 nodes that each need the next; after bars are exceptions, as a node, a colon and its needs.
 // `order`: a build order; of a long one its length and first node. `cycle`: the first node on a cycle. The last graph
 // there has two cycles, and a path from one to the other. `units`: the number of nodes that lead to the last node.
 ghost use Rattle.std.specs.Prelude.{◌<◌, IsTrue};

@@ -1,4 +1,4 @@
-// Files, and behind `fails at` the calls that are to fail; then calls with their answers, or why the files are no tree.
+// Files, and after `fails at` the calls that are to fail; then calls with their answers, or why the files are no tree.
 // `six` means the files below.
 use crate::calls::answered;
 use crate::files::files;

@@ -1,4 +1,4 @@
-// Each table has one case a line: a call, and behind the last ` => ` its answer. One loop runs all of them. It uses no
+// Each table has one case a line: a call, and after the last ` => ` its answer. One loop runs all of them. It uses no
 // contract of the calls.
 use crate::{
     answers, builds, conditions, graphs, listings, memory, orders, outlooks, printed, searches,

@@ -18,7 +18,7 @@ pub enum Failing {
     EachWrite(usize),
     /// A full sink, with room for each smaller number of the output's bytes in turn.
     EachByte,
-    /// No fault, but each file is truncated behind each of its bytes in turn.
+    /// No fault, but each file is truncated after each of its bytes in turn.
     EachCut,
     /// None of these.
     Unknown,

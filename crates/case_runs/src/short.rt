@@ -21,7 +21,7 @@ pub fn push_short(alloc: Global, files: &mut List<MemFile>, form: &str) -> Resul
     }
 }
 
-// The first word, and the text behind it.
+// The first word, and the text after it.
 fn cut(words: &str) -> (&str, &str) {
     words.split_once(' ').unwrap_or((words, ""))
 }

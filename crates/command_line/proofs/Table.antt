@@ -152,7 +152,7 @@ not_dashes_as Flag (x ∷ name) v some = refl
 pub not_dashes : (g : Given) → bytes_eq (word_of g) (45 ∷ 45 ∷ []) ≡ false
 not_dashes g = not_dashes_as (kind_of g.0) (name_of g.0) g.1 (good g.0).some
 
--- the first `=` of a word is behind the name, which has none
+-- the first `=` of a word comes after the name, which has none
 first_equals : (name v : Text) → has_byte 61 name ≡ false → position_or_len (λ x. x == 61) ((name ++ codes "=") ++ v) ≡ length name
 first_equals [] v none = refl
 first_equals (x ∷ name) v none = go (x == 61) none (first_equals name v)

@@ -195,7 +195,7 @@ unfolding walk_passes
 passes_append w [] ys = refl
 passes_append w (x ∷ xs) ys = and_more (turn_passes shape [] w x) _ _ _ (passes_append (walked rules [] w x) xs ys)
 
--- ---- behind a command
+-- ---- after a command
 
 no_command_row : (gs : List Given) → has_row (codes "command") (map row_of gs) ≡ false
 no_command_row [] = refl

@@ -36,7 +36,7 @@ parts_of text = map (number_after 0) (slice_split (λ b. b == 46) text)
 abbrev pub compiler_name : List ℕ → List ℕ
 compiler_name text = before_last (λ b. b == 45) text
 
--- the version's text of a compiler: the part behind the last `-`
+-- the version's text of a compiler: the part after the last `-`
 abbrev pub compiler_digits : List ℕ → List ℕ
 compiler_digits text = after_last (λ b. b == 45) text
 

@@ -37,7 +37,7 @@ name_of Json = codes "json"
 name_of CountConflicts = codes "count-conflicts"
 name_of MinimizeConflictSet = codes "minimize-conflict-set"
 
--- the text behind the name: `=` or nothing
+-- the text after the name: `=` or nothing
 abbrev pub sign_of : OptionKind → List ℕ
 sign_of Valued = codes "="
 sign_of Flag = []

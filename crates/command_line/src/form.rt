@@ -128,7 +128,7 @@ pub fn number_in(text: &[u8]) -> u64
     }
 }
 
-// The index behind the last `-`, or 0 without one.
+// The index after the last `-`, or 0 without one.
 fn behind_last_dash(text: &[u8]) -> usize
     ensures within { result ≤ length text.now }
     ensures place { result ≡ length text.now - suffix_len (λ b. not (b == 45)) text.now }

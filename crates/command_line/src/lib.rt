@@ -1,4 +1,4 @@
-//! Reads the words of the command line. In go the words behind the program's name; out comes the command that they
+//! Reads the words of the command line. In go the words after the program's name; out comes the command that they
 //! mean, or that they have no reading. The test of this crate alone decides which words have one. Only these go to
 //! the parser of `clap`, which then finds the values of options and fails only out of memory.
 #![tactic(auto)]

@@ -68,7 +68,7 @@ pub fn name_of<'a>(option: OptionName) -> &'a str
     }
 }
 
-/// Whether a word gives the option: with a value behind it, or a flag by itself.
+/// Whether a word gives the option: with a value after it, or a flag by itself.
 pub fn gives(option: OptionName, word: &[u8]) -> bool
     ensures { result ≡ gives option word.now }
 {

@@ -76,7 +76,7 @@ impl From<NoMemory> for WordsFault {
     }
 }
 
-/// Reads the words behind the program's name.
+/// Reads the words after the program's name.
 pub fn read_words(alloc: Global, words: &[Text]) -> Result<Command, WordsFault>
     ensures command { IfOk result (λ command. reading words.now ≡ Some command) }
     ensures usage { IfErr result (λ fault. fault ≡ Usage → reading words.now ≡ None) }
@@ -296,7 +296,7 @@ fn env_of(
     })
 }
 
-// The name in lower case, and the version behind the last `-`.
+// The name in lower case, and the version after the last `-`.
 fn compiler_of(alloc: Global, text: &[u8]) -> Result<(Text, Version), NoMemory>
     requires { is_compiler text.now ≡ true }
     ensures name { IfOk result (λ p. p.0 ≡ str_to_ascii_lowercase (compiler_name text.now)) }

@@ -31,7 +31,7 @@ pub record AreRanked (selection : Selection) (all : List Told) : Type 0 where
 abbrev pub graph_of : Selection → List Told → List (List ℕ)
 graph_of selection all = map (λ t. row_of (nodes_of all) (needs_of selection t.node)) all
 
--- the default where a place is out of range
+-- the default for a place out of range
 abbrev pub no_told : Told
 no_told = record { node = no_node; line = no_line }
 

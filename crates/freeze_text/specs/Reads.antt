@@ -21,7 +21,7 @@ use Rattle.project_file.specs.Read.{IsProject}
 abbrev pub is_range_word : FlagSet → Bool
 is_range_word set = not set.on && (same_text set.name (codes "any") || same_text set.name (codes "none"))
 
--- whether these read as flags behind a name
+-- whether these read as flags after a name
 abbrev pub are_flags : List FlagSet → Bool
 are_flags [] = false
 are_flags (set ∷ []) = not (is_range_word set)

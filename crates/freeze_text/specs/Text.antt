@@ -15,11 +15,11 @@ scope_text Any = codes "any."
 scope_text Setup = codes "setup."
 scope_text (SetupOf owner) = owner ++ codes ":setup."
 
--- a flag that is on or off, behind a space
+-- a flag that is on or off, after a space
 abbrev pub flag_text : FlagSet → List ℕ
 flag_text set = (if set.on then codes " +" else codes " -") ++ set.name
 
--- what a constraint asks for, behind a space
+-- what a constraint asks for, after a space
 abbrev pub what_text : What → List ℕ
 what_text (Range range) = codes " " ++ range_text range
 what_text Installed = codes " installed"
@@ -40,7 +40,7 @@ end_text last = if last then codes "\n" else codes ",\n"
 abbrev pub line_text : Constraint → Bool → List ℕ
 line_text c last = codes "    " ++ (constraint_text c ++ end_text last)
 
--- constraints, one a line, with a comma behind each but the last
+-- constraints, one a line, with a comma after each but the last
 abbrev pub lines_text : List Constraint → List ℕ
 lines_text [] = []
 lines_text (c ∷ constraints) = line_text c (length constraints == 0) ++ lines_text constraints

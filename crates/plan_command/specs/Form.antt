@@ -47,7 +47,7 @@ frozen_text before index names trail = ended before ++ freeze_text (frozen index
 abbrev pub said_before : Option Bytes → Bytes
 said_before file = unwrap_or file []
 
--- the form of constraints behind the freeze file of a folder
+-- the form of constraints after the freeze file of a folder
 abbrev pub frozen_form : Files → Form
 frozen_form files = Freeze (said_before (freeze_bytes files))
 

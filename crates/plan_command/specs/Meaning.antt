@@ -29,8 +29,8 @@ use Rattle.plan_command.specs.declared.form.Form.TheVariants.{Summary, Replay}
 use Rattle.plan_command.specs.Form.{IsPlanText, conflict_text_in, frozen_form, gave_up_text_in}
 use Rattle.plan_command.specs.Output.{ArePlanned, IsOutputOfOutcome, refused}
 
--- The text of a plan, with some counts. Its trail is that of the first complete, valid assignment, or of some valid
--- one where conflicts are counted.
+-- The text of a plan, with some counts. Its trail is that of the first complete, valid assignment, or of some such
+-- assignment if conflicts are counted.
 pub record PlansValid (picking : Picking) (form : Form) (options : Options) (files : Files) (text : Bytes) : Type 0 where
   pub task : Task
   pub made : IsTask options files (Ok task)

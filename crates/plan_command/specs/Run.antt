@@ -48,8 +48,8 @@ IsOutputOfRead picking minimize form (Err refusal) output = output ≡ refused r
 unfoldable pub IsOutputOfPlan : Form → Options → Files → Output → Type 0
 IsOutputOfPlan form options files output = (task : Result Task Refusal) × IsTask options files task × IsOutputOfRead (picking_of options) options.minimize form task output
 
--- The output of `generate`: the summary of a plan of the folder made of the number, with the default options and
--- this limit.
+-- The output of `generate`: the summary of a plan of the folder generated from the number, with the default options
+-- and this limit.
 abbrev pub IsOutputOfGenerate : ℕ → Limit → Output → Type 0
 IsOutputOfGenerate number limit output = IsOutputOfPlan (Summary number) (default_options limit) (generated number) output
 
@@ -84,8 +84,8 @@ IsOutputOfCommand (Some (Replay options events slots)) files output = IsOutputOf
 abbrev pub IsOutputOf : List Bytes → Files → Output → Type 0
 IsOutputOf words files output = IsOutputOfCommand (reading words) files output
 
--- The files read for a command: those of an observable folder. Where no file is read, these are any files: for
--- `generate`, and for words without a reading.
+-- The files read for a command: those of an observable folder. For `generate` and for words without a reading no file
+-- is read, and these are any files.
 abbrev pub Reads : Option Command → Option Files → Files → Type 0
 Reads None tells files = Unit {0}
 Reads (Some (Plan options)) tells files = tells ≡ Some files
@@ -95,7 +95,7 @@ Reads (Some (Replay options events slots)) tells files = tells ≡ Some files
 
 -- ---- outputs of a command, over any folder
 
--- the form in which a command prints a plan: for `freeze` behind some text, for `replay` at some events
+-- the form in which a command prints a plan: for `freeze` after some text, for `replay` at some events
 abbrev pub IsFormOf : Command → Form → Type 0
 IsFormOf (Plan options) form = form ≡ form_of options
 IsFormOf (Generate number limit) form = form ≡ Summary number

@@ -32,8 +32,8 @@ const USAGE: &str = "usage: cabal-plan plan or generate, with options\n";
 /// Runs the command of the words over a folder, and writes its output: a plan or the replay of its build, a conflict,
 /// that the search met its limit, a refusal, or the usage line for words without a reading.
 pub fn run<F: Folder, S: Sink>(alloc: Global, words: &[Text], folder: &mut F, out: &mut S) -> Status
-    // For `plan` over an observable folder: the plan is that of the first complete, valid assignment. There is no
-    // plan exactly where no such assignment exists. Without a limit the search never gives up.
+    // For `plan` over an observable folder: the plan is that of the first complete, valid assignment. No plan is
+    // reported only if no such assignment exists. Without a limit the search never gives up.
     ensures headline { (options : PlanOptions) (files : Files)
         → reading words.now ≡ Some (Plan options) → options.count_conflicts ≡ false → F.tells folder.old ≡ Some files
         → Prints (Means Least options.minimize (form_of options) options files) (S.bytes out.old) (S.bytes out.new) result }
@@ -66,7 +66,7 @@ pub fn run<F: Folder, S: Sink>(alloc: Global, words: &[Text], folder: &mut F, ou
     // In any plan, with a limit or without, each identifier that a node needs is printed before the node.
     ensures in_order { Prints (BuildsInOrder (reading words.now)) (S.bytes out.old) (S.bytes out.new) result }
 
-    // `generate` plans the folder made of its number. It makes no call on the given folder.
+    // `generate` plans the folder generated from its number, and leaves the given folder as it was.
     ensures generated { (number : ℕ) (limit : TheLimit) → reading words.now ≡ Some (Generate number limit)
         → Prints (MeansGenerated number limit) (S.bytes out.old) (S.bytes out.new) result }
     ensures unasked { (number : ℕ) (limit : TheLimit) → reading words.now ≡ Some (Generate number limit)

@@ -29,9 +29,9 @@ pub(crate) enum Form {
     Lines,
     /// One object of JSON.
     Json,
-    /// A plan by its counts and digest, for the folder made of this number; other outcomes in lines.
+    /// A plan by its counts and digest, for the folder generated from this number; other outcomes in lines.
     Summary(u32),
-    /// A plan by the constraints of its choices, behind the old freeze file; other outcomes in lines.
+    /// A plan by the constraints of its choices, after the old freeze file; other outcomes in lines.
     Freeze(Text),
     /// A plan by the replay of its build at these events; other outcomes in lines.
     Replay { slots: u32, events: List<JobEvent> },

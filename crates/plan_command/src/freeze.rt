@@ -1,4 +1,4 @@
-// The command `freeze`: a plan as the constraints of its choices, behind the old freeze file.
+// The command `freeze`: a plan as the constraints of its choices, after the old freeze file.
 ghost use Rattle.std.specs.Prelude.{◌≡◌, ◌≢◌, IfOk, IsErrOf, Some};
 ghost use Rattle.choice_problem.specs.Trail.{AreNew};
 ghost use Rattle.outside_folder.specs.Calls.{Leaves};

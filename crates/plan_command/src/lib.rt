@@ -1,7 +1,7 @@
 //! The planner's top call. In go the words and a folder; out come a text in the sink and an exit status.
 //! Over an observable folder, a printed plan is that of the first complete, valid assignment, or of some valid one
-//! where conflicts are counted. The planner reports no plan exactly where no complete, valid assignment exists.
-//! The whole text is made before the first write, so a run writes one text, a prefix of it, or nothing.
+//! if conflicts are counted. No plan is reported only if no complete, valid assignment exists. The whole text is made
+//! before the first write, so a run writes one text, a prefix of it, or nothing.
 #![tactic(auto)]
 
 mod command;

@@ -35,7 +35,7 @@ module _ (number : ℕ) (few : number ≤ 2000) where
       (All-replicate IsInside (5 - length (decimal number)) 48 refl)
       (digits-inside (decimal number) ((decimal_is_IsNumeral number (omega arith)).0.1)))
 
--- digits behind zeros are determined if their first one isn't zero
+-- digits after zeros are determined if their first one isn't zero
 same-digits : (m n : ℕ) (ds es : List ℕ) → 48 < get_or ds 0 0 → 48 < get_or es 0 0 → replicate m 48 ++ ds ≡ replicate n 48 ++ es → ds ≡ es
 same-digits zero zero ds es h k e = e
 same-digits zero (suc n) ds es h k e = let first = ap (λ l. get_or l 0 0) e in absurd (omega (arith, first, h))

@@ -22,7 +22,7 @@ inside-all : (bs : List ℕ) → list_all (λ b. not (b == 47)) bs ≡ true → 
 inside-all [] h = All-nil IsInside
 inside-all (b ∷ bs) h = let both = and_parts (not (b == 47)) (list_all (λ b. not (b == 47)) bs) h in All-cons IsInside b bs (not-true (b == 47) both.0) (inside-all bs both.1)
 
--- the parts of a path behind the version, and behind the package's name
+-- the parts of a path after the version, and after the package's name
 abbrev behind_version : ℕ → List ℕ
 behind_version number = codes "/" ++ (name number ++ codes ".cabal")
 

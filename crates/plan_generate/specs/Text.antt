@@ -10,7 +10,7 @@ line text = text ++ 10 ∷ []
 abbrev pub name : ℕ → List ℕ
 name number = codes "g" ++ replicate (5 - length (decimal number)) 48 ++ decimal number
 
--- a name behind a comma
+-- a name after a comma
 abbrev pub name_behind : ℕ → List ℕ
 name_behind number = codes ", " ++ name number
 

@@ -20,7 +20,7 @@ use Rattle.plan_print.specs.Note.{skipped_note, warning_note}
 abbrev pub line : List ℕ → List ℕ
 line text = text ++ 10 ∷ []
 
--- an item behind a comma
+-- an item after a comma
 abbrev pub behind_comma : {A : Type 0} → (A → List ℕ) → A → List ℕ
 behind_comma text x = codes "," ++ text x
 

@@ -24,7 +24,7 @@ abbrev pub plan_text : Index → NameTable → List Choice → List PlanNode →
 plan_text index names trail nodes counts =
     codes "plan" ++ 10 ∷ notes_text index ++ flat_map (choice_line index names) trail ++ flat_map node_line nodes ++ counts_line counts
 
--- a variable of a set, behind a space
+-- a variable of a set, after a space
 abbrev pub named_var : NameTable → Var → List ℕ
 named_var names v = 32 ∷ var_text names v
 
@@ -59,7 +59,7 @@ not_shrunk_text index names set spent counts =
 abbrev pub gave_up_text : Index → Counts → List ℕ
 gave_up_text index counts = codes "gave up" ++ 10 ∷ notes_text index ++ counts_line counts
 
--- the detail of a refusal behind a space, or nothing if it is empty
+-- the detail of a refusal after a space, or nothing if it is empty
 abbrev pub detail_text : List ℕ → List ℕ
 detail_text detail = if length detail == 0 then [] else codes " " ++ detail
 

@@ -21,7 +21,7 @@ use std::alloc::Global;
 pub struct Task {
     pub settings: Settings,
     pub index: Index,
-    /// The text of `cabal.project.freeze`, where there is one.
+    /// The text of `cabal.project.freeze`, if there is one.
     pub freeze: Option<Text>,
 }
 

@@ -3,7 +3,7 @@ use Rattle.std.specs.Prelude.{◌==◌}
 use Rattle.std.specs.List.{suffix_len}
 use Rattle.command_line.proofs.form.behind_last_dash.Given as goal
 
--- the bytes behind the place have no `-`
+-- the bytes after the place have no `-`
 abbrev pub invariant-loop-place : goal.invariant-loop-place
 invariant-loop-place l = record {
   within : l.place ≤ length l.text;
