@@ -1,35 +1,37 @@
-"""Reads the files of cases: folders, the words that are run over them, and the exact output of each run.
+"""Reads the files of cases: folders, the words of runs over them, and the exact output of each run.
 
-A line that begins with one of these marks stands for itself; every other line is content of the file or the output above it.
+A line with one of these marks at its front is a line of the notation. Every other line is content of the file or
+output above it.
 
     # TEXT                      a remark
     === NAME                    begins a case
-    --- PATH                    begins a file of its folder; the lines below are its content
+    --- PATH                    begins a file of the folder; the lines below are its content
     + local NAME VERSION [DEPENDS]          NAME.cabal, a package with a library that depends on these
     + source NAME VERSION [DEPENDS]         the same file as index/NAME/VERSION/NAME.cabal
     + plain PATH NAME VERSION [DEPENDS]     the same file at this path
     + unit ID NAME VERSION [DEPENDS]        installed/ID.conf, the record of a unit that depends on these identifiers
     + units ID ..                           such records, each ID of the form NAME-VERSION, without dependencies
-    + link PATH TARGET                      a symbolic link; a case with one is run over a folder of the system alone
-    $ WORDS [=> STATUS]         begins a run of these words, which ends with this status (0 unless it is given); below stands the output
-    $ WORDS => STATUS sha256 DIGEST         the same of a long output: its digest, and below its first and last lines around a line `...`
-    $ WORDS ! call N [=> STATUS]            a run of which this call on the folder fails, counted from 1
-    $ WORDS ! calls N           the run above, which makes N calls on the folder: each fails in turn. It prints nothing and ends with status 4,
-                                and a second run over the same folder answers as the run above
-    $ WORDS ! writes N          the run above: each write fails in turn, where a write takes N bytes. It ends with status 5, and what was
-                                written before is printed
-    $ WORDS ! bytes             the run above: the sink has room for each smaller number of bytes in turn. It ends with status 5, and they are
-                                printed
-    $ WORDS ! cuts              each file is cut off behind each of its bytes in turn: the run finds a plan or none, or refuses, and so does
-                                a second run
+    + link PATH TARGET                      a symbolic link; a case with one is run only over a folder of the system
+    $ WORDS [=> STATUS]         begins a run of these words with this status (default 0); the lines below are its output
+    $ WORDS => STATUS sha256 DIGEST         the same for a long output: its digest, and below its first and last lines
+                                around a line `...`
+    $ WORDS ! call N [=> STATUS]            a run whose call N on the folder fails, counted from 1
+    $ WORDS ! calls N           the run above, which makes N calls on the folder: each fails in turn. It prints nothing
+                                and ends with status 4. A second run over the same folder answers as the run above
+    $ WORDS ! writes N          the run above: each write fails in turn, with N bytes a write. It ends with status 5,
+                                after the output of the earlier writes
+    $ WORDS ! bytes             the run above: the sink has room for each smaller number of bytes in turn. It ends with
+                                status 5, after so many bytes of output
+    $ WORDS ! cuts              each file is truncated after each of its bytes in turn: the run finds a plan or none, or
+                                refuses, and a second run does the same
     @ FIELD [@ FIELD ..]        repeats the whole case with these fields in place of %1, %2, ..
-    * FIRST..LAST LINES         stands for these lines, which a `\\n` separates, once for each number, with the number in place of %n and
-                                the next one in place of %m
+    * FIRST..LAST LINES         repeats these lines, which a `\\n` separates, for each number, with the number in place
+                                of %n and the next one in place of %m
 
-In content and output `\\n` is a line end, `\\t` a tab, `\\r` a carriage return, `\\s` a blank and `\\xHH` a byte; a backslash before any
-other character stands for that character, so that one before a mark makes the line content. A backslash at the end of a line leaves its line
-end out, and a line `\\pad SIZE` fills up the content above it with blanks, to so many bytes. Empty lines at the end of a file or an output
-are left out.
+In content and output `\\n` is a line end, `\\t` a tab, `\\r` a carriage return, `\\s` a blank and `\\xHH` a byte. A
+backslash before any other character means that character, so a backslash before a mark makes the line content. A
+backslash at the end of a line removes its line end. A line `\\pad SIZE` fills up the content above it with blanks to
+so many bytes. Empty lines at the end of a file or an output are ignored.
 """
 
 import os

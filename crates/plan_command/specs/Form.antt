@@ -31,7 +31,7 @@ form_of options = if options.json then Json else Lines
 abbrev pub summary_of : ℕ → List Choice → List PlanNode → Counts → Bytes → Bytes
 summary_of number trail nodes counts text = summary_text number (length trail) (length nodes) counts (encode_lower (sha256 text))
 
--- whether a text is empty or ends with a line end
+-- whether a text is empty or ends with a line feed
 abbrev pub is_ended : Bytes → Bool
 is_ended text = length text == 0 || ends_with nat_eq text (10 ∷ [])
 
@@ -71,12 +71,12 @@ is_json (Replay slots events) = false
 abbrev pub whole_text_in : Bool → Index → NameTable → List Var → Counts → Bytes
 whole_text_in json index names set counts = if json then conflict_json index names set counts else conflict_text index names set counts
 
--- a minimal subset of a conflict set
+-- a shrunk conflict set, as JSON or in lines
 abbrev pub shrunk_text_in : Bool → Index → NameTable → List Var → List (List Choice) → Counts → Bytes
 shrunk_text_in json index names set maps counts =
     if json then shrunk_json index names set maps counts else shrunk_text index names set maps counts
 
--- that shrinking stopped after so many exhausted points
+-- a conflict set whose shrinking stopped after so many exhausted points, as JSON or in lines
 abbrev pub not_shrunk_text_in : Bool → Index → NameTable → List Var → ℕ → Counts → Bytes
 not_shrunk_text_in json index names set spent counts =
     if json then not_shrunk_json index names set spent counts else not_shrunk_text index names set spent counts

@@ -59,8 +59,8 @@ pub fn run<F: Folder, S: Sink>(alloc: Global, words: &[Text], folder: &mut F, ou
     ensures told { (files : Files) → Reads (reading words.now) (F.tells folder.old) files
         → Prints (IsOutputOf words.now files) (S.bytes out.old) (S.bytes out.new) result }
 
-    // Over any folder, the run writes one text, a prefix of it, or nothing. The text is the line of a refusal, or
-    // the finding of a search over some ready task, in the command's own form.
+    // Over any folder, the run writes one text, a prefix of it, or nothing. The text is the line of a refusal, the
+    // finding of a search over some ready task in the command's own form, or the usage line.
     ensures one_text { Prints (MayPrint (reading words.now)) (S.bytes out.old) (S.bytes out.new) result }
 
     // In any plan, with a limit or without, each identifier that a node needs is printed before the node.

@@ -99,7 +99,7 @@ freed_json index names freed =
     ∷ codes ",\"var\":" ∷ variable_json names freed.0
     ∷ codes "}" ∷ [])
 
--- a conflict with a minimal set, and for each of its variables the choices that hold without it
+-- a conflict with a shrunk set, and for each of its variables the choices that hold without it
 abbrev pub shrunk_json : Index → NameTable → List Var → List (List Choice) → Counts → List ℕ
 shrunk_json index names set maps counts =
     line

@@ -88,7 +88,7 @@ abbrev pub freed_value : Index → NameTable → Var × List Choice → Data
 freed_value index names freed =
     object (member (codes "keep") (list_of (choice_value index names) freed.1) (member (codes "var") (variable_value names freed.0) no_members))
 
--- a conflict with a minimal set, and for each of its variables the choices that hold without it
+-- a conflict with a shrunk set, and for each of its variables the choices that hold without it
 abbrev pub shrunk_value : Index → NameTable → List Var → List (List Choice) → Counts → Data
 shrunk_value index names set maps counts =
     object

@@ -41,7 +41,7 @@ conflict_text index names set counts =
 abbrev pub freed_lines : Index → NameTable → Var × List Choice → List ℕ
 freed_lines index names freed = codes "without" ++ named_var names freed.0 ++ 10 ∷ flat_map (keep_line index names) freed.1
 
--- a conflict with a minimal set, and for each of its variables the choices that hold without it
+-- a conflict with a shrunk set, and for each of its variables the choices that hold without it
 abbrev pub shrunk_text : Index → NameTable → List Var → List (List Choice) → Counts → List ℕ
 shrunk_text index names set maps counts =
     codes "no plan" ++ 10 ∷ notes_text index ++ conflict_line names set ++ flat_map (freed_lines index names) (zip set maps) ++ counts_line counts
