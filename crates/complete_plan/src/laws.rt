@@ -55,7 +55,7 @@ pub fn valid_plan_lacks_none()
 
 /// A plan that a run prints lacks no node: each node of its complete, valid assignment has a printed line.
 pub fn printed_plan_lacks_none()
-    // for the command `plan` over a folder in memory
+    // for `plan` over an observable folder
     ensures meant { (picking : Picking) (options : Options) (files : Files) (text : Bytes) (plan : PlansValid picking (form_of options) options files text)
         → LacksNone (selection_from plan.task.index plan.names plan.task.settings.env (value_in plan.trail)) plan.nodes }
 

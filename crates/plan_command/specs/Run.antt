@@ -144,11 +144,11 @@ pub record IsInOrder (picking : Picking) (minimize : Bool) (IsForm : Form → Ty
   pub planned : IsPlanned form task.index finding.names trail nodes counts output
   pub told_before : AreToldBefore nodes
 
--- a printed plan is in order, and the usage line is no plan
+-- some output of a command that is a plan in order
 abbrev pub OutputInOrder : Command → Type 0
 OutputInOrder command = (output : Output) × IsInOrder (picking_for command) (minimizes command) (IsFormOf command) output
 
--- where a command prints a plan, it is one in order; the usage line is no plan
+-- a printed plan is in order, and the usage line is no plan
 abbrev pub BuildsInOrder : Option Command → Output → Type 0
 BuildsInOrder None output = output.status ≢ status.Planned
 BuildsInOrder (Some command) output = output.status ≡ status.Planned → IsInOrder (picking_for command) (minimizes command) (IsFormOf command) output
